@@ -1,0 +1,23 @@
+use Rattle.std.proofs.Common.{◌+◌, ◌-◌, ◌/◌, ◌<◌, length, arith}
+use Rattle.core_types.proofs.Runs.{begins_next, ends_there}
+use Rattle.core_types.proofs.halving.run_at.Goals as goal
+
+pub loop-low-preserved-then-run-place : goal.loop-low-preserved-then-run-place
+loop-low-preserved-then-run-place c =
+    let inside : c.loop-low.low + (c.loop-low.high - c.loop-low.low) / 2 < length c.args.runs.now = omega arith in
+    record {
+      ordered = omega arith;
+      within = c.loop-low.invariant.within;
+      begins = begins_next c.args.runs.now _ c.args.place _ inside c.if-run-place.true;
+      ends = c.loop-low.invariant.ends;
+    }
+
+pub loop-low-preserved : goal.loop-low-preserved
+loop-low-preserved c =
+    let inside : c.loop-low.low + (c.loop-low.high - c.loop-low.low) / 2 < length c.args.runs.now = omega arith in
+    record {
+      ordered = omega arith;
+      within = omega arith;
+      begins = c.loop-low.invariant.begins;
+      ends = ends_there c.args.runs.now _ c.args.place _ inside c.if-run-place.false;
+    }

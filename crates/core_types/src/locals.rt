@@ -1,0 +1,76 @@
+ghost use Rattle.std.specs.Prelude.{◌≡◌, ◌+◌, ◌<◌, ◌^◌, ◌++◌, [], length, replicate, slice_get, OnOk, OnErr};
+
+use crate::halving::run_at;
+use crate::types::ValType;
+use std::alloc::{AllocError, Global};
+use std::marker::Model;
+
+/// Locals of one type in a row, up to the place `end`.
+#[derive(Clone, Copy, PartialEq, Eq, Debug)]
+pub struct LocalRun {
+    pub end: u32,
+    pub ty: ValType,
+}
+
+/// The types of a function's locals, kept as runs of one type; contracts see the list of the types.
+#[derive(Debug, Drop)]
+pub struct Locals {
+    runs: Vec<LocalRun>,
+}
+
+impl Model for Locals {
+    ghost use Rattle.std.specs.Prelude.{List};
+    ghost use Rattle.core_types.specs.declared.types.ValType.{ValType};
+
+    ghost Value = { List ValType };
+
+    ghost use Rattle.core_types.specs.LocalRuns.{expanded, IsAscending};
+
+    ghost view = { λ a. expanded 0 a.runs.items };
+
+    ghost invariant = { λ a. IsAscending 0 a.runs.items };
+}
+
+impl Locals {
+    /// No locals.
+    pub fn new(alloc: Global) -> Locals
+        ensures { result ≡ [] }
+    {
+        Locals {
+            runs: Vec::new(alloc),
+        }
+    }
+
+    /// How many locals there are.
+    pub fn len(&self) -> u32
+        ensures { result ≡ length self.now }
+    {
+        match self.runs.last() {
+            Some(run) => run.end,
+            None => 0,
+        }
+    }
+
+    /// Adds `count` locals of one type. After want of memory the locals are as before.
+    pub fn push(&mut self, count: u32, ty: ValType) -> Result<(), AllocError>
+        requires { length self.old + count < 2 ^ 32 }
+        ensures ok { OnOk result (self.new ≡ self.old ++ replicate count ty) }
+        ensures err { OnErr result (self.new ≡ self.old) }
+    {
+        let end = self.len() + count;
+        self.runs.push(LocalRun { end, ty })?;
+        Ok(())
+    }
+
+    /// The type of the local at this place, found by halving.
+    pub fn get(&self, place: u32) -> Option<ValType>
+        ensures { result ≡ slice_get self.now place }
+    {
+        let found = run_at(&self.runs, place);
+        if found < self.runs.len() {
+            Some(self.runs[found].ty)
+        } else {
+            None
+        }
+    }
+}

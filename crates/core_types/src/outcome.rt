@@ -1,0 +1,31 @@
+/// A value (Execution, Runtime Structure, Values). The number in a `FuncRef` is a function's address in the store; that in
+/// an `ExternRef` is the host's, and is never looked at. `None` is null.
+#[derive(Clone, Copy, PartialEq, Eq, Debug)]
+pub enum Val {
+    I32(u32),
+    I64(u64),
+    FuncRef(Option<u32>),
+    ExternRef(Option<u32>),
+}
+
+/// Why an execution was given up by the rules of the instruction that it came to.
+#[derive(Clone, Copy, PartialEq, Eq, Debug)]
+pub enum Trap {
+    Unreachable,
+    DivideByZero,
+    IntegerOverflow,
+    MemoryBounds,
+    TableBounds,
+    UndefinedElement,
+    UninitializedElement,
+    IndirectType,
+    Host(u32),
+}
+
+/// What an execution ran out of.
+#[derive(Clone, Copy, PartialEq, Eq, Debug)]
+pub enum Exhaustion {
+    Fuel,
+    Depth,
+    Memory,
+}

@@ -1,0 +1,61 @@
+use crate::items::Items;
+
+/// A type of values (Structure, Types, Value Types).
+#[derive(Clone, Copy, PartialEq, Eq, Debug)]
+pub enum ValType {
+    I32,
+    I64,
+    FuncRef,
+    ExternRef,
+}
+
+/// A type of references (Structure, Types, Reference Types).
+#[derive(Clone, Copy, PartialEq, Eq, Debug)]
+pub enum RefType {
+    FuncRef,
+    ExternRef,
+}
+
+/// The parameters and results of a function (Structure, Types, Function Types).
+#[derive(Debug, PartialEq, Drop)]
+pub struct FuncType {
+    pub params: Items<ValType>,
+    pub results: Items<ValType>,
+}
+
+/// The bounds of a memory or a table (Structure, Types, Limits).
+#[derive(Clone, Copy, PartialEq, Eq, Debug)]
+pub struct Limits {
+    pub min: u32,
+    pub max: Option<u32>,
+}
+
+/// What a table holds, and its bounds (Structure, Types, Table Types).
+#[derive(Clone, Copy, PartialEq, Eq, Debug)]
+pub struct TableType {
+    pub element: RefType,
+    pub limits: Limits,
+}
+
+/// Whether a global may be set (Structure, Types, Global Types).
+#[derive(Clone, Copy, PartialEq, Eq, Debug)]
+pub enum Mutability {
+    Const,
+    Var,
+}
+
+/// The type of a global (Structure, Types, Global Types).
+#[derive(Clone, Copy, PartialEq, Eq, Debug)]
+pub struct GlobalType {
+    pub value: ValType,
+    pub mutability: Mutability,
+}
+
+/// The type of what a module imports or exports (Structure, Types, External Types).
+#[derive(Debug, PartialEq, Drop)]
+pub enum ExternType {
+    Func(FuncType),
+    Table(TableType),
+    Memory(Limits),
+    Global(GlobalType),
+}

@@ -1,0 +1,27 @@
+ghost use Rattle.std.specs.Prelude.{◌≡◌, ◌++◌, OnOk, OnErr};
+ghost use Rattle.exec.specs.Stored.{entries};
+
+use crate::store::FunctionInstance;
+use std::alloc::AllocError;
+
+/// Adds an entry for each of so many functions of an instance. After want of memory the list is as before.
+pub fn push_entries(
+    functions: &mut Vec<FunctionInstance>,
+    instance: u32,
+    count: u32,
+) -> Result<(), AllocError>
+    ensures pushed { OnOk result (functions.new.items ≡ functions.old.items ++ entries instance count) }
+    ensures unchanged { OnErr result (functions.new.items ≡ functions.old.items) }
+{
+    let before = functions.len();
+    for index in 0..count {
+        match functions.push(FunctionInstance { instance, index }) {
+            Ok(()) => {}
+            Err(_) => {
+                functions.truncate(before);
+                return Err(AllocError);
+            }
+        }
+    }
+    Ok(())
+}

@@ -1,0 +1,10 @@
+/// The host functions that code may call. There are none yet.
+#[derive(Debug, Drop)]
+pub struct HostTable {}
+
+impl HostTable {
+    /// A table without host functions. Takes no memory.
+    pub fn new() -> HostTable {
+        HostTable {}
+    }
+}

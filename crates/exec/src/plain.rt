@@ -1,0 +1,109 @@
+ghost use Rattle.std.specs.Prelude.{◌≡◌, ◌∷◌, MatchOption};
+ghost use Rattle.core_types.specs.declared.outcome.Val.TheVariants.{I32, I64};
+ghost use Rattle.meaning.specs.Configuration.{Frame};
+ghost use Rattle.meaning.specs.Operators.{bits_of, binary_result};
+ghost use Rattle.meaning.specs.Reduction.{effect, binary_effect};
+ghost use Rattle.meaning.specs.Store.{Store};
+ghost use Rattle.exec.specs.Effects.{DidEffect, Pushed, HasNoI32, HasNoI64};
+
+use crate::stack::Stack;
+use core_types::{BinaryOp, PlainOp, Val, Width};
+
+/// What an instruction without control did to the operands.
+#[derive(Clone, Copy, PartialEq, Eq, Debug)]
+pub enum Did {
+    /// All of it.
+    AllDone,
+    /// Nothing, since operands are missing or of another type.
+    Lacking,
+    /// A part, since there was no memory for the result.
+    NoRoom,
+}
+
+// The i32 on top of the operands.
+fn pop_i32(operands: &mut Stack<Val>) -> Option<u32>
+    ensures { MatchOption result (HasNoI32 operands.old) (λ n. operands.old ≡ I32 n ∷ operands.new) }
+{
+    match operands.pop() {
+        Some(Val::I32(n)) => Some(n),
+        _ => None,
+    }
+}
+
+// The i64 on top of the operands.
+fn pop_i64(operands: &mut Stack<Val>) -> Option<u64>
+    ensures { MatchOption result (HasNoI64 operands.old) (λ n. operands.old ≡ I64 n ∷ operands.new) }
+{
+    match operands.pop() {
+        Some(Val::I64(n)) => Some(n),
+        _ => None,
+    }
+}
+
+// One operator on two numbers of 32 bits.
+fn binary_i32(op: BinaryOp, a: u32, b: u32) -> u32
+    ensures { result ≡ binary_result 32 op a b }
+{
+    match op {
+        BinaryOp::Add => a.wrapping_add(b),
+    }
+}
+
+// One operator on two numbers of 64 bits.
+fn binary_i64(op: BinaryOp, a: u64, b: u64) -> u64
+    ensures { result ≡ binary_result 64 op a b }
+{
+    match op {
+        BinaryOp::Add => a.wrapping_add(b),
+    }
+}
+
+// A value on top of the operands.
+fn pushed(operands: &mut Stack<Val>, value: Val) -> Did
+    ensures { Pushed result value operands.old operands.new }
+{
+    match operands.push(value) {
+        Ok(()) => Did::AllDone,
+        Err(_) => Did::NoRoom,
+    }
+}
+
+// An operator on the two integers of the width on top of the operands.
+fn run_binary(width: Width, op: BinaryOp, operands: &mut Stack<Val>) -> Did
+    ensures { (store : Store) (frame : Frame) → DidEffect result (binary_effect store frame width op operands.old) store frame operands.new }
+{
+    match width {
+        Width::W32 => {
+            let Some(b) = pop_i32(operands) else {
+                return Did::Lacking;
+            };
+            let Some(a) = pop_i32(operands) else {
+                return Did::Lacking;
+            };
+            pushed(operands, Val::I32(binary_i32(op, a, b)))
+        }
+        Width::W64 => {
+            let Some(b) = pop_i64(operands) else {
+                return Did::Lacking;
+            };
+            let Some(a) = pop_i64(operands) else {
+                return Did::Lacking;
+            };
+            pushed(operands, Val::I64(binary_i64(op, a, b)))
+        }
+    }
+}
+
+/// Runs one instruction without control on the operands, in a frame with these locals.
+pub fn run_plain(op: &PlainOp, locals: &[Val], operands: &mut Stack<Val>) -> Did
+    ensures { (store : Store) (frame : Frame) → frame.locals ≡ locals.now → DidEffect result (effect store frame op.now operands.old) store frame operands.new }
+{
+    match op {
+        PlainOp::LocalGet(x) => match locals.get(*x as usize) {
+            Some(value) => pushed(operands, *value),
+            None => Did::Lacking,
+        },
+        PlainOp::I32Const(n) => pushed(operands, Val::I32(*n)),
+        PlainOp::Binary(width, op) => run_binary(*width, *op, operands),
+    }
+}

@@ -1,0 +1,70 @@
+ghost use Rattle.std.specs.Prelude.{◌≡◌, List, [], ◌∷◌, length, reverse, slice_get, OnOk, OnErr, MatchOption};
+
+use core_types::Items;
+use std::alloc::{AllocError, Global};
+use std::marker::Model;
+
+/// A stack, which contracts see as the list of its elements from the top.
+#[derive(Debug, Drop)]
+pub struct Stack<T> {
+    items: Vec<T>,
+}
+
+impl<T> Model for Stack<T> {
+    ghost Value = { List T };
+
+    ghost view = { λ s. reverse s.items.items };
+}
+
+impl<T> Stack<T> {
+    /// An empty stack. Takes no memory.
+    pub fn new(alloc: Global) -> Stack<T>
+        ensures { result ≡ [] }
+    {
+        Stack {
+            items: Vec::new(alloc),
+        }
+    }
+
+    /// How many elements there are.
+    pub fn len(&self) -> usize
+        ensures { result ≡ length self.now }
+    {
+        self.items.len()
+    }
+
+    /// Takes the topmost element off. Takes no memory.
+    pub fn pop(&mut self) -> Option<T>
+        ensures { MatchOption result ((self.old ≡ []) × (self.new ≡ [])) (λ x. self.old ≡ x ∷ self.new) }
+    {
+        self.items.pop()
+    }
+
+    /// The elements from the bottom to the top. Takes no memory.
+    pub fn into_items(self) -> Items<T>
+        ensures { result ≡ reverse self }
+    {
+        let Stack { items } = self;
+        Items::from_vec(items)
+    }
+}
+
+impl<T: Drop> Stack<T> {
+    /// Puts an element on top. After want of memory the stack is as before.
+    pub fn push(&mut self, x: T) -> Result<(), AllocError>
+        ensures ok { OnOk result (self.new ≡ x ∷ self.old) }
+        ensures err { OnErr result (self.new ≡ self.old) }
+    {
+        self.items.push(x)?;
+        Ok(())
+    }
+}
+
+impl<T: Copy> Stack<T> {
+    /// The topmost element, which stays.
+    pub fn top(&self) -> Option<T>
+        ensures { result ≡ slice_get self.now 0 }
+    {
+        self.items.last().copied()
+    }
+}

@@ -1,0 +1,26 @@
+-- The store (Execution, Runtime Structure), as far as it holds functions and module instances.
+use Rattle.std.specs.Prelude.{ℕ, List}
+use Rattle.core_types.specs.declared.types.ValType.{ValType}
+use Rattle.core_types.specs.declared.types.FuncType.{FuncType}
+use Rattle.core_types.specs.declared.module.Export.{Export}
+use Rattle.meaning.specs.Body.{Body}
+
+-- The code of a function: the types of its locals without the parameters, and its body.
+pub record Code : Type 0 where
+  pub locals : List ValType
+  pub body : Body
+
+-- A function instance: its type, the address of its module instance, and its code.
+pub record FunctionInstance : Type 0 where
+  pub ty : FuncType
+  pub instance : ℕ
+  pub code : Code
+
+-- A module instance: the addresses of its functions, and its exports.
+pub record ModuleInstance : Type 0 where
+  pub functions : List ℕ
+  pub exports : List Export
+
+pub record Store : Type 0 where
+  pub functions : List FunctionInstance
+  pub instances : List ModuleInstance
