@@ -7,6 +7,8 @@ mod locals;
 mod module;
 mod op;
 mod outcome;
+#[cfg(test)]
+mod tests;
 mod text;
 mod types;
 
@@ -16,4 +18,6 @@ pub use module::{Export, ExportDesc, Func, Module};
 pub use op::{BinaryOp, Op, PlainOp, Width};
 pub use outcome::{Exhaustion, Trap, Val};
 pub use text::Name;
-pub use types::{ExternType, FuncType, GlobalType, Limits, Mutability, RefType, TableType, ValType};
+pub use types::{
+    ExternType, FuncType, GlobalType, Limits, Mutability, RefType, TableType, ValType,
+};

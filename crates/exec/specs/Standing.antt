@@ -1,5 +1,5 @@
 -- What a state of the machine stands for, and what its turns are.
-use Rattle.std.specs.Prelude.{◌≡◌, ℕ, ◌-◌, ◌<◌, ◌≤◌, List, [], ◌∷◌, drop, length}
+use Rattle.std.specs.Prelude.{◌≡◌, ℕ, ◌-◌, ◌<◌, ◌≤◌, List, [], ◌∷◌, Some, drop, slice_get}
 use Rattle.core_types.specs.declared.op.Op.{Op}
 use Rattle.core_types.specs.declared.outcome.Val.{Val}
 use Rattle.core_types.specs.declared.outcome.Exhaustion.{Exhaustion}
@@ -32,6 +32,10 @@ IsControlStack (Label ∷ outer) = outer ≡ Frame ∷ []
 -- The configuration that the machine stands for, in code of this many results, of this instance.
 abbrev pub configuration : ℕ → ℕ → List Op → Machine → Level
 configuration arity instance code m = standing arity (record { instance = instance; locals = m.locals.items }) m.operands (body_of (drop m.place code)) m.controls
+
+-- Inside a label, the body is at its end.
+abbrev pub IsAtEnd : List Op → Machine → Type 0
+IsAtEnd code m = slice_get m.controls 0 ≡ Some Label → body_of (drop m.place code) ≡ Empty
 
 abbrev pub ending_of : Outcome → Ending
 ending_of (Values values) = WithValues values

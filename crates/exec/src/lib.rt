@@ -12,6 +12,8 @@ mod meter;
 mod plain;
 mod stack;
 mod store;
+#[cfg(test)]
+mod tests;
 mod turn;
 mod typing;
 mod valid;

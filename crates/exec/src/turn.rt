@@ -1,10 +1,11 @@
-ghost use Rattle.std.specs.Prelude.{◌≡◌, ◌+◌, ◌<◌, ℕ, Some, drop, length, slice_get};
-ghost use Rattle.meaning.specs.Body.{Empty, Then, body_of};
+ghost use Rattle.std.specs.Prelude.{◌≡◌, ◌+◌, ◌<◌, List, ℕ, Some, drop, length, slice_get};
+ghost use Rattle.core_types.specs.declared.op.Op.{Op};
+ghost use Rattle.meaning.specs.Body.{Then, body_of};
 ghost use Rattle.meaning.specs.Store.{Store};
 ghost use Rattle.exec.specs.declared.machine.Control.TheVariants.{Label};
 ghost use Rattle.exec.specs.declared.machine.Turn.TheVariants.{Goes};
 ghost use Rattle.exec.specs.Metering.{metered};
-ghost use Rattle.exec.specs.Standing.{IsControlStack, configuration, TurnIs, IfGoes};
+ghost use Rattle.exec.specs.Standing.{IsAtEnd, IsControlStack, configuration, TurnIs, IfGoes};
 
 use crate::fetch::fetch;
 use crate::machine::{Control, Machine, Turn};
@@ -40,16 +41,14 @@ fn turn_plain(code: &[Op], op: &PlainOp, machine: &mut Machine, meter: &mut Mete
     }
 }
 
-// Leaves what is open innermost, which has values alone inside.
-fn leave(code: &[Op], machine: &mut Machine)
+// Leaves what is open innermost, which has values alone inside: a frame, or a label at the end of its body.
+fn leave(machine: &mut Machine)
     requires open { 0 < length machine.old.controls }
     requires controls { IsControlStack machine.old.controls }
-    requires ended { slice_get machine.old.controls 0 ≡ Some Label → body_of (drop machine.old.place code.now) ≡ Empty }
-    ensures turned { (store : Store) (arity instance fuel : ℕ) → TurnIs store Goes (configuration arity instance code.now machine.old) fuel (configuration arity instance code.now machine.new) fuel }
+    ensures turned { (store : Store) (code : List Op) (arity instance fuel : ℕ) → IsAtEnd code machine.old → TurnIs store Goes (configuration arity instance code machine.old) fuel (configuration arity instance code machine.new) fuel }
     ensures controls { IsControlStack machine.new.controls }
     ensures falls { length machine.new.controls + 1 ≡ length machine.old.controls }
 {
-    let _ = code;
     let _ = machine.controls.pop();
 }
 
@@ -67,6 +66,6 @@ pub fn turn(code: &[Op], machine: &mut Machine, meter: &mut Meter) -> Turn
             return turn_plain(code, op, machine, meter);
         }
     }
-    leave(code, machine);
+    leave(machine);
     Turn::Goes
 }

@@ -17,3 +17,4 @@ pub mod Depth
 pub mod Cost
 pub mod Reduction
 pub mod BoundedRun
+pub mod Rows

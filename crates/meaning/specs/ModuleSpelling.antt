@@ -69,7 +69,7 @@ SpellsNext {V} id Spells vs Following bytes =
 abbrev pub SpellsSections : List ℕ → Module → Type 0
 SpellsSections bytes m =
     SpellsNext 1 SpellsFuncType m.types
-      (SpellsNext 3 SpellsIndex (map (λ (f : Function). f.ty) m.funcs) (SpellsNext 7 SpellsExport m.exports (SpellsNext 10 SpellsCode m.funcs IsCustomSections))) bytes
+    (SpellsNext 3 SpellsIndex (map (λ (f : Function). f.ty) m.funcs) (SpellsNext 7 SpellsExport m.exports (SpellsNext 10 SpellsCode m.funcs IsCustomSections))) bytes
 
 -- The magic number, the version, and the sections (Modules).
 abbrev pub SpellsModule : List ℕ → Module → Type 0
