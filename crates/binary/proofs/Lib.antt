@@ -1,0 +1,11 @@
+pub mod CodeReaders
+pub mod ExportReaders
+pub mod Loops
+pub mod ModuleReaders
+pub mod NumberReaders
+pub mod OperationReaders
+pub mod Readers
+pub mod RefusalLaws
+pub mod SectionReaders
+pub mod TypeReaders
+pub mod VectorReaders

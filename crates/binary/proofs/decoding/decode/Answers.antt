@@ -1,0 +1,16 @@
+use Rattle.std.proofs.lemmas.Result.{err_from_is_err_and}
+use Rattle.binary.proofs.ModuleReaders.{large_module, module_takes, no_module}
+use Rattle.binary.proofs.RefusalLaws.{refused_so}
+use Rattle.binary.proofs.decoding.decode.Goals as goal
+
+pub returns-in_err-module-clause-refused : goal.returns-in_err-module-clause-refused
+returns-in_err-module-clause-refused c =
+    let passed = err_from_is_err_and c.from_residual.result c.from_residual.ensures.1 in
+    rw (passed.1, passed.2) (refused_so c.in_err-module.field-0.0 _ _ (no_module c.args.bytes.now) (rw c.new-reader.ensures at c.in_err-module.ensures))
+
+pub returns-then-not-has_small_parts-clause-refused : goal.returns-then-not-has_small_parts-clause-refused
+returns-then-not-has_small_parts-clause-refused c =
+    large_module c.args.bytes.now _ c.in_ok-module.module (rw c.new-reader.ensures at c.in_ok-module.ensures) (λ small. let yes = c.if-not-has_small_parts.ensures.1 small in absurd cc)
+
+pub returns-clause-spelt : goal.returns-clause-spelt
+returns-clause-spelt c = module_takes c.args.bytes.now _ c.in_ok-module.module (rw c.new-reader.ensures at c.in_ok-module.ensures)

@@ -1,0 +1,47 @@
+ghost use Rattle.std.specs.Prelude.{◌≡◌, ◌+◌, ◌≤◌, ◌↔◌, length, All, IsTrue, slice_get};
+ghost use Rattle.meaning.specs.Limits.{HasFewLocals, IsSmallType, parameter_count};
+
+use core_types::{Func, FuncType, Module};
+
+pub const MAX_SIZE: usize = 67_108_864;
+
+const MAX_PARAMETERS: usize = 1_000;
+
+const MAX_LOCALS: usize = 50_000;
+
+// Whether the module's types and functions are within the limits.
+pub fn has_small_parts(module: &Module) -> bool
+    ensures { IsTrue result ↔ (All IsSmallType module.now.types × All (HasFewLocals module.now.types) module.now.funcs) }
+{
+    let types = module.types.as_slice();
+    types.iter().all(is_small_type)
+        && module
+            .funcs
+            .as_slice()
+            .iter()
+            .all(|f| has_few_locals(types, f))
+}
+
+fn is_small_type(ty: &FuncType) -> bool
+    ensures { IsTrue result ↔ IsSmallType ty.now }
+{
+    ty.params.len() <= MAX_PARAMETERS && ty.results.len() <= MAX_PARAMETERS
+}
+
+fn has_few_locals(types: &[FuncType], f: &Func) -> bool
+    ensures { IsTrue result ↔ HasFewLocals types.now f.now }
+{
+    let parameters = parameters_of(types, f.ty);
+    let locals = f.locals.len() as usize;
+    locals <= MAX_LOCALS && parameters <= MAX_LOCALS - locals
+}
+
+// How many parameters the type with this index has; none where there is no type.
+fn parameters_of(types: &[FuncType], ty: u32) -> usize
+    ensures { result ≡ parameter_count (slice_get types.now ty) }
+{
+    match types.get(ty as usize) {
+        Some(found) => found.params.len(),
+        None => 0,
+    }
+}

@@ -1,0 +1,27 @@
+use crate::error::DecodeError;
+use crate::reader::Reader;
+
+// Why an opcode at a place is refused: it is that of an instruction that is not read, or of none.
+pub fn refused_opcode(code: u8, place: usize) -> DecodeError {
+    if is_opcode(code) {
+        DecodeError::Unsupported(place)
+    } else {
+        DecodeError::Malformed(place)
+    }
+}
+
+// Why what lies behind the last section that was read is refused: it is a section that is not read, or nothing of the format.
+pub fn refused_section(reader: &Reader<'_>) -> DecodeError {
+    match reader.peek() {
+        Some(2 | 4 | 5 | 6 | 8 | 9 | 11 | 12) => DecodeError::Unsupported(reader.place()),
+        _ => DecodeError::Malformed(reader.place()),
+    }
+}
+
+// Whether WebAssembly 2.0, or a later part of the format that has an opcode for it, has such an instruction.
+fn is_opcode(code: u8) -> bool {
+    matches!(
+        code,
+        0x00..=0x1C | 0x20..=0x26 | 0x28..=0xC4 | 0xD0..=0xD2 | 0xFB..=0xFE
+    )
+}

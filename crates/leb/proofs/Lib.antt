@@ -1,0 +1,4 @@
+pub mod PrefixFree
+pub mod SignedLaws
+pub mod UnsignedLaws
+pub mod Widths

@@ -1,0 +1,39 @@
+-- What the first byte says of a signed integer's spelling.
+use Rattle.std.proofs.Common.{◌≡◌, ℕ, ◌-◌, ◌^◌, ◌<◌, ◌≤◌, List, [], ◌∷◌, ◌++◌, ℤ, pos, ◌+ℤ◌, ◌*ℤ◌, arith, ap, refl, subst, inl, inr, w64, FitsSigned}
+use Rattle.std.proofs.lemmas.Int.{ints}
+use Rattle.leb.proofs.Widths.{half_at_most}
+use Rattle.leb.specs.Ranges.{IsInRange}
+use Rattle.meaning.specs.NumberSpelling.{EndsSigned, SpellsSigned}
+use Rattle.meaning.specs.Spelling.{NoFront, Reads}
+
+pub ends_low : (bits byte : ℕ) (z : ℤ) → EndsSigned bits byte z → byte < 2 ^ 7
+ends_low bits byte z (inl p) = omega arith
+ends_low bits byte z (inr p) = omega arith
+
+-- A signed integer of at most 64 bits is an `i64`.
+pub IsInRange-fits : (bits : ℕ) (z : ℤ) → bits ≤ 64 → IsInRange bits z → FitsSigned w64 z
+IsInRange-fits bits z narrow range = omega (arith, ints, half_at_most bits narrow, range)
+
+-- A last byte stands for the number.
+pub last_reads : (bits byte : ℕ) (z : ℤ) (after : List ℕ) → EndsSigned bits byte z → Reads (SpellsSigned bits) (byte ∷ after) z after
+last_reads bits byte z after ends = record { text = byte ∷ []; spelt = ends; parts = refl }
+
+more_spelt : (bits byte : ℕ) (high z : ℤ) (text : List ℕ) → 2 ^ 7 ≤ byte → 7 < bits → SpellsSigned (bits - 7) text high → z +ℤ pos (2 ^ 7) ≡ (pos (2 ^ 7) *ℤ high) +ℤ pos byte → SpellsSigned bits (byte ∷ text) z
+more_spelt bits byte high z [] more wide spelt value = absurd spelt
+more_spelt bits byte high z (next ∷ text) more wide spelt value = (more, wide, (high, spelt, value))
+
+-- A byte that is not the last goes before what the rest spells.
+pub more_reads : (bits byte : ℕ) (high z : ℤ) (bytes after : List ℕ) → 2 ^ 7 ≤ byte → 7 < bits → Reads (SpellsSigned (bits - 7)) bytes high after → z +ℤ pos (2 ^ 7) ≡ (pos (2 ^ 7) *ℤ high) +ℤ pos byte → Reads (SpellsSigned bits) (byte ∷ bytes) z after
+more_reads bits byte high z bytes after more wide rest value =
+    record { text = byte ∷ rest.text; spelt = more_spelt bits byte high z rest.text more wide rest.spelt value; parts = ap (λ (x : List ℕ). byte ∷ x) rest.parts }
+
+-- No spelling begins with a last byte that stands for nothing, nor with another byte where the rest spells nothing.
+pub none_reads : (bits byte : ℕ) (bytes : List ℕ) → (byte < 2 ^ 7 → (z : ℤ) → EndsSigned bits byte z → ⊥) → (2 ^ 7 ≤ byte → 7 < bits → NoFront (SpellsSigned (bits - 7)) bytes) → NoFront (SpellsSigned bits) (byte ∷ bytes)
+none_reads bits byte bytes last more [] rest z parts spelt = absurd spelt
+none_reads bits byte bytes last more (first ∷ []) rest z parts spelt =
+    let same : first ≡ byte = cc in
+    last (omega (arith, ends_low bits first z spelt)) z (subst (λ (x : ℕ). EndsSigned bits x z) same spelt)
+none_reads bits byte bytes last more (first ∷ next ∷ text) rest z parts spelt =
+    let same : byte ≡ first = cc in
+    let tail : bytes ≡ (next ∷ text) ++ rest = cc in
+    more (omega arith) spelt.1 (next ∷ text) rest spelt.2.0 tail spelt.2.1

@@ -1,0 +1,28 @@
+-- What the first byte says of an unsigned integer's spelling.
+use Rattle.std.proofs.Common.{◌≡◌, ℕ, ◌+◌, ◌-◌, ◌*◌, ◌^◌, ◌<◌, ◌≤◌, List, [], ◌∷◌, ◌++◌, arith, ap, refl}
+use Rattle.meaning.specs.NumberSpelling.{SpellsUnsigned}
+use Rattle.meaning.specs.Spelling.{NoFront, Reads}
+
+-- A last byte is the number.
+pub last_reads : (bits byte : ℕ) (after : List ℕ) → byte < 2 ^ 7 → byte < 2 ^ bits → Reads (SpellsUnsigned bits) (byte ∷ after) byte after
+last_reads bits byte after last within = record { text = byte ∷ []; spelt = (last, within, refl); parts = refl }
+
+more_spelt : (bits byte high n : ℕ) (text : List ℕ) → 2 ^ 7 ≤ byte → 7 < bits → SpellsUnsigned (bits - 7) text high → n + 2 ^ 7 ≡ 2 ^ 7 * high + byte → SpellsUnsigned bits (byte ∷ text) n
+more_spelt bits byte high n [] more wide spelt value = absurd spelt
+more_spelt bits byte high n (next ∷ text) more wide spelt value = (more, wide, (high, spelt, value))
+
+-- A byte that is not the last goes before what the rest spells.
+pub more_reads : (bits byte high n : ℕ) (bytes after : List ℕ) → 2 ^ 7 ≤ byte → 7 < bits → Reads (SpellsUnsigned (bits - 7)) bytes high after → n + 2 ^ 7 ≡ 2 ^ 7 * high + byte → Reads (SpellsUnsigned bits) (byte ∷ bytes) n after
+more_reads bits byte high n bytes after more wide rest value =
+    record { text = byte ∷ rest.text; spelt = more_spelt bits byte high n rest.text more wide rest.spelt value; parts = ap (λ (x : List ℕ). byte ∷ x) rest.parts }
+
+-- No spelling begins with a last byte that the bits do not hold, nor with another byte where the rest spells nothing.
+pub none_reads : (bits byte : ℕ) (bytes : List ℕ) → (byte < 2 ^ 7 → byte < 2 ^ bits → ⊥) → (2 ^ 7 ≤ byte → 7 < bits → NoFront (SpellsUnsigned (bits - 7)) bytes) → NoFront (SpellsUnsigned bits) (byte ∷ bytes)
+none_reads bits byte bytes last more [] rest value parts spelt = absurd spelt
+none_reads bits byte bytes last more (first ∷ []) rest value parts spelt =
+    let same : byte ≡ first = cc in
+    last (omega arith) (omega arith)
+none_reads bits byte bytes last more (first ∷ next ∷ text) rest value parts spelt =
+    let same : byte ≡ first = cc in
+    let tail : bytes ≡ (next ∷ text) ++ rest = cc in
+    more (omega arith) spelt.1 (next ∷ text) rest spelt.2.0 tail spelt.2.1

@@ -1,0 +1,13 @@
+//! Reads the integers of the binary format, which are spelled with seven bits a byte (LEB128).
+#![tactic(auto)]
+
+mod laws;
+mod signed;
+#[cfg(test)]
+mod tests;
+mod unsigned;
+mod width;
+
+pub use laws::spellings_are_prefix_free;
+pub use signed::{read_s32, read_s33, read_s64};
+pub use unsigned::read_u32;

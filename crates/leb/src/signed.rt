@@ -1,0 +1,97 @@
+ghost use Rattle.std.specs.Prelude.{◌≡◌, ◌+◌, ◌-◌, ◌^◌, ◌<◌, ◌≤◌, ℤ, pos, ◌+ℤ◌, ◌*ℤ◌, length, drop, IfNone, IfSome};
+ghost use Rattle.leb.specs.Ranges.{IsInRange};
+ghost use Rattle.meaning.specs.NumberSpelling.{EndsSigned, SpellsSigned};
+ghost use Rattle.meaning.specs.Spelling.{NoFront, Reads};
+
+use crate::width::is_within;
+
+// The signed integer of so many bits that a last byte stands for.
+fn last_value(bits: u32, byte: u8) -> Option<i64>
+    requires some_bits { 0 < bits }
+    requires last { byte < 2 ^ 7 }
+    ensures range { IfSome result (IsInRange bits) }
+    ensures found { IfSome result (EndsSigned bits byte) }
+    ensures none { IfNone result ((z : ℤ) → EndsSigned bits byte z → ⊥) }
+{
+    if byte < 0x40 {
+        is_within(bits - 1, byte).then_some(i64::from(byte))
+    } else {
+        is_within(bits - 1, 0x7F - byte).then_some(i64::from(byte) - 0x80)
+    }
+}
+
+// A byte that is not the last, before what the rest stands for.
+fn joined_value(bits: u32, byte: u8, high: i64) -> i64
+    requires at_least { 7 < bits }
+    requires at_most { bits ≤ 64 }
+    requires not_last { 2 ^ 7 ≤ byte }
+    requires rest { IsInRange (bits - 7) high }
+    ensures range { IsInRange bits result }
+    ensures value { result +ℤ pos (2 ^ 7) ≡ (pos (2 ^ 7) *ℤ high) +ℤ pos byte }
+{
+    high * 0x80 + i64::from(byte - 0x80)
+}
+
+// The signed integer of so many bits that a front of the bytes spells, and how many bytes spell it.
+fn signed_front(bytes: &[u8], bits: u32) -> Option<(i64, usize)>
+    requires some_bits { 0 < bits }
+    requires at_most { bits ≤ 64 }
+    ensures size { IfSome result (λ f. (0 < f.1) × (f.1 ≤ length bytes.now)) }
+    ensures range { IfSome result (λ f. IsInRange bits f.0) }
+    ensures found { IfSome result (λ f. Reads (SpellsSigned bits) bytes.now f.0 (drop f.1 bytes.now)) }
+    ensures none { IfNone result (NoFront (SpellsSigned bits) bytes.now) }
+{
+    let (byte, rest) = bytes.split_first()?;
+    let byte = *byte;
+    if byte < 0x80 {
+        let value = last_value(bits, byte)?;
+        return Some((value, 1));
+    }
+    if bits <= 7 {
+        return None;
+    }
+    let (high, size) = signed_front(rest, bits - 7)?;
+    Some((joined_value(bits, byte, high), size + 1))
+}
+
+/// Reads the signed integer of 32 bits whose spelling begins at `at`, and says at which place the spelling ends.
+///
+/// `at` is at most the number of bytes. The answer is `None` where no spelling begins there: the bytes end too early, it
+/// would take more than five, or those spell a number beyond 32 bits (Binary Format, Values, Integers).
+pub fn read_s32(bytes: &[u8], at: usize) -> Option<(i32, usize)>
+    requires { at ≤ length bytes.now }
+    ensures within { IfSome result (λ f. (at < f.1) × (f.1 ≤ length bytes.now)) }
+    ensures found { IfSome result (λ f. Reads (SpellsSigned 32) (drop at bytes.now) f.0 (drop f.1 bytes.now)) }
+    ensures none { IfNone result (NoFront (SpellsSigned 32) (drop at bytes.now)) }
+{
+    let (value, size) = signed_front(&bytes[at..], 32)?;
+    Some((value as i32, at + size))
+}
+
+/// Reads the signed integer of 33 bits whose spelling begins at `at`, and says at which place the spelling ends.
+///
+/// `at` is at most the number of bytes. The answer is `None` where no spelling begins there: the bytes end too early, it
+/// would take more than five, or those spell a number beyond 33 bits (Binary Format, Values, Integers).
+pub fn read_s33(bytes: &[u8], at: usize) -> Option<(i64, usize)>
+    requires { at ≤ length bytes.now }
+    ensures within { IfSome result (λ f. (at < f.1) × (f.1 ≤ length bytes.now)) }
+    ensures found { IfSome result (λ f. Reads (SpellsSigned 33) (drop at bytes.now) f.0 (drop f.1 bytes.now)) }
+    ensures none { IfNone result (NoFront (SpellsSigned 33) (drop at bytes.now)) }
+{
+    let (value, size) = signed_front(&bytes[at..], 33)?;
+    Some((value, at + size))
+}
+
+/// Reads the signed integer of 64 bits whose spelling begins at `at`, and says at which place the spelling ends.
+///
+/// `at` is at most the number of bytes. The answer is `None` where no spelling begins there: the bytes end too early, it
+/// would take more than ten, or those spell a number beyond 64 bits (Binary Format, Values, Integers).
+pub fn read_s64(bytes: &[u8], at: usize) -> Option<(i64, usize)>
+    requires { at ≤ length bytes.now }
+    ensures within { IfSome result (λ f. (at < f.1) × (f.1 ≤ length bytes.now)) }
+    ensures found { IfSome result (λ f. Reads (SpellsSigned 64) (drop at bytes.now) f.0 (drop f.1 bytes.now)) }
+    ensures none { IfNone result (NoFront (SpellsSigned 64) (drop at bytes.now)) }
+{
+    let (value, size) = signed_front(&bytes[at..], 64)?;
+    Some((value, at + size))
+}

@@ -1,0 +1,9 @@
+ghost use Rattle.std.specs.Prelude.{◌^◌, ◌<◌, ◌↔◌, IsTrue};
+
+// Whether the number of seven bits is one of so many bits too.
+pub fn is_within(bits: u32, number: u8) -> bool
+    requires { number < 2 ^ 7 }
+    ensures { IsTrue result ↔ (number < 2 ^ bits) }
+{
+    bits >= 7 || number < 1 << bits
+}

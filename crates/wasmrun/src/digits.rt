@@ -1,0 +1,14 @@
+//! Numbers that are written in digits.
+
+/// The number that a text of ASCII digits writes, at least one, where a u64 holds it.
+pub fn number(text: &str) -> Option<u64> {
+    if text.is_empty() || !text.bytes().all(|byte| byte.is_ascii_digit()) {
+        return None;
+    }
+    text.parse::<u64>().ok()
+}
+
+/// The number that a text of ASCII digits writes, at least one, where a u32 holds it.
+pub fn short_number(text: &str) -> Option<u32> {
+    u32::try_from(number(text)?).ok()
+}

@@ -1,0 +1,125 @@
+//! The command line.
+
+use crate::digits::number;
+use clap::error::ErrorKind;
+use clap::{Arg, ArgAction, ArgMatches, Command, Error};
+use std::alloc::{AllocError, Global};
+
+/// The fuel of a call where the words name none.
+pub const DEFAULT_FUEL: u64 = 1_000_000_000;
+
+/// The call that the words ask for.
+#[derive(Debug, Drop)]
+pub struct CallOrder<'a> {
+    pub file: &'a str,
+    pub export: &'a str,
+    pub args: Vec<&'a str>,
+    pub fuel: u64,
+}
+
+/// Why the words ask for nothing.
+#[derive(Clone, Copy, PartialEq, Eq, Debug)]
+pub enum LineFault {
+    /// They are not of the form that the program reads.
+    Usage,
+    /// There was no memory to read them.
+    Memory,
+}
+
+impl From<AllocError> for LineFault {
+    fn from(_error: AllocError) -> LineFault {
+        LineFault::Memory
+    }
+}
+
+impl From<Error> for LineFault {
+    fn from(error: Error) -> LineFault {
+        if error.kind() == ErrorKind::OutOfMemory {
+            LineFault::Memory
+        } else {
+            LineFault::Usage
+        }
+    }
+}
+
+// A command that knows of no help and no version.
+fn plain_command<'a>(alloc: Global, name: &'a str) -> Command<'a> {
+    Command::new(alloc, name)
+        .disable_help_flag(true)
+        .disable_version_flag(true)
+        .disable_help_subcommand(true)
+}
+
+// A word that has to be there.
+fn required<'a>(alloc: Global, name: &'a str) -> Arg<'a> {
+    Arg::new(alloc, name).required(true).action(ArgAction::Set)
+}
+
+fn call_command<'a>(alloc: Global) -> Result<Command<'a>, AllocError> {
+    let args = Arg::new(alloc, "args")
+        .num_args(0..)
+        .action(ArgAction::Append);
+    let fuel = Arg::new(alloc, "fuel").long("fuel").action(ArgAction::Set);
+    plain_command(alloc, "call")
+        .arg(required(alloc, "file"))?
+        .arg(required(alloc, "export"))?
+        .arg(args)?
+        .arg(fuel)
+}
+
+fn program_command<'a>(alloc: Global) -> Result<Command<'a>, AllocError> {
+    plain_command(alloc, "wasmrun")
+        .subcommand_required(true)
+        .no_binary_name(true)
+        .subcommand(call_command(alloc)?)
+}
+
+// The word under a name.
+fn word_of<'a>(matches: &ArgMatches<'a>, name: &str) -> Result<&'a str, LineFault> {
+    match matches.get_str(name) {
+        Some(word) => Ok(word),
+        None => Err(LineFault::Usage),
+    }
+}
+
+// All words under a name.
+fn words_of<'a>(
+    alloc: Global,
+    matches: &ArgMatches<'a>,
+    name: &str,
+) -> Result<Vec<&'a str>, LineFault> {
+    match matches.get_strs(name) {
+        Some(words) => Ok(Vec::from_slice(alloc, words)?),
+        None => Ok(Vec::new(alloc)),
+    }
+}
+
+// The number of an option, if it is there.
+fn option_of(matches: &ArgMatches<'_>, name: &str) -> Result<Option<u64>, LineFault> {
+    match matches.get_str(name) {
+        None => Ok(None),
+        Some(word) => match number(word) {
+            Some(value) => Ok(Some(value)),
+            None => Err(LineFault::Usage),
+        },
+    }
+}
+
+fn order_of<'a>(alloc: Global, matches: &ArgMatches<'a>) -> Result<CallOrder<'a>, LineFault> {
+    let fuel = option_of(matches, "fuel")?;
+    Ok(CallOrder {
+        file: word_of(matches, "file")?,
+        export: word_of(matches, "export")?,
+        args: words_of(alloc, matches, "args")?,
+        fuel: fuel.unwrap_or(DEFAULT_FUEL),
+    })
+}
+
+/// What the words after the program's name ask for.
+pub fn read_line<'a>(alloc: Global, words: &'a [String]) -> Result<CallOrder<'a>, LineFault> {
+    let matches = program_command(alloc)?.try_get_matches_from(words)?;
+    match matches.subcommand_matches("call") {
+        Some(found) => order_of(alloc, found),
+        None => Err(LineFault::Usage),
+    }
+}

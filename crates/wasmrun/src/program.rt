@@ -1,0 +1,111 @@
+//! The program over its words, its files and its writers.
+
+use crate::args::{ArgsFault, read_args};
+use crate::engine::{Engine, Refusal};
+use crate::inputs::{Files, ReadFault};
+use crate::line::{CallOrder, LineFault, read_line};
+use crate::print::{print_end, print_fault};
+use exec::{Outcome, ValidModule};
+use std::alloc::Global;
+use std::io::Write;
+
+/// How a call ended.
+#[derive(Debug, Drop)]
+pub struct CallEnd {
+    pub outcome: Outcome,
+    pub fuel_left: u64,
+}
+
+/// Why nothing was called.
+#[derive(Clone, Copy, PartialEq, Eq, Debug)]
+pub enum Fault<'a> {
+    /// The words are not of the form that the program reads.
+    Usage,
+    /// The file at this path could not be read.
+    CannotRead(&'a str),
+    /// The engine refused.
+    Refused(Refusal),
+    /// The words for the arguments do not fit the function.
+    BadArguments,
+}
+
+impl From<LineFault> for Fault<'_> {
+    fn from(fault: LineFault) -> Self {
+        match fault {
+            LineFault::Usage => Fault::Usage,
+            LineFault::Memory => Fault::Refused(Refusal::OutOfMemory),
+        }
+    }
+}
+
+impl From<Refusal> for Fault<'_> {
+    fn from(refusal: Refusal) -> Self {
+        Fault::Refused(refusal)
+    }
+}
+
+impl From<ArgsFault> for Fault<'_> {
+    fn from(fault: ArgsFault) -> Self {
+        match fault {
+            ArgsFault::Unreadable => Fault::BadArguments,
+            ArgsFault::Memory => Fault::Refused(Refusal::OutOfMemory),
+        }
+    }
+}
+
+// The module in a file.
+fn load_file<'a, F: Files>(
+    engine: &Engine,
+    files: &mut F,
+    path: &'a str,
+) -> Result<ValidModule, Fault<'a>> {
+    match files.read(path) {
+        Ok(bytes) => Ok(engine.load(bytes.as_slice())?),
+        Err(ReadFault::Failed) => Err(Fault::CannotRead(path)),
+        Err(ReadFault::Memory) => Err(Fault::Refused(Refusal::OutOfMemory)),
+    }
+}
+
+// Calls what the order names.
+fn call<'a, F: Files>(
+    alloc: Global,
+    order: &CallOrder<'a>,
+    files: &mut F,
+) -> Result<CallEnd, Fault<'a>> {
+    let mut engine = Engine::new(alloc, order.fuel);
+    let module = load_file(&engine, files, order.file)?;
+    let instance = engine.link(module)?;
+    let address = engine.exported_function(instance, order.export)?;
+    let args = read_args(alloc, engine.parameters(address), order.args.as_slice())?;
+    match engine.call(address, args.as_slice()) {
+        Some(outcome) => Ok(CallEnd {
+            outcome,
+            fuel_left: engine.fuel_left(),
+        }),
+        None => Err(Fault::BadArguments),
+    }
+}
+
+// Reads the words and does what they ask for.
+fn perform<'a, F: Files>(
+    alloc: Global,
+    words: &'a [String],
+    files: &mut F,
+) -> Result<CallEnd, Fault<'a>> {
+    let order = read_line(alloc, words)?;
+    call(alloc, &order, files)
+}
+
+/// Runs the program over the words after its name, and answers its exit status.
+pub fn run<F: Files, W: Write, E: Write>(
+    alloc: Global,
+    words: &[String],
+    files: &mut F,
+    out: &mut W,
+    err: &mut E,
+) -> u8 {
+    match perform(alloc, words, files) {
+        Ok(end) => print_end(out, &end),
+        Err(fault) => print_fault(err, &fault),
+    }
+}
