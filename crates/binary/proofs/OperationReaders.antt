@@ -75,9 +75,6 @@ op_again text rest (Plain (I32Const n)) (number, parts, (z, spelt, value)) = rw 
 op_again text rest (Plain (Binary W32 Add)) e = rw e refl
 op_again text rest (Plain (Binary W64 Add)) e = absurd e
 
-pub op_reader : IsReader SpellsOp op_at
-op_reader = record { takes = op_takes; again = op_again }
-
 op_has_bytes : (text : List ℕ) (op : Op) → SpellsOp text op → 0 < length text
 op_has_bytes text End e = omega (arith, ap length e)
 op_has_bytes text (Plain (LocalGet x)) (index, parts, spelt) = omega (arith, ap length parts)

@@ -81,6 +81,13 @@ mapped_takes {Spells = Spells} {read = read} into reader bytes rest w e =
 abbrev pub SpellsPair : {A B : Type 0} → (List ℕ → A → Type 0) → (List ℕ → B → Type 0) → List ℕ → A × B → Type 0
 SpellsPair First Second bytes pair = SpellsBoth First Second bytes pair.0 pair.1
 
+reads_both : {A B : Type 0} {First : List ℕ → A → Type 0} {Second : List ℕ → B → Type 0} {bytes between rest : List ℕ} {a : A} {b : B} → Reads First bytes a between → Reads Second between b rest → Reads (SpellsPair First Second) bytes (a, b) rest
+reads_both {rest = rest} front back = record {
+  text = front.text ++ back.text;
+  spelt = (front.text, back.text, refl, front.spelt, back.spelt);
+  parts = front.parts ∙ ap (λ (z : List ℕ). front.text ++ z) back.parts ∙ sym (append_assoc front.text back.text rest);
+}
+
 module _ {A B : Type 0} {First : List ℕ → A → Type 0} {Second : List ℕ → B → Type 0} {read : List ℕ → Option (A × List ℕ)} {next : List ℕ → Option (B × List ℕ)} where
   pub both_takes : {W : Type 0} (joined : A → B → W) → IsReader First read → IsReader Second next → (bytes rest : List ℕ) (w : W) → (read bytes >>= λ a. next a.1 >>= λ b. found (joined a.0 b.0) b.1) ≡ Some (w, rest)
       → (a : A) × (b : B) × Reads (SpellsPair First Second) bytes (a, b) rest × (joined a b ≡ w)
@@ -89,16 +96,8 @@ module _ {A B : Type 0} {First : List ℕ → A → Type 0} {Second : List ℕ �
       let second = bind_some (next first.0.1) (λ b. found (joined first.0.0 b.0) b.1) (w, rest) first.2 in
       let same = found-injective (joined first.0.0 second.0.0) w second.0.1 rest second.2 in
       let front = reader.takes bytes first.0.1 first.0.0 first.1 in
-      let back = reader_next.takes first.0.1 second.0.1 second.0.0 second.1 in (
-        first.0.0,
-        second.0.0,
-        record {
-          text = front.text ++ back.text;
-          spelt = (front.text, back.text, refl, front.spelt, back.spelt);
-          parts = front.parts ∙ ap (λ (z : List ℕ). front.text ++ z) (back.parts ∙ ap (λ (z : List ℕ). back.text ++ z) same.1) ∙ sym (append_assoc front.text back.text rest);
-        },
-        same.0,
-      )
+      let back = reader_next.takes first.0.1 second.0.1 second.0.0 second.1 in
+      (first.0.0, second.0.0, reads_both front (subst (λ (after : List ℕ). Reads Second first.0.1 second.0.0 after) same.1 back), same.0)
 
   pub both_again : {W : Type 0} (joined : A → B → W) → IsReader First read → IsReader Second next → (text rest : List ℕ) (a : A) (b : B) → SpellsBoth First Second text a b
       → (read (text ++ rest) >>= λ a. next a.1 >>= λ b. found (joined a.0 b.0) b.1) ≡ Some (joined a b, rest)

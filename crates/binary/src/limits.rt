@@ -5,7 +5,8 @@ use core_types::{Func, FuncType, Module};
 
 pub const MAX_SIZE: usize = 67_108_864;
 
-const MAX_PARAMETERS: usize = 1_000;
+// Of parameters of a type, and of its results.
+const MAX_VALUES: usize = 1_000;
 
 const MAX_LOCALS: usize = 50_000;
 
@@ -25,7 +26,7 @@ pub fn has_small_parts(module: &Module) -> bool
 fn is_small_type(ty: &FuncType) -> bool
     ensures { IsTrue result ↔ IsSmallType ty.now }
 {
-    ty.params.len() <= MAX_PARAMETERS && ty.results.len() <= MAX_PARAMETERS
+    ty.params.len() <= MAX_VALUES && ty.results.len() <= MAX_VALUES
 }
 
 fn has_few_locals(types: &[FuncType], f: &Func) -> bool
