@@ -47,7 +47,7 @@ fn read_module(alloc: Global, reader: &mut Reader<'_>) -> Result<Module, DecodeE
     let funcs = read_code_section(alloc, reader, indices.as_slice())?;
     skip_customs(reader)?;
     if !reader.is_empty() {
-        return Err(refused_section(reader));
+        return Err(refused_section(reader.peek(), reader.place()));
     }
     Ok(Module {
         types,

@@ -11,12 +11,12 @@ const MAX_VALUES: usize = 1_000;
 const MAX_LOCALS: usize = 50_000;
 
 // Whether the module's types and functions are within the limits.
-pub fn has_small_parts(module: &Module) -> bool
-    ensures { IsTrue result ↔ (All IsSmallType module.now.types × All (HasFewLocals module.now.types) module.now.funcs) }
+pub fn has_small_parts(decoded: &Module) -> bool
+    ensures { IsTrue result ↔ (All IsSmallType decoded.now.types × All (HasFewLocals decoded.now.types) decoded.now.funcs) }
 {
-    let types = module.types.as_slice();
+    let types = decoded.types.as_slice();
     types.iter().all(is_small_type)
-        && module
+        && decoded
             .funcs
             .as_slice()
             .iter()

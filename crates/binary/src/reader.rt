@@ -1,4 +1,4 @@
-ghost use Rattle.std.specs.Prelude.{◌≡◌, ◌≢◌, ◌==◌, [], length, drop, if◌then◌else◌, OnOk, IfErr};
+ghost use Rattle.std.specs.Prelude.{◌≡◌, ◌≢◌, ◌==◌, [], length, drop, slice_get, if◌then◌else◌, OnOk, IfErr};
 ghost use Rattle.binary.specs.Reading.{Gives, begins_with, byte_at, part_at, unsigned_at, signed_at};
 ghost use Rattle.binary.specs.Refusals.{OnRefused};
 
@@ -49,7 +49,9 @@ impl<'a> Reader<'a> {
     }
 
     // The next byte, which stays.
-    pub fn peek(&self) -> Option<u8> {
+    pub fn peek(&self) -> Option<u8>
+        ensures { result ≡ slice_get self.now 0 }
+    {
         self.rest().first().copied()
     }
 

@@ -1,8 +1,11 @@
+ghost use Rattle.binary.specs.Refusals.{IsRefusedAt};
+
 use crate::error::DecodeError;
-use crate::reader::Reader;
 
 // Why an opcode at a place is refused: it is that of an instruction that is not read, or of none.
-pub fn refused_opcode(code: u8, place: usize) -> DecodeError {
+pub fn refused_opcode(code: u8, place: usize) -> DecodeError
+    ensures { IsRefusedAt place result }
+{
     if is_opcode(code) {
         DecodeError::Unsupported(place)
     } else {
@@ -10,11 +13,14 @@ pub fn refused_opcode(code: u8, place: usize) -> DecodeError {
     }
 }
 
-// Why what lies behind the last section that was read is refused: it is a section that is not read, or nothing of the format.
-pub fn refused_section(reader: &Reader<'_>) -> DecodeError {
-    match reader.peek() {
-        Some(2 | 4 | 5 | 6 | 8 | 9 | 11 | 12) => DecodeError::Unsupported(reader.place()),
-        _ => DecodeError::Malformed(reader.place()),
+// Why what lies behind the last section that was read is refused, by its first byte: it is a section that is not read, or
+// nothing of the format.
+pub fn refused_section(next: Option<u8>, place: usize) -> DecodeError
+    ensures { IsRefusedAt place result }
+{
+    match next {
+        Some(2 | 4 | 5 | 6 | 8 | 9 | 11 | 12) => DecodeError::Unsupported(place),
+        _ => DecodeError::Malformed(place),
     }
 }
 

@@ -62,7 +62,7 @@ pub fn read_code_section(
         return Ok(funcs);
     }
     if !types.is_empty() {
-        return Err(refused_section(reader));
+        return Err(refused_section(reader.peek(), reader.place()));
     }
     Ok(Items::from_vec(Vec::new(alloc)))
 }

@@ -1,5 +1,7 @@
 //! What the program prints, and the exit status that goes with it.
 
+ghost use Rattle.wasmrun.specs.Statuses.{IsStatus};
+
 use crate::engine::Refusal;
 use crate::program::{CallEnd, Fault};
 use core_types::{Exhaustion, Trap, Val};
@@ -69,7 +71,9 @@ fn print_lines<W: Write>(out: &mut W, end: &CallEnd) -> io::Result<()> {
     out.flush()
 }
 
-fn outcome_status(outcome: &Outcome) -> u8 {
+fn outcome_status(outcome: &Outcome) -> u8
+    ensures { IsStatus result }
+{
     match outcome {
         Outcome::Values(_) => 0,
         Outcome::Trap(_) => 1,
@@ -79,14 +83,18 @@ fn outcome_status(outcome: &Outcome) -> u8 {
 }
 
 /// Prints how a call ended, and answers the exit status: 1 where the writer fails.
-pub fn print_end<W: Write>(out: &mut W, end: &CallEnd) -> u8 {
+pub fn print_end<W: Write>(out: &mut W, end: &CallEnd) -> u8
+    ensures { IsStatus result }
+{
     match print_lines(out, end) {
         Ok(()) => outcome_status(&end.outcome),
         Err(_) => 1,
     }
 }
 
-fn refusal_status(refusal: Refusal) -> u8 {
+fn refusal_status(refusal: Refusal) -> u8
+    ensures { IsStatus result }
+{
     match refusal {
         Refusal::Malformed => 5,
         Refusal::Unsupported => 5,
@@ -98,7 +106,9 @@ fn refusal_status(refusal: Refusal) -> u8 {
     }
 }
 
-fn fault_status(fault: &Fault<'_>) -> u8 {
+fn fault_status(fault: &Fault<'_>) -> u8
+    ensures { IsStatus result }
+{
     match fault {
         Fault::Usage => 2,
         Fault::CannotRead(_) => 3,
@@ -117,7 +127,9 @@ fn print_fault_line<E: Write>(err: &mut E, fault: &Fault<'_>) -> io::Result<()> 
 }
 
 /// Prints why nothing was called, and answers the exit status, also where the writer fails.
-pub fn print_fault<E: Write>(err: &mut E, fault: &Fault<'_>) -> u8 {
+pub fn print_fault<E: Write>(err: &mut E, fault: &Fault<'_>) -> u8
+    ensures { IsStatus result }
+{
     let _ = print_fault_line(err, fault);
     fault_status(fault)
 }

@@ -1,5 +1,7 @@
 //! The program over its words, its files and its writers.
 
+ghost use Rattle.wasmrun.specs.Statuses.{IsStatus};
+
 use crate::args::{ArgsFault, read_args};
 use crate::engine::{Engine, Refusal};
 use crate::inputs::{Files, ReadFault};
@@ -103,7 +105,9 @@ pub fn run<F: Files, W: Write, E: Write>(
     files: &mut F,
     out: &mut W,
     err: &mut E,
-) -> u8 {
+) -> u8
+    ensures { IsStatus result }
+{
     match perform(alloc, words, files) {
         Ok(end) => print_end(out, &end),
         Err(fault) => print_fault(err, &fault),
