@@ -10,9 +10,10 @@ use Rattle.meaning.specs.ModuleSpelling.{SpellsCode, SpellsFunctionContent, Spel
 use Rattle.meaning.specs.NumberSpelling.{SpellsUnsigned}
 use Rattle.meaning.specs.Productions.{SpellsEach, SpellsSized, SpellsVector}
 use Rattle.meaning.specs.Spelling.{Reads}
-use Rattle.binary.specs.Reading.{◌>>=◌, code_at, codes_at, function_content_at, functions_at, groups_at, local_group_at, locals_at, unsigned_at}
+use Rattle.binary.specs.EntryReading.{code_at, codes_at, function_content_at, functions_at, groups_at, local_group_at, locals_at}
+use Rattle.binary.specs.Reading.{◌>>=◌, unsigned_at}
 use Rattle.binary.proofs.NumberReaders.{unsigned_reader}
-use Rattle.binary.proofs.OperationReaders.{expression_reader}
+use Rattle.binary.proofs.ExpressionReaders.{expression_reader}
 use Rattle.binary.proofs.Readers.{IsReader, bind_some, both_again, both_takes, found, found-injective, if_found, reads_as, whole_reader}
 use Rattle.binary.proofs.TypeReaders.{val_type_reader}
 use Rattle.binary.proofs.VectorReaders.{sized_reader}

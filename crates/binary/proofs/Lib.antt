@@ -1,11 +1,17 @@
-pub mod CodeReaders
-pub mod ExportReaders
-pub mod Loops
-pub mod ModuleReaders
-pub mod NumberReaders
-pub mod OperationReaders
-pub mod Readers
-pub mod RefusalLaws
-pub mod SectionReaders
-pub mod TypeReaders
-pub mod VectorReaders
+mod Readers
+mod NumberReaders
+mod VectorReaders
+mod RefusalLaws
+mod Choices
+mod Loops
+mod TypeReaders
+mod NumericReaders
+mod SectionReaders
+mod OperationReaders
+mod FlatReaders
+mod Nesting
+mod ExpressionReaders
+mod Inside
+mod EntryReaders
+mod CodeReaders
+mod ModuleReaders

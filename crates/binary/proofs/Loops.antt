@@ -5,10 +5,11 @@ use Rattle.std.proofs.Math.ListN.{drop_of_length-le}
 use Rattle.std.proofs.lemmas.Bool.{le-ltb, lt-ltb}
 use Rattle.std.proofs.lemmas.List.{drop_more, nil_from_length}
 use Rattle.core_types.specs.declared.module.Func.{Func}
-use Rattle.core_types.specs.declared.op.Op.{Op}
 use Rattle.core_types.specs.declared.types.ValType.{ValType}
 use Rattle.binary.specs.declared.error.DecodeError.{DecodeError}
-use Rattle.binary.specs.Reading.{after_customs, begins_with, code_at, codes_at, custom_at, customs_at, each_at, expected_at, expression_at, groups_at, is_end, local_group_at, op_at, ops_at}
+use Rattle.binary.specs.EntryReading.{code_at, codes_at, groups_at, local_group_at}
+use Rattle.binary.specs.ModuleReading.{after_customs, custom_at, customs_at}
+use Rattle.binary.specs.Reading.{begins_with, each_at, expected_at}
 use Rattle.binary.specs.Refusals.{OnRefused}
 use Rattle.binary.proofs.RefusalLaws.{refused_so}
 
@@ -119,47 +120,6 @@ pub record IsSkipping (whole rest : List ℕ) : Type 0 where
 pub skipping_begins : (whole : List ℕ) → IsSkipping whole whole
 unfolding after_customs
 skipping_begins whole = record { steps = length whole; enough = omega arith; so_far = refl }
-
--- An expression is being read: the steps that are left suffice, and go on to the whole of it.
-pub record IsInside (whole rest : List ℕ) (ops : List Op) : Type 0 where
-  pub steps : ℕ
-  pub enough : length rest ≤ steps
-  pub so_far : ops_at steps ops rest ≡ expression_at whole
-
-pub inside_begins : (whole : List ℕ) → IsInside whole whole []
-unfolding expression_at
-inside_begins whole = record { steps = length whole; enough = omega arith; so_far = refl }
-
-module _ (whole bytes : List ℕ) (ops : List Op) (inside : IsInside whole bytes ops) where
-  pub inside_goes_on : (op : Op) (after : List ℕ) → length after < length bytes → op_at bytes ≡ Some (op, after) → is_end op ≡ false → IsInside whole after (ops ++ op ∷ [])
-  unfolding ops_at
-  inside_goes_on op after shorter read_is goes = step inside.steps inside.enough inside.so_far
-    where
-      step : (steps : ℕ) → length bytes ≤ steps → ops_at steps ops bytes ≡ expression_at whole → IsInside whole after (ops ++ op ∷ [])
-      step zero enough so_far = absurd (omega arith)
-      step (suc steps) enough so_far =
-          let turn : ops_at (suc steps) ops bytes ≡ ops_at steps (ops ++ op ∷ []) after = rw (read_is, goes) refl in
-          record { steps = steps; enough = omega arith; so_far = sym turn ∙ so_far }
-
-  pub inside_ends : (op : Op) (after : List ℕ) → length after < length bytes → op_at bytes ≡ Some (op, after) → is_end op ≡ true → expression_at whole ≡ Some (ops, after)
-  unfolding ops_at
-  inside_ends op after shorter read_is ends = sym inside.so_far ∙ step inside.steps inside.enough
-    where
-      step : (steps : ℕ) → length bytes ≤ steps → ops_at steps ops bytes ≡ Some (ops, after)
-      step zero enough = absurd (omega arith)
-      step (suc steps) enough = rw (read_is, ends) refl
-
-  none_inside : (steps : ℕ) → op_at bytes ≡ None → ops_at steps ops bytes ≡ None
-  unfolding ops_at
-  none_inside zero none = refl
-  none_inside (suc steps) none = rw none refl
-
-  pub inside_refuses : (error : DecodeError) → OnRefused error (op_at bytes ≡ None) → OnRefused error (expression_at whole ≡ None)
-  inside_refuses error refused = refused_so error (op_at bytes ≡ None) (expression_at whole ≡ None) (λ none. sym inside.so_far ∙ none_inside inside.steps none) refused
-
-  pub inside_stops : length bytes ≡ 0 → expression_at whole ≡ None
-  unfolding op_at
-  inside_stops empty = sym inside.so_far ∙ none_inside inside.steps (rw (nil_from_length bytes empty) refl)
 
 module _ (whole bytes : List ℕ) (skipping : IsSkipping whole bytes) where
   pub skipping_goes_on : (after : List ℕ) → length after < length bytes → begins_with 0 bytes ≡ true → custom_at (drop 1 bytes) ≡ Some (tt, after) → IsSkipping whole after

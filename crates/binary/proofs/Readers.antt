@@ -3,7 +3,7 @@ use Rattle.std.proofs.Common.{◌≡◌, ℕ, List, ◌++◌, Bool, true, false,
 use Rattle.std.proofs.lemmas.Bool.{eqb-true}
 use Rattle.std.proofs.lemmas.List.{append-nil}
 use Rattle.std.specs.Prelude.{Option, Some, None}
-use Rattle.meaning.specs.Productions.{SpellsBoth}
+use Rattle.meaning.specs.Productions.{SpellsBoth, SpellsPair, SpellsTagged}
 use Rattle.meaning.specs.Spelling.{Reads, NoFront}
 use Rattle.binary.specs.Reading.{◌>>=◌, begins_with}
 
@@ -77,10 +77,6 @@ mapped_takes {Spells = Spells} {read = read} into reader bytes rest w e =
     let same = found-injective (into value.0.0) w value.0.1 rest value.2 in
     (value.0.0, subst (λ (after : List ℕ). Reads Spells bytes value.0.0 after) same.1 (reader.takes bytes value.0.1 value.0.0 value.1), same.0)
 
--- Two spellings as one, of the pair.
-abbrev pub SpellsPair : {A B : Type 0} → (List ℕ → A → Type 0) → (List ℕ → B → Type 0) → List ℕ → A × B → Type 0
-SpellsPair First Second bytes pair = SpellsBoth First Second bytes pair.0 pair.1
-
 reads_both : {A B : Type 0} {First : List ℕ → A → Type 0} {Second : List ℕ → B → Type 0} {bytes between rest : List ℕ} {a : A} {b : B} → Reads First bytes a between → Reads Second between b rest → Reads (SpellsPair First Second) bytes (a, b) rest
 reads_both {rest = rest} front back = record {
   text = front.text ++ back.text;
@@ -111,10 +107,6 @@ module _ {A B : Type 0} {First : List ℕ → A → Type 0} {Second : List ℕ �
 -- the same text, as another spelling
 pub reads_as : {V W : Type 0} {Spells : List ℕ → V → Type 0} {Others : List ℕ → W → Type 0} {bytes rest : List ℕ} {v : V} {w : W} → Reads Spells bytes v rest → ((text : List ℕ) → Spells text v → Others text w) → Reads Others bytes w rest
 reads_as reads so = record { text = reads.text; spelt = so reads.text reads.spelt; parts = reads.parts }
-
--- A byte, and a spelling behind it.
-abbrev pub SpellsTagged : {V : Type 0} → ℕ → (List ℕ → V → Type 0) → List ℕ → V → Type 0
-SpellsTagged {V} tag Spells bytes v = (inside : List ℕ) × (bytes ≡ tag ∷ inside) × Spells inside v
 
 pub tagged : {V : Type 0} {Spells : List ℕ → V → Type 0} {bytes inside rest : List ℕ} {v : V} (tag : ℕ) → bytes ≡ tag ∷ inside → Reads Spells inside v rest → Reads (SpellsTagged tag Spells) bytes v rest
 tagged tag begun reads = record { text = tag ∷ reads.text; spelt = (reads.text, refl, reads.spelt); parts = begun ∙ ap (λ (z : List ℕ). tag ∷ z) reads.parts }

@@ -5,7 +5,8 @@ use Rattle.std.proofs.lemmas.List.{nil_from_length}
 use Rattle.meaning.specs.ModuleSpelling.{IsCustomSections, SpellsCustom, SpellsSection}
 use Rattle.meaning.specs.Productions.{SpellsEach, SpellsSized}
 use Rattle.meaning.specs.Spelling.{Reads}
-use Rattle.binary.specs.Reading.{◌>>=◌, after_customs, begins_with, custom_at, customs_at, name_at, part_at}
+use Rattle.binary.specs.ModuleReading.{after_customs, custom_at, customs_at}
+use Rattle.binary.specs.Reading.{◌>>=◌, begins_with, name_at, part_at}
 use Rattle.binary.proofs.Readers.{begins, bind_some, chosen, found, found-injective, tagged}
 use Rattle.binary.proofs.VectorReaders.{name_reader, part_reader}
 

@@ -136,12 +136,12 @@ module _ {V : Type 0} (Spells : List ℕ → V → Type 0) (read : List ℕ → 
 
 -- ---- names
 
-bytes_of_each : (bytes name : List ℕ) → SpellsEach SpellsByte bytes name → bytes ≡ name
+pub bytes_of_each : (bytes name : List ℕ) → SpellsEach SpellsByte bytes name → bytes ≡ name
 bytes_of_each bytes [] e = e
 bytes_of_each bytes (byte ∷ name) (first, others, parts, spelt, more) =
     parts ∙ ap (λ (z : List ℕ). z ++ others) spelt ∙ ap (λ (z : List ℕ). byte ∷ z) (bytes_of_each others name more)
 
-each_byte : (name : List ℕ) → SpellsEach SpellsByte name name
+pub each_byte : (name : List ℕ) → SpellsEach SpellsByte name name
 each_byte [] = refl
 each_byte (byte ∷ name) = (byte ∷ [], name, refl, refl, each_byte name)
 

@@ -1,21 +1,6 @@
 -- Reading from left to right, as functions on lists: the value and the bytes behind it, or nothing.
-use Rattle.std.specs.Prelude.{◌≡◌, ℕ, zero, suc, ◌+◌, ◌-◌, ◌*◌, ◌^◌, Bool, true, false, List, [], ◌∷◌, ◌++◌, length, take, drop, replicate, ℤ, pos, negsuc, ◌+ℤ◌, ◌*ℤ◌, Option, Some, None, Result, Ok, Err, nat_lt, nat_le, ◌==◌, if◌then◌else◌}
+use Rattle.std.specs.Prelude.{◌≡◌, ℕ, zero, suc, ◌+◌, ◌-◌, ◌*◌, ◌^◌, Bool, false, List, [], ◌∷◌, ◌++◌, length, take, drop, ℤ, pos, negsuc, ◌+ℤ◌, ◌*ℤ◌, Option, Some, None, Result, Ok, Err, nat_lt, nat_le, ◌==◌, if◌then◌else◌}
 use Rattle.std.specs.Str.{is_utf8}
-use Rattle.core_types.specs.declared.module.Export.{Export}
-use Rattle.core_types.specs.declared.module.ExportDesc.{ExportDesc}
-use Rattle.core_types.specs.declared.module.ExportDesc.TheVariants.{Func}
-use Rattle.core_types.specs.declared.module.Func.{Func as Function}
-use Rattle.core_types.specs.declared.module.Module.{Module}
-use Rattle.core_types.specs.declared.op.BinaryOp.TheVariants.{Add}
-use Rattle.core_types.specs.declared.op.Op.{Op}
-use Rattle.core_types.specs.declared.op.Op.TheVariants.{Plain, End}
-use Rattle.core_types.specs.declared.op.PlainOp.{PlainOp}
-use Rattle.core_types.specs.declared.op.PlainOp.TheVariants.{LocalGet, I32Const, Binary}
-use Rattle.core_types.specs.declared.op.Width.TheVariants.{W32}
-use Rattle.core_types.specs.declared.types.FuncType.{FuncType}
-use Rattle.core_types.specs.declared.types.ValType.{ValType}
-use Rattle.core_types.specs.declared.types.ValType.TheVariants.{I32}
-use Rattle.meaning.specs.BodySpelling.{stored}
 use Rattle.binary.specs.declared.error.DecodeError.{DecodeError}
 use Rattle.binary.specs.Refusals.{OnRefused}
 
@@ -98,139 +83,40 @@ name_at bytes = do
   part ← part_at bytes
   if is_utf8 part.0 then Some (part.0, part.1) else None
 
-unfoldable pub val_type_at : List ℕ → Option (ValType × List ℕ)
-val_type_at bytes = do
-  code ← byte_at bytes
-  if code.0 == 0x7F then Some (I32, code.1) else None
-
-unfoldable pub func_type_at : List ℕ → Option (FuncType × List ℕ)
-func_type_at bytes =
-    if begins_with 0x60 bytes
-    then (vector_at val_type_at (drop 1 bytes) >>= λ params. vector_at val_type_at params.1 >>= λ results. Some (record { params = params.0; results = results.0 }, results.1))
-    else None
-
-unfoldable pub export_desc_at : List ℕ → Option (ExportDesc × List ℕ)
-export_desc_at bytes = do
-  kind ← byte_at bytes
-  if kind.0 == 0x00 then (unsigned_at 32 kind.1 >>= λ index. Some (Func index.0, index.1)) else None
-
-unfoldable pub export_at : List ℕ → Option (Export × List ℕ)
-export_at bytes = do
-  name ← name_at bytes
-  desc ← export_desc_at name.1
-  Some (record { name = name.0; desc = desc.0 }, desc.1)
-
--- The instruction behind its opcode.
-unfoldable pub plain_at : ℕ → List ℕ → Option (PlainOp × List ℕ)
-plain_at code bytes =
-    if code == 0x20 then (unsigned_at 32 bytes >>= λ index. Some (LocalGet index.0, index.1))
-    else (if code == 0x41 then (signed_at 32 bytes >>= λ number. Some (I32Const (stored 32 number.0), number.1))
-    else (if code == 0x6A then Some (Binary W32 Add, bytes) else None))
-
-unfoldable pub op_at : List ℕ → Option (Op × List ℕ)
-op_at bytes = do
-  code ← byte_at bytes
-  if code.0 == 0x0B then Some (End, code.1) else (plain_at code.0 code.1 >>= λ op. Some (Plain op.0, op.1))
-
-abbrev pub is_end : Op → Bool
-is_end End = true
-is_end (Plain op) = false
-
--- The operations down to an end, in so many steps at most, behind those that were read before.
-unfoldable pub ops_at : ℕ → List Op → List ℕ → Option (List Op × List ℕ)
-ops_at zero ops bytes = None
-ops_at (suc steps) ops bytes = do
-  op ← op_at bytes
-  if is_end op.0 then Some (ops, op.1) else ops_at steps (ops ++ op.0 ∷ []) op.1
-
--- An expression: each operation takes a byte at least.
-unfoldable pub expression_at : List ℕ → Option (List Op × List ℕ)
-expression_at bytes = ops_at (length bytes) [] bytes
-
-unfoldable pub local_group_at : List ℕ → Option ((ℕ × ValType) × List ℕ)
-local_group_at bytes = do
-  count ← unsigned_at 32 bytes
-  ty ← val_type_at count.1
-  Some ((count.0, ty.0), ty.1)
-
--- So many groups of locals, behind the locals that were read before.
-unfoldable pub groups_at : ℕ → List ValType → List ℕ → Option (List ValType × List ℕ)
-groups_at zero locals bytes = Some (locals, bytes)
-groups_at (suc count) locals bytes = do
-  group ← local_group_at bytes
-  if nat_lt (length locals + group.0.0) (2 ^ 32) then groups_at count (locals ++ replicate group.0.0 group.0.1) group.1 else None
-
-unfoldable pub locals_at : List ℕ → Option (List ValType × List ℕ)
-locals_at bytes = do
-  count ← unsigned_at 32 bytes
-  groups_at count.0 [] count.1
-
--- The locals and the body of a function whose type has this index.
-unfoldable pub function_content_at : ℕ → List ℕ → Option (Function × List ℕ)
-function_content_at ty bytes = do
-  locals ← locals_at bytes
-  body ← expression_at locals.1
-  Some (record { ty = ty; locals = locals.0; body = body.0 }, body.1)
-
-unfoldable pub code_at : ℕ → List ℕ → Option (Function × List ℕ)
-code_at ty bytes = sized_at (function_content_at ty) bytes
-
--- The functions whose types have these indices, behind those that were read before.
-unfoldable pub codes_at : List ℕ → List Function → List ℕ → Option (List Function × List ℕ)
-codes_at [] funcs bytes = Some (funcs, bytes)
-codes_at (ty ∷ types) funcs bytes = do
-  f ← code_at ty bytes
-  codes_at types (funcs ++ f.0 ∷ []) f.1
-
--- A count, which is that of the indices, and as many functions.
-unfoldable pub functions_at : List ℕ → List ℕ → Option (List Function × List ℕ)
-functions_at types bytes = do
-  count ← unsigned_at 32 bytes
-  if count.0 == length types then codes_at types [] count.1 else None
-
--- The content of a custom section behind its size: a name, and anything.
-unfoldable pub custom_at : List ℕ → Option (Unit {0} × List ℕ)
-custom_at bytes = do
-  part ← part_at bytes
-  name ← name_at part.0
-  Some (tt, part.1)
-
--- Custom sections, in so many steps at most.
-unfoldable pub customs_at : ℕ → List ℕ → Option (Unit {0} × List ℕ)
-customs_at zero bytes = Some (tt, bytes)
-customs_at (suc steps) bytes = if begins_with 0 bytes then (custom_at (drop 1 bytes) >>= λ custom. customs_at steps custom.1) else Some (tt, bytes)
-
--- What lies behind custom sections: each takes a byte at least.
-unfoldable pub after_customs : List ℕ → Option (Unit {0} × List ℕ)
-after_customs bytes = customs_at (length bytes) bytes
-
--- A section with this id and content behind custom sections, or none.
-unfoldable pub section_at : {V : Type 0} → ℕ → (List ℕ → Option (List V × List ℕ)) → List ℕ → Option (List V × List ℕ)
-section_at id read bytes = do
-  customs ← after_customs bytes
-  if begins_with id customs.1 then sized_at read (drop 1 customs.1) else Some ([], customs.1)
-
--- The code section, which is there if there are indices.
-unfoldable pub code_section_at : List ℕ → List ℕ → Option (List Function × List ℕ)
-code_section_at types bytes = do
-  customs ← after_customs bytes
-  if begins_with 10 customs.1 then sized_at (functions_at types) (drop 1 customs.1) else (if length types == 0 then Some ([], customs.1) else None)
-
 -- Exactly these bytes.
 unfoldable pub expected_at : List ℕ → List ℕ → Option (Unit {0} × List ℕ)
 expected_at [] bytes = Some (tt, bytes)
 expected_at (byte ∷ expected) bytes = if begins_with byte bytes then expected_at expected (drop 1 bytes) else None
 
--- The magic number and the version.
-abbrev pub header : List ℕ
-header = 0x00 ∷ 0x61 ∷ 0x73 ∷ 0x6D ∷ 0x01 ∷ 0x00 ∷ 0x00 ∷ 0x00 ∷ []
+-- ---- ways to put readers together
 
-unfoldable pub module_at : List ℕ → Option (Module × List ℕ)
-module_at bytes = do
-  start ← expected_at header bytes
-  types ← section_at 1 (vector_at func_type_at) start.1
-  indices ← section_at 3 (vector_at (unsigned_at 32)) types.1
-  exports ← section_at 7 (vector_at export_at) indices.1
-  funcs ← code_section_at indices.0 exports.1
-  customs ← after_customs funcs.1
-  if length customs.1 == 0 then Some (record { types = types.0; funcs = funcs.0; exports = exports.0 }, customs.1) else None
+-- A value that takes no bytes.
+abbrev pub bare_at : {V : Type 0} → V → List ℕ → Option (V × List ℕ)
+bare_at v bytes = Some (v, bytes)
+
+-- What is read, turned into another value.
+abbrev pub mapped_at : {A B : Type 0} → (A → B) → (List ℕ → Option (A × List ℕ)) → List ℕ → Option (B × List ℕ)
+mapped_at into read bytes = read bytes >>= λ a. Some (into a.0, a.1)
+
+-- Two in turn.
+abbrev pub pair_at : {A B : Type 0} → (List ℕ → Option (A × List ℕ)) → (List ℕ → Option (B × List ℕ)) → List ℕ → Option ((A × B) × List ℕ)
+pair_at read next bytes = read bytes >>= λ a. next a.1 >>= λ b. Some ((a.0, b.0), b.1)
+
+-- A number, and what it chooses.
+abbrev pub chosen_at : {V : Type 0} → (List ℕ → Option (ℕ × List ℕ)) → (ℕ → List ℕ → Option (V × List ℕ)) → List ℕ → Option (V × List ℕ)
+chosen_at front read bytes = front bytes >>= λ code. read code.0 code.1
+
+abbrev pub no_case : {V : Type 0} → ℕ → List ℕ → Option (V × List ℕ)
+no_case code bytes = None
+
+-- What this number chooses, before the other cases.
+abbrev pub case_at : {V : Type 0} → ℕ → (List ℕ → Option (V × List ℕ)) → (ℕ → List ℕ → Option (V × List ℕ)) → ℕ → List ℕ → Option (V × List ℕ)
+case_at expected read others code bytes = if code == expected then read bytes else others code bytes
+
+-- The cases up to this number, before the other cases.
+abbrev pub up_to : {V : Type 0} → ℕ → (ℕ → List ℕ → Option (V × List ℕ)) → (ℕ → List ℕ → Option (V × List ℕ)) → ℕ → List ℕ → Option (V × List ℕ)
+up_to last cases others code bytes = if nat_le code last then cases code bytes else others code bytes
+
+-- Cases, turned into another value.
+abbrev pub mapped_case : {A B : Type 0} → (A → B) → (ℕ → List ℕ → Option (A × List ℕ)) → ℕ → List ℕ → Option (B × List ℕ)
+mapped_case into cases code bytes = cases code bytes >>= λ a. Some (into a.0, a.1)

@@ -1,5 +1,5 @@
 -- What a refusal says.
-use Rattle.std.specs.Prelude.{◌≡◌, ℕ, List, Result, Ok, Err}
+use Rattle.std.specs.Prelude.{ℕ, List, Result, Ok, Err}
 use Rattle.core_types.specs.declared.module.Module.{Module}
 use Rattle.meaning.specs.Limits.{IsWithinLimits}
 use Rattle.meaning.specs.ModuleSpelling.{SpellsModule}
@@ -12,13 +12,6 @@ OnRefused (Malformed place) fact = fact
 OnRefused (Unsupported place) fact = fact
 OnRefused Limit fact = fact
 OnRefused OutOfMemory fact = Unit {0}
-
--- The refusal names this place.
-abbrev pub IsRefusedAt : ℕ → DecodeError → Type 0
-IsRefusedAt place (Malformed found) = found ≡ place
-IsRefusedAt place (Unsupported found) = found ≡ place
-IsRefusedAt place Limit = ⊥
-IsRefusedAt place OutOfMemory = ⊥
 
 abbrev pub IfRefused : {V : Type 0} → Result V DecodeError → Type 0 → Type 0
 IfRefused (Ok v) fact = Unit {0}

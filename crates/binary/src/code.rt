@@ -1,14 +1,15 @@
 ghost use Rattle.std.specs.Prelude.{[]};
-ghost use Rattle.binary.specs.Reading.{Gives, code_at, codes_at, expression_at, functions_at, groups_at, local_group_at, locals_at};
+ghost use Rattle.binary.specs.EntryReading.{code_at, codes_at, functions_at, groups_at, local_group_at, locals_at};
+ghost use Rattle.binary.specs.Reading.{Gives};
 
 use crate::error::DecodeError;
-use crate::operations::read_op;
+use crate::expression::read_expression;
 use crate::reader::Reader;
 use crate::types::read_val_type;
-use core_types::{Func, Items, Locals, Op, ValType};
+use core_types::{Func, Items, Locals, ValType};
 use std::alloc::Global;
 
-#[tactic(auto, unfolding(crate::specs::Reading::local_group_at))]
+#[tactic(auto, unfolding(crate::specs::EntryReading::local_group_at))]
 fn read_local_group(reader: &mut Reader<'_>) -> Result<(u32, ValType), DecodeError>
     ensures { Gives result reader.new (local_group_at reader.old) }
 {
@@ -32,7 +33,7 @@ fn read_groups(alloc: Global, reader: &mut Reader<'_>, count: u32) -> Result<Loc
     Ok(locals)
 }
 
-#[tactic(auto, unfolding(crate::specs::Reading::locals_at))]
+#[tactic(auto, unfolding(crate::specs::EntryReading::locals_at))]
 fn read_locals(alloc: Global, reader: &mut Reader<'_>) -> Result<Locals, DecodeError>
     ensures { Gives result reader.new (locals_at reader.old) }
 {
@@ -40,21 +41,8 @@ fn read_locals(alloc: Global, reader: &mut Reader<'_>) -> Result<Locals, DecodeE
     read_groups(alloc, reader, count)
 }
 
-fn read_expression(alloc: Global, reader: &mut Reader<'_>) -> Result<Items<Op>, DecodeError>
-    ensures { Gives result reader.new (expression_at reader.old) }
-{
-    let mut ops = Vec::new(alloc);
-    while !reader.is_empty() {
-        match read_op(reader)? {
-            Op::End => return Ok(Items::from_vec(ops)),
-            Op::Plain(op) => ops.push(Op::Plain(op))?,
-        }
-    }
-    Err(DecodeError::Malformed(reader.place()))
-}
-
 // A function whose type has the index, behind its size.
-#[tactic(auto, unfolding(crate::specs::Reading::code_at, crate::specs::Reading::function_content_at, crate::specs::Reading::sized_at))]
+#[tactic(auto, unfolding(crate::specs::EntryReading::code_at, crate::specs::EntryReading::function_content_at, crate::specs::Reading::sized_at))]
 fn read_code(alloc: Global, reader: &mut Reader<'_>, ty: u32) -> Result<Func, DecodeError>
     ensures { Gives result reader.new (code_at ty reader.old) }
 {
@@ -80,7 +68,7 @@ fn read_codes(
 }
 
 // The content of the code section: as many functions as there are indices of their types.
-#[tactic(auto, unfolding(crate::specs::Reading::functions_at))]
+#[tactic(auto, unfolding(crate::specs::EntryReading::functions_at))]
 pub fn read_functions(
     alloc: Global,
     reader: &mut Reader<'_>,

@@ -2,14 +2,23 @@
 #![tactic(auto)]
 
 mod code;
+mod data_count;
 mod decoding;
 mod error;
-mod exports;
+mod expression;
+mod externals;
+mod levels;
 mod limits;
+mod memory_operations;
+mod numeric_operations;
+#[cfg(test)]
+mod opcode_tests;
 mod operations;
 mod reader;
-mod refusals;
+#[cfg(test)]
+mod section_tests;
 mod sections;
+mod segments;
 #[cfg(test)]
 mod tests;
 mod types;

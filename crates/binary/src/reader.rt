@@ -1,9 +1,10 @@
-ghost use Rattle.std.specs.Prelude.{◌≡◌, ◌≢◌, ◌==◌, [], length, drop, slice_get, if◌then◌else◌, OnOk, IfErr};
+ghost use Rattle.std.specs.Prelude.{◌≡◌, ◌≢◌, ◌==◌, [], length, drop, if◌then◌else◌, ◌^◌, ◌<ℤ◌, pos, OnOk, IfOk, IfErr};
 ghost use Rattle.binary.specs.Reading.{Gives, begins_with, byte_at, part_at, unsigned_at, signed_at};
 ghost use Rattle.binary.specs.Refusals.{OnRefused};
+ghost use Rattle.binary.specs.TypeReading.{begins_negative};
 
 use crate::error::DecodeError;
-use leb::{read_s32, read_u32};
+use leb::{read_s32, read_s33, read_s64, read_u32};
 use std::marker::Model;
 
 // Reads from left to right. Contracts see the bytes that are left.
@@ -46,13 +47,6 @@ impl<'a> Reader<'a> {
         ensures { result.now ≡ self.now }
     {
         &self.bytes[self.place..]
-    }
-
-    // The next byte, which stays.
-    pub fn peek(&self) -> Option<u8>
-        ensures { result ≡ slice_get self.now 0 }
-    {
-        self.rest().first().copied()
     }
 
     // Passes the next byte if it is this one.
@@ -107,6 +101,34 @@ impl<'a> Reader<'a> {
         };
         self.place = end;
         Ok(value)
+    }
+
+    pub fn s33(&mut self) -> Result<i64, DecodeError>
+        ensures gives { Gives result self.new (signed_at 33 self.old) }
+        ensures range { IfOk result (λ value. value <ℤ pos (2 ^ 32)) }
+    {
+        let Some((value, end)) = read_s33(self.bytes, self.place) else {
+            return Err(DecodeError::Malformed(self.place));
+        };
+        self.place = end;
+        Ok(value)
+    }
+
+    pub fn s64(&mut self) -> Result<i64, DecodeError>
+        ensures { Gives result self.new (signed_at 64 self.old) }
+    {
+        let Some((value, end)) = read_s64(self.bytes, self.place) else {
+            return Err(DecodeError::Malformed(self.place));
+        };
+        self.place = end;
+        Ok(value)
+    }
+
+    // Whether the next byte, alone, spells a negative number.
+    pub fn begins_negative(&self) -> bool
+        ensures { result ≡ begins_negative self.now }
+    {
+        matches!(self.rest().first(), Some(0x40..=0x7F))
     }
 
     // Reads a size, and sets so many bytes apart.

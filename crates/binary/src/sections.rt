@@ -1,17 +1,16 @@
-ghost use Rattle.std.specs.Prelude.{[]};
-ghost use Rattle.binary.specs.Reading.{Gives, after_customs, code_section_at, custom_at, expected_at, section_at, vector_at};
+ghost use Rattle.binary.specs.ModuleReading.{after_customs, code_section_at, custom_at, end_at, value_section_at, vector_section_at};
+ghost use Rattle.binary.specs.Reading.{Gives, expected_at, unsigned_at};
 
 use crate::code::read_functions;
 use crate::error::DecodeError;
-use crate::exports::read_text;
+use crate::externals::read_text;
 use crate::reader::Reader;
-use crate::refusals::refused_section;
-use crate::vector::{Readable, read_sized};
+use crate::vector::{Readable, read_vector};
 use core_types::{Func, Items};
 use std::alloc::Global;
 
 // The rest of a custom section behind its id.
-#[tactic(auto, unfolding(crate::specs::Reading::custom_at))]
+#[tactic(auto, unfolding(crate::specs::ModuleReading::custom_at))]
 fn skip_custom(reader: &mut Reader<'_>) -> Result<(), DecodeError>
     ensures { Gives result reader.new (custom_at reader.old) }
 {
@@ -30,23 +29,41 @@ pub fn skip_customs(reader: &mut Reader<'_>) -> Result<(), DecodeError>
 }
 
 // A section that holds a vector; one that is absent stands for the empty vector.
-#[tactic(auto, unfolding(crate::specs::Reading::section_at))]
-pub fn read_section<T: Readable>(
+#[tactic(auto, unfolding(crate::specs::ModuleReading::section_at, crate::specs::Reading::sized_at))]
+pub fn read_vector_section<T: Readable>(
     alloc: Global,
     reader: &mut Reader<'_>,
     id: u8,
 ) -> Result<Items<T>, DecodeError>
-    ensures { Gives result reader.new (section_at id (vector_at T.reads) reader.old) }
+    ensures { Gives result reader.new (vector_section_at id T.reads reader.old) }
 {
     skip_customs(reader)?;
-    if reader.accept(id) {
-        return read_sized::<Items<T>>(alloc, reader);
+    if !reader.accept(id) {
+        return Ok(Items::from_vec(Vec::new(alloc)));
     }
-    Ok(Items::from_vec(Vec::new(alloc)))
+    let mut content = reader.part()?;
+    let values = read_vector::<T>(alloc, &mut content)?;
+    content.finish()?;
+    Ok(values)
+}
+
+// A section that holds one number, or none.
+#[tactic(auto, unfolding(crate::specs::ModuleReading::section_at, crate::specs::Reading::sized_at))]
+pub fn read_number_section(reader: &mut Reader<'_>, id: u8) -> Result<Option<u32>, DecodeError>
+    ensures { Gives result reader.new (value_section_at id (unsigned_at 32) reader.old) }
+{
+    skip_customs(reader)?;
+    if !reader.accept(id) {
+        return Ok(None);
+    }
+    let mut content = reader.part()?;
+    let number = content.u32()?;
+    content.finish()?;
+    Ok(Some(number))
 }
 
 // The code section, which has a function for each index of a type.
-#[tactic(auto, using(crate::proofs::RefusalLaws::refused_if), unfolding(crate::specs::Reading::code_section_at, crate::specs::Reading::sized_at))]
+#[tactic(auto, unfolding(crate::specs::ModuleReading::section_at, crate::specs::Reading::sized_at))]
 pub fn read_code_section(
     alloc: Global,
     reader: &mut Reader<'_>,
@@ -62,9 +79,18 @@ pub fn read_code_section(
         return Ok(funcs);
     }
     if !types.is_empty() {
-        return Err(refused_section(reader.peek(), reader.place()));
+        return Err(DecodeError::Malformed(reader.place()));
     }
     Ok(Items::from_vec(Vec::new(alloc)))
+}
+
+// Custom sections, and then nothing.
+#[tactic(auto, unfolding(crate::specs::ModuleReading::end_at))]
+pub fn read_ending(reader: &mut Reader<'_>) -> Result<(), DecodeError>
+    ensures { Gives result reader.new (end_at reader.old) }
+{
+    skip_customs(reader)?;
+    reader.finish()
 }
 
 pub fn read_expected(reader: &mut Reader<'_>, expected: &[u8]) -> Result<(), DecodeError>

@@ -1,13 +1,17 @@
-ghost use Rattle.binary.specs.Reading.{Gives, func_type_at, val_type_at};
+ghost use Rattle.std.specs.Prelude.{◌≡◌};
+ghost use Rattle.binary.specs.Reading.{Gives, unsigned_at};
+ghost use Rattle.binary.specs.TypeReading.{block_type_at, func_type_at, global_type_at, limits_at, mutability_at, ref_type_at, table_type_at, val_type_at};
 
 use crate::error::DecodeError;
 use crate::reader::Reader;
 use crate::vector::{Readable, read_vector};
-use core_types::{FuncType, ValType};
+use core_types::{
+    BlockType, FuncType, GlobalType, Limits, Mutability, RefType, TableType, ValType,
+};
 use std::alloc::Global;
 
 impl Readable for ValType {
-    ghost use Rattle.binary.specs.Reading.{val_type_at};
+    ghost use Rattle.binary.specs.TypeReading.{val_type_at};
 
     ghost reads = { val_type_at };
 
@@ -17,7 +21,7 @@ impl Readable for ValType {
 }
 
 impl Readable for FuncType {
-    ghost use Rattle.binary.specs.Reading.{func_type_at};
+    ghost use Rattle.binary.specs.TypeReading.{func_type_at};
 
     ghost reads = { func_type_at };
 
@@ -26,26 +30,129 @@ impl Readable for FuncType {
     }
 }
 
-#[tactic(auto, unfolding(crate::specs::Reading::val_type_at))]
+impl Readable for Limits {
+    ghost use Rattle.binary.specs.TypeReading.{limits_at};
+
+    ghost reads = { limits_at };
+
+    fn read(_alloc: Global, reader: &mut Reader<'_>) -> Result<Limits, DecodeError> {
+        read_limits(reader)
+    }
+}
+
+impl Readable for TableType {
+    ghost use Rattle.binary.specs.TypeReading.{table_type_at};
+
+    ghost reads = { table_type_at };
+
+    fn read(_alloc: Global, reader: &mut Reader<'_>) -> Result<TableType, DecodeError> {
+        read_table_type(reader)
+    }
+}
+
+#[tactic(auto, unfolding(crate::specs::TypeReading::val_type_at))]
 pub fn read_val_type(reader: &mut Reader<'_>) -> Result<ValType, DecodeError>
     ensures { Gives result reader.new (val_type_at reader.old) }
 {
     let place = reader.place();
     match reader.byte()? {
         0x7F => Ok(ValType::I32),
-        0x6F | 0x70 | 0x7B..=0x7E => Err(DecodeError::Unsupported(place)),
+        0x7E => Ok(ValType::I64),
+        0x70 => Ok(ValType::FuncRef),
+        0x6F => Ok(ValType::ExternRef),
+        0x7B..=0x7D => Err(DecodeError::Unsupported(place)),
         _ => Err(DecodeError::Malformed(place)),
     }
 }
 
-#[tactic(auto, unfolding(crate::specs::Reading::func_type_at))]
+#[tactic(auto, unfolding(crate::specs::TypeReading::ref_type_at))]
+pub fn read_ref_type(reader: &mut Reader<'_>) -> Result<RefType, DecodeError>
+    ensures { Gives result reader.new (ref_type_at reader.old) }
+{
+    let place = reader.place();
+    match reader.byte()? {
+        0x70 => Ok(RefType::FuncRef),
+        0x6F => Ok(RefType::ExternRef),
+        _ => Err(DecodeError::Malformed(place)),
+    }
+}
+
+#[tactic(auto, unfolding(crate::specs::TypeReading::func_type_at))]
 fn read_func_type(alloc: Global, reader: &mut Reader<'_>) -> Result<FuncType, DecodeError>
     ensures { Gives result reader.new (func_type_at reader.old) }
 {
-    if !reader.accept(0x60) {
-        return Err(DecodeError::Malformed(reader.place()));
+    let place = reader.place();
+    if reader.byte()? != 0x60 {
+        return Err(DecodeError::Malformed(place));
     }
     let params = read_vector::<ValType>(alloc, reader)?;
     let results = read_vector::<ValType>(alloc, reader)?;
     Ok(FuncType { params, results })
+}
+
+#[tactic(auto, unfolding(crate::specs::TypeReading::limits_at))]
+pub fn read_limits(reader: &mut Reader<'_>) -> Result<Limits, DecodeError>
+    ensures { Gives result reader.new (limits_at reader.old) }
+{
+    let place = reader.place();
+    match reader.byte()? {
+        0x00 => {
+            let min = reader.u32()?;
+            Ok(Limits { min, max: None })
+        }
+        0x01 => {
+            let min = reader.u32()?;
+            let max = Some(reader.u32()?);
+            Ok(Limits { min, max })
+        }
+        _ => Err(DecodeError::Malformed(place)),
+    }
+}
+
+#[tactic(auto, unfolding(crate::specs::TypeReading::table_type_at))]
+pub fn read_table_type(reader: &mut Reader<'_>) -> Result<TableType, DecodeError>
+    ensures { Gives result reader.new (table_type_at reader.old) }
+{
+    let element = read_ref_type(reader)?;
+    let limits = read_limits(reader)?;
+    Ok(TableType { element, limits })
+}
+
+#[tactic(auto, unfolding(crate::specs::TypeReading::mutability_at))]
+fn read_mutability(reader: &mut Reader<'_>) -> Result<Mutability, DecodeError>
+    ensures { Gives result reader.new (mutability_at reader.old) }
+{
+    let place = reader.place();
+    match reader.byte()? {
+        0x00 => Ok(Mutability::Const),
+        0x01 => Ok(Mutability::Var),
+        _ => Err(DecodeError::Malformed(place)),
+    }
+}
+
+#[tactic(auto, unfolding(crate::specs::TypeReading::global_type_at))]
+pub fn read_global_type(reader: &mut Reader<'_>) -> Result<GlobalType, DecodeError>
+    ensures { Gives result reader.new (global_type_at reader.old) }
+{
+    let value = read_val_type(reader)?;
+    let mutability = read_mutability(reader)?;
+    Ok(GlobalType { value, mutability })
+}
+
+// The type of a block: nothing, a value type, or an index, which is a signed number of 33 bits that is not negative.
+#[tactic(auto, unfolding(crate::specs::TypeReading::block_type_at))]
+pub fn read_block_type(reader: &mut Reader<'_>) -> Result<BlockType, DecodeError>
+    ensures { Gives result reader.new (block_type_at reader.old) }
+{
+    if reader.accept(0x40) {
+        return Ok(BlockType::Empty);
+    }
+    if reader.begins_negative() {
+        return Ok(BlockType::Value(read_val_type(reader)?));
+    }
+    let place = reader.place();
+    match u32::try_from(reader.s33()?) {
+        Ok(index) => Ok(BlockType::Index(index)),
+        Err(_) => Err(DecodeError::Malformed(place)),
+    }
 }

@@ -1,5 +1,5 @@
 ghost use Rattle.std.specs.Prelude.{[], List, ℕ, Option};
-ghost use Rattle.binary.specs.Reading.{Gives, each_at, sized_at, vector_at};
+ghost use Rattle.binary.specs.Reading.{Gives, each_at, vector_at};
 
 use crate::error::DecodeError;
 use crate::reader::Reader;
@@ -21,16 +21,6 @@ impl Readable for u32 {
 
     fn read(_alloc: Global, reader: &mut Reader<'_>) -> Result<u32, DecodeError> {
         reader.u32()
-    }
-}
-
-impl<T: Readable> Readable for Items<T> {
-    ghost use Rattle.binary.specs.Reading.{vector_at};
-
-    ghost reads = { vector_at T.reads };
-
-    fn read(alloc: Global, reader: &mut Reader<'_>) -> Result<Items<T>, DecodeError> {
-        read_vector::<T>(alloc, reader)
     }
 }
 
@@ -57,14 +47,4 @@ pub fn read_vector<T: Readable>(
 {
     let count = reader.u32()?;
     read_each::<T>(alloc, reader, count)
-}
-
-#[tactic(auto, unfolding(crate::specs::Reading::sized_at))]
-pub fn read_sized<T: Readable>(alloc: Global, reader: &mut Reader<'_>) -> Result<T, DecodeError>
-    ensures { Gives result reader.new (sized_at T.reads reader.old) }
-{
-    let mut content = reader.part()?;
-    let value = T::read(alloc, &mut content)?;
-    content.finish()?;
-    Ok(value)
 }

@@ -1,22 +1,33 @@
 //! The types that the layers share.
 #![tactic(auto)]
 
+mod boxed;
 mod halving;
 mod items;
 mod locals;
 mod module;
 mod op;
 mod outcome;
+mod stack;
 #[cfg(test)]
 mod tests;
 mod text;
 mod types;
 
+pub use boxed::Boxed;
 pub use items::Items;
 pub use locals::{LocalRun, Locals};
-pub use module::{Export, ExportDesc, Func, Module};
-pub use op::{BinaryOp, Op, PlainOp, Width};
+pub use module::{
+    DataMode, DataSegment, ElementItems, ElementMode, ElementSegment, Export, ExportDesc, Func,
+    Global, Import, ImportDesc, Module,
+};
+pub use op::{
+    BinaryOp, BlockType, BranchTable, Comparison, ControlOp, Conversion, LoadOp, MemArg, MemoryOp,
+    NumericOp, Op, ParametricOp, PlainOp, ReferenceOp, Sign, StoreOp, TableOp, UnaryOp, VariableOp,
+    Width,
+};
 pub use outcome::{Exhaustion, Trap, Val};
+pub use stack::Stack;
 pub use text::Name;
 pub use types::{
     ExternType, FuncType, GlobalType, Limits, Mutability, RefType, TableType, ValType,

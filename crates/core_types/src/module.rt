@@ -2,7 +2,7 @@ use crate::items::Items;
 use crate::locals::Locals;
 use crate::op::Op;
 use crate::text::Name;
-use crate::types::FuncType;
+use crate::types::{FuncType, GlobalType, Limits, RefType, TableType};
 
 /// A function of a module: the index of its type, its locals without the parameters, and its flat body without the last
 /// `End` (Structure, Modules, Functions).
@@ -11,6 +11,23 @@ pub struct Func {
     pub ty: u32,
     pub locals: Locals,
     pub body: Items<Op>,
+}
+
+/// What an import asks for; a function by the index of its type (Structure, Modules, Imports).
+#[derive(Clone, Copy, PartialEq, Eq, Debug)]
+pub enum ImportDesc {
+    Func(u32),
+    Table(TableType),
+    Memory(Limits),
+    Global(GlobalType),
+}
+
+/// An import under the name of a module and a name in it (Structure, Modules, Imports).
+#[derive(Debug, Drop)]
+pub struct Import {
+    pub module_name: Name,
+    pub name: Name,
+    pub desc: ImportDesc,
 }
 
 /// What an export names, by its index (Structure, Modules, Exports).
@@ -29,10 +46,63 @@ pub struct Export {
     pub desc: ExportDesc,
 }
 
+/// A global and its first value, as the flat operations of a constant expression without the last `End` (Structure,
+/// Modules, Globals).
+#[derive(Debug, Drop)]
+pub struct Global {
+    pub ty: GlobalType,
+    pub init: Items<Op>,
+}
+
+/// The references of an element segment: function indices, each of which stands for the `ref.func` of it, or constant
+/// expressions.
+#[derive(Debug, Drop)]
+pub enum ElementItems {
+    Functions(Items<u32>),
+    Expressions(Items<Items<Op>>),
+}
+
+/// Whether an element segment is copied into a table at a link, and where (Structure, Modules, Element Segments).
+#[derive(Debug, Drop)]
+pub enum ElementMode {
+    Passive,
+    Active { table: u32, offset: Items<Op> },
+    Declarative,
+}
+
+/// References for tables (Structure, Modules, Element Segments).
+#[derive(Debug, Drop)]
+pub struct ElementSegment {
+    pub ty: RefType,
+    pub items: ElementItems,
+    pub mode: ElementMode,
+}
+
+/// Whether a data segment is copied into a memory at a link, and where (Structure, Modules, Data Segments).
+#[derive(Debug, Drop)]
+pub enum DataMode {
+    Passive,
+    Active { memory: u32, offset: Items<Op> },
+}
+
+/// Bytes for memories (Structure, Modules, Data Segments).
+#[derive(Debug, Drop)]
+pub struct DataSegment {
+    pub bytes: Items<u8>,
+    pub mode: DataMode,
+}
+
 /// A module (Structure, Modules).
 #[derive(Debug, Drop)]
 pub struct Module {
     pub types: Items<FuncType>,
+    pub imports: Items<Import>,
     pub funcs: Items<Func>,
+    pub tables: Items<TableType>,
+    pub memories: Items<Limits>,
+    pub globals: Items<Global>,
     pub exports: Items<Export>,
+    pub start: Option<u32>,
+    pub elements: Items<ElementSegment>,
+    pub datas: Items<DataSegment>,
 }

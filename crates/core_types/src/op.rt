@@ -1,3 +1,7 @@
+use crate::boxed::Boxed;
+use crate::items::Items;
+use crate::types::{RefType, ValType};
+
 /// The width of an integer type.
 #[derive(Clone, Copy, PartialEq, Eq, Debug)]
 pub enum Width {
@@ -5,23 +9,204 @@ pub enum Width {
     W64,
 }
 
-/// An operator on two integers of one width (Structure, Instructions, Numeric Instructions).
+/// How a number of fewer bits is read as one of more bits.
+#[derive(Clone, Copy, PartialEq, Eq, Debug)]
+pub enum Sign {
+    Signed,
+    Unsigned,
+}
+
+/// An operator on one integer, which gives one of the same width.
+#[derive(Clone, Copy, PartialEq, Eq, Debug)]
+pub enum UnaryOp {
+    Clz,
+    Ctz,
+    Popcnt,
+    Extend8S,
+    Extend16S,
+}
+
+/// An operator on two integers of one width, which gives one of the same width.
 #[derive(Clone, Copy, PartialEq, Eq, Debug)]
 pub enum BinaryOp {
     Add,
+    Sub,
+    Mul,
+    DivS,
+    DivU,
+    RemS,
+    RemU,
+    And,
+    Or,
+    Xor,
+    Shl,
+    ShrS,
+    ShrU,
+    Rotl,
+    Rotr,
 }
 
-/// An instruction that has no body (Structure, Instructions).
+/// A comparison of two integers of one width.
 #[derive(Clone, Copy, PartialEq, Eq, Debug)]
-pub enum PlainOp {
-    LocalGet(u32),
-    I32Const(u32),
+pub enum Comparison {
+    Eq,
+    Ne,
+    LtS,
+    LtU,
+    GtS,
+    GtU,
+    LeS,
+    LeU,
+    GeS,
+    GeU,
+}
+
+/// An operator on one integer that exists for one width alone.
+#[derive(Clone, Copy, PartialEq, Eq, Debug)]
+pub enum Conversion {
+    I32WrapI64,
+    I64ExtendI32S,
+    I64ExtendI32U,
+    I64Extend32S,
+}
+
+/// A numeric instruction without an immediate (Structure, Instructions, Numeric Instructions).
+#[derive(Clone, Copy, PartialEq, Eq, Debug)]
+pub enum NumericOp {
+    Eqz(Width),
+    Compare(Width, Comparison),
+    Unary(Width, UnaryOp),
     Binary(Width, BinaryOp),
+    Convert(Conversion),
 }
 
-/// A flat operation: an instruction without a body, or a mark.
+/// An instruction on references (Structure, Instructions, Reference Instructions).
 #[derive(Clone, Copy, PartialEq, Eq, Debug)]
+pub enum ReferenceOp {
+    Null(RefType),
+    IsNull,
+    Func(u32),
+}
+
+/// An instruction on operands of any type (Structure, Instructions, Parametric Instructions).
+#[derive(Clone, Copy, PartialEq, Eq, Debug)]
+pub enum ParametricOp {
+    DropOperand,
+    Select,
+}
+
+/// An instruction on a local or a global (Structure, Instructions, Variable Instructions).
+#[derive(Clone, Copy, PartialEq, Eq, Debug)]
+pub enum VariableOp {
+    LocalGet(u32),
+    LocalSet(u32),
+    LocalTee(u32),
+    GlobalGet(u32),
+    GlobalSet(u32),
+}
+
+/// An instruction on a table or an element segment (Structure, Instructions, Table Instructions).
+#[derive(Clone, Copy, PartialEq, Eq, Debug)]
+pub enum TableOp {
+    Get(u32),
+    Set(u32),
+    Size(u32),
+    Grow(u32),
+    Fill(u32),
+    Copy { target: u32, source: u32 },
+    Init { segment: u32, table: u32 },
+    ElemDrop(u32),
+}
+
+/// What a load reads: a whole integer, or so many bits of one.
+#[derive(Clone, Copy, PartialEq, Eq, Debug)]
+pub enum LoadOp {
+    Whole(Width),
+    Bits8(Width, Sign),
+    Bits16(Width, Sign),
+    Bits32(Sign),
+}
+
+/// What a store writes: a whole integer, or its low bits.
+#[derive(Clone, Copy, PartialEq, Eq, Debug)]
+pub enum StoreOp {
+    Whole(Width),
+    Bits8(Width),
+    Bits16(Width),
+    Bits32,
+}
+
+/// The alignment, as an exponent of 2, and the offset of an access.
+#[derive(Clone, Copy, PartialEq, Eq, Debug)]
+pub struct MemArg {
+    pub align: u32,
+    pub offset: u32,
+}
+
+/// An instruction on the memory or a data segment (Structure, Instructions, Memory Instructions).
+#[derive(Clone, Copy, PartialEq, Eq, Debug)]
+pub enum MemoryOp {
+    Load(LoadOp, MemArg),
+    Store(StoreOp, MemArg),
+    Size,
+    Grow,
+    Fill,
+    Copy,
+    Init(u32),
+    DataDrop(u32),
+}
+
+/// A control instruction that has neither a body nor a list (Structure, Instructions, Control Instructions).
+#[derive(Clone, Copy, PartialEq, Eq, Debug)]
+pub enum ControlOp {
+    Unreachable,
+    Nop,
+    Br(u32),
+    BrIf(u32),
+    Return,
+    Call(u32),
+    CallIndirect { ty: u32, table: u32 },
+}
+
+/// The labels of a branch by number, and the label for all further numbers.
+#[derive(Debug, PartialEq, Drop)]
+pub struct BranchTable {
+    pub labels: Items<u32>,
+    pub default: u32,
+}
+
+/// An instruction that has no body (Structure, Instructions). Those with a list keep it on the heap, and those with eight
+/// bytes stand apart from their group, so that an `Op` takes no more than 24 bytes.
+#[derive(Debug, PartialEq, Drop)]
+pub enum PlainOp {
+    Control(ControlOp),
+    BrTable(Boxed<BranchTable>),
+    Reference(ReferenceOp),
+    Parametric(ParametricOp),
+    SelectTyped(Boxed<Items<ValType>>),
+    Variable(VariableOp),
+    Table(TableOp),
+    Memory(MemoryOp),
+    Numeric(NumericOp),
+    I32Const(u32),
+    I64Const(u64),
+}
+
+/// The type of a block: from nothing to nothing, from nothing to one value, or the type of an index.
+#[derive(Clone, Copy, PartialEq, Eq, Debug)]
+pub enum BlockType {
+    Empty,
+    Value(ValType),
+    Index(u32),
+}
+
+/// A flat operation: an instruction without a body, or a mark at which a body begins or ends.
+#[derive(Debug, PartialEq, Drop)]
 pub enum Op {
     Plain(PlainOp),
+    Block(BlockType),
+    Loop(BlockType),
+    If(BlockType),
+    Else,
     End,
 }

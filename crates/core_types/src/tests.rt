@@ -1,4 +1,5 @@
 use super::*;
+use std::mem::size_of;
 use std::test::Fail;
 
 #[test]
@@ -56,4 +57,26 @@ fn keeps_items_and_names(rt: HostRuntime) -> Result<(), Fail> {
     assert_eq!(rt; name.as_str(), "add");
     assert_eq!(rt; name.into_string().as_str(), "add");
     Ok(())
+}
+
+#[test]
+fn keeps_boxes_and_stacks(rt: HostRuntime) -> Result<(), Fail> {
+    let alloc = rt.alloc();
+    let boxed = Boxed::new(alloc, 7u32)?;
+    assert_eq!(rt; *boxed.get(), 7);
+    let mut stack = Stack::new(alloc);
+    assert_eq!(rt; stack.pop(), None);
+    stack.push(1u32)?;
+    stack.push(2u32)?;
+    stack.push(3u32)?;
+    assert_eq!(rt; stack.top(), Some(3));
+    assert_eq!(rt; stack.pop(), Some(3));
+    assert_eq!(rt; stack.len(), 2);
+    assert_eq!(rt; stack.into_items().as_slice(), [1, 2].as_slice());
+    Ok(())
+}
+
+#[test]
+fn operations_are_small(rt: HostRuntime) {
+    assert!(rt; size_of::<Op>() <= 24);
 }

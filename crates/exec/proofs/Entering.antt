@@ -6,9 +6,9 @@ use Rattle.std.proofs.lemmas.List.{take_all, length-reverse, reverse-reverse, dr
 use Rattle.core_types.specs.declared.op.Op.{Op}
 use Rattle.core_types.specs.declared.outcome.Val.{Val}
 use Rattle.meaning.specs.Body.{Empty, body_of}
-use Rattle.meaning.specs.Configuration.{Frame as FrameState, Level, Running, InFrame, Invoking}
+use Rattle.meaning.specs.Configuration.{Frame as FrameState, Level, InFrame, Invoking}
 use Rattle.meaning.specs.Store.{FunctionInstance, Store}
-use Rattle.meaning.specs.Reduction.{Next, Opens, NotReady, called, opened, frame_of, body_level, default_of}
+use Rattle.meaning.specs.Reduction.{Opens, called, body_level, default_of}
 use Rattle.meaning.specs.BoundedRun.{Run, Ending, step, open_frame, values_left, no_depth, no_memory, stuck, next_of, price, IsReady, WithValues, OutOfDepth, OutOfMemory, GotStuck}
 use Rattle.exec.specs.declared.machine.Control.{Control}
 use Rattle.exec.specs.declared.machine.Machine.{Machine}

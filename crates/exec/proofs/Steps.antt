@@ -1,9 +1,9 @@
 -- The next step of a configuration inside the label and the frame of a call.
-use Rattle.std.proofs.Common.{◌≡◌, ℕ, zero, suc, Bool, true, false, ◌<◌, ◌≤◌, List, [], ◌∷◌, refl, sym, ap, subst, ◌∙◌, arith}
+use Rattle.std.proofs.Common.{◌≡◌, ℕ, zero, suc, true, false, ◌<◌, ◌≤◌, List, [], ◌∷◌, refl, sym, ap, subst, ◌∙◌, arith}
 use Rattle.std.specs.Prelude.{Some, slice_get}
 use Rattle.core_types.specs.declared.op.PlainOp.{PlainOp}
 use Rattle.core_types.specs.declared.outcome.Val.{Val}
-use Rattle.meaning.specs.Body.{Body, Empty, Then}
+use Rattle.meaning.specs.Body.{Body, Empty, Then, Nested, IfElse}
 use Rattle.meaning.specs.Configuration.{Frame as FrameState, Onward, Level, no_frame}
 use Rattle.meaning.specs.Depth.{depth}
 use Rattle.meaning.specs.Store.{Store}
@@ -12,6 +12,7 @@ use Rattle.meaning.specs.BoundedRun.{Run, no_fuel, no_memory, stuck, OutOfFuel, 
 use Rattle.exec.specs.declared.machine.Control.{Control}
 use Rattle.exec.specs.declared.machine.Control.TheVariants.{Label, Frame}
 use Rattle.exec.specs.Effects.{IsDone}
+use Rattle.exec.specs.Fetching.{HasInsideFirst}
 use Rattle.exec.specs.Standing.{standing}
 
 pub below_one : (n : ℕ) → (1 ≤ n → false ≡ true) → n < 1
@@ -23,6 +24,17 @@ pub inside_label : (arity : ℕ) (frame : FrameState) (values : List Val) (rest 
 inside_label arity frame values rest [] e = absurd cc
 inside_label arity frame values rest (Label ∷ outer) e = refl
 inside_label arity frame values rest (Frame ∷ outer) e = absurd cc
+
+module _ (store : Store) (arity : ℕ) (frame : FrameState) (values : List Val) where
+  waits : (body : Body) → HasInsideFirst body → next_of store (standing arity frame values body (Label ∷ [])) ≡ NotReady
+  waits Empty h = absurd h
+  waits (Then op rest) h = absurd h
+  waits (Nested kind type inner rest) h = refl
+  waits (IfElse type inner other rest) h = refl
+
+  -- Before an instruction with a body no case applies yet.
+  pub inside_stuck : (controls : List Control) (body : Body) → slice_get controls 0 ≡ Some Label → HasInsideFirst body → (fuel bound : ℕ) → Run bound store fuel (standing arity frame values body controls) GotStuck store fuel
+  inside_stuck controls body inside first fuel bound = rw (inside_label arity frame values body controls inside) (stuck (waits body first))
 
 module _ (store : Store) (arity : ℕ) (frame : FrameState) (values : List Val) (op : PlainOp) (rest : Body) where
   abbrev here : Level

@@ -5,7 +5,6 @@ use Rattle.std.proofs.lemmas.List.{map-append, length-map, take_all}
 use Rattle.std.proofs.lemmas.Option.{slice_get-get_or, slice_get-map}
 use Rattle.core_types.specs.declared.types.FuncType.{FuncType}
 use Rattle.core_types.specs.declared.module.Func.{Func}
-use Rattle.core_types.specs.declared.module.Module.{Module}
 use Rattle.meaning.specs.Validity.{IsValid, IsValidFunction}
 use Rattle.meaning.specs.Store.{FunctionInstance as Function, Store}
 use Rattle.exec.specs.declared.store.FunctionInstance.{FunctionInstance}

@@ -1,8 +1,7 @@
 -- What a state of the machine stands for, and what its turns are.
-use Rattle.std.specs.Prelude.{◌≡◌, ℕ, ◌-◌, ◌<◌, ◌≤◌, List, [], ◌∷◌, Some, drop, slice_get}
+use Rattle.std.specs.Prelude.{◌≡◌, ℕ, ◌-◌, ◌≤◌, List, [], ◌∷◌, Some, drop, slice_get}
 use Rattle.core_types.specs.declared.op.Op.{Op}
 use Rattle.core_types.specs.declared.outcome.Val.{Val}
-use Rattle.core_types.specs.declared.outcome.Exhaustion.{Exhaustion}
 use Rattle.core_types.specs.declared.outcome.Exhaustion.TheVariants as exhausted
 use Rattle.meaning.specs.Body.{Body, Empty, body_of}
 use Rattle.meaning.specs.Configuration.{Frame as FrameState, Onward, Level, Running, InLabel, InFrame, no_frame}

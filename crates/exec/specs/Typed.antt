@@ -3,7 +3,7 @@ use Rattle.std.specs.Prelude.{◌≡◌, List, [], ◌∷◌, ◌++◌}
 use Rattle.core_types.specs.declared.types.ValType.{ValType}
 use Rattle.core_types.specs.declared.op.PlainOp.{PlainOp}
 use Rattle.core_types.specs.declared.op.Op.{Op}
-use Rattle.core_types.specs.declared.op.Op.TheVariants.{Plain, End}
+use Rattle.core_types.specs.declared.op.Op.TheVariants.{Plain}
 use Rattle.meaning.specs.Body.{Body, writing}
 use Rattle.meaning.specs.Context.{Context}
 use Rattle.meaning.specs.Typing.{Rule, HasType}
@@ -24,7 +24,7 @@ pub record Steps (scope : Context) (op : PlainOp) (before after : List ValType) 
 abbrev pub AllStep : Context → List Op → List ValType → List ValType → Type 0
 AllStep scope [] before after = before ≡ after
 AllStep scope (Plain op ∷ ops) before after = (between : List ValType) × Steps scope op before between × AllStep scope ops between after
-AllStep scope (End ∷ ops) before after = ⊥
+AllStep scope (mark ∷ ops) before after = ⊥
 
 -- The operations are the writing of a tree that leads from no operands to the results.
 pub record HasTypedWriting (scope : Context) (ops : List Op) (results : List ValType) : Type 0 where

@@ -1,16 +1,26 @@
-ghost use Rattle.std.specs.Prelude.{◌≡◌, ◌+◌, ◌<◌, length, drop, MatchOption, IfSome};
-ghost use Rattle.meaning.specs.Body.{Empty, Then, body_of};
+ghost use Rattle.exec.specs.Fetching.{IsFetched};
 
 use core_types::{Op, PlainOp};
 
-/// The instruction at a place of flat code, or none at the body's end.
-pub fn fetch(code: &[Op], place: usize) -> Option<&PlainOp>
-    ensures within { IfSome result (λ op. place < length code.now) }
-    ensures found { MatchOption result (body_of (drop place code.now) ≡ Empty) (λ op. body_of (drop place code.now) ≡ Then op.now (body_of (drop (place + 1) code.now))) }
+/// What stands at a place of flat code.
+#[derive(Clone, Copy)]
+pub enum Fetched<'a> {
+    /// An instruction without a body.
+    Plain(&'a PlainOp),
+    /// An instruction with a body.
+    Begins,
+    /// The end of the body.
+    Ends,
+}
+
+/// What stands at a place of flat code; the last body ends behind the last operation.
+pub fn fetch(code: &[Op], place: usize) -> Fetched<'_>
+    ensures { IsFetched result code.now place }
 {
     match code.get(place) {
-        Some(Op::Plain(op)) => Some(op),
-        Some(Op::End) => None,
-        None => None,
+        Some(Op::Plain(op)) => Fetched::Plain(op),
+        Some(Op::Block(_) | Op::Loop(_) | Op::If(_)) => Fetched::Begins,
+        Some(Op::Else | Op::End) => Fetched::Ends,
+        None => Fetched::Ends,
     }
 }

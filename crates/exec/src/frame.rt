@@ -3,8 +3,7 @@ ghost use Rattle.meaning.specs.Reduction.{default_of};
 ghost use Rattle.exec.specs.Opened.{IsOpened};
 
 use crate::machine::{Control, Machine};
-use crate::stack::Stack;
-use core_types::{Locals, Val, ValType};
+use core_types::{Locals, Stack, Val, ValType};
 use std::alloc::{AllocError, Global};
 
 // The value that a local has at first.

@@ -10,7 +10,6 @@ mod host_table;
 mod machine;
 mod meter;
 mod plain;
-mod stack;
 mod store;
 #[cfg(test)]
 mod tests;

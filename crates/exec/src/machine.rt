@@ -1,5 +1,4 @@
-use crate::stack::Stack;
-use core_types::{Exhaustion, Items, Trap, Val};
+use core_types::{Exhaustion, Items, Stack, Trap, Val};
 
 /// How a call from outside ended.
 #[derive(Debug, Drop)]

@@ -1,22 +1,54 @@
 use super::*;
 use core_types::{
-    BinaryOp, Exhaustion, Export, ExportDesc, Func, FuncType, Items, Locals, Module, Name, Op,
-    PlainOp, Val, ValType, Width,
+    BinaryOp, BlockType, Exhaustion, Export, ExportDesc, Func, FuncType, Items, Limits, Locals,
+    Module, Name, NumericOp, Op, PlainOp, Val, ValType, VariableOp, Width,
 };
 use std::alloc::{AllocError, Global};
 use std::process::Abort;
 use std::test::Fail;
 
-const ADD: Op = Op::Plain(PlainOp::Binary(Width::W32, BinaryOp::Add));
-
-const ADD_LONG: Op = Op::Plain(PlainOp::Binary(Width::W64, BinaryOp::Add));
-
-fn get(x: u32) -> Op {
-    Op::Plain(PlainOp::LocalGet(x))
+// An operation, as the tests list it.
+#[derive(Clone, Copy)]
+enum Operation {
+    Variable(VariableOp),
+    Numeric(NumericOp),
+    Constant(u32),
+    Block,
+    Else,
+    End,
 }
 
-fn constant(n: u32) -> Op {
-    Op::Plain(PlainOp::I32Const(n))
+const ADD: Operation = Operation::Numeric(NumericOp::Binary(Width::W32, BinaryOp::Add));
+
+const ADD_LONG: Operation = Operation::Numeric(NumericOp::Binary(Width::W64, BinaryOp::Add));
+
+const SUB: Operation = Operation::Numeric(NumericOp::Binary(Width::W32, BinaryOp::Sub));
+
+fn get(x: u32) -> Operation {
+    Operation::Variable(VariableOp::LocalGet(x))
+}
+
+fn constant(n: u32) -> Operation {
+    Operation::Constant(n)
+}
+
+fn op_of(operation: Operation) -> Op {
+    match operation {
+        Operation::Variable(op) => Op::Plain(PlainOp::Variable(op)),
+        Operation::Numeric(op) => Op::Plain(PlainOp::Numeric(op)),
+        Operation::Constant(n) => Op::Plain(PlainOp::I32Const(n)),
+        Operation::Block => Op::Block(BlockType::Empty),
+        Operation::Else => Op::Else,
+        Operation::End => Op::End,
+    }
+}
+
+fn ops_of(alloc: Global, operations: &[Operation]) -> Result<Items<Op>, AllocError> {
+    let mut ops = Vec::new(alloc);
+    for operation in operations {
+        ops.push(op_of(*operation))?;
+    }
+    Ok(Items::from_vec(ops))
 }
 
 // A module with one function, exported as `f`.
@@ -25,7 +57,7 @@ fn one_function(
     params: &[ValType],
     locals: &[ValType],
     results: &[ValType],
-    body: &[Op],
+    body: &[Operation],
 ) -> Result<Module, AllocError> {
     let ty = FuncType {
         params: Items::from_vec(Vec::from_slice(alloc, params)?),
@@ -40,7 +72,7 @@ fn one_function(
     let func = Func {
         ty: 0,
         locals: kept,
-        body: Items::from_vec(Vec::from_slice(alloc, body)?),
+        body: ops_of(alloc, body)?,
     };
     let export = Export {
         name: Name::from_string(String::from_str(alloc, "f")?),
@@ -48,8 +80,15 @@ fn one_function(
     };
     Ok(Module {
         types: Items::from_vec(vec![in alloc; ty]?),
+        imports: Items::from_vec(Vec::new(alloc)),
         funcs: Items::from_vec(vec![in alloc; func]?),
+        tables: Items::from_vec(Vec::new(alloc)),
+        memories: Items::from_vec(Vec::new(alloc)),
+        globals: Items::from_vec(Vec::new(alloc)),
         exports: Items::from_vec(vec![in alloc; export]?),
+        start: None,
+        elements: Items::from_vec(Vec::new(alloc)),
+        datas: Items::from_vec(Vec::new(alloc)),
     })
 }
 
@@ -99,8 +138,8 @@ fn adds_within_fuel(rt: HostRuntime) -> Result<(), Fail> {
     ];
     for (a, b, fuel, sum, left) in rows {
         let types = [ValType::I32, ValType::I32];
-        let add = one_function(alloc, &types, &[], &[ValType::I32], &[get(0), get(1), ADD])?;
-        let (outcome, kept) = called(&rt, alloc, add, &[Val::I32(a), Val::I32(b)], fuel, 1)?;
+        let sum_of = one_function(alloc, &types, &[], &[ValType::I32], &[get(0), get(1), ADD])?;
+        let (outcome, kept) = called(&rt, alloc, sum_of, &[Val::I32(a), Val::I32(b)], fuel, 1)?;
         match sum {
             Some(sum) => assert_eq!(rt;
                 values_of(&outcome),
@@ -135,14 +174,14 @@ fn runs_each_instruction(rt: HostRuntime) -> Result<(), Fail> {
     assert_eq!(rt; left, 0);
 
     let long = [ValType::I64, ValType::I64];
-    let add = one_function(
+    let sum_of = one_function(
         alloc,
         &long,
         &[],
         &[ValType::I64],
         &[get(0), get(1), ADD_LONG],
     )?;
-    let (outcome, _) = called(&rt, alloc, add, &[Val::I64(u64::MAX), Val::I64(3)], 9, 1)?;
+    let (outcome, _) = called(&rt, alloc, sum_of, &[Val::I64(u64::MAX), Val::I64(3)], 9, 1)?;
     assert_eq!(rt; values_of(&outcome), [Val::I64(2)].as_slice());
 
     let ordered = one_function(
@@ -172,68 +211,107 @@ fn looks_at_depth_before_memory_and_costs_nothing_to_enter(rt: HostRuntime) -> R
     Ok(())
 }
 
+// Where a module is invalid, if it is.
+fn invalid_place(alloc: Global, given: Module) -> Result<Option<Place>, Fail> {
+    match validate(alloc, given) {
+        Ok(_) => Ok(None),
+        Err(ValidateError::Invalid(place)) => Ok(Some(place)),
+        Err(ValidateError::OutOfMemory) => Err(Fail::from("memory")),
+    }
+}
+
 #[test]
 fn validates(rt: HostRuntime) -> Result<(), Fail> {
     let alloc = rt.alloc();
     let i32s = [ValType::I32];
-    let bodies: [(&[Op], &[ValType], bool); 8] = [
+    let i64s = [ValType::I64];
+    let bodies: [(&[Operation], &[ValType], bool); 8] = [
         (&[constant(1)], &i32s, true),
         (&[constant(1), constant(2), ADD], &i32s, true),
         (&[], &i32s, false),
         (&[constant(1), constant(2)], &i32s, false),
         (&[ADD], &i32s, false),
         (&[get(0)], &i32s, false),
-        (&[constant(1), Op::End], &i32s, false),
-        (
-            &[constant(1), constant(2), ADD_LONG],
-            &[ValType::I64],
-            false,
-        ),
+        (&[constant(1), Operation::End], &i32s, false),
+        (&[constant(1), constant(2), ADD_LONG], &i64s, false),
     ];
     for (body, results, good) in bodies {
         let given = one_function(alloc, &[], &[], results, body)?;
-        match validate(alloc, given) {
-            Ok(valid) => {
-                assert!(rt; good);
-                assert_eq!(rt; valid.module().funcs.len(), 1);
-            }
-            Err(ValidateError::Invalid(place)) => {
-                assert!(rt; !good);
-                assert_eq!(rt; place, Place::Func(0));
-            }
-            Err(ValidateError::OutOfMemory) => return Err(Fail::from("memory")),
-        }
+        let place = if good { None } else { Some(Place::Func(0)) };
+        assert_eq!(rt; invalid_place(alloc, given)?, place);
     }
+    Ok(())
+}
+
+#[test]
+fn lends_a_valid_module(rt: HostRuntime) -> Result<(), Fail> {
+    let alloc = rt.alloc();
+    let valid = validate(alloc, one_function(alloc, &[], &[], &[], &[])?)?;
+    assert_eq!(rt; valid.module().funcs.len(), 1);
+    Ok(())
+}
+
+#[test]
+fn refuses_a_function_without_a_type(rt: HostRuntime) -> Result<(), Fail> {
+    let alloc = rt.alloc();
     let mut untyped = one_function(alloc, &[], &[], &[], &[])?;
     untyped.types = Items::from_vec(Vec::new(alloc));
-    assert!(rt;
-        matches!(
-            validate(alloc, untyped),
-            Err(ValidateError::Invalid(Place::Func(0)))
-        )
-    );
+    assert_eq!(rt; invalid_place(alloc, untyped)?, Some(Place::Func(0)));
+    Ok(())
+}
+
+// A module with one function and an export of this.
+fn exporting(alloc: Global, desc: ExportDesc) -> Result<Module, AllocError> {
+    let name = Name::from_string(String::from_str(alloc, "g")?);
+    let mut given = one_function(alloc, &[], &[], &[], &[])?;
+    given.exports = Items::from_vec(vec![in alloc; Export { name, desc }]?);
+    Ok(given)
+}
+
+#[test]
+fn refuses_exports_of_nothing(rt: HostRuntime) -> Result<(), Fail> {
+    let alloc = rt.alloc();
     for desc in [
         ExportDesc::Func(1),
         ExportDesc::Table(0),
         ExportDesc::Memory(0),
         ExportDesc::Global(0),
     ] {
-        let mut exporting = one_function(alloc, &[], &[], &[], &[])?;
-        let name = Name::from_string(String::from_str(alloc, "g")?);
-        exporting.exports = Items::from_vec(vec![in alloc; Export { name, desc }]?);
-        assert!(rt;
-            matches!(
-                validate(alloc, exporting),
-                Err(ValidateError::Invalid(Place::Section(7)))
-            )
-        );
+        let given = exporting(alloc, desc)?;
+        assert_eq!(rt; invalid_place(alloc, given)?, Some(Place::Section(7)));
     }
+    Ok(())
+}
+
+#[test]
+fn numbers_and_prints_refusals(rt: HostRuntime) -> Result<(), Fail> {
+    let alloc = rt.alloc();
     assert_eq!(rt; ValidateError::Invalid(Place::Func(3)).number(), 4);
     assert_eq!(rt; ValidateError::OutOfMemory.number(), 13);
     let text = format!(in alloc; "{}", ValidateError::Invalid(Place::Func(3)))?;
     assert_eq!(rt; text.as_str(), "invalid module: function 3");
     let text = format!(in alloc; "{}", ValidateError::Invalid(Place::Section(7)))?;
     assert_eq!(rt; text.as_str(), "invalid module: section 7");
+    Ok(())
+}
+
+#[test]
+fn refuses_what_is_not_validated_yet(rt: HostRuntime) -> Result<(), Fail> {
+    let alloc = rt.alloc();
+    let i32s = [ValType::I32];
+    let bodies: [(&[Operation], &[ValType]); 3] = [
+        (&[constant(2), constant(1), SUB], &i32s),
+        (&[Operation::Block, Operation::End], &[]),
+        (&[Operation::Else], &[]),
+    ];
+    for (body, results) in bodies {
+        let given = one_function(alloc, &[], &[], results, body)?;
+        assert_eq!(rt; invalid_place(alloc, given)?, Some(Place::Func(0)));
+    }
+    let mut with_memory = one_function(alloc, &[], &[], &[], &[])?;
+    let limits = Limits { min: 1, max: None };
+    with_memory.memories = Items::from_vec(vec![in alloc; limits]?);
+    assert_eq!(rt; invalid_place(alloc, with_memory)?, Some(Place::Section(5)));
     Ok(())
 }
 

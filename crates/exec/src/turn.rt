@@ -7,7 +7,7 @@ ghost use Rattle.exec.specs.declared.machine.Turn.TheVariants.{Goes};
 ghost use Rattle.exec.specs.Metering.{metered};
 ghost use Rattle.exec.specs.Standing.{IsAtEnd, IsControlStack, configuration, TurnIs, IfGoes};
 
-use crate::fetch::fetch;
+use crate::fetch::{Fetched, fetch};
 use crate::machine::{Control, Machine, Turn};
 use crate::meter::Meter;
 use crate::plain::{Did, run_plain};
@@ -62,8 +62,10 @@ pub fn turn(code: &[Op], machine: &mut Machine, meter: &mut Meter) -> Turn
     ensures falls { IfGoes result (meter.new.left + length machine.new.controls < meter.old.left + length machine.old.controls) }
 {
     if let Some(Control::Label) = machine.controls.top() {
-        if let Some(op) = fetch(code, machine.place) {
-            return turn_plain(code, op, machine, meter);
+        match fetch(code, machine.place) {
+            Fetched::Plain(op) => return turn_plain(code, op, machine, meter),
+            Fetched::Begins => return Turn::Stuck,
+            Fetched::Ends => {}
         }
     }
     leave(machine);

@@ -1,9 +1,12 @@
 ghost use Rattle.std.specs.Prelude.{◌≡◌, ◌++◌, ◌∷◌, [], slice_get, OnOk, IsTrue, length, IfOk};
 ghost use Rattle.std.specs.Bool.{OnTrue};
+ghost use Rattle.core_types.specs.declared.op.PlainOp.TheVariants.{Variable, Numeric};
+ghost use Rattle.core_types.specs.declared.op.VariableOp.TheVariants.{LocalGet};
+ghost use Rattle.meaning.specs.Context.{Context};
 ghost use Rattle.meaning.specs.Typing.{integer_type as type_of_width};
 ghost use Rattle.exec.specs.Typed.{context, Steps, HasTypedWriting};
 
-use core_types::{Locals, Op, PlainOp, ValType, Width};
+use core_types::{BinaryOp, Locals, NumericOp, Op, PlainOp, ValType, VariableOp, Width};
 use std::alloc::{AllocError, AllocFailed, Global};
 
 /// Why a body was not typed.
@@ -63,6 +66,55 @@ fn pop_type(operands: &mut Vec<ValType>, ty: ValType) -> Result<(), Fault>
     }
 }
 
+// Types the instruction that gets a local.
+fn step_local_get(
+    place: u32,
+    params: &[ValType],
+    locals: &Locals,
+    operands: &mut Vec<ValType>,
+) -> Result<(), Fault>
+    ensures { OnOk result (Steps (context params.now locals.now) (Variable (LocalGet place)) operands.old.items operands.new.items) }
+{
+    match local_type(params, locals, place) {
+        Some(ty) => {
+            operands.push(ty)?;
+            Ok(())
+        }
+        None => Err(Fault::Mismatch),
+    }
+}
+
+// Types an instruction on a local or a global.
+fn step_variable(
+    op: VariableOp,
+    params: &[ValType],
+    locals: &Locals,
+    operands: &mut Vec<ValType>,
+) -> Result<(), Fault>
+    ensures { OnOk result (Steps (context params.now locals.now) (Variable op) operands.old.items operands.new.items) }
+{
+    match op {
+        VariableOp::LocalGet(place) => step_local_get(place, params, locals, operands),
+        _ => Err(Fault::Mismatch),
+    }
+}
+
+// Types an operator on integers.
+fn step_numeric(op: NumericOp, operands: &mut Vec<ValType>) -> Result<(), Fault>
+    ensures { (scope : Context) → OnOk result (Steps scope (Numeric op) operands.old.items operands.new.items) }
+{
+    match op {
+        NumericOp::Binary(width, BinaryOp::Add) => {
+            let ty = integer_type(width);
+            pop_type(operands, ty)?;
+            pop_type(operands, ty)?;
+            operands.push(ty)?;
+            Ok(())
+        }
+        _ => Err(Fault::Mismatch),
+    }
+}
+
 // Types one instruction.
 fn step(
     op: &PlainOp,
@@ -73,24 +125,13 @@ fn step(
     ensures { OnOk result (Steps (context params.now locals.now) op.now operands.old.items operands.new.items) }
 {
     match op {
-        PlainOp::LocalGet(place) => {
-            let Some(ty) = local_type(params, locals, *place) else {
-                return Err(Fault::Mismatch);
-            };
-            operands.push(ty)?;
-            Ok(())
-        }
+        PlainOp::Variable(op) => step_variable(*op, params, locals, operands),
+        PlainOp::Numeric(op) => step_numeric(*op, operands),
         PlainOp::I32Const(_) => {
             operands.push(ValType::I32)?;
             Ok(())
         }
-        PlainOp::Binary(width, _) => {
-            let ty = integer_type(*width);
-            pop_type(operands, ty)?;
-            pop_type(operands, ty)?;
-            operands.push(ty)?;
-            Ok(())
-        }
+        _ => Err(Fault::Mismatch),
     }
 }
 
@@ -123,7 +164,8 @@ pub fn type_body(
     for op in ops {
         match op {
             Op::Plain(op) => step(op, params, locals, &mut operands)?,
-            Op::End => return Err(Fault::Mismatch),
+            Op::Block(_) | Op::Loop(_) | Op::If(_) => return Err(Fault::Mismatch),
+            Op::Else | Op::End => return Err(Fault::Mismatch),
         }
     }
     if same_types(&operands, results) {

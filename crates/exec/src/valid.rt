@@ -1,7 +1,7 @@
-ghost use Rattle.std.specs.Prelude.{◌≡◌, IfOk, OnOk, All};
+ghost use Rattle.std.specs.Prelude.{◌≡◌, IfOk, OnOk, IfNone, All};
 ghost use Rattle.std.specs.Bool.{OnTrue};
 ghost use Rattle.core_types.specs.declared.module.Export.{Export};
-ghost use Rattle.meaning.specs.Validity.{IsValidFunction, IsValid, Exists};
+ghost use Rattle.meaning.specs.Validity.{IsValidFunction, IsValid, HasOnlyFunctions, Exists};
 
 use crate::typing::{Fault, type_body};
 use core_types::{Export, ExportDesc, Func, FuncType, Module};
@@ -84,6 +84,29 @@ impl ValidModule {
     }
 }
 
+// The id of a section that has items and is not validated yet, if there is one.
+fn section_not_validated(given: &Module) -> Option<u8>
+    ensures { IfNone result (HasOnlyFunctions given.now) }
+{
+    if !given.imports.is_empty() {
+        Some(2)
+    } else if !given.tables.is_empty() {
+        Some(4)
+    } else if !given.memories.is_empty() {
+        Some(5)
+    } else if !given.globals.is_empty() {
+        Some(6)
+    } else if given.start.is_some() {
+        Some(8)
+    } else if !given.elements.is_empty() {
+        Some(9)
+    } else if !given.datas.is_empty() {
+        Some(11)
+    } else {
+        None
+    }
+}
+
 // Types a function of these types.
 fn validate_function(alloc: Global, types: &[FuncType], func: &Func) -> Result<(), Fault>
     ensures { OnOk result (IsValidFunction types.now func.now) }
@@ -145,6 +168,9 @@ pub fn validate(alloc: Global, given: Module) -> Result<ValidModule, ValidateErr
     ensures kept { IfOk result (λ valid. valid ≡ given) }
     ensures valid { OnOk result (IsValid given) }
 {
+    if let Some(id) = section_not_validated(&given) {
+        return Err(ValidateError::Invalid(Place::Section(id)));
+    }
     validate_functions(alloc, &given)?;
     if !exports_exist(&given) {
         return Err(ValidateError::Invalid(Place::Section(7)));

@@ -1,4 +1,4 @@
-ghost use Rattle.std.specs.Prelude.{◌≡◌, ◌+◌, ◌-◌, ◌^◌, ◌<◌, ◌≤◌, ℤ, pos, ◌+ℤ◌, ◌*ℤ◌, length, drop, IfNone, IfSome};
+ghost use Rattle.std.specs.Prelude.{◌≡◌, ◌+◌, ◌-◌, ◌^◌, ◌<◌, ◌≤◌, ◌<ℤ◌, ℤ, pos, ◌+ℤ◌, ◌*ℤ◌, length, drop, IfNone, IfSome};
 ghost use Rattle.leb.specs.Ranges.{IsInRange};
 ghost use Rattle.meaning.specs.NumberSpelling.{EndsSigned, SpellsSigned};
 ghost use Rattle.meaning.specs.Spelling.{NoFront, Reads};
@@ -76,6 +76,7 @@ pub fn read_s33(bytes: &[u8], at: usize) -> Option<(i64, usize)>
     requires { at ≤ length bytes.now }
     ensures within { IfSome result (λ f. (at < f.1) × (f.1 ≤ length bytes.now)) }
     ensures found { IfSome result (λ f. Reads (SpellsSigned 33) (drop at bytes.now) f.0 (drop f.1 bytes.now)) }
+    ensures range { IfSome result (λ f. f.0 <ℤ pos (2 ^ 32)) }
     ensures none { IfNone result (NoFront (SpellsSigned 33) (drop at bytes.now)) }
 {
     let (value, size) = signed_front(&bytes[at..], 33)?;

@@ -1,30 +1,26 @@
--- The spellings of instructions and expressions (Binary Format, Instructions), as far as they are read.
-use Rattle.std.specs.Prelude.{◌≡◌, ℕ, ◌-◌, ◌^◌, suc, ℤ, pos, negsuc, List, [], ◌∷◌, ◌++◌}
-use Rattle.core_types.specs.declared.op.PlainOp.{PlainOp}
-use Rattle.core_types.specs.declared.op.PlainOp.TheVariants.{LocalGet, I32Const, Binary}
-use Rattle.core_types.specs.declared.op.Width.TheVariants.{W32, W64}
-use Rattle.core_types.specs.declared.op.BinaryOp.TheVariants.{Add}
+-- The spellings of bodies and expressions (Binary Format, Instructions).
+use Rattle.std.specs.Prelude.{◌≡◌, ℕ, List, [], ◌∷◌, ◌++◌}
 use Rattle.core_types.specs.declared.op.Op.{Op}
-use Rattle.meaning.specs.NumberSpelling.{SpellsUnsigned, SpellsSigned}
-use Rattle.meaning.specs.Body.{Body, Empty, Then, writing}
+use Rattle.meaning.specs.Body.{Kind, BlockKind, LoopKind, IfKind, Body, Empty, Then, Nested, IfElse, writing}
+use Rattle.meaning.specs.InstructionSpelling.{SpellsPlain}
+use Rattle.meaning.specs.Productions.{SpellsTagged}
+use Rattle.meaning.specs.TypeSpelling.{SpellsBlockType}
 
--- The number of so many bits with which a signed one is stored: a negative one counts down from 2 ^ bits (Execution,
--- Numerics, Integers).
-abbrev pub stored : ℕ → ℤ → ℕ
-stored bits (pos n) = n
-stored bits (negsuc n) = 2 ^ bits - suc n
+-- The opcode with which an instruction with a body begins.
+abbrev pub opcode_of : Kind → ℕ
+opcode_of BlockKind = 0x02
+opcode_of LoopKind = 0x03
+opcode_of IfKind = 0x04
 
--- An instruction that has no body.
-abbrev pub SpellsPlain : List ℕ → PlainOp → Type 0
-SpellsPlain bytes (LocalGet x) = (index : List ℕ) × (bytes ≡ 0x20 ∷ index) × SpellsUnsigned 32 index x
-SpellsPlain bytes (I32Const n) = (number : List ℕ) × (bytes ≡ 0x41 ∷ number) × ((z : ℤ) × SpellsSigned 32 number z × (n ≡ stored 32 z))
-SpellsPlain bytes (Binary W32 Add) = bytes ≡ 0x6A ∷ []
-SpellsPlain bytes (Binary W64 Add) = ⊥
-
--- Instructions in a row.
+-- Instructions in a row. A body goes down to the byte 0B, the first one of an if with two down to the byte 05.
 abbrev pub SpellsBody : List ℕ → Body → Type 0
 SpellsBody bytes Empty = bytes ≡ []
 SpellsBody bytes (Then op rest) = (first others : List ℕ) × (bytes ≡ first ++ others) × SpellsPlain first op × SpellsBody others rest
+SpellsBody bytes (Nested kind type inner rest) =
+    (begin inside others : List ℕ) × (bytes ≡ begin ++ (inside ++ (0x0B ∷ others))) × SpellsTagged (opcode_of kind) SpellsBlockType begin type × SpellsBody inside inner × SpellsBody others rest
+SpellsBody bytes (IfElse type inner other rest) =
+    (begin inside second others : List ℕ) × (bytes ≡ begin ++ (inside ++ (0x05 ∷ (second ++ (0x0B ∷ others))))) × SpellsTagged 0x04 SpellsBlockType begin type
+    × SpellsBody inside inner × SpellsBody second other × SpellsBody others rest
 
 -- Instructions, and the end (Expressions).
 abbrev pub SpellsExpression : List ℕ → Body → Type 0

@@ -1,5 +1,5 @@
 -- Bounded runs, which are this project's own: steps within the fuel and the depth bound.
-use Rattle.std.specs.Prelude.{◌≡◌, ℕ, ◌-◌, ◌<◌, ◌≤◌, List, [], reverse}
+use Rattle.std.specs.Prelude.{◌≡◌, ℕ, ◌-◌, ◌<◌, ◌≤◌, List, reverse}
 use Rattle.core_types.specs.declared.outcome.Val.{Val}
 use Rattle.core_types.specs.declared.outcome.Trap.{Trap}
 use Rattle.meaning.specs.Configuration.{Level, no_frame}

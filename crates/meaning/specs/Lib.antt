@@ -3,6 +3,7 @@ pub mod NumberSpelling
 pub mod Productions
 pub mod TypeSpelling
 pub mod Body
+pub mod InstructionSpelling
 pub mod BodySpelling
 pub mod ModuleSpelling
 pub mod Limits

@@ -1,5 +1,5 @@
 -- The integer operators (Execution, Numerics), as formulas over whole numbers.
-use Rattle.std.specs.Prelude.{ℕ, ◌+◌, ◌%◌, ◌^◌}
+use Rattle.std.specs.Prelude.{ℕ, ◌+◌, ◌%◌, ◌^◌, Option, Some, None}
 use Rattle.core_types.specs.declared.op.Width.{Width}
 use Rattle.core_types.specs.declared.op.Width.TheVariants.{W32, W64}
 use Rattle.core_types.specs.declared.op.BinaryOp.{BinaryOp}
@@ -9,6 +9,7 @@ abbrev pub bits_of : Width → ℕ
 bits_of W32 = 32
 bits_of W64 = 64
 
--- iadd: the sum modulo 2 ^ N.
-abbrev pub binary_result : ℕ → BinaryOp → ℕ → ℕ → ℕ
-binary_result bits Add a b = (a + b) % 2 ^ bits
+-- What an operator gives from two integers of so many bits; none where it has no formula yet.
+abbrev pub binary_result : ℕ → BinaryOp → ℕ → ℕ → Option ℕ
+binary_result bits Add a b = Some ((a + b) % 2 ^ bits)
+binary_result bits op a b = None

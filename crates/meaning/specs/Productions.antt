@@ -1,11 +1,19 @@
 -- Ways to put spellings together (Binary Format, Conventions).
-use Rattle.std.specs.Prelude.{◌≡◌, ℕ, ◌⊎◌, List, [], ◌∷◌, ◌++◌, length}
+use Rattle.std.specs.Prelude.{◌≡◌, ℕ, List, [], ◌∷◌, ◌++◌, length}
 use Rattle.std.specs.Str.{IsUtf8}
 use Rattle.meaning.specs.NumberSpelling.{SpellsUnsigned}
 
 -- One after the other.
 abbrev pub SpellsBoth : {A B : Type 0} → (List ℕ → A → Type 0) → (List ℕ → B → Type 0) → List ℕ → A → B → Type 0
 SpellsBoth {A} {B} First Second bytes a b = (first second : List ℕ) × (bytes ≡ first ++ second) × First first a × Second second b
+
+-- The same, as the spelling of the pair.
+abbrev pub SpellsPair : {A B : Type 0} → (List ℕ → A → Type 0) → (List ℕ → B → Type 0) → List ℕ → A × B → Type 0
+SpellsPair First Second bytes pair = SpellsBoth First Second bytes pair.0 pair.1
+
+-- A byte, and a spelling behind it.
+abbrev pub SpellsTagged : {V : Type 0} → ℕ → (List ℕ → V → Type 0) → List ℕ → V → Type 0
+SpellsTagged {V} tag Spells bytes v = (inside : List ℕ) × (bytes ≡ tag ∷ inside) × Spells inside v
 
 -- Each of a list in turn.
 abbrev pub SpellsEach : {V : Type 0} → (List ℕ → V → Type 0) → List ℕ → List V → Type 0

@@ -1,21 +1,27 @@
 -- Worked rows: a store with one function that adds its two arguments.
-use Rattle.std.specs.Prelude.{List, [], ◌∷◌}
+use Rattle.std.specs.Prelude.{ℕ, [], ◌∷◌}
 use Rattle.core_types.specs.declared.types.ValType.TheVariants as ty
-use Rattle.core_types.specs.declared.op.PlainOp.TheVariants.{LocalGet, Binary}
+use Rattle.core_types.specs.declared.op.PlainOp.{PlainOp}
+use Rattle.core_types.specs.declared.op.PlainOp.TheVariants.{Variable, Numeric}
+use Rattle.core_types.specs.declared.op.VariableOp.TheVariants.{LocalGet}
+use Rattle.core_types.specs.declared.op.NumericOp.TheVariants.{Binary}
 use Rattle.core_types.specs.declared.op.Width.TheVariants.{W32}
 use Rattle.core_types.specs.declared.op.BinaryOp.TheVariants.{Add}
-use Rattle.core_types.specs.declared.outcome.Val.{Val}
 use Rattle.core_types.specs.declared.outcome.Val.TheVariants.{I32}
 use Rattle.meaning.specs.Body.{Empty, Then}
 use Rattle.meaning.specs.Configuration.{Level, Invoking}
 use Rattle.meaning.specs.Store.{FunctionInstance, Store}
 use Rattle.meaning.specs.BoundedRun.{Run, WithValues, OutOfFuel, OutOfDepth}
 
+-- The instruction that gets a local.
+abbrev pub local : ℕ → PlainOp
+local x = Variable (LocalGet x)
+
 abbrev pub adder : FunctionInstance
 adder = record {
   ty = record { params = ty.I32 ∷ ty.I32 ∷ []; results = ty.I32 ∷ [] };
   instance = 0;
-  code = record { locals = []; body = Then (LocalGet 0) (Then (LocalGet 1) (Then (Binary W32 Add) Empty)) };
+  code = record { locals = []; body = Then (local 0) (Then (local 1) (Then (Numeric (Binary W32 Add)) Empty)) };
 }
 
 abbrev pub adding : Store

@@ -1,5 +1,5 @@
--- Module validity (Validation, Modules), as far as modules are read.
-use Rattle.std.specs.Prelude.{◌≡◌, ◌<◌, List, [], ◌++◌, length, All, Some, slice_get}
+-- Module validity (Validation, Modules), as far as modules are validated.
+use Rattle.std.specs.Prelude.{◌≡◌, ◌<◌, List, [], ◌++◌, length, All, Some, None, slice_get}
 use Rattle.core_types.specs.declared.types.FuncType.{FuncType}
 use Rattle.core_types.specs.declared.module.Func.{Func as Function}
 use Rattle.core_types.specs.declared.module.ExportDesc.{ExportDesc}
@@ -29,6 +29,17 @@ Exists m (Table x) = ⊥
 Exists m (Memory x) = ⊥
 Exists m (Global x) = ⊥
 
+-- Only types, functions and exports, so that a function's index is that of the module's own; the rest is not validated yet.
+pub record HasOnlyFunctions (m : Module) : Type 0 where
+  pub imports : m.imports ≡ []
+  pub tables : m.tables ≡ []
+  pub memories : m.memories ≡ []
+  pub globals : m.globals ≡ []
+  pub start : m.start ≡ None
+  pub elements : m.elements ≡ []
+  pub datas : m.datas ≡ []
+
 pub record IsValid (m : Module) : Type 0 where
+  pub only_functions : HasOnlyFunctions m
   pub functions : All (IsValidFunction m.types) m.funcs
   pub exports : All (λ (e : Export). Exists m e.desc) m.exports

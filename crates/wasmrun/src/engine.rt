@@ -1,5 +1,6 @@
 //! The steps of a call: a module is loaded, linked, looked into and run.
 
+use crate::support::is_run;
 use binary::{DecodeError, decode};
 use core_types::{Export, ExportDesc, Val, ValType};
 use exec::{
@@ -118,9 +119,12 @@ impl Engine {
         self.fuel
     }
 
-    /// The module that bytes spell, if it is valid.
+    /// The module that bytes spell, if it is valid and all of it is run.
     pub fn load(&self, bytes: &[u8]) -> Result<ValidModule, Refusal> {
         let given = decode(self.alloc, bytes)?;
+        if !is_run(&given) {
+            return Err(Refusal::Unsupported);
+        }
         let module = validate(self.alloc, given)?;
         Ok(module)
     }

@@ -8,6 +8,7 @@ mod inputs;
 mod line;
 mod print;
 mod program;
+mod support;
 
 use engine::Refusal;
 use inputs::System;

@@ -15,6 +15,18 @@ static ADDING: [u8; 41] = [
     0x01, 0x07, 0x00, 0x20, 0x00, 0x20, 0x01, 0x6A, 0x0B,
 ];
 
+/// The same with i32.sub in place of i32.add.
+static SUBTRACTING: [u8; 41] = [
+    0x00, 0x61, 0x73, 0x6D, 0x01, 0x00, 0x00, 0x00, 0x01, 0x07, 0x01, 0x60, 0x02, 0x7F, 0x7F, 0x01,
+    0x7F, 0x03, 0x02, 0x01, 0x00, 0x07, 0x07, 0x01, 0x03, 0x61, 0x64, 0x64, 0x00, 0x00, 0x0A, 0x09,
+    0x01, 0x07, 0x00, 0x20, 0x00, 0x20, 0x01, 0x6B, 0x0B,
+];
+
+/// A memory of one page.
+static MEMORY: [u8; 13] = [
+    0x00, 0x61, 0x73, 0x6D, 0x01, 0x00, 0x00, 0x00, 0x05, 0x03, 0x01, 0x00, 0x01,
+];
+
 /// The same with f32.add in place of i32.add.
 static FLOATING: [u8; 41] = [
     0x00, 0x61, 0x73, 0x6D, 0x01, 0x00, 0x00, 0x00, 0x01, 0x07, 0x01, 0x60, 0x02, 0x7F, 0x7F, 0x01,
@@ -40,6 +52,8 @@ impl Files for FewFiles {
         let bytes = match path {
             "m1.wasm" => ADDING.as_slice(),
             "floating.wasm" => FLOATING.as_slice(),
+            "subtracting.wasm" => SUBTRACTING.as_slice(),
+            "memory.wasm" => MEMORY.as_slice(),
             "empty_body.wasm" => EMPTY_BODY.as_slice(),
             "short.wasm" => &ADDING[..7],
             "huge.wasm" => return Err(ReadFault::Memory),
@@ -165,7 +179,7 @@ fn calls_end_with_their_lines(rt: HostRuntime) -> Result<(), Fail> {
 
 #[test]
 fn faults_end_with_their_lines(rt: HostRuntime) -> Result<(), Fail> {
-    let cases: [(&[&str], &str, u8); 16] = [
+    let cases: [(&[&str], &str, u8); 18] = [
         (
             &["call", "m1.wasm", "sub", "1", "2"],
             "refused 9 UnknownExport\n",
@@ -217,6 +231,16 @@ fn faults_end_with_their_lines(rt: HostRuntime) -> Result<(), Fail> {
         ),
         (
             &["call", "floating.wasm", "add", "1", "2"],
+            "refused 2 Unsupported\n",
+            5,
+        ),
+        (
+            &["call", "subtracting.wasm", "add", "1", "2"],
+            "refused 2 Unsupported\n",
+            5,
+        ),
+        (
+            &["call", "memory.wasm", "add", "1", "2"],
             "refused 2 Unsupported\n",
             5,
         ),

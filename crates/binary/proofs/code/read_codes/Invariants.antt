@@ -1,5 +1,5 @@
 use Rattle.std.proofs.Common.{◌≡◌, [], drop}
-use Rattle.binary.specs.Reading.{codes_at}
+use Rattle.binary.specs.EntryReading.{codes_at}
 use Rattle.binary.proofs.code.read_codes.Given as goal
 
 -- what is left to read goes on to what the whole reading gives

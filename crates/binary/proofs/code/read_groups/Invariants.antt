@@ -1,5 +1,5 @@
 use Rattle.std.proofs.Common.{◌≡◌, ◌-◌, []}
-use Rattle.binary.specs.Reading.{groups_at}
+use Rattle.binary.specs.EntryReading.{groups_at}
 use Rattle.binary.proofs.code.read_groups.Given as goal
 
 -- what is left to read goes on to what the whole reading gives

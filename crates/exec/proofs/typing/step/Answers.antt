@@ -1,12 +1,8 @@
-use Rattle.std.proofs.Common.{refl, sym, ◌∙◌}
-use Rattle.core_types.specs.declared.op.PlainOp.TheVariants.{LocalGet, I32Const}
+use Rattle.std.proofs.Common.{refl}
+use Rattle.core_types.specs.declared.op.PlainOp.TheVariants.{I32Const}
 use Rattle.exec.specs.Typed.{context}
 use Rattle.exec.proofs.FlatTyping.{Steps-push}
 use Rattle.exec.proofs.typing.step.Goals as goal
-
-pub returns-in_ok-push-in-LocalGet : goal.returns-in_ok-push-in-LocalGet
-returns-in_ok-push-in-LocalGet c =
-    rw (c.in-LocalGet.is, c.in_ok-push-in-LocalGet.ensures.items) (Steps-push (context c.args.params.now c.args.locals.now) (LocalGet c.in-LocalGet.place) c.args.operands.now.items c.in-Some.ty (refl, (c.in-Some.ty, sym c.local_type.ensures ∙ c.in-Some.is, refl)))
 
 pub returns-in_ok-push-in-I32Const : goal.returns-in_ok-push-in-I32Const
 returns-in_ok-push-in-I32Const c =

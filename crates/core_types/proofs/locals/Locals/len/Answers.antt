@@ -1,4 +1,3 @@
-use Rattle.std.proofs.Common.{sym}
 use Rattle.core_types.proofs.Runs.{end-last}
 use Rattle.core_types.proofs.locals.Locals.len.Goals as goal
 

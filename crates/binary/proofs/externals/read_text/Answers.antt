@@ -3,7 +3,7 @@ use Rattle.std.specs.Str.{is_utf8}
 use Rattle.std.proofs.lemmas.Bool.{false_from_ne_true}
 use Rattle.std.proofs.lemmas.Str.{IsUtf8-from_is_utf8, is_utf8-from_IsUtf8}
 use Rattle.binary.specs.Reading.{name_at}
-use Rattle.binary.proofs.exports.read_text.Goals as goal
+use Rattle.binary.proofs.externals.read_text.Goals as goal
 
 pub returns-in_default : goal.returns-in_default
 unfolding name_at

@@ -1,6 +1,6 @@
 ghost use Rattle.std.specs.Prelude.{◌≡◌, List, [], ◌∷◌, length, reverse, slice_get, OnOk, OnErr, MatchOption};
 
-use core_types::Items;
+use crate::items::Items;
 use std::alloc::{AllocError, Global};
 use std::marker::Model;
 
