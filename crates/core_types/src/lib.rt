@@ -30,5 +30,5 @@ pub use outcome::{Exhaustion, Trap, Val};
 pub use stack::Stack;
 pub use text::Name;
 pub use types::{
-    ExternType, FuncType, GlobalType, Limits, Mutability, RefType, TableType, ValType,
+    ExternType, FuncType, GlobalType, Limits, Mutability, OperandType, RefType, TableType, ValType,
 };

@@ -16,6 +16,14 @@ pub enum RefType {
     ExternRef,
 }
 
+/// An operand's type while a body is validated: a value type, or any type, where an operand is taken that can't be reached
+/// (Validation, Instructions, Operand Types).
+#[derive(Clone, Copy, PartialEq, Eq, Debug)]
+pub enum OperandType {
+    Known(ValType),
+    Unknown,
+}
+
 /// The parameters and results of a function (Structure, Types, Function Types).
 #[derive(Debug, PartialEq, Drop)]
 pub struct FuncType {

@@ -58,13 +58,13 @@ module _ (instances : List Instance) (i : Instance) (valid : IsValid i.module) w
   entry_function-new : (k : ℕ) → entry_function (instances ++ i ∷ []) (entry k) ≡ function k
   entry_function-new k = ap (instance_function (entry k)) (slice_get-seam instances i)
 
-  IsFound-new : (k : ℕ) (f : Func) → slice_get i.module.funcs k ≡ Some f → IsValidFunction i.module.types f → IsFound (instances ++ i ∷ []) (entry k)
+  IsFound-new : (k : ℕ) (f : Func) → slice_get i.module.funcs k ≡ Some f → IsValidFunction i.module f → IsFound (instances ++ i ∷ []) (entry k)
   IsFound-new k f e v = rw (entry_function-new k, e, v.has_type) refl
 
-  valid-at : (k : ℕ) (f : Func) → k < length i.module.funcs → slice_get i.module.funcs k ≡ Some f → IsValidFunction i.module.types f
+  valid-at : (k : ℕ) (f : Func) → k < length i.module.funcs → slice_get i.module.funcs k ≡ Some f → IsValidFunction i.module f
   valid-at k f lt e =
       let same : f ≡ get_or i.module.funcs k f = let h = sym e ∙ slice_get-get_or i.module.funcs k f lt in cc in
-      subst (IsValidFunction i.module.types) (sym same) (valid.functions k f lt)
+      subst (IsValidFunction i.module) (sym same) (valid.bodies k f lt)
 
   AllFound-new : (count : ℕ) → count ≤ length i.module.funcs → AllFound (instances ++ i ∷ []) (entries (length instances) count)
   AllFound-new zero le = tt

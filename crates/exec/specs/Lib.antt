@@ -4,6 +4,4 @@ pub mod Effects
 pub mod Fetching
 pub mod Standing
 pub mod Stored
-pub mod Refusals
-pub mod Typed
 pub mod Opened

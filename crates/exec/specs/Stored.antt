@@ -60,6 +60,7 @@ abbrev pub addresses : ℕ → ℕ → List ℕ
 addresses first zero = []
 addresses first (suc count) = first ∷ addresses (suc first) count
 
+-- The instance of a module without imports, whose functions begin at this address.
 abbrev pub module_instance : ℕ → Module → ModuleInstance
 module_instance first m = record { functions = addresses first (length m.funcs); exports = m.exports }
 
@@ -74,7 +75,7 @@ store_of s = record { functions = map (function_at s.instances) s.functions; ins
 abbrev pub functions_of : ℕ → Module → List Func → List Function
 functions_of instance m funcs = map (λ (f : Func). unwrap_or (typed_function instance (slice_get m.types f.ty) f) no_function) funcs
 
--- The store with the functions of a module and an instance of it behind those that it has.
+-- The store with the functions of a module without imports and an instance of it behind those that it has.
 abbrev pub with_module : Store → Module → Store
 with_module store m = record {
   functions = store.functions ++ functions_of (length store.instances) m m.funcs;

@@ -14,8 +14,6 @@ mod store;
 #[cfg(test)]
 mod tests;
 mod turn;
-mod typing;
-mod valid;
 
 pub use arguments::accepts;
 pub use calls::invoke;
@@ -23,4 +21,3 @@ pub use host_table::HostTable;
 pub use machine::Outcome;
 pub use meter::Meter;
 pub use store::{Callee, FunctionInstance, Instance, Store};
-pub use valid::{Place, ValidModule, ValidateError, validate};

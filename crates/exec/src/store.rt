@@ -2,10 +2,10 @@ ghost use Rattle.std.specs.Prelude.{◌≡◌, ◌↔◌, ◌++◌, [], length, 
 ghost use Rattle.exec.specs.Stored.{Stored, stored, store_of, with_module, function_of, HasRoom};
 
 use crate::entries::push_entries;
-use crate::valid::ValidModule;
 use core_types::{Func, FuncType};
 use std::alloc::{AllocError, Global};
 use std::marker::Model;
+use validator::ValidModule;
 
 /// A function of the store: the number of its instance, and its index in the instance's module.
 #[derive(Clone, Copy, PartialEq, Eq, Debug)]
@@ -14,7 +14,7 @@ pub struct FunctionInstance {
     pub index: u32,
 }
 
-/// An instance of a module, whose functions stand in the store from the address `first` on.
+/// An instance of a module without imports, whose functions stand in the store from the address `first` on.
 #[derive(Debug, Drop)]
 pub struct Instance {
     pub module: ValidModule,
@@ -87,7 +87,7 @@ impl Store {
         })
     }
 
-    /// Whether the functions of a module and an instance of it still get addresses of 32 bits.
+    /// Whether the functions of a module without imports and an instance of it still get addresses of 32 bits.
     pub fn has_room_for(&self, given: &ValidModule) -> bool
         ensures { IsTrue result ↔ HasRoom self.now given.now }
     {
@@ -97,8 +97,8 @@ impl Store {
             && self.instances.len() < (1 << 32) - 1
     }
 
-    /// Adds the functions of a module and an instance of it, and answers the instance's number. After want of memory the
-    /// store is as before.
+    /// Adds the functions of a module without imports and an instance of it, and answers the instance's number. After want of
+    /// memory the store is as before.
     pub fn append_module(&mut self, given: ValidModule) -> Result<u32, AllocError>
         requires { HasRoom self.old given }
         ensures number { IfOk result (λ number. number ≡ length self.old.instances) }

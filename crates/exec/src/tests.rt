@@ -1,11 +1,12 @@
 use super::*;
 use core_types::{
-    BinaryOp, BlockType, Exhaustion, Export, ExportDesc, Func, FuncType, Items, Limits, Locals,
-    Module, Name, NumericOp, Op, PlainOp, Val, ValType, VariableOp, Width,
+    BinaryOp, Exhaustion, Export, ExportDesc, Func, FuncType, Items, Locals, Module, Name,
+    NumericOp, Op, PlainOp, Val, ValType, VariableOp, Width,
 };
 use std::alloc::{AllocError, Global};
 use std::process::Abort;
 use std::test::Fail;
+use validator::validate;
 
 // An operation, as the tests list it.
 #[derive(Clone, Copy)]
@@ -13,16 +14,11 @@ enum Operation {
     Variable(VariableOp),
     Numeric(NumericOp),
     Constant(u32),
-    Block,
-    Else,
-    End,
 }
 
 const ADD: Operation = Operation::Numeric(NumericOp::Binary(Width::W32, BinaryOp::Add));
 
 const ADD_LONG: Operation = Operation::Numeric(NumericOp::Binary(Width::W64, BinaryOp::Add));
-
-const SUB: Operation = Operation::Numeric(NumericOp::Binary(Width::W32, BinaryOp::Sub));
 
 fn get(x: u32) -> Operation {
     Operation::Variable(VariableOp::LocalGet(x))
@@ -37,9 +33,6 @@ fn op_of(operation: Operation) -> Op {
         Operation::Variable(op) => Op::Plain(PlainOp::Variable(op)),
         Operation::Numeric(op) => Op::Plain(PlainOp::Numeric(op)),
         Operation::Constant(n) => Op::Plain(PlainOp::I32Const(n)),
-        Operation::Block => Op::Block(BlockType::Empty),
-        Operation::Else => Op::Else,
-        Operation::End => Op::End,
     }
 }
 
@@ -208,110 +201,6 @@ fn looks_at_depth_before_memory_and_costs_nothing_to_enter(rt: HostRuntime) -> R
     let (outcome, left) = called(&rt, alloc, nothing, &[], 5, 0)?;
     assert!(rt; is_exhausted(&outcome, Exhaustion::Depth));
     assert_eq!(rt; left, 5);
-    Ok(())
-}
-
-// Where a module is invalid, if it is.
-fn invalid_place(alloc: Global, given: Module) -> Result<Option<Place>, Fail> {
-    match validate(alloc, given) {
-        Ok(_) => Ok(None),
-        Err(ValidateError::Invalid(place)) => Ok(Some(place)),
-        Err(ValidateError::OutOfMemory) => Err(Fail::from("memory")),
-    }
-}
-
-#[test]
-fn validates(rt: HostRuntime) -> Result<(), Fail> {
-    let alloc = rt.alloc();
-    let i32s = [ValType::I32];
-    let i64s = [ValType::I64];
-    let bodies: [(&[Operation], &[ValType], bool); 8] = [
-        (&[constant(1)], &i32s, true),
-        (&[constant(1), constant(2), ADD], &i32s, true),
-        (&[], &i32s, false),
-        (&[constant(1), constant(2)], &i32s, false),
-        (&[ADD], &i32s, false),
-        (&[get(0)], &i32s, false),
-        (&[constant(1), Operation::End], &i32s, false),
-        (&[constant(1), constant(2), ADD_LONG], &i64s, false),
-    ];
-    for (body, results, good) in bodies {
-        let given = one_function(alloc, &[], &[], results, body)?;
-        let place = if good { None } else { Some(Place::Func(0)) };
-        assert_eq!(rt; invalid_place(alloc, given)?, place);
-    }
-    Ok(())
-}
-
-#[test]
-fn lends_a_valid_module(rt: HostRuntime) -> Result<(), Fail> {
-    let alloc = rt.alloc();
-    let valid = validate(alloc, one_function(alloc, &[], &[], &[], &[])?)?;
-    assert_eq!(rt; valid.module().funcs.len(), 1);
-    Ok(())
-}
-
-#[test]
-fn refuses_a_function_without_a_type(rt: HostRuntime) -> Result<(), Fail> {
-    let alloc = rt.alloc();
-    let mut untyped = one_function(alloc, &[], &[], &[], &[])?;
-    untyped.types = Items::from_vec(Vec::new(alloc));
-    assert_eq!(rt; invalid_place(alloc, untyped)?, Some(Place::Func(0)));
-    Ok(())
-}
-
-// A module with one function and an export of this.
-fn exporting(alloc: Global, desc: ExportDesc) -> Result<Module, AllocError> {
-    let name = Name::from_string(String::from_str(alloc, "g")?);
-    let mut given = one_function(alloc, &[], &[], &[], &[])?;
-    given.exports = Items::from_vec(vec![in alloc; Export { name, desc }]?);
-    Ok(given)
-}
-
-#[test]
-fn refuses_exports_of_nothing(rt: HostRuntime) -> Result<(), Fail> {
-    let alloc = rt.alloc();
-    for desc in [
-        ExportDesc::Func(1),
-        ExportDesc::Table(0),
-        ExportDesc::Memory(0),
-        ExportDesc::Global(0),
-    ] {
-        let given = exporting(alloc, desc)?;
-        assert_eq!(rt; invalid_place(alloc, given)?, Some(Place::Section(7)));
-    }
-    Ok(())
-}
-
-#[test]
-fn numbers_and_prints_refusals(rt: HostRuntime) -> Result<(), Fail> {
-    let alloc = rt.alloc();
-    assert_eq!(rt; ValidateError::Invalid(Place::Func(3)).number(), 4);
-    assert_eq!(rt; ValidateError::OutOfMemory.number(), 13);
-    let text = format!(in alloc; "{}", ValidateError::Invalid(Place::Func(3)))?;
-    assert_eq!(rt; text.as_str(), "invalid module: function 3");
-    let text = format!(in alloc; "{}", ValidateError::Invalid(Place::Section(7)))?;
-    assert_eq!(rt; text.as_str(), "invalid module: section 7");
-    Ok(())
-}
-
-#[test]
-fn refuses_what_is_not_validated_yet(rt: HostRuntime) -> Result<(), Fail> {
-    let alloc = rt.alloc();
-    let i32s = [ValType::I32];
-    let bodies: [(&[Operation], &[ValType]); 3] = [
-        (&[constant(2), constant(1), SUB], &i32s),
-        (&[Operation::Block, Operation::End], &[]),
-        (&[Operation::Else], &[]),
-    ];
-    for (body, results) in bodies {
-        let given = one_function(alloc, &[], &[], results, body)?;
-        assert_eq!(rt; invalid_place(alloc, given)?, Some(Place::Func(0)));
-    }
-    let mut with_memory = one_function(alloc, &[], &[], &[], &[])?;
-    let limits = Limits { min: 1, max: None };
-    with_memory.memories = Items::from_vec(vec![in alloc; limits]?);
-    assert_eq!(rt; invalid_place(alloc, with_memory)?, Some(Place::Section(5)));
     Ok(())
 }
 

@@ -32,6 +32,13 @@ writing (Then op rest) = Plain op ∷ writing rest
 writing (Nested kind type inner rest) = mark_of kind type ∷ (writing inner ++ (End ∷ writing rest))
 writing (IfElse type inner other rest) = If type ∷ (writing inner ++ (Else ∷ (writing other ++ (End ∷ writing rest))))
 
+-- The instructions of one body behind those of another.
+abbrev pub joined : Body → Body → Body
+joined Empty b = b
+joined (Then op rest) b = Then op (joined rest b)
+joined (Nested kind type inner rest) b = Nested kind type inner (joined rest b)
+joined (IfElse type inner other rest) b = IfElse type inner other (joined rest b)
+
 -- What is left of a body at a place of flat code, and the else body behind it if it goes down to an else.
 pub record Part : Type 0 where
   pub body : Body

@@ -1,7 +1,31 @@
--- What a body is typed in (Validation, Conventions, Contexts), as far as bodies ask for it.
-use Rattle.std.specs.Prelude.{List}
+-- What a body is typed in (Validation, Conventions, Contexts).
+use Rattle.std.specs.Prelude.{ℕ, List, ◌∷◌}
+use Rattle.core_types.specs.declared.types.FuncType.{FuncType}
+use Rattle.core_types.specs.declared.types.GlobalType.{GlobalType}
+use Rattle.core_types.specs.declared.types.Limits.{Limits}
+use Rattle.core_types.specs.declared.types.RefType.{RefType}
+use Rattle.core_types.specs.declared.types.TableType.{TableType}
 use Rattle.core_types.specs.declared.types.ValType.{ValType}
 
 pub record Context : Type 0 where
+  pub types : List FuncType
+  -- the types of the functions, tables, memories and globals by index, imports first
+  pub functions : List FuncType
+  pub tables : List TableType
+  pub memories : List Limits
+  pub globals : List GlobalType
+  -- the types of the element segments, and how many data segments there are
+  pub elements : List RefType
+  pub datas : ℕ
   -- the parameters, and then the other locals
   pub locals : List ValType
+  -- the types that a branch to a label carries, the innermost label first
+  pub labels : List (List ValType)
+  -- the results of the function
+  pub results : List ValType
+  -- the functions that ref.func may name
+  pub references : List ℕ
+
+-- With one more label.
+abbrev pub with_label : Context → List ValType → Context
+with_label context types = record context { labels = types ∷ context.labels }

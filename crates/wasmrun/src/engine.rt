@@ -1,12 +1,11 @@
-//! The steps of a call: a module is loaded, linked, looked into and run.
+//! The steps of a call: a module is loaded, linked, looked into and run. A check decodes and validates alone.
 
 use crate::support::is_run;
 use binary::{DecodeError, decode};
 use core_types::{Export, ExportDesc, Val, ValType};
-use exec::{
-    HostTable, Meter, Outcome, Store, ValidModule, ValidateError, accepts, invoke, validate,
-};
+use exec::{HostTable, Meter, Outcome, Store, accepts, invoke};
 use std::alloc::{AllocError, Global};
+use validator::{ValidModule, ValidateError, validate};
 
 /// How many frames may be open at once.
 pub const DEPTH_BOUND: u32 = 1024;
@@ -94,6 +93,13 @@ fn export_under(exports: &[Export], name: &str) -> Option<ExportDesc> {
     None
 }
 
+/// Decodes and validates the module that bytes spell, also one that is not run yet.
+pub fn check(alloc: Global, bytes: &[u8]) -> Result<(), Refusal> {
+    let decoded = decode(alloc, bytes)?;
+    let _ = validate(alloc, decoded)?;
+    Ok(())
+}
+
 /// A store of linked modules, and the fuel for calls into it.
 #[derive(Drop)]
 pub struct Engine {
@@ -138,7 +144,7 @@ impl Engine {
         Ok(number)
     }
 
-    /// The address of the function that an instance exports under a name.
+    /// The address of the function that an instance of a module without imports exports under a name.
     pub fn exported_function(&self, instance: u32, name: &str) -> Result<u32, Refusal> {
         let Some(instance) = self.store.instance(instance) else {
             return Err(Refusal::UnknownExport);

@@ -17,6 +17,15 @@ pub struct CallOrder<'a> {
     pub fuel: u64,
 }
 
+/// What the words ask for.
+#[derive(Debug, Drop)]
+pub enum Order<'a> {
+    /// A call of an exported function.
+    Call(CallOrder<'a>),
+    /// A check of the module in the file at this path.
+    Check(&'a str),
+}
+
 /// Why the words ask for nothing.
 #[derive(Clone, Copy, PartialEq, Eq, Debug)]
 pub enum LineFault {
@@ -67,11 +76,16 @@ fn call_command<'a>(alloc: Global) -> Result<Command<'a>, AllocError> {
         .arg(fuel)
 }
 
+fn check_command<'a>(alloc: Global) -> Result<Command<'a>, AllocError> {
+    plain_command(alloc, "check").arg(required(alloc, "file"))
+}
+
 fn program_command<'a>(alloc: Global) -> Result<Command<'a>, AllocError> {
     plain_command(alloc, "wasmrun")
         .subcommand_required(true)
         .no_binary_name(true)
-        .subcommand(call_command(alloc)?)
+        .subcommand(call_command(alloc)?)?
+        .subcommand(check_command(alloc)?)
 }
 
 // The word under a name.
@@ -105,7 +119,7 @@ fn option_of(matches: &ArgMatches<'_>, name: &str) -> Result<Option<u64>, LineFa
     }
 }
 
-fn order_of<'a>(alloc: Global, matches: &ArgMatches<'a>) -> Result<CallOrder<'a>, LineFault> {
+fn call_order_of<'a>(alloc: Global, matches: &ArgMatches<'a>) -> Result<CallOrder<'a>, LineFault> {
     let fuel = option_of(matches, "fuel")?;
     Ok(CallOrder {
         file: word_of(matches, "file")?,
@@ -116,10 +130,13 @@ fn order_of<'a>(alloc: Global, matches: &ArgMatches<'a>) -> Result<CallOrder<'a>
 }
 
 /// What the words after the program's name ask for.
-pub fn read_line<'a>(alloc: Global, words: &'a [String]) -> Result<CallOrder<'a>, LineFault> {
+pub fn read_line<'a>(alloc: Global, words: &'a [String]) -> Result<Order<'a>, LineFault> {
     let matches = program_command(alloc)?.try_get_matches_from(words)?;
-    match matches.subcommand_matches("call") {
-        Some(found) => order_of(alloc, found),
+    if let Some(found) = matches.subcommand_matches("call") {
+        return Ok(Order::Call(call_order_of(alloc, found)?));
+    }
+    match matches.subcommand_matches("check") {
+        Some(found) => Ok(Order::Check(word_of(found, "file")?)),
         None => Err(LineFault::Usage),
     }
 }

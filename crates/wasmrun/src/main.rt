@@ -1,4 +1,4 @@
-//! Runs exported functions of WebAssembly modules from the command line.
+//! Checks WebAssembly modules and runs their exported functions from the command line.
 #![tactic(auto)]
 
 mod args;
@@ -47,5 +47,9 @@ fn main(rt: HostRuntime) -> ExitCode {
     ExitCode::from(status)
 }
 
+#[cfg(test)]
+mod check_rows;
+#[cfg(test)]
+mod check_tests;
 #[cfg(test)]
 mod tests;

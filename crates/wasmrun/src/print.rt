@@ -92,6 +92,21 @@ pub fn print_end<W: Write>(out: &mut W, end: &CallEnd) -> u8
     }
 }
 
+fn print_valid_line<W: Write>(out: &mut W) -> io::Result<()> {
+    writeln!(out, "valid")?;
+    out.flush()
+}
+
+/// Prints that a module is valid, and answers the exit status: 1 where the writer fails.
+pub fn print_valid<W: Write>(out: &mut W) -> u8
+    ensures { IsStatus result }
+{
+    match print_valid_line(out) {
+        Ok(()) => 0,
+        Err(_) => 1,
+    }
+}
+
 fn refusal_status(refusal: Refusal) -> u8
     ensures { IsStatus result }
 {
@@ -126,7 +141,7 @@ fn print_fault_line<E: Write>(err: &mut E, fault: &Fault<'_>) -> io::Result<()> 
     }
 }
 
-/// Prints why nothing was called, and answers the exit status, also where the writer fails.
+/// Prints a fault's line, and answers the exit status, also where the writer fails.
 pub fn print_fault<E: Write>(err: &mut E, fault: &Fault<'_>) -> u8
     ensures { IsStatus result }
 {

@@ -3,13 +3,14 @@
 ghost use Rattle.wasmrun.specs.Statuses.{IsStatus};
 
 use crate::args::{ArgsFault, read_args};
-use crate::engine::{Engine, Refusal};
+use crate::engine::{Engine, Refusal, check};
 use crate::inputs::{Files, ReadFault};
-use crate::line::{CallOrder, LineFault, read_line};
-use crate::print::{print_end, print_fault};
-use exec::{Outcome, ValidModule};
+use crate::line::{CallOrder, LineFault, Order, read_line};
+use crate::print::{print_end, print_fault, print_valid};
+use exec::Outcome;
 use std::alloc::Global;
 use std::io::Write;
+use validator::ValidModule;
 
 /// How a call ended.
 #[derive(Debug, Drop)]
@@ -18,7 +19,16 @@ pub struct CallEnd {
     pub fuel_left: u64,
 }
 
-/// Why nothing was called.
+/// How the program did what it was asked for.
+#[derive(Debug, Drop)]
+pub enum End {
+    /// The function was called.
+    Called(CallEnd),
+    /// The module is valid.
+    Valid,
+}
+
+/// Why nothing was called, or no module found valid.
 #[derive(Clone, Copy, PartialEq, Eq, Debug)]
 pub enum Fault<'a> {
     /// The words are not of the form that the program reads.
@@ -55,17 +65,23 @@ impl From<ArgsFault> for Fault<'_> {
     }
 }
 
-// The module in a file.
+// The bytes of a file.
+fn read_file<'a, F: Files>(files: &mut F, path: &'a str) -> Result<Vec<u8>, Fault<'a>> {
+    match files.read(path) {
+        Ok(bytes) => Ok(bytes),
+        Err(ReadFault::Failed) => Err(Fault::CannotRead(path)),
+        Err(ReadFault::Memory) => Err(Fault::Refused(Refusal::OutOfMemory)),
+    }
+}
+
+// The module in a file, if it is valid and all of it is run.
 fn load_file<'a, F: Files>(
     engine: &Engine,
     files: &mut F,
     path: &'a str,
 ) -> Result<ValidModule, Fault<'a>> {
-    match files.read(path) {
-        Ok(bytes) => Ok(engine.load(bytes.as_slice())?),
-        Err(ReadFault::Failed) => Err(Fault::CannotRead(path)),
-        Err(ReadFault::Memory) => Err(Fault::Refused(Refusal::OutOfMemory)),
-    }
+    let bytes = read_file(files, path)?;
+    Ok(engine.load(bytes.as_slice())?)
 }
 
 // Calls what the order names.
@@ -88,14 +104,25 @@ fn call<'a, F: Files>(
     }
 }
 
+// Decodes and validates the module in a file.
+fn check_file<'a, F: Files>(alloc: Global, files: &mut F, path: &'a str) -> Result<(), Fault<'a>> {
+    let bytes = read_file(files, path)?;
+    Ok(check(alloc, bytes.as_slice())?)
+}
+
 // Reads the words and does what they ask for.
 fn perform<'a, F: Files>(
     alloc: Global,
     words: &'a [String],
     files: &mut F,
-) -> Result<CallEnd, Fault<'a>> {
-    let order = read_line(alloc, words)?;
-    call(alloc, &order, files)
+) -> Result<End, Fault<'a>> {
+    match read_line(alloc, words)? {
+        Order::Call(order) => Ok(End::Called(call(alloc, &order, files)?)),
+        Order::Check(path) => {
+            check_file(alloc, files, path)?;
+            Ok(End::Valid)
+        }
+    }
 }
 
 /// Runs the program over the words after its name, and answers its exit status.
@@ -109,7 +136,8 @@ pub fn run<F: Files, W: Write, E: Write>(
     ensures { IsStatus result }
 {
     match perform(alloc, words, files) {
-        Ok(end) => print_end(out, &end),
+        Ok(End::Called(end)) => print_end(out, &end),
+        Ok(End::Valid) => print_valid(out),
         Err(fault) => print_fault(err, &fault),
     }
 }

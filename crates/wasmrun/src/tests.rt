@@ -86,7 +86,8 @@ impl Write for Failing {
     }
 }
 
-fn strings(alloc: Global, words: &[&str]) -> Result<Vec<String>, Fail> {
+/// The words, as the program has them.
+pub fn strings(alloc: Global, words: &[&str]) -> Result<Vec<String>, Fail> {
     let mut all = Vec::new(alloc);
     for word in words {
         all.push(String::from_str(alloc, word)?)?;
@@ -96,19 +97,23 @@ fn strings(alloc: Global, words: &[&str]) -> Result<Vec<String>, Fail> {
 
 /// What a run prints and answers.
 #[derive(Drop)]
-struct Printed {
-    out: Vec<u8>,
-    err: Vec<u8>,
-    status: u8,
+pub struct Printed {
+    pub out: Vec<u8>,
+    pub err: Vec<u8>,
+    pub status: u8,
+}
+
+/// Runs the program over these words and files.
+pub fn run_in<F: Files>(alloc: Global, words: &[String], files: &mut F) -> Printed {
+    let mut out = Vec::new(alloc);
+    let mut err = Vec::new(alloc);
+    let status = run(alloc, words, files, &mut out, &mut err);
+    Printed { out, err, status }
 }
 
 fn run_over(alloc: Global, words: &[&str]) -> Result<Printed, Fail> {
     let words = strings(alloc, words)?;
-    let mut files = FewFiles { alloc };
-    let mut out = Vec::new(alloc);
-    let mut err = Vec::new(alloc);
-    let status = run(alloc, words.as_slice(), &mut files, &mut out, &mut err);
-    Ok(Printed { out, err, status })
+    Ok(run_in(alloc, words.as_slice(), &mut FewFiles { alloc }))
 }
 
 #[test]
@@ -265,8 +270,30 @@ fn faults_end_with_their_lines(rt: HostRuntime) -> Result<(), Fail> {
 }
 
 #[test]
+fn checks_end_with_their_lines(rt: HostRuntime) -> Result<(), Fail> {
+    let cases: [(&str, &str, &str, u8); 9] = [
+        ("m1.wasm", "valid\n", "", 0),
+        ("subtracting.wasm", "valid\n", "", 0),
+        ("memory.wasm", "valid\n", "", 0),
+        ("empty_body.wasm", "", "refused 4 Invalid\n", 5),
+        ("floating.wasm", "", "refused 2 Unsupported\n", 5),
+        ("short.wasm", "", "refused 1 Malformed\n", 5),
+        ("huge.wasm", "", "refused 13 OutOfMemory\n", 6),
+        ("missing.wasm", "", "cannot read missing.wasm\n", 3),
+        ("", "", "cannot read \n", 3),
+    ];
+    for (path, out, err, status) in cases {
+        let got = run_over(rt.alloc(), &["check", path])?;
+        assert_eq!(rt; got.out.as_slice(), out.as_bytes(), "{path}");
+        assert_eq!(rt; got.err.as_slice(), err.as_bytes(), "{path}");
+        assert_eq!(rt; got.status, status, "{path}");
+    }
+    Ok(())
+}
+
+#[test]
 fn other_words_are_usage_faults(rt: HostRuntime) -> Result<(), Fail> {
-    let cases: [&[&str]; 24] = [
+    let cases: [&[&str]; 32] = [
         &[],
         &["frob"],
         &[""],
@@ -302,7 +329,15 @@ fn other_words_are_usage_faults(rt: HostRuntime) -> Result<(), Fail> {
         &["--help"],
         &["--version"],
         &["help"],
-        &["check", "m1.wasm"],
+        &["check"],
+        &["check", "m1.wasm", "add"],
+        &["check", "missing.wasm", "missing.wasm"],
+        &["check", "m1.wasm", "--fuel", "3"],
+        &["check", "--fuel", "3", "m1.wasm"],
+        &["check", "m1.wasm", "--fuel=3"],
+        &["check", "--help"],
+        &["check", "-x"],
+        &["--fuel", "3", "check", "m1.wasm"],
     ];
     for words in cases {
         let got = run_over(rt.alloc(), words)?;
@@ -318,15 +353,16 @@ fn failing_output_decides_where_nothing_did(rt: HostRuntime) -> Result<(), Fail>
     let alloc = rt.alloc();
     let words = strings(alloc, &["call", "m1.wasm", "add", "1", "2"])?;
     let unknown = strings(alloc, &["call", "m1.wasm", "sub", "1", "2"])?;
+    let checked = strings(alloc, &["check", "m1.wasm"])?;
     for writes in [0, 1, 2, 3, 4, 1000] {
         let mut files = FewFiles { alloc };
+        for words in [words.as_slice(), checked.as_slice()] {
+            let mut out = Failing { writes };
+            let mut err = Vec::new(alloc);
+            assert_eq!(rt; run(alloc, words, &mut files, &mut out, &mut err), 1);
+            assert_eq!(rt; err.as_slice(), b"".as_slice());
+        }
         let mut out = Failing { writes };
-        let mut err = Vec::new(alloc);
-        assert_eq!(rt;
-            run(alloc, words.as_slice(), &mut files, &mut out, &mut err),
-            1
-        );
-        assert_eq!(rt; err.as_slice(), b"".as_slice());
         let mut broken = Failing { writes };
         assert_eq!(rt;
             run(alloc, unknown.as_slice(), &mut files, &mut out, &mut broken),

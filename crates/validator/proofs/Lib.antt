@@ -1,0 +1,17 @@
+mod Alignments
+mod Alone
+mod Applying
+mod Bodies
+mod Covering
+mod Declaring
+mod Each
+mod Indexing
+mod Knowing
+mod Labels
+mod Marking
+mod Names
+mod Opening
+mod Refusing
+mod Ruling
+mod Taking
+mod WholeBodies

@@ -1,0 +1,6 @@
+use Rattle.std.proofs.Common.{take}
+use Rattle.meaning.specs.Typing.{AllFit, known}
+use Rattle.validator.proofs.operands.all_fit.Given as goal
+
+abbrev pub invariant-loop-i : goal.invariant-loop-i
+invariant-loop-i l = AllFit (take l.i l.given) (known (take l.i l.wanted))

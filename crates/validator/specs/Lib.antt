@@ -1,0 +1,11 @@
+pub mod Constants
+pub mod Declarations
+pub mod Imports
+pub mod Marks
+pub mod OpenBodies
+pub mod Operands
+pub mod Parts
+pub mod Refusals
+pub mod Rules
+pub mod Scopes
+pub mod Signatures
