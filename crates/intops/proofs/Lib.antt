@@ -1,0 +1,5 @@
+pub mod Casting
+pub mod Counting
+pub mod Dividing
+pub mod Rotating
+pub mod Shifting

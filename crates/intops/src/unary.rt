@@ -1,0 +1,61 @@
+ghost use Rattle.std.specs.Prelude.{◌≡◌};
+ghost use Rattle.meaning.specs.Operators.{extended, unary_operator};
+
+use crate::signed::{integer_32, integer_64, signed_8, signed_16};
+use core_types::UnaryOp;
+
+// The low 8 bits, read as signed, in 32 bits.
+fn extended_8_to_32(a: u32) -> u32
+    ensures { result ≡ extended 8 32 a }
+{
+    integer_32(signed_8((a % 0x100) as u8) as i32)
+}
+
+// The low 16 bits, read as signed, in 32 bits.
+fn extended_16_to_32(a: u32) -> u32
+    ensures { result ≡ extended 16 32 a }
+{
+    integer_32(signed_16((a % 0x1_0000) as u16) as i32)
+}
+
+// The low 8 bits, read as signed, in 64 bits.
+fn extended_8_to_64(a: u64) -> u64
+    ensures { result ≡ extended 8 64 a }
+{
+    integer_64(signed_8((a % 0x100) as u8) as i64)
+}
+
+// The low 16 bits, read as signed, in 64 bits.
+fn extended_16_to_64(a: u64) -> u64
+    ensures { result ≡ extended 16 64 a }
+{
+    integer_64(signed_16((a % 0x1_0000) as u16) as i64)
+}
+
+/// What an operator gives from an integer of 32 bits (Execution, Numerics, Integer Operations, iclz to iextendM_s).
+#[tactic(auto, using(crate::proofs::Counting::leading_is, crate::proofs::Counting::trailing_is, crate::proofs::Counting::ones_are))]
+pub fn unary_32(op: UnaryOp, a: u32) -> u32
+    ensures { result ≡ unary_operator 32 op a }
+{
+    match op {
+        UnaryOp::Clz => a.leading_zeros(),
+        UnaryOp::Ctz => a.trailing_zeros(),
+        UnaryOp::Popcnt => a.count_ones(),
+        UnaryOp::Extend8S => extended_8_to_32(a),
+        UnaryOp::Extend16S => extended_16_to_32(a),
+    }
+}
+
+/// What an operator gives from an integer of 64 bits (Execution, Numerics, Integer Operations, iclz to iextendM_s).
+#[tactic(auto, using(crate::proofs::Counting::leading_is, crate::proofs::Counting::trailing_is, crate::proofs::Counting::ones_are))]
+pub fn unary_64(op: UnaryOp, a: u64) -> u64
+    ensures { result ≡ unary_operator 64 op a }
+{
+    match op {
+        UnaryOp::Clz => a.leading_zeros() as u64,
+        UnaryOp::Ctz => a.trailing_zeros() as u64,
+        UnaryOp::Popcnt => a.count_ones() as u64,
+        UnaryOp::Extend8S => extended_8_to_64(a),
+        UnaryOp::Extend16S => extended_16_to_64(a),
+    }
+}
