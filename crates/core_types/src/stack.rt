@@ -1,4 +1,4 @@
-ghost use Rattle.std.specs.Prelude.{◌≡◌, List, [], ◌∷◌, length, reverse, slice_get, OnOk, OnErr, MatchOption};
+ghost use Rattle.std.specs.Prelude.{◌≡◌, ◌≤◌, List, [], ◌∷◌, drop, length, reverse, slice_get, OnOk, OnErr, MatchOption};
 
 use crate::items::Items;
 use std::alloc::{AllocError, Global};
@@ -58,6 +58,15 @@ impl<T: Drop> Stack<T> {
         self.items.push(x)?;
         Ok(())
     }
+
+    /// Takes the topmost `count` elements off. Takes no memory.
+    pub fn drop_top(&mut self, count: usize)
+        requires { count ≤ length self.old }
+        ensures { self.new ≡ drop count self.old }
+    {
+        let kept = self.items.len() - count;
+        self.items.truncate(kept);
+    }
 }
 
 impl<T: Copy> Stack<T> {
@@ -66,5 +75,16 @@ impl<T: Copy> Stack<T> {
         ensures { result ≡ slice_get self.now 0 }
     {
         self.items.last().copied()
+    }
+
+    /// The element so many places below the topmost one, which stays.
+    pub fn get(&self, place: usize) -> Option<T>
+        ensures { result ≡ slice_get self.now place }
+    {
+        if place < self.items.len() {
+            Some(self.items[self.items.len() - 1 - place])
+        } else {
+            None
+        }
     }
 }

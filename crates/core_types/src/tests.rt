@@ -70,8 +70,14 @@ fn keeps_boxes_and_stacks(rt: HostRuntime) -> Result<(), Fail> {
     stack.push(2u32)?;
     stack.push(3u32)?;
     assert_eq!(rt; stack.top(), Some(3));
+    assert_eq!(rt; stack.get(0), Some(3));
+    assert_eq!(rt; stack.get(2), Some(1));
+    assert_eq!(rt; stack.get(3), None);
     assert_eq!(rt; stack.pop(), Some(3));
     assert_eq!(rt; stack.len(), 2);
+    stack.push(5u32)?;
+    stack.push(6u32)?;
+    stack.drop_top(2);
     assert_eq!(rt; stack.into_items().as_slice(), [1, 2].as_slice());
     Ok(())
 }

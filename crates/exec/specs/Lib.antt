@@ -1,7 +1,5 @@
-pub mod Calling
-pub mod Metering
-pub mod Effects
-pub mod Fetching
+pub mod Layers
+pub mod Places
 pub mod Standing
-pub mod Stored
-pub mod Opened
+pub mod Frames
+pub mod Turning

@@ -1,58 +1,111 @@
--- What a state of the machine stands for, and what its turns are.
-use Rattle.std.specs.Prelude.{◌≡◌, ℕ, ◌-◌, ◌≤◌, List, [], ◌∷◌, Some, drop, slice_get}
+-- What a state of the machine stands for.
+use Rattle.std.specs.Prelude.{◌≡◌, ℕ, suc, ◌+◌, ◌<◌, List, [], ◌∷◌, ◌++◌, Option, Some, None, drop, length}
 use Rattle.core_types.specs.declared.op.Op.{Op}
 use Rattle.core_types.specs.declared.outcome.Val.{Val}
-use Rattle.core_types.specs.declared.outcome.Exhaustion.TheVariants as exhausted
-use Rattle.meaning.specs.Body.{Body, Empty, body_of}
-use Rattle.meaning.specs.Configuration.{Frame as FrameState, Onward, Level, Running, InLabel, InFrame, no_frame}
-use Rattle.meaning.specs.Store.{Store}
-use Rattle.meaning.specs.Reduction.{Goes as Steps}
-use Rattle.meaning.specs.BoundedRun.{Run, Ending, WithValues, WithTrap, OutOfFuel, OutOfDepth, OutOfMemory, GotStuck, next_of}
+use Rattle.meaning.specs.Body.{Empty, Part, Rests, first_part, other_parts}
+use Rattle.meaning.specs.Configuration.{Frame, Continuation, Level, Running, no_frame}
+use Rattle.exec.specs.declared.machine.Caller.{Caller}
 use Rattle.exec.specs.declared.machine.Control.{Control}
-use Rattle.exec.specs.declared.machine.Control.TheVariants.{Label, Frame}
+use Rattle.exec.specs.declared.machine.Control.TheVariants.{InLabel, InFrame, FromOutside}
+use Rattle.exec.specs.declared.machine.Label.{Label}
 use Rattle.exec.specs.declared.machine.Machine.{Machine}
-use Rattle.exec.specs.declared.machine.Outcome.{Outcome}
-use Rattle.exec.specs.declared.machine.Outcome.TheVariants.{Values, Trap, Exhausted, Stuck}
-use Rattle.exec.specs.declared.machine.Turn.{Turn}
-use Rattle.exec.specs.declared.machine.Turn.TheVariants as turn
+use Rattle.exec.specs.Layers.{Layer, AroundLabel, AroundFrame, plugged, frames_of}
+use Rattle.exec.specs.Places.{rests_at, resumed_at}
+use Rattle.store.specs.Stored.{Stored, code_at}
 
--- The values and the rest of the body inside of what is open, the innermost first.
-abbrev pub standing : ℕ → FrameState → List Val → Body → List Control → Level
-standing arity frame values rest [] = Running values Empty
-standing arity frame values rest (Frame ∷ outer) = InFrame [] arity frame (Running values Empty) Empty
-standing arity frame values rest (Label ∷ outer) = InFrame [] arity frame (InLabel [] arity Onward (Running values rest) Empty) Empty
+abbrev pub IsNoLabel : Option Control → Type 0
+IsNoLabel None = Unit {0}
+IsNoLabel (Some (InLabel label)) = ⊥
+IsNoLabel (Some (InFrame c)) = Unit {0}
+IsNoLabel (Some (FromOutside arity)) = Unit {0}
 
--- A call opens a frame and the label inside it.
-abbrev pub IsControlStack : List Control → Type 0
-IsControlStack [] = Unit {0}
-IsControlStack (Frame ∷ outer) = outer ≡ []
-IsControlStack (Label ∷ outer) = outer ≡ Frame ∷ []
+-- A label stands for a layer, over the operands and the bodies that lie around it.
+pub record FitsLabel (code : List Op) (label : Label) (below : List Val) (around : List Part) (layers : List Layer) (Further : List Val → List Layer → Type 0) : Type 0 where
+  pub values : List Val
+  pub lower : List Val
+  pub continuation : Continuation
+  pub further_layers : List Layer
+  pub layers_are : layers ≡ AroundLabel values label.arity continuation (first_part around).body ∷ further_layers
+  pub below_is : below ≡ values ++ lower
+  pub base : length (values ++ lower) ≡ label.base
+  pub outside : length lower ≡ label.outside
+  pub target : rests_at code label.target ≡ resumed_at continuation around
+  pub further : Further lower further_layers
 
--- The configuration that the machine stands for, in code of this many results, of this instance.
-abbrev pub configuration : ℕ → ℕ → List Op → Machine → Level
-configuration arity instance code m = standing arity (record { instance = instance; locals = m.locals.items }) m.operands (body_of (drop m.place code)) m.controls
+-- The frame of a caller, with these locals.
+abbrev pub caller_frame : Caller → List Val → Frame
+caller_frame c locals = record { instance = c.instance; locals = locals }
 
--- Inside a label, the body is at its end.
-abbrev pub IsAtEnd : List Op → Machine → Type 0
-IsAtEnd code m = slice_get m.controls 0 ≡ Some Label → body_of (drop m.place code) ≡ Empty
+-- What is left where the caller goes on.
+abbrev pub caller_rests : Stored → Caller → Rests
+caller_rests s c = rests_at (code_at s c.function) c.place
 
-abbrev pub ending_of : Outcome → Ending
-ending_of (Values values) = WithValues values
-ending_of (Trap trap) = WithTrap trap
-ending_of (Exhausted exhausted.Fuel) = OutOfFuel
-ending_of (Exhausted exhausted.Depth) = OutOfDepth
-ending_of (Exhausted exhausted.Memory) = OutOfMemory
-ending_of Stuck = GotStuck
+-- A frame from within code stands for a layer, over the operands and the locals of its caller.
+pub record FitsFrame (s : Stored) (c : Caller) (below locals_below : List Val) (layers : List Layer) (Further : List Val → List Val → List Layer → Type 0) : Type 0 where
+  pub values : List Val
+  pub lower : List Val
+  pub own : List Val
+  pub lower_locals : List Val
+  pub further_layers : List Layer
+  pub layers_are : layers ≡ AroundFrame values c.arity (caller_frame c own) (caller_rests s c).here.body ∷ further_layers
+  pub known : c.function < length s.functions
+  pub below_is : below ≡ values ++ lower
+  pub base : length (values ++ lower) ≡ c.base
+  pub outside : length lower ≡ c.outside
+  pub locals_are : locals_below ≡ lower_locals ++ own
+  pub locals_base : length lower_locals ≡ c.locals
+  pub further : Further lower lower_locals further_layers
 
--- A turn did one step of the reduction at its cost, or is the end of a run.
-abbrev pub TurnIs : Store → Turn → Level → ℕ → Level → ℕ → Type 0
-TurnIs store turn.Goes old fuel new left = (cost : ℕ) × (next_of store old ≡ Steps cost store no_frame new) × (cost ≤ fuel) × (left ≡ fuel - cost)
-TurnIs store turn.NoFuel old fuel new left = (left ≡ fuel) × ((bound : ℕ) → Run bound store fuel old OutOfFuel store left)
-TurnIs store turn.NoMemory old fuel new left = (left ≡ fuel) × ((bound : ℕ) → Run bound store fuel old OutOfMemory store left)
-TurnIs store turn.Stuck old fuel new left = (left ≡ fuel) × ((bound : ℕ) → Run bound store fuel old GotStuck store left)
+-- The frame of the call from outside stands for a layer around everything.
+pub record FitsOutside (arity : ℕ) (below locals_below : List Val) (layers : List Layer) : Type 0 where
+  pub layers_are : layers ≡ AroundFrame [] arity no_frame Empty ∷ []
+  pub below_is : below ≡ []
+  pub locals_are : locals_below ≡ []
 
-abbrev pub IfGoes : Turn → Type 0 → Type 0
-IfGoes turn.Goes P = P
-IfGoes turn.NoFuel P = Unit {0}
-IfGoes turn.NoMemory P = Unit {0}
-IfGoes turn.Stuck P = Unit {0}
+-- What is open stands for these layers, over the operands below the innermost label, the locals below the innermost frame, and
+-- the bodies around the one that runs; so many controls there are up to the frame.
+abbrev pub Fits : Stored → List Op → ℕ → List Control → List Val → List Val → List Part → List Layer → Type 0
+Fits s code outer [] below locals_below around layers = ⊥
+Fits s code outer (InLabel label ∷ controls) below locals_below around layers = FitsLabel code label below around layers (λ lower further_layers. Fits s code outer controls lower locals_below (other_parts around) further_layers)
+Fits s code outer (InFrame c ∷ controls) below locals_below around layers = (outer ≡ suc (length controls)) × FitsFrame s c below locals_below layers (λ lower lower_locals further_layers. Fits s (code_at s c.function) c.outer controls lower lower_locals (caller_rests s c).around further_layers)
+Fits s code outer (FromOutside arity ∷ controls) below locals_below around layers = (outer ≡ 1) × (controls ≡ []) × FitsOutside arity below locals_below layers
+
+-- The frame in which the machine runs.
+abbrev pub frame_of : Machine → Frame
+frame_of m = record { instance = m.instance; locals = m.locals.own }
+
+-- What is left at the machine's place.
+abbrev pub rests_of : Stored → Machine → Rests
+rests_of s m = rests_at (code_at s m.function) m.place
+
+-- What runs inside of all that is open.
+abbrev pub redex_of : Stored → Machine → Level
+redex_of s m = Running m.operands.own (rests_of s m).here.body
+
+-- The machine, with so many frames open, stands for this configuration, with this redex inside of all that is open.
+pub record StandsAt (s : Stored) (m : Machine) (frames : ℕ) (redex whole : Level) : Type 0 where
+  pub layers : List Layer
+  pub known : m.function < length s.functions
+  pub fits : Fits s (code_at s m.function) m.outer m.controls m.operands.below m.locals.below (rests_of s m).around layers
+  pub deep : frames_of layers ≡ frames
+  pub whole_is : whole ≡ plugged layers (frame_of m) redex
+
+-- The machine stands for this configuration.
+abbrev pub Stands : Stored → Machine → ℕ → Level → Type 0
+Stands s m frames whole = StandsAt s m frames (redex_of s m) whole
+
+-- The machine stands for some configuration, in some store and with some redex.
+abbrev pub IsSomewhere : Machine → ℕ → Type 0
+IsSomewhere m frames = (s : Stored) × (redex : Level) × (whole : Level) × StandsAt s m frames redex whole
+
+-- The machine stands for some configuration.
+abbrev pub IsSound : Stored → Machine → ℕ → Type 0
+IsSound s m frames = (whole : Level) × Stands s m frames whole
+
+-- The machine is before this operation.
+abbrev pub IsBefore : Stored → Machine → Op → Type 0
+IsBefore s m op = drop m.place (code_at s m.function) ≡ op ∷ drop (m.place + 1) (code_at s m.function)
+
+-- The machine has no instruction left where it is.
+abbrev pub IsAtEnd : Stored → Machine → Type 0
+IsAtEnd s m = (rests_of s m).here.body ≡ Empty

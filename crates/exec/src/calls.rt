@@ -1,49 +1,97 @@
-ghost use Rattle.std.specs.Prelude.{◌≡◌, ◌<◌, ℕ, Some, length, reverse, slice_get};
-ghost use Rattle.meaning.specs.Configuration.{Invoking};
+ghost use Rattle.std.specs.Prelude.{◌≡◌, ◌<◌, ◌++◌, ℕ, Some, [], ◌∷◌, length, map, reverse, IfOk};
+ghost use Rattle.meaning.specs.Configuration.{Invoking, Level};
+ghost use Rattle.meaning.specs.Reduction.{default_of};
 ghost use Rattle.meaning.specs.BoundedRun.{Run};
-ghost use Rattle.exec.specs.Calling.{TakesArguments};
-ghost use Rattle.exec.specs.Metering.{metered};
-ghost use Rattle.exec.specs.Standing.{IsControlStack, configuration, ending_of};
-ghost use Rattle.meaning.specs.Store.{Store as AnyStore};
-ghost use Rattle.exec.specs.Stored.{function_of, store_of};
+ghost use Rattle.fuel.specs.Metering.{metered};
+ghost use Rattle.store.specs.Calling.{TakesArguments};
+ghost use Rattle.store.specs.Ends.{HasEnds};
+ghost use Rattle.exec.specs.Frames.{entered, from_outside};
+ghost use Rattle.exec.specs.Standing.{IsSound, Stands};
+ghost use Rattle.store.specs.Stored.{Stored, code_at, store_of};
+ghost use Rattle.exec.specs.Turning.{IfGoes, IfStays, Led, ending_of, owed};
 
-use crate::frame::opened;
+use crate::frames::enter_function;
 use crate::host_table::HostTable;
-use crate::machine::{Machine, Outcome, Turn};
-use crate::meter::Meter;
-use crate::store::{Callee, Store};
+use crate::machine::{Control, Machine, Outcome, Turn};
 use crate::turn::turn;
-use core_types::{Exhaustion, Op, Val};
-use std::alloc::Global;
+use core_types::{Exhaustion, Op, Stack, Val};
+use fuel::Meter;
+use stacks::{FrameLocals, Operands};
+use std::alloc::{AllocError, Global};
+use store::{Callee, Store};
+
+// Runs a machine until it leaves the function.
+fn run_function(
+    store: &Store,
+    code: &[Op],
+    ends: &[usize],
+    machine: &mut Machine,
+    meter: &mut Meter,
+) -> Turn
+    requires sound { IsSound store.now machine.old meter.old.frames }
+    requires code { code.now ≡ code_at store.now machine.old.function }
+    requires ends { HasEnds code.now ends.now }
+    ensures led { Led store.now machine.old meter.old result machine.new meter.new }
+    ensures falls { IfGoes result (owed machine.new meter.new < owed machine.old meter.old) }
+    ensures bound { meter.new.bound ≡ meter.old.bound }
+{
+    loop {
+        match turn(store, code, ends, machine, meter) {
+            Turn::Goes => {}
+            other => return other,
+        }
+    }
+}
 
 // Runs a machine to the end of its call.
-fn run(code: &[Op], machine: Machine, meter: &mut Meter) -> Outcome
-    requires { IsControlStack machine.controls }
-    ensures run { (store : AnyStore) (bound arity instance : ℕ) → Run bound store meter.old.left (configuration arity instance code.now machine) (ending_of result) store meter.new.left }
-    ensures meter { meter.new ≡ metered meter.new.left meter.old.bound meter.old.frames }
+fn run(store: &Store, machine: Machine, meter: &mut Meter) -> Outcome
+    requires sound { IsSound store.now machine meter.old.frames }
+    ensures run { (whole : Level) → Stands store.now machine meter.old.frames whole → Run meter.old.bound (store_of store.now) meter.old.left whole (ending_of result) (store_of store.now) meter.new.left }
+    ensures bound { meter.new.bound ≡ meter.old.bound }
 {
     let mut machine = machine;
-    while machine.controls.len() > 0 {
-        match turn(code, &mut machine, meter) {
-            Turn::Goes => {}
-            Turn::NoFuel => return Outcome::Exhausted(Exhaustion::Fuel),
-            Turn::NoMemory => return Outcome::Exhausted(Exhaustion::Memory),
+    loop {
+        let Some(here) = store.function(machine.function) else {
+            unreachable!()
+        };
+        match run_function(
+            store,
+            here.func.body.as_slice(),
+            here.ends,
+            &mut machine,
+            meter,
+        ) {
+            Turn::Goes | Turn::Crosses => {}
+            Turn::Over => return Outcome::Values(machine.operands.into_items()),
+            Turn::Traps(trap) => return Outcome::Trap(trap),
+            Turn::Lacks(what) => return Outcome::Exhausted(what),
             Turn::Stuck => return Outcome::Stuck,
         }
     }
-    Outcome::Values(machine.operands.into_items())
 }
 
-// Runs a call of a function, whose frame is counted already.
-fn call(alloc: Global, callee: Callee<'_>, args: &[Val], meter: &mut Meter) -> Outcome
-    requires { length args.now ≡ length callee.ty.now.params }
-    ensures run { (store : AnyStore) (bound address : ℕ) → 0 < bound → slice_get store.functions address ≡ Some (function_of callee.entry.ty.now callee.entry.instance callee.entry.func.now) → Run bound store meter.old.left (Invoking (reverse args.now) address) (ending_of result) store meter.new.left }
-    ensures meter { meter.new ≡ metered meter.new.left meter.old.bound meter.old.frames }
+// A machine at the start of a call from outside.
+fn opened(
+    alloc: Global,
+    callee: &Callee<'_>,
+    address: u32,
+    args: &[Val],
+) -> Result<Machine, AllocError>
+    ensures { IfOk result (λ machine. machine ≡ from_outside callee.now.ty.now callee.now.func.now callee.now.instance address args.now) }
 {
-    match opened(alloc, args, &callee.func.locals) {
-        Ok(machine) => run(callee.func.body.as_slice(), machine, meter),
-        Err(_) => Outcome::Exhausted(Exhaustion::Memory),
-    }
+    let mut machine = Machine {
+        function: address,
+        instance: callee.instance,
+        place: 0,
+        operands: Operands::new(alloc),
+        locals: FrameLocals::new(alloc),
+        controls: Stack::new(alloc),
+        outer: 0,
+    };
+    machine.locals.enter(args, &callee.func.locals)?;
+    let frame = Control::FromOutside(callee.ty.results.len());
+    enter_function(frame, callee, address, &mut machine)?;
+    Ok(machine)
 }
 
 /// Calls the function at an address from outside, and runs it to its end within the fuel that is left and the depth bound.
@@ -72,7 +120,10 @@ pub fn invoke(
     if !meter.enter() {
         return Outcome::Exhausted(Exhaustion::Depth);
     }
-    let outcome = call(alloc, callee, args, meter);
-    meter.leave();
+    let outcome = match opened(alloc, &callee, address, args) {
+        Ok(machine) => run(store, machine, meter),
+        Err(_) => Outcome::Exhausted(Exhaustion::Memory),
+    };
+    meter.leave_all();
     outcome
 }

@@ -1,23 +1,18 @@
-//! Runs exported functions: validated modules in a store, and a call from outside as a bounded run of the reduction.
+//! The interpreter: a call from outside is a bounded run of the reduction.
 #![tactic(auto)]
 
-mod arguments;
+mod branches;
 mod calls;
-mod entries;
-mod fetch;
-mod frame;
+mod frames;
 mod host_table;
+mod instructions;
+mod labels;
 mod machine;
-mod meter;
-mod plain;
-mod store;
+mod places;
 #[cfg(test)]
 mod tests;
 mod turn;
 
-pub use arguments::accepts;
 pub use calls::invoke;
 pub use host_table::HostTable;
 pub use machine::Outcome;
-pub use meter::Meter;
-pub use store::{Callee, FunctionInstance, Instance, Store};

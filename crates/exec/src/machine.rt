@@ -1,4 +1,5 @@
 use core_types::{Exhaustion, Items, Stack, Trap, Val};
+use stacks::{FrameLocals, Operands};
 
 /// How a call from outside ended.
 #[derive(Debug, Drop)]
@@ -13,33 +14,68 @@ pub enum Outcome {
     Stuck,
 }
 
+/// A label: how many values a branch to it keeps, the heights of the operands inside of it and outside of it, and the place
+/// where a branch goes on.
+#[derive(Clone, Copy, PartialEq, Eq, Debug)]
+pub struct Label {
+    pub arity: usize,
+    pub base: usize,
+    pub outside: usize,
+    pub target: usize,
+}
+
+/// A frame from within code: how many results it gives, the heights of the operands inside of it and outside of it, and where
+/// its caller goes on: the function and its instance, the place, the base of the locals, and how many controls there are up to
+/// the caller's frame.
+#[derive(Clone, Copy, PartialEq, Eq, Debug)]
+pub struct Caller {
+    pub arity: usize,
+    pub base: usize,
+    pub outside: usize,
+    pub function: u32,
+    pub instance: u32,
+    pub place: usize,
+    pub locals: usize,
+    pub outer: usize,
+}
+
 /// What is open around the instructions that run.
 #[derive(Clone, Copy, PartialEq, Eq, Debug)]
 pub enum Control {
-    /// The label around a function's body.
-    Label,
-    /// The frame of a call.
-    Frame,
+    /// A label.
+    InLabel(Label),
+    /// The frame of a call from within code.
+    InFrame(Caller),
+    /// The frame of the call from outside, with the number of its results.
+    FromOutside(usize),
 }
 
-/// The state of a run.
+/// The state of a run: the function that runs, its instance and the place in its code, the operands, the locals, what is open
+/// around, and how many controls there are up to the frame.
 #[derive(Debug, Drop)]
 pub struct Machine {
-    pub operands: Stack<Val>,
-    pub locals: Vec<Val>,
-    pub controls: Stack<Control>,
+    pub function: u32,
+    pub instance: u32,
     pub place: usize,
+    pub operands: Operands,
+    pub locals: FrameLocals,
+    pub controls: Stack<Control>,
+    pub outer: usize,
 }
 
 /// What a turn of the machine led to.
 #[derive(Clone, Copy, PartialEq, Eq, Debug)]
 pub enum Turn {
-    /// One step was done.
+    /// One step was done, within the function.
     Goes,
-    /// The next step costs more than the fuel that is left.
-    NoFuel,
-    /// The next step got no memory.
-    NoMemory,
+    /// One step was done, into another function or back from one.
+    Crosses,
+    /// The call from outside is over, and the operands are its results.
+    Over,
+    /// The run ends with a trap.
+    Traps(Trap),
+    /// The next step wants fuel, depth or memory that is not there.
+    Lacks(Exhaustion),
     /// There is no next step.
     Stuck,
 }

@@ -1,73 +1,138 @@
-ghost use Rattle.std.specs.Prelude.{◌≡◌, ◌+◌, ◌<◌, List, ℕ, Some, drop, length, slice_get};
-ghost use Rattle.core_types.specs.declared.op.Op.{Op};
-ghost use Rattle.meaning.specs.Body.{Then, body_of};
-ghost use Rattle.meaning.specs.Store.{Store};
-ghost use Rattle.exec.specs.declared.machine.Control.TheVariants.{Label};
-ghost use Rattle.exec.specs.declared.machine.Turn.TheVariants.{Goes};
-ghost use Rattle.exec.specs.Metering.{metered};
-ghost use Rattle.exec.specs.Standing.{IsAtEnd, IsControlStack, configuration, TurnIs, IfGoes};
+ghost use Rattle.std.specs.Prelude.{◌≡◌, ◌+◌, ◌<◌, ◌^◌, ◌≤◌, length};
+ghost use Rattle.core_types.specs.declared.op.Op.TheVariants.{Plain, Block as BlockMark, Loop as LoopMark, If as IfMark};
+ghost use Rattle.store.specs.Ends.{HasEnds};
+ghost use Rattle.exec.specs.Standing.{IsBefore, IsSound};
+ghost use Rattle.store.specs.Stored.{Stored, code_at};
+ghost use Rattle.exec.specs.Turning.{Turned, IfGoes, IfStays, owed};
 
-use crate::fetch::{Fetched, fetch};
-use crate::machine::{Control, Machine, Turn};
-use crate::meter::Meter;
-use crate::plain::{Did, run_plain};
-use core_types::{Op, PlainOp};
+use crate::branches::{branch_always, branch_by, branch_if};
+use crate::frames::{leave, turn_call, turn_return};
+use crate::instructions::turn_plain;
+use crate::labels::{arity_of, enter_label};
+use crate::machine::{Machine, Turn};
+use crate::places::{place_behind, place_of_else};
+use core_types::{BlockType, ControlOp, Op, PlainOp};
+use fuel::Meter;
+use plain::pop_i32;
+use store::Store;
 
-// The instruction without control that stands at the machine's place.
-fn turn_plain(code: &[Op], op: &PlainOp, machine: &mut Machine, meter: &mut Meter) -> Turn
-    requires inside { slice_get machine.old.controls 0 ≡ Some Label }
+// A block begins.
+fn turn_block(
+    store: &Store,
+    code: &[Op],
+    ends: &[usize],
+    ty: BlockType,
+    machine: &mut Machine,
+    meter: &mut Meter,
+) -> Turn
+    requires code { code.now ≡ code_at store.now machine.old.function }
+    requires ends { HasEnds code.now ends.now }
     requires place { machine.old.place < length code.now }
-    requires at { body_of (drop machine.old.place code.now) ≡ Then op.now (body_of (drop (machine.old.place + 1) code.now)) }
-    ensures turned { (store : Store) (arity instance : ℕ) → TurnIs store result (configuration arity instance code.now machine.old) meter.old.left (configuration arity instance code.now machine.new) meter.new.left }
-    ensures controls { machine.new.controls ≡ machine.old.controls }
-    ensures meter { meter.new ≡ metered meter.new.left meter.old.bound meter.old.frames }
-    ensures falls { IfGoes result (meter.new.left < meter.old.left) }
+    ensures turned { IsBefore store.now machine.old (BlockMark ty) → Turned store.now machine.old meter.old result machine.new meter.new }
+    ensures falls { IfGoes result (owed machine.new meter.new < owed machine.old meter.old) }
+    ensures stays { machine.new.function ≡ machine.old.function }
+    ensures bound { meter.new.bound ≡ meter.old.bound }
 {
-    match run_plain(op, &machine.locals, &mut machine.operands) {
-        Did::Lacking => Turn::Stuck,
-        Did::AllDone => {
-            if !meter.try_spend(1) {
-                return Turn::NoFuel;
-            }
-            machine.place += 1;
-            Turn::Goes
-        }
-        Did::NoRoom => {
-            if meter.left() == 0 {
-                return Turn::NoFuel;
-            }
-            Turn::NoMemory
-        }
+    let Some(arity) = arity_of(store, machine.instance, ty) else {
+        return Turn::Stuck;
+    };
+    let inside = machine.place + 1;
+    let target = place_behind(code, ends, inside);
+    enter_label(machine, meter, arity.params, arity.results, target, inside)
+}
+
+// A loop begins; a branch to it goes on where it begins.
+fn turn_loop(store: &Store, ty: BlockType, machine: &mut Machine, meter: &mut Meter) -> Turn
+    requires place { machine.old.place + 1 < 2 ^ 64 }
+    ensures turned { IsBefore store.now machine.old (LoopMark ty) → Turned store.now machine.old meter.old result machine.new meter.new }
+    ensures falls { IfGoes result (owed machine.new meter.new < owed machine.old meter.old) }
+    ensures stays { machine.new.function ≡ machine.old.function }
+    ensures bound { meter.new.bound ≡ meter.old.bound }
+{
+    let Some(arity) = arity_of(store, machine.instance, ty) else {
+        return Turn::Stuck;
+    };
+    let target = machine.place;
+    let inside = target + 1;
+    enter_label(machine, meter, arity.params, arity.params, target, inside)
+}
+
+// An if begins: its first body where the topmost operand is not zero, and else its second.
+fn turn_if(
+    store: &Store,
+    code: &[Op],
+    ends: &[usize],
+    ty: BlockType,
+    machine: &mut Machine,
+    meter: &mut Meter,
+) -> Turn
+    requires code { code.now ≡ code_at store.now machine.old.function }
+    requires ends { HasEnds code.now ends.now }
+    requires place { machine.old.place < length code.now }
+    ensures turned { IsBefore store.now machine.old (IfMark ty) → Turned store.now machine.old meter.old result machine.new meter.new }
+    ensures falls { IfGoes result (owed machine.new meter.new < owed machine.old meter.old) }
+    ensures stays { machine.new.function ≡ machine.old.function }
+    ensures bound { meter.new.bound ≡ meter.old.bound }
+{
+    let Some(condition) = pop_i32(&mut machine.operands) else {
+        return Turn::Stuck;
+    };
+    let Some(arity) = arity_of(store, machine.instance, ty) else {
+        return Turn::Stuck;
+    };
+    let inside = machine.place + 1;
+    let target = place_behind(code, ends, inside);
+    let chosen = if condition != 0 {
+        inside
+    } else {
+        place_of_else(code, ends, inside)
+    };
+    enter_label(machine, meter, arity.params, arity.results, target, chosen)
+}
+
+// An instruction without a body.
+fn turn_single(store: &Store, op: &PlainOp, machine: &mut Machine, meter: &mut Meter) -> Turn
+    requires sound { IsSound store.now machine.old meter.old.frames }
+    requires place { machine.old.place + 1 < 2 ^ 64 }
+    ensures turned { IsBefore store.now machine.old (Plain op.now) → Turned store.now machine.old meter.old result machine.new meter.new }
+    ensures falls { IfGoes result (owed machine.new meter.new < owed machine.old meter.old) }
+    ensures stays { IfStays result (machine.new.function ≡ machine.old.function) }
+    ensures bound { meter.new.bound ≡ meter.old.bound }
+{
+    match op {
+        PlainOp::Control(ControlOp::Br(label)) => branch_always(*label, machine, meter),
+        PlainOp::Control(ControlOp::BrIf(label)) => branch_if(*label, machine, meter),
+        PlainOp::Control(ControlOp::Return) => turn_return(machine, meter),
+        PlainOp::Control(ControlOp::Call(x)) => turn_call(store, *x, machine, meter),
+        PlainOp::BrTable(table) => branch_by(table.get(), machine, meter),
+        _ => turn_plain(op, machine, meter),
     }
 }
 
-// Leaves what is open innermost, which has values alone inside: a frame, or a label at the end of its body.
-fn leave(machine: &mut Machine)
-    requires open { 0 < length machine.old.controls }
-    requires controls { IsControlStack machine.old.controls }
-    ensures turned { (store : Store) (code : List Op) (arity instance fuel : ℕ) → IsAtEnd code machine.old → TurnIs store Goes (configuration arity instance code machine.old) fuel (configuration arity instance code machine.new) fuel }
-    ensures controls { IsControlStack machine.new.controls }
-    ensures falls { length machine.new.controls + 1 ≡ length machine.old.controls }
+/// One step of the run, or the end of it, in a function's code with the places where its bodies end.
+pub fn turn(
+    store: &Store,
+    code: &[Op],
+    ends: &[usize],
+    machine: &mut Machine,
+    meter: &mut Meter,
+) -> Turn
+    requires sound { IsSound store.now machine.old meter.old.frames }
+    requires code { code.now ≡ code_at store.now machine.old.function }
+    requires ends { HasEnds code.now ends.now }
+    ensures turned { Turned store.now machine.old meter.old result machine.new meter.new }
+    ensures falls { IfGoes result (owed machine.new meter.new < owed machine.old meter.old) }
+    ensures stays { IfStays result (machine.new.function ≡ machine.old.function) }
+    ensures bound { meter.new.bound ≡ meter.old.bound }
 {
-    let _ = machine.controls.pop();
-}
-
-/// One step of the run, or the end of it, while something is open.
-pub fn turn(code: &[Op], machine: &mut Machine, meter: &mut Meter) -> Turn
-    requires open { 0 < length machine.old.controls }
-    requires controls { IsControlStack machine.old.controls }
-    ensures turned { (store : Store) (arity instance : ℕ) → TurnIs store result (configuration arity instance code.now machine.old) meter.old.left (configuration arity instance code.now machine.new) meter.new.left }
-    ensures controls { IsControlStack machine.new.controls }
-    ensures meter { meter.new ≡ metered meter.new.left meter.old.bound meter.old.frames }
-    ensures falls { IfGoes result (meter.new.left + length machine.new.controls < meter.old.left + length machine.old.controls) }
-{
-    if let Some(Control::Label) = machine.controls.top() {
-        match fetch(code, machine.place) {
-            Fetched::Plain(op) => return turn_plain(code, op, machine, meter),
-            Fetched::Begins => return Turn::Stuck,
-            Fetched::Ends => {}
-        }
+    let place = machine.place;
+    match code.get(place) {
+        Some(Op::Plain(op)) => turn_single(store, op, machine, meter),
+        Some(Op::Block(ty)) => turn_block(store, code, ends, *ty, machine, meter),
+        Some(Op::Loop(ty)) => turn_loop(store, *ty, machine, meter),
+        Some(Op::If(ty)) => turn_if(store, code, ends, *ty, machine, meter),
+        Some(Op::Else) => leave(place_behind(code, ends, place), machine, meter),
+        Some(Op::End) => leave(place + 1, machine, meter),
+        None => leave(place, machine, meter),
     }
-    leave(machine);
-    Turn::Goes
 }

@@ -5,7 +5,7 @@ use Rattle.core_types.specs.declared.outcome.Trap.{Trap}
 use Rattle.meaning.specs.Configuration.{Level, no_frame}
 use Rattle.meaning.specs.Depth.{depth}
 use Rattle.meaning.specs.Store.{Store}
-use Rattle.meaning.specs.Reduction.{Next, Goes, Opens, Traps, Over, NotReady, next}
+use Rattle.meaning.specs.Reduction.{Next, Goes, Opens, Traps, Branches, Returns, Over, NotReady, next}
 
 -- What a configuration does next, outside of all frames.
 abbrev pub next_of : Store → Level → Next
@@ -16,6 +16,8 @@ abbrev pub price : Next → ℕ
 price (Goes cost store frame level) = cost
 price (Opens cost store level) = cost
 price (Traps cost trap) = cost
+price (Branches label values) = 0
+price (Returns values) = 0
 price (Over values) = 0
 price NotReady = 0
 
@@ -24,8 +26,20 @@ abbrev pub IsReady : ℕ → ℕ → Next → Type 0
 IsReady bound deep (Goes cost store frame level) = Unit {0}
 IsReady bound deep (Opens cost store level) = deep < bound
 IsReady bound deep (Traps cost trap) = Unit {0}
+IsReady bound deep (Branches label values) = ⊥
+IsReady bound deep (Returns values) = ⊥
 IsReady bound deep (Over values) = ⊥
 IsReady bound deep NotReady = ⊥
+
+-- Neither an end nor ready.
+abbrev pub IsStuck : Next → Type 0
+IsStuck (Goes cost store frame level) = ⊥
+IsStuck (Opens cost store level) = ⊥
+IsStuck (Traps cost trap) = ⊥
+IsStuck (Branches label values) = Unit {0}
+IsStuck (Returns values) = Unit {0}
+IsStuck (Over values) = ⊥
+IsStuck NotReady = Unit {0}
 
 -- How a run ends.
 pub data Ending : Type 0 where
@@ -46,4 +60,4 @@ pub data Run (bound : ℕ) : Store → ℕ → Level → Ending → Store → �
   no_fuel : {store : Store} {fuel : ℕ} {level : Level} → fuel < price (next_of store level) → Run bound store fuel level OutOfFuel store fuel
   no_depth : {store store' : Store} {fuel cost : ℕ} {level level' : Level} → next_of store level ≡ Opens cost store' level' → cost ≤ fuel → bound ≤ depth level → Run bound store fuel level OutOfDepth store fuel
   no_memory : {store : Store} {fuel : ℕ} {level : Level} → price (next_of store level) ≤ fuel → IsReady bound (depth level) (next_of store level) → Run bound store fuel level OutOfMemory store fuel
-  stuck : {store : Store} {fuel : ℕ} {level : Level} → next_of store level ≡ NotReady → Run bound store fuel level GotStuck store fuel
+  stuck : {store : Store} {fuel : ℕ} {level : Level} → IsStuck (next_of store level) → Run bound store fuel level GotStuck store fuel

@@ -1,5 +1,5 @@
 -- The integer operators (Execution, Numerics), as formulas over whole numbers.
-use Rattle.std.specs.Prelude.{ℕ, zero, suc, ◌+◌, ◌-◌, ◌*◌, ◌/◌, ◌%◌, ◌^◌, Bool, true, false, Option, Some, None, Result, Ok, Err, if◌then◌else◌, ◌==◌, not, nat_lt, nat_le, ℤ, pos, ◌-ℤ◌, ◌*ℤ◌, int_lt, int_le, int_div, unsigned_abs, bit_and, bit_or, bit_xor}
+use Rattle.std.specs.Prelude.{ℕ, zero, suc, ◌+◌, ◌-◌, ◌*◌, ◌/◌, ◌%◌, ◌^◌, Bool, true, false, Result, Ok, Err, if◌then◌else◌, ◌==◌, not, nat_lt, nat_le, ℤ, pos, ◌-ℤ◌, ◌*ℤ◌, int_lt, int_le, int_div, unsigned_abs, bit_and, bit_or, bit_xor}
 use Rattle.std.specs.Int.{int_div_euclid, int_rem_euclid}
 use Rattle.core_types.specs.declared.op.Width.{Width}
 use Rattle.core_types.specs.declared.op.Width.TheVariants.{W32, W64}
@@ -17,11 +17,6 @@ use Rattle.core_types.specs.declared.outcome.Trap.TheVariants.{DivideByZero, Int
 abbrev pub bits_of : Width → ℕ
 bits_of W32 = 32
 bits_of W64 = 64
-
--- What an operator gives from two integers of so many bits; none where it has no formula yet.
-abbrev pub binary_result : ℕ → BinaryOp → ℕ → ℕ → Option ℕ
-binary_result bits Add a b = Some ((a + b) % 2 ^ bits)
-binary_result bits op a b = None
 
 -- ---- Signed numbers (Integer Operations, Sign Interpretation). An integer of so many bits is a number below 2 ^ bits.
 

@@ -16,8 +16,9 @@ pub record FunctionInstance : Type 0 where
   pub instance : ℕ
   pub code : Code
 
--- A module instance: the addresses of its functions, and its exports.
+-- A module instance: its types, the addresses of its functions, and its exports.
 pub record ModuleInstance : Type 0 where
+  pub types : List FuncType
   pub functions : List ℕ
   pub exports : List Export
 

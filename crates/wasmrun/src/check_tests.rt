@@ -7,11 +7,11 @@ use std::test::Fail;
 
 const HEADER: [u8; 8] = [0x00, 0x61, 0x73, 0x6D, 0x01, 0x00, 0x00, 0x00];
 
-// A file in memory, which has these bytes after the header under every path.
+/// A file in memory, which has these bytes after the header under every path.
 #[derive(Drop)]
-struct OneFile<'a> {
-    alloc: Global,
-    sections: &'a [u8],
+pub struct OneFile<'a> {
+    pub alloc: Global,
+    pub sections: &'a [u8],
 }
 
 impl Files for OneFile<'_> {
@@ -40,8 +40,8 @@ fn digit(code: u8) -> u8 {
     }
 }
 
-// The bytes that a text of hexadecimal numbers stands for.
-fn bytes_of(alloc: Global, text: &str) -> Result<Vec<u8>, Fail> {
+/// The bytes that a text of hexadecimal numbers stands for.
+pub fn bytes_of(alloc: Global, text: &str) -> Result<Vec<u8>, Fail> {
     let mut bytes = Vec::new(alloc);
     let mut high = None;
     for code in text.as_bytes() {

@@ -3,12 +3,11 @@
 use crate::support::is_run;
 use binary::{DecodeError, decode};
 use core_types::{Export, ExportDesc, Val, ValType};
-use exec::{HostTable, Meter, Outcome, Store, accepts, invoke};
+use exec::{HostTable, Outcome, invoke};
+use fuel::Meter;
 use std::alloc::{AllocError, Global};
+use store::{Store, accepts};
 use validator::{ValidModule, ValidateError, validate};
-
-/// How many frames may be open at once.
-pub const DEPTH_BOUND: u32 = 1024;
 
 /// Why the engine does not do what it is asked for.
 #[derive(Clone, Copy, PartialEq, Eq, Debug)]
@@ -100,23 +99,25 @@ pub fn check(alloc: Global, bytes: &[u8]) -> Result<(), Refusal> {
     Ok(())
 }
 
-/// A store of linked modules, and the fuel for calls into it.
+/// A store of linked modules, the fuel for calls into it, and how many frames a call may have open at once.
 #[derive(Drop)]
 pub struct Engine {
     alloc: Global,
     store: Store,
     hosts: HostTable,
     fuel: u64,
+    depth: u32,
 }
 
 impl Engine {
     /// An engine without modules. Takes no memory.
-    pub fn new(alloc: Global, fuel: u64) -> Engine {
+    pub fn new(alloc: Global, fuel: u64, depth: u32) -> Engine {
         Engine {
             alloc,
             store: Store::new(alloc),
             hosts: HostTable::new(),
             fuel,
+            depth,
         }
     }
 
@@ -140,7 +141,7 @@ impl Engine {
         if !self.store.has_room_for(&module) {
             return Err(Refusal::Limit);
         }
-        let number = self.store.append_module(module)?;
+        let number = self.store.append_module(self.alloc, module)?;
         Ok(number)
     }
 
@@ -173,7 +174,7 @@ impl Engine {
         if !accepts(&self.store, address, args) {
             return None;
         }
-        let mut meter = Meter::new(self.fuel, DEPTH_BOUND);
+        let mut meter = Meter::new(self.fuel, self.depth);
         let outcome = invoke(
             self.alloc,
             &mut self.store,

@@ -1,5 +1,8 @@
 //! The command line.
 
+ghost use Rattle.std.specs.Prelude.{◌≡◌, IfSome, MatchOption, None, Some};
+ghost use Rattle.wasmrun.specs.Depths.{IsDepth, IsNoDepth};
+
 use crate::digits::number;
 use clap::error::ErrorKind;
 use clap::{Arg, ArgAction, ArgMatches, Command, Error};
@@ -8,6 +11,12 @@ use std::alloc::{AllocError, Global};
 /// The fuel of a call where the words name none.
 pub const DEFAULT_FUEL: u64 = 1_000_000_000;
 
+/// How many frames a call may have open at once where the words name no number.
+pub const DEFAULT_DEPTH: u32 = 1024;
+
+/// The largest number of open frames that the words may name.
+pub const LARGEST_DEPTH: u32 = 65_535;
+
 /// The call that the words ask for.
 #[derive(Debug, Drop)]
 pub struct CallOrder<'a> {
@@ -15,6 +24,7 @@ pub struct CallOrder<'a> {
     pub export: &'a str,
     pub args: Vec<&'a str>,
     pub fuel: u64,
+    pub depth: u32,
 }
 
 /// What the words ask for.
@@ -69,11 +79,15 @@ fn call_command<'a>(alloc: Global) -> Result<Command<'a>, AllocError> {
         .num_args(0..)
         .action(ArgAction::Append);
     let fuel = Arg::new(alloc, "fuel").long("fuel").action(ArgAction::Set);
+    let depth = Arg::new(alloc, "depth")
+        .long("depth")
+        .action(ArgAction::Set);
     plain_command(alloc, "call")
         .arg(required(alloc, "file"))?
         .arg(required(alloc, "export"))?
         .arg(args)?
-        .arg(fuel)
+        .arg(fuel)?
+        .arg(depth)
 }
 
 fn check_command<'a>(alloc: Global) -> Result<Command<'a>, AllocError> {
@@ -119,13 +133,29 @@ fn option_of(matches: &ArgMatches<'_>, name: &str) -> Result<Option<u64>, LineFa
     }
 }
 
+// The number of open frames that an option's number allows, if it is one.
+fn depth_of(given: Option<u64>) -> Option<u32>
+    ensures default { given ≡ None → result ≡ Some 1024 }
+    ensures named { IfSome given (λ n. MatchOption result (IsNoDepth n) (λ depth. (depth ≡ n) × IsDepth n)) }
+{
+    match given {
+        None => Some(DEFAULT_DEPTH),
+        Some(depth) if depth == 0 || depth > LARGEST_DEPTH as u64 => None,
+        Some(depth) => Some(depth as u32),
+    }
+}
+
 fn call_order_of<'a>(alloc: Global, matches: &ArgMatches<'a>) -> Result<CallOrder<'a>, LineFault> {
     let fuel = option_of(matches, "fuel")?;
+    let Some(depth) = depth_of(option_of(matches, "depth")?) else {
+        return Err(LineFault::Usage);
+    };
     Ok(CallOrder {
         file: word_of(matches, "file")?,
         export: word_of(matches, "export")?,
         args: words_of(alloc, matches, "args")?,
         fuel: fuel.unwrap_or(DEFAULT_FUEL),
+        depth,
     })
 }
 

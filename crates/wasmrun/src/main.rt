@@ -48,6 +48,8 @@ fn main(rt: HostRuntime) -> ExitCode {
 }
 
 #[cfg(test)]
+mod call_tests;
+#[cfg(test)]
 mod check_rows;
 #[cfg(test)]
 mod check_tests;

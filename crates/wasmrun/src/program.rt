@@ -90,7 +90,7 @@ fn call<'a, F: Files>(
     order: &CallOrder<'a>,
     files: &mut F,
 ) -> Result<CallEnd, Fault<'a>> {
-    let mut engine = Engine::new(alloc, order.fuel);
+    let mut engine = Engine::new(alloc, order.fuel, order.depth);
     let module = load_file(&engine, files, order.file)?;
     let instance = engine.link(module)?;
     let address = engine.exported_function(instance, order.export)?;

@@ -1,6 +1,6 @@
 //! Which modules the program runs so far: those of functions alone, over the instructions that the interpreter runs.
 
-use core_types::{BinaryOp, Func, Module, NumericOp, Op, PlainOp, VariableOp};
+use core_types::{ControlOp, Func, Module, Op, PlainOp, VariableOp};
 
 /// Whether the module has only sections and instructions that are run.
 pub fn is_run(decoded: &Module) -> bool {
@@ -24,9 +24,33 @@ fn is_run_function(f: &Func) -> bool {
 
 fn is_run_operation(op: &Op) -> bool {
     match op {
-        Op::Plain(PlainOp::Variable(VariableOp::LocalGet(_))) => true,
-        Op::Plain(PlainOp::I32Const(_)) => true,
-        Op::Plain(PlainOp::Numeric(NumericOp::Binary(_, BinaryOp::Add))) => true,
-        _ => false,
+        Op::Plain(op) => is_run_plain(op),
+        Op::Block(_) | Op::Loop(_) | Op::If(_) | Op::Else | Op::End => true,
+    }
+}
+
+fn is_run_plain(op: &PlainOp) -> bool {
+    match op {
+        PlainOp::Control(op) => is_run_control(*op),
+        PlainOp::Variable(op) => is_run_variable(*op),
+        PlainOp::BrTable(_) | PlainOp::Parametric(_) | PlainOp::SelectTyped(_) => true,
+        PlainOp::Numeric(_) | PlainOp::I32Const(_) | PlainOp::I64Const(_) => true,
+        PlainOp::Reference(_) | PlainOp::Table(_) | PlainOp::Memory(_) => false,
+    }
+}
+
+fn is_run_control(op: ControlOp) -> bool {
+    match op {
+        ControlOp::Unreachable | ControlOp::Nop => true,
+        ControlOp::Br(_) | ControlOp::BrIf(_) => true,
+        ControlOp::Return | ControlOp::Call(_) => true,
+        ControlOp::CallIndirect { .. } => false,
+    }
+}
+
+fn is_run_variable(op: VariableOp) -> bool {
+    match op {
+        VariableOp::LocalGet(_) | VariableOp::LocalSet(_) | VariableOp::LocalTee(_) => true,
+        VariableOp::GlobalGet(_) | VariableOp::GlobalSet(_) => false,
     }
 }

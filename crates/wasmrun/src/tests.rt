@@ -118,10 +118,34 @@ fn run_over(alloc: Global, words: &[&str]) -> Result<Printed, Fail> {
 
 #[test]
 fn calls_end_with_their_lines(rt: HostRuntime) -> Result<(), Fail> {
-    let cases: [(&[&str], &str, u8); 9] = [
+    let cases: [(&[&str], &str, u8); 12] = [
         (
             &["call", "m1.wasm", "add", "1", "2"],
             "i32 3\nfuel left 999999997\n",
+            0,
+        ),
+        (
+            &["call", "subtracting.wasm", "add", "1", "2"],
+            "i32 4294967295\nfuel left 999999997\n",
+            0,
+        ),
+        (
+            &["call", "m1.wasm", "add", "1", "2", "--depth", "1"],
+            "i32 3\nfuel left 999999997\n",
+            0,
+        ),
+        (
+            &[
+                "call",
+                "--depth=3",
+                "m1.wasm",
+                "--fuel",
+                "3",
+                "add",
+                "1",
+                "2",
+            ],
+            "i32 3\nfuel left 0\n",
             0,
         ),
         (
@@ -184,7 +208,7 @@ fn calls_end_with_their_lines(rt: HostRuntime) -> Result<(), Fail> {
 
 #[test]
 fn faults_end_with_their_lines(rt: HostRuntime) -> Result<(), Fail> {
-    let cases: [(&[&str], &str, u8); 18] = [
+    let cases: [(&[&str], &str, u8); 17] = [
         (
             &["call", "m1.wasm", "sub", "1", "2"],
             "refused 9 UnknownExport\n",
@@ -240,11 +264,6 @@ fn faults_end_with_their_lines(rt: HostRuntime) -> Result<(), Fail> {
             5,
         ),
         (
-            &["call", "subtracting.wasm", "add", "1", "2"],
-            "refused 2 Unsupported\n",
-            5,
-        ),
-        (
             &["call", "memory.wasm", "add", "1", "2"],
             "refused 2 Unsupported\n",
             5,
@@ -293,7 +312,7 @@ fn checks_end_with_their_lines(rt: HostRuntime) -> Result<(), Fail> {
 
 #[test]
 fn other_words_are_usage_faults(rt: HostRuntime) -> Result<(), Fail> {
-    let cases: [&[&str]; 32] = [
+    let cases: [&[&str]; 38] = [
         &[],
         &["frob"],
         &[""],
@@ -322,7 +341,14 @@ fn other_words_are_usage_faults(rt: HostRuntime) -> Result<(), Fail> {
             "18446744073709551616",
         ],
         &["call", "missing.wasm", "add", "1", "2", "--fuel", "x"],
-        &["call", "m1.wasm", "add", "1", "2", "--depth", "3"],
+        &["call", "m1.wasm", "add", "1", "2", "--depth"],
+        &["call", "m1.wasm", "add", "1", "2", "--depth", "0"],
+        &[
+            "call", "m1.wasm", "add", "1", "2", "--depth", "3", "--depth", "3",
+        ],
+        &["call", "--depth=3", "m1.wasm", "add", "--depth=3", "1", "2"],
+        &["call", "missing.wasm", "add", "1", "2", "--depth", "x"],
+        &["--depth", "3", "call", "m1.wasm", "add", "1", "2"],
         &["call", "m1.wasm", "add", "-1", "2"],
         &["call", "--help"],
         &["--fuel", "3", "call", "m1.wasm", "add", "1", "2"],
@@ -335,6 +361,7 @@ fn other_words_are_usage_faults(rt: HostRuntime) -> Result<(), Fail> {
         &["check", "m1.wasm", "--fuel", "3"],
         &["check", "--fuel", "3", "m1.wasm"],
         &["check", "m1.wasm", "--fuel=3"],
+        &["check", "m1.wasm", "--depth", "3"],
         &["check", "--help"],
         &["check", "-x"],
         &["--fuel", "3", "check", "m1.wasm"],

@@ -1,7 +1,0 @@
-use Rattle.std.proofs.Common.{take}
-use Rattle.meaning.specs.Soundness.{ValuesHaveTypes}
-use Rattle.exec.specs.Stored.{store_of}
-use Rattle.exec.proofs.arguments.values_have_types.Given as goal
-
-abbrev pub invariant-loop-i : goal.invariant-loop-i
-invariant-loop-i l = ValuesHaveTypes (store_of l.store) (take l.i l.values) (take l.i l.types)

@@ -1,0 +1,8 @@
+//! The fuel that a run may still spend, and the bound on how many frames it has open.
+#![tactic(auto)]
+
+mod meter;
+#[cfg(test)]
+mod tests;
+
+pub use meter::Meter;

@@ -1,0 +1,91 @@
+ghost use Rattle.std.specs.Prelude.{◌≡◌, ◌+◌, ◌-◌, ◌<◌, ◌≤◌, ◌↔◌, IsTrue};
+ghost use Rattle.std.specs.Bool.{OnTrue, OnFalse};
+ghost use Rattle.fuel.specs.Metering.{metered};
+
+use std::marker::Model;
+
+/// The fuel that is left, and how many frames are open under a bound.
+#[derive(Debug, Drop)]
+pub struct Meter {
+    left: u64,
+    bound: u32,
+    frames: u32,
+}
+
+impl Model for Meter {
+    ghost use Rattle.fuel.specs.Metering.{Metered, metered};
+
+    ghost Value = { Metered };
+
+    ghost view = { λ m. metered m.left m.bound m.frames };
+}
+
+impl Meter {
+    /// A meter with so much fuel and no open frame. Takes no memory.
+    pub fn new(fuel: u64, depth_bound: u32) -> Meter
+        ensures { result ≡ metered fuel depth_bound 0 }
+    {
+        Meter {
+            left: fuel,
+            bound: depth_bound,
+            frames: 0,
+        }
+    }
+
+    /// The fuel that is left.
+    pub fn left(&self) -> u64
+        ensures { result ≡ self.now.left }
+    {
+        self.left
+    }
+
+    /// Sets the fuel.
+    pub fn set(&mut self, fuel: u64)
+        ensures { self.new ≡ metered fuel self.old.bound self.old.frames }
+    {
+        self.left = fuel;
+    }
+
+    /// Spends so much fuel if it is there; if not, answers false and changes nothing.
+    pub fn try_spend(&mut self, cost: u64) -> bool
+        ensures enough { IsTrue result ↔ (cost ≤ self.old.left) }
+        ensures spent { OnTrue result (self.new ≡ metered (self.old.left - cost) self.old.bound self.old.frames) }
+        ensures unchanged { OnFalse result (self.new ≡ self.old) }
+    {
+        if cost <= self.left {
+            self.left -= cost;
+            true
+        } else {
+            false
+        }
+    }
+
+    /// Opens a frame if fewer are open than the bound allows; if not, answers false and changes nothing.
+    pub fn enter(&mut self) -> bool
+        ensures within { IsTrue result ↔ (self.old.frames < self.old.bound) }
+        ensures opened { OnTrue result (self.new ≡ metered self.old.left self.old.bound (self.old.frames + 1)) }
+        ensures unchanged { OnFalse result (self.new ≡ self.old) }
+    {
+        if self.frames < self.bound {
+            self.frames += 1;
+            true
+        } else {
+            false
+        }
+    }
+
+    /// Closes a frame; one must be open.
+    pub fn leave(&mut self)
+        requires { 0 < self.old.frames }
+        ensures { self.new ≡ metered self.old.left self.old.bound (self.old.frames - 1) }
+    {
+        self.frames -= 1;
+    }
+
+    /// Closes all frames that are open.
+    pub fn leave_all(&mut self)
+        ensures { self.new ≡ metered self.old.left self.old.bound 0 }
+    {
+        self.frames = 0;
+    }
+}

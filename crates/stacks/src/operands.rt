@@ -1,0 +1,127 @@
+ghost use Rattle.std.specs.Prelude.{◌≡◌, ◌≤◌, List, [], ◌∷◌, ◌++◌, length, reverse, take, drop, OnOk, OnErr, MatchOption};
+ghost use Rattle.core_types.specs.declared.outcome.Val.{Val as AnyVal};
+ghost use Rattle.stacks.specs.Stacked.{operand_stack};
+
+use core_types::{Items, Val};
+use std::alloc::{AllocError, Global};
+use std::marker::Model;
+
+/// The operands of a run, in two parts: those inside of the innermost label, and those below them. Contracts see both parts
+/// as lists from the top.
+#[derive(Debug, Drop)]
+pub struct Operands {
+    items: Vec<Val>,
+    floor: usize,
+}
+
+impl Model for Operands {
+    ghost use Rattle.std.specs.Prelude.{◌≤◌, length};
+    ghost use Rattle.stacks.specs.Stacked.{OperandStack, from_top};
+
+    ghost Value = { OperandStack };
+
+    ghost view = { λ s. from_top s.floor s.items.items };
+
+    ghost invariant = { λ s. s.floor ≤ length s.items.items };
+}
+
+impl Operands {
+    /// No operands. Takes no memory.
+    pub fn new(alloc: Global) -> Operands
+        ensures { result ≡ operand_stack ([]) ([]) }
+    {
+        Operands {
+            items: Vec::new(alloc),
+            floor: 0,
+        }
+    }
+
+    /// How many operands there are inside of the innermost label.
+    pub fn len(&self) -> usize
+        ensures { result ≡ length self.now.own }
+    {
+        self.items.len() - self.floor
+    }
+
+    /// How many operands there are below those of the innermost label.
+    pub fn floor(&self) -> usize
+        ensures { result ≡ length self.now.below }
+    {
+        self.floor
+    }
+
+    /// Puts an operand on top. After want of memory the stack is as before.
+    pub fn push(&mut self, value: Val) -> Result<(), AllocError>
+        ensures pushed { OnOk result (self.new ≡ operand_stack (value ∷ self.old.own) (self.old.below)) }
+        ensures unchanged { OnErr result (self.new ≡ self.old) }
+    {
+        self.items.push(value)?;
+        Ok(())
+    }
+
+    /// Takes the topmost operand off, if the innermost label has one. Takes no memory.
+    pub fn pop(&mut self) -> Option<Val>
+        ensures { MatchOption result ((self.old.own ≡ []) × (self.new ≡ self.old)) (λ value. (self.old.own ≡ value ∷ self.new.own) × (self.new.below ≡ self.old.below)) }
+    {
+        if self.floor < self.items.len() {
+            self.items.pop()
+        } else {
+            None
+        }
+    }
+
+    /// The topmost `count` operands, the topmost one last.
+    pub fn top(&self, count: usize) -> &[Val]
+        requires { count ≤ length self.now.own }
+        ensures { result.now ≡ reverse (take count self.now.own) }
+    {
+        &self.items[self.items.len() - count..]
+    }
+
+    /// Takes the topmost `count` operands off. Takes no memory.
+    pub fn drop_top(&mut self, count: usize)
+        requires { count ≤ length self.old.own }
+        ensures { self.new ≡ operand_stack (drop count self.old.own) (self.old.below) }
+    {
+        self.items.truncate(self.items.len() - count);
+    }
+
+    /// Opens a label that has the topmost `count` operands inside. Takes no memory.
+    pub fn nest(&mut self, count: usize)
+        requires { count ≤ length self.old.own }
+        ensures { self.new ≡ operand_stack (take count self.old.own) (drop count self.old.own ++ self.old.below) }
+    {
+        self.floor = self.items.len() - count;
+    }
+
+    /// Leaves a label whose operands all stay; outside of it the floor is this. Takes no memory.
+    pub fn unnest(&mut self, floor: usize)
+        requires { floor ≤ length self.old.below }
+        ensures { (values lower : List AnyVal) → self.old.below ≡ values ++ lower → length lower ≡ floor → self.new ≡ operand_stack (self.old.own ++ values) (lower) }
+    {
+        self.floor = floor;
+    }
+
+    /// Leaves labels and keeps the topmost `count` operands, which come to stand at the height `base`; outside the floor is
+    /// `floor`. Takes no memory.
+    pub fn land(&mut self, count: usize, base: usize, floor: usize)
+        requires count { count ≤ length self.old.own }
+        requires floor { floor ≤ base }
+        requires base { base ≤ length self.old.below }
+        ensures { (gone values lower : List AnyVal) → self.old.below ≡ gone ++ (values ++ lower) → length (values ++ lower) ≡ base → length lower ≡ floor → self.new ≡ operand_stack (take count self.old.own ++ values) (lower) }
+    {
+        let from = self.items.len() - count;
+        self.items.copy_within(from.., base);
+        self.items.truncate(base + count);
+        self.floor = floor;
+    }
+
+    /// The operands inside of the innermost label, the topmost one last; those below are lost. Takes no memory.
+    pub fn into_items(self) -> Items<Val>
+        requires { self.below ≡ [] }
+        ensures { result ≡ reverse self.own }
+    {
+        let Operands { items, .. } = self;
+        Items::from_vec(items)
+    }
+}

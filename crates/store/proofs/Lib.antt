@@ -1,0 +1,6 @@
+pub mod Accepting
+pub mod Adding
+pub mod Ending
+pub mod Entering
+pub mod Finding
+pub mod Placing

@@ -1,0 +1,50 @@
+ghost use Rattle.std.specs.Prelude.{◌≡◌, ◌<◌, length, IsTrue, map, drop};
+ghost use Rattle.std.specs.Bool.{OnTrue};
+ghost use Rattle.meaning.specs.Soundness.{ValueHasType, ValuesHaveTypes};
+ghost use Rattle.store.specs.Calling.{TakesArguments};
+ghost use Rattle.store.specs.Stored.{store_of};
+
+use crate::contents::Store;
+use core_types::{Val, ValType};
+
+// Whether a value has a type, in this store.
+fn value_has_type(store: &Store, value: Val, ty: ValType) -> bool
+    ensures { OnTrue result (ValueHasType (store_of store.now) value ty) }
+{
+    match ty {
+        ValType::I32 => matches!(value, Val::I32(_)),
+        ValType::I64 => matches!(value, Val::I64(_)),
+        ValType::FuncRef => match value {
+            Val::FuncRef(None) => true,
+            Val::FuncRef(Some(address)) => store.function(address).is_some(),
+            _ => false,
+        },
+        ValType::ExternRef => matches!(value, Val::ExternRef(_)),
+    }
+}
+
+// Whether the values have the types, one by one.
+fn values_have_types(store: &Store, values: &[Val], types: &[ValType]) -> bool
+    ensures { OnTrue result (ValuesHaveTypes (store_of store.now) values.now types.now) }
+{
+    if values.len() != types.len() {
+        return false;
+    }
+    for i in 0..values.len() {
+        if !value_has_type(store, values[i], types[i]) {
+            return false;
+        }
+    }
+    true
+}
+
+/// Whether the function at an address takes these arguments: the test for what `invoke` asks of its caller. False where there
+/// is no function.
+pub fn accepts(store: &Store, address: u32, args: &[Val]) -> bool
+    ensures { OnTrue result (TakesArguments (store_of store.now) address args.now) }
+{
+    match store.function(address) {
+        Some(callee) => values_have_types(store, args, callee.ty.params.as_slice()),
+        None => false,
+    }
+}
