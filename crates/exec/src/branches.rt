@@ -4,9 +4,9 @@ ghost use Rattle.core_types.specs.declared.op.Op.TheVariants.{Plain};
 ghost use Rattle.core_types.specs.declared.op.PlainOp.TheVariants.{BrTable, Control as ControlPlain};
 ghost use Rattle.meaning.specs.Configuration.{Level};
 ghost use Rattle.meaning.specs.Reduction.{Branches};
+ghost use Rattle.store.specs.Stored.{Stored};
 ghost use Rattle.exec.specs.declared.machine.Control.TheVariants.{InLabel};
 ghost use Rattle.exec.specs.Standing.{IsBefore, IsNoLabel, IsSomewhere};
-ghost use Rattle.store.specs.Stored.{Stored};
 ghost use Rattle.exec.specs.Turning.{Turned, TurnedAt, IfGoes, next_in, owed};
 
 use crate::machine::{Control, Label, Machine, Turn};

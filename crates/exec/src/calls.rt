@@ -1,14 +1,12 @@
-ghost use Rattle.std.specs.Prelude.{◌≡◌, ◌<◌, ◌++◌, ℕ, Some, [], ◌∷◌, length, map, reverse, IfOk};
+ghost use Rattle.std.specs.Prelude.{◌≡◌, ◌<◌, Some, reverse, IfOk};
 ghost use Rattle.meaning.specs.Configuration.{Invoking, Level};
-ghost use Rattle.meaning.specs.Reduction.{default_of};
 ghost use Rattle.meaning.specs.BoundedRun.{Run};
-ghost use Rattle.fuel.specs.Metering.{metered};
 ghost use Rattle.store.specs.Calling.{TakesArguments};
 ghost use Rattle.store.specs.Ends.{HasEnds};
-ghost use Rattle.exec.specs.Frames.{entered, from_outside};
+ghost use Rattle.store.specs.Stored.{code_at, store_of};
+ghost use Rattle.exec.specs.Frames.{from_outside};
 ghost use Rattle.exec.specs.Standing.{IsSound, Stands};
-ghost use Rattle.store.specs.Stored.{Stored, code_at, store_of};
-ghost use Rattle.exec.specs.Turning.{IfGoes, IfStays, Led, ending_of, owed};
+ghost use Rattle.exec.specs.Turning.{IfGoes, Led, ending_of, owed};
 
 use crate::frames::enter_function;
 use crate::host_table::HostTable;

@@ -1,15 +1,11 @@
-ghost use Rattle.std.specs.Prelude.{◌≡◌, ◌+◌, ◌-◌, ◌<◌, ◌≤◌, ◌^◌, suc, [], ◌∷◌, ◌++◌, List, OnOk, length, map, reverse, take, drop};
+ghost use Rattle.std.specs.Prelude.{◌≡◌, ◌+◌, ◌-◌, ◌<◌, ◌≤◌, ◌^◌, OnOk, length};
 ghost use Rattle.core_types.specs.declared.op.ControlOp.TheVariants.{Call, Return};
 ghost use Rattle.core_types.specs.declared.op.Op.TheVariants.{Plain};
 ghost use Rattle.core_types.specs.declared.op.PlainOp.TheVariants.{Control as ControlPlain};
-ghost use Rattle.core_types.specs.declared.outcome.Val.{Val as AnyVal};
-ghost use Rattle.meaning.specs.Reduction.{default_of};
-ghost use Rattle.store.specs.Ends.{HasEnds};
+ghost use Rattle.store.specs.Stored.{Stored, code_at};
 ghost use Rattle.exec.specs.Frames.{IsResumed, entered, in_callee};
 ghost use Rattle.exec.specs.Places.{behind, rests_at};
-ghost use Rattle.stacks.specs.Stacked.{local_stack, operand_stack};
 ghost use Rattle.exec.specs.Standing.{IsAtEnd, IsBefore, IsSomewhere, rests_of};
-ghost use Rattle.store.specs.Stored.{Stored, code_at};
 ghost use Rattle.exec.specs.Turning.{Turned, IfGoes, IfStays, owed};
 
 use crate::machine::{Caller, Control, Label, Machine, Turn};

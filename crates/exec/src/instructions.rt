@@ -1,9 +1,9 @@
 ghost use Rattle.std.specs.Prelude.{◌≡◌, ◌+◌, ◌<◌, ◌^◌};
 ghost use Rattle.core_types.specs.declared.op.Op.TheVariants.{Plain};
 ghost use Rattle.meaning.specs.Reduction.{after, effect};
+ghost use Rattle.store.specs.Stored.{Stored, code_at, store_of};
 ghost use Rattle.exec.specs.Places.{rests_at};
 ghost use Rattle.exec.specs.Standing.{IsBefore, frame_of, redex_of};
-ghost use Rattle.store.specs.Stored.{Stored, code_at, store_of};
 ghost use Rattle.exec.specs.Turning.{Turned, IfGoes, next_in, owed};
 
 use crate::machine::{Machine, Turn};

@@ -1,10 +1,9 @@
-ghost use Rattle.std.specs.Prelude.{◌≡◌, ◌+◌, ◌<◌, ◌^◌, length, Some, option_copied, MatchOption, None};
+ghost use Rattle.std.specs.Prelude.{◌≡◌, ◌<◌, length, Some, MatchOption, None};
 ghost use Rattle.core_types.specs.declared.types.FuncType.{FuncType};
 ghost use Rattle.core_types.specs.declared.op.BlockType.{BlockType as AnyBlockType};
 ghost use Rattle.meaning.specs.Body.{Kind};
 ghost use Rattle.meaning.specs.Configuration.{Frame, Level};
 ghost use Rattle.meaning.specs.Reduction.{block_type, kept_by};
-ghost use Rattle.exec.specs.Standing.{IsSound, IsAtEnd};
 ghost use Rattle.store.specs.Stored.{Stored, store_of};
 ghost use Rattle.exec.specs.Turning.{TurnedAt, IfGoes, IsEntry, HasArity, owed};
 

@@ -1,8 +1,8 @@
-ghost use Rattle.std.specs.Prelude.{◌≡◌, ◌+◌, ◌<◌, ◌^◌, ◌≤◌, length};
+ghost use Rattle.std.specs.Prelude.{◌≡◌, ◌+◌, ◌<◌, ◌^◌, length};
 ghost use Rattle.core_types.specs.declared.op.Op.TheVariants.{Plain, Block as BlockMark, Loop as LoopMark, If as IfMark};
 ghost use Rattle.store.specs.Ends.{HasEnds};
+ghost use Rattle.store.specs.Stored.{code_at};
 ghost use Rattle.exec.specs.Standing.{IsBefore, IsSound};
-ghost use Rattle.store.specs.Stored.{Stored, code_at};
 ghost use Rattle.exec.specs.Turning.{Turned, IfGoes, IfStays, owed};
 
 use crate::branches::{branch_always, branch_by, branch_if};

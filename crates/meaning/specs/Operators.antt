@@ -1,8 +1,6 @@
 -- The integer operators (Execution, Numerics), as formulas over whole numbers.
 use Rattle.std.specs.Prelude.{ℕ, zero, suc, ◌+◌, ◌-◌, ◌*◌, ◌/◌, ◌%◌, ◌^◌, Bool, true, false, Result, Ok, Err, if◌then◌else◌, ◌==◌, not, nat_lt, nat_le, ℤ, pos, ◌-ℤ◌, ◌*ℤ◌, int_lt, int_le, int_div, unsigned_abs, bit_and, bit_or, bit_xor}
 use Rattle.std.specs.Int.{int_div_euclid, int_rem_euclid}
-use Rattle.core_types.specs.declared.op.Width.{Width}
-use Rattle.core_types.specs.declared.op.Width.TheVariants.{W32, W64}
 use Rattle.core_types.specs.declared.op.UnaryOp.{UnaryOp}
 use Rattle.core_types.specs.declared.op.UnaryOp.TheVariants.{Clz, Ctz, Popcnt, Extend8S, Extend16S}
 use Rattle.core_types.specs.declared.op.BinaryOp.{BinaryOp}
@@ -13,10 +11,6 @@ use Rattle.core_types.specs.declared.op.Conversion.{Conversion}
 use Rattle.core_types.specs.declared.op.Conversion.TheVariants.{I32WrapI64, I64ExtendI32S, I64ExtendI32U, I64Extend32S}
 use Rattle.core_types.specs.declared.outcome.Trap.{Trap}
 use Rattle.core_types.specs.declared.outcome.Trap.TheVariants.{DivideByZero, IntegerOverflow}
-
-abbrev pub bits_of : Width → ℕ
-bits_of W32 = 32
-bits_of W64 = 64
 
 -- ---- Signed numbers (Integer Operations, Sign Interpretation). An integer of so many bits is a number below 2 ^ bits.
 

@@ -6,7 +6,7 @@ use crate::did::Did;
 use core_types::Val;
 use stacks::Operands;
 
-// The i32 on top of the operands.
+/// Takes the i32 on top of the operands; `None` where no i32 is on top, and it is then left open what the operands are.
 pub fn pop_i32(operands: &mut Operands) -> Option<u32>
     ensures { MatchOption result (HasNoI32 operands.old.own) (λ n. (operands.old.own ≡ I32 n ∷ operands.new.own) × (operands.new.below ≡ operands.old.below)) }
 {

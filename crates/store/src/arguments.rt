@@ -1,4 +1,3 @@
-ghost use Rattle.std.specs.Prelude.{◌≡◌, ◌<◌, length, IsTrue, map, drop};
 ghost use Rattle.std.specs.Bool.{OnTrue};
 ghost use Rattle.meaning.specs.Soundness.{ValueHasType, ValuesHaveTypes};
 ghost use Rattle.store.specs.Calling.{TakesArguments};
