@@ -1,15 +1,20 @@
--- A body that is typed in its scope has the type of its function.
-use Rattle.std.proofs.Common.{◌≡◌, List, ◌++◌, refl, sym, ◌∙◌}
-use Rattle.std.specs.Prelude.{Some, slice_get}
+-- A body that is typed in its scope has the type of its function, and one that is not has not.
+use Rattle.std.proofs.Common.{◌≡◌, ◌<◌, [], List, ◌++◌, ap, arith, length, map, refl, subst, sym, ◌∙◌}
+use Rattle.std.specs.Prelude.{None, Some, slice_get}
+use Rattle.std.proofs.lemmas.List.{length-map}
+use Rattle.std.proofs.lemmas.Option.{slice_get_within}
 use Rattle.core_types.specs.declared.module.Func.{Func}
 use Rattle.core_types.specs.declared.module.Module.{Module}
 use Rattle.core_types.specs.declared.op.Op.{Op}
 use Rattle.core_types.specs.declared.types.FuncType.{FuncType}
 use Rattle.core_types.specs.declared.types.ValType.{ValType}
 use Rattle.meaning.specs.Context.{Context}
-use Rattle.meaning.specs.Validity.{module_context, IsValidFunction}
+use Rattle.meaning.specs.Typing.{HasType, known}
+use Rattle.meaning.specs.Validity.{body_context, function_indices, module_context, IsValidFunction, type_at}
 use Rattle.validator.specs.declared.scope.Scope.{Scope}
 use Rattle.validator.specs.declared.scope.Spaces.{Spaces}
+use Rattle.validator.specs.Marks.{HasMarks}
+use Rattle.validator.specs.Possible.{IsContext, IsUntyped}
 use Rattle.validator.specs.Scopes.{AreSpaces, Describes, IsTyped}
 
 -- What the function is typed in, before the label of its body.
@@ -37,3 +42,21 @@ module _ (m : Module) (s : Spaces) (spaces : AreSpaces m s) (f : Func) (ty : Fun
   function_valid has_type ops body_is typed =
       let r = typed.in_context (outside m ty f.locals) describes in
       record { ty = ty; has_type = has_type; body = r.0; written = sym body_is ∙ r.1; typed = r.2 }
+
+  is_context : HasMarks m s → IsContext scope (outside m ty f.locals)
+  is_context marks = record {
+    described = describes;
+    references = λ x type found named.
+        let inside = slice_get_within (map (type_at m.types) (function_indices m)) x type found in
+        let there : x < length s.functions.items = omega (arith, inside, length-map (function_indices m) (type_at m.types), ap length spaces.functions) in
+        rw spaces_is (marks.set x there named);
+  }
+
+  pub function_invalid : HasMarks m s → slice_get m.types f.ty ≡ Some ty → (ops : List Op) → ops ≡ f.body → IsUntyped scope ops → ¬ IsValidFunction m f
+  function_invalid marks has_type ops body_is untyped = λ valid.
+      let both : Some valid.ty ≡ Some ty = sym valid.has_type ∙ has_type in
+      let same : valid.ty ≡ ty = cc in
+      untyped.in_context (outside m ty f.locals) (is_context marks) valid.body (body_is ∙ valid.written) (subst (λ (t : FuncType). HasType (body_context m t f.locals) valid.body [] (known t.results)) same valid.typed)
+
+pub untyped_function : (m : Module) (f : Func) → slice_get m.types f.ty ≡ None → ¬ IsValidFunction m f
+untyped_function m f none = λ valid. let both : None ≡ Some valid.ty = sym none ∙ valid.has_type in absurd cc

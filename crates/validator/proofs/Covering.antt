@@ -6,8 +6,10 @@ use Rattle.std.specs.Bool.{OnFalse}
 use Rattle.core_types.specs.declared.types.OperandType.{OperandType}
 use Rattle.core_types.specs.declared.types.OperandType.TheVariants.{Known, Unknown}
 use Rattle.core_types.specs.declared.types.ValType.{ValType}
+use Rattle.core_types.specs.declared.types.ValType.TheVariants.{I32}
 use Rattle.meaning.specs.Typing.{AllFit, Fits, known}
 use Rattle.meaning.proofs.Typing.{AllFit-joined, AllFit-parts, AllFit-through}
+use Rattle.validator.proofs.Taking.{Takes-nothing}
 use Rattle.validator.specs.Operands.{Covers, IsDry, Refuses, TakenFrom, Takes}
 
 -- ---- lists
@@ -38,10 +40,6 @@ AllFit-split (t ∷ ts) more [] fits = absurd fits
 AllFit-split (t ∷ ts) more (u ∷ us) fits =
     let (front, back, parts, first, second) = AllFit-split ts more us fits.1 in
     (u ∷ front, back, ap (λ (z : List OperandType). u ∷ z) parts, (fits.0, first), second)
-
-pub AllFit-unknown : (us : List OperandType) → AllFit (replicate (length us) Unknown) us
-AllFit-unknown [] = tt
-AllFit-unknown (u ∷ us) = (tt, AllFit-unknown us)
 
 cut : (n : ℕ) (ts : List OperandType) → n ≤ length ts → (front back : List OperandType) × (ts ≡ front ++ back) × (length front ≡ n)
 cut zero ts le = ([], ts, refl, refl)
@@ -76,12 +74,13 @@ Covers-taken unreachable own given rest theirs below top covers (inr (dead, noth
       rw (parts, halves) fits,
     )
 
-pub Refuses-misfit : (unreachable : Bool) (height : ℕ) (old new : List OperandType) (t wanted : OperandType) → Takes unreachable height old (t ∷ []) new → (Fits t wanted → ⊥) → Refuses unreachable height old (wanted ∷ [])
-Refuses-misfit unreachable height old new t wanted takes wrong = record {
+-- What was taken does not fit what is wanted in its place.
+pub Refuses-misfit : (unreachable : Bool) (height : ℕ) (old given new wanted : List OperandType) → Takes unreachable height old given new → length given ≡ length wanted → (AllFit given wanted → ⊥) → Refuses unreachable height old wanted
+Refuses-misfit unreachable height old given new wanted takes same wrong = record {
   at = λ under own parts long theirs below top covers e fit.
       let (rest, left, taken) = takes.at under own parts long in
-      let (covered, fits) = Covers-taken unreachable own (t ∷ []) rest theirs below top covers taken e (AllFit-length top (wanted ∷ []) fit) in
-      wrong (AllFit-through (t ∷ []) top (wanted ∷ []) fits fit).0;
+      let (covered, fits) = Covers-taken unreachable own given rest theirs below top covers taken e (AllFit-length top wanted fit ∙ sym same) in
+      wrong (AllFit-through given top wanted fits fit);
 }
 
 no_fit : (us : List OperandType) → AllFit [] us → us ≡ []
@@ -96,6 +95,21 @@ Refuses-dry unreachable height old wanted (alive, low) = record {
       let none : length theirs ≡ 0 = ap length covers.parts ∙ length-append covers.others covers.top ∙ rw (covers.alone alive, bare) refl in
       omega (arith, none, ap length e, length-append below top, AllFit-length top (wanted ∷ []) fit);
 }
+
+-- All that the level has was taken, and it is less than what is wanted.
+pub Refuses-short : (unreachable : Bool) (height : ℕ) (old given new wanted : List OperandType) → Takes unreachable height old given new → IsDry unreachable height new → length given < length wanted → Refuses unreachable height old wanted
+Refuses-short unreachable height old given new wanted takes (alive, low) less = record {
+  at = λ under own parts long theirs below top covers e fit.
+      let (rest, left, taken) = takes.at under own parts long in
+      let nothing : rest ≡ [] = nil_from_length rest (omega (arith, ap length left, length-append under rest)) in
+      let all : length own ≡ length given = taken_all own given rest alive nothing taken in
+      let none : length theirs ≡ length covers.top = ap length covers.parts ∙ ap (λ (z : List OperandType). length (z ++ covers.top)) (covers.alone alive) in
+      omega (arith, less, all, none, AllFit-length own covers.top covers.fits, ap length e, length-append below top, AllFit-length top wanted fit);
+}
+  where
+    taken_all : (own given rest : List OperandType) → unreachable ≡ false → rest ≡ [] → TakenFrom unreachable own given rest → length own ≡ length given
+    taken_all own given rest alive nothing (inl parts) = ap length parts ∙ ap (λ (z : List OperandType). length (z ++ given)) nothing
+    taken_all own given rest alive nothing (inr (dead, none, more)) = let both : true ≡ false = sym dead ∙ alive in absurd cc
 
 -- Where operands of the last types were taken and the one before is refused, all of them are.
 pub Refuses-more : (unreachable : Bool) (height : ℕ) (old given new front back : List OperandType) (wanted : OperandType) → Takes unreachable height old given new → AllFit given back → Refuses unreachable height new (wanted ∷ []) → Refuses unreachable height old (front ++ (wanted ∷ back))
@@ -113,7 +127,7 @@ Refuses-more unreachable height old given new front back wanted takes fits refus
 -- The same of an operand that was taken and looked at.
 pub Refuses-looked : (fits unreachable : Bool) (height : ℕ) (old new : List OperandType) (t wanted : OperandType) → Takes unreachable height old (t ∷ []) new → (IsTrue fits ↔ Fits t wanted) → OnFalse fits (Refuses unreachable height old (wanted ∷ []))
 Refuses-looked true unreachable height old new t wanted takes test = tt
-Refuses-looked false unreachable height old new t wanted takes test = Refuses-misfit unreachable height old new t wanted takes (λ fit. let e : false ≡ true = test.1 fit in absurd cc)
+Refuses-looked false unreachable height old new t wanted takes test = Refuses-misfit unreachable height old (t ∷ []) new (wanted ∷ []) takes refl (λ fit. let e : false ≡ true = test.1 fit.0 in absurd cc)
 
 -- The same of types, the last of which were taken.
 pub Refuses-down : (unreachable : Bool) (height : ℕ) (old given new : List OperandType) (wanted : List ValType) (left : ℕ) (d : ValType) → left < length wanted → Takes unreachable height old given new → AllFit given (known (drop (left + 1) wanted))
@@ -122,3 +136,35 @@ Refuses-down unreachable height old given new wanted left d less takes fits refu
     let parts : known wanted ≡ known (take left wanted) ++ (Known (get_or wanted left d) ∷ known (drop (left + 1) wanted)) =
     ap known (sym (take-append-drop left wanted)) ∙ map-append Known (take left wanted) (drop left wanted) ∙ ap (λ (z : List ValType). known (take left wanted) ++ known z) (drop_more wanted left d less) in
     subst (λ (z : List OperandType). Refuses unreachable height old z) (sym parts) (Refuses-more unreachable height old given new (known (take left wanted)) (known (drop (left + 1) wanted)) (Known (get_or wanted left d)) takes fits refuses)
+
+-- Results that fit those of a typing are put on.
+pub Covers-put : (unreachable : Bool) (own theirs results others : List OperandType) → Covers unreachable own theirs → AllFit results others → Covers unreachable (own ++ results) (theirs ++ others)
+Covers-put unreachable own theirs results others covers fits = record {
+  others = covers.others;
+  top = covers.top ++ others;
+  parts = ap (λ (z : List OperandType). z ++ others) covers.parts ∙ append_assoc covers.others covers.top others;
+  fits = AllFit-joined own covers.top results others covers.fits fits;
+  alone = covers.alone;
+}
+
+-- The topmost of the operands wanted is refused.
+pub Refuses-top : (unreachable : Bool) (height : ℕ) (old front : List OperandType) (wanted : OperandType) → Refuses unreachable height old (wanted ∷ []) → Refuses unreachable height old (front ++ wanted ∷ [])
+Refuses-top unreachable height old front wanted refuses = Refuses-more unreachable height old [] old front [] wanted (Takes-nothing unreachable height old) tt refuses
+
+-- Operands are refused under one that was taken.
+pub Refuses-under : (unreachable : Bool) (height : ℕ) (old mid wanted : List OperandType) (t topmost : OperandType) → Takes unreachable height old (t ∷ []) mid → Refuses unreachable height mid wanted → Refuses unreachable height old (wanted ++ topmost ∷ [])
+Refuses-under unreachable height old mid wanted t topmost takes refuses = record {
+  at = λ under own parts long theirs below top covers e fit.
+      let (front, back, halves, fit_front, fit_back) = AllFit-parts top wanted (topmost ∷ []) fit in
+      let (rest, left, taken) = takes.at under own parts long in
+      let whole : theirs ≡ (below ++ front) ++ back = e ∙ ap (λ (z : List OperandType). below ++ z) halves ∙ sym (append_assoc below front back) in
+      let covered = Covers-taken unreachable own (t ∷ []) rest theirs (below ++ front) back covers taken whole (AllFit-length back (topmost ∷ []) fit_back) in
+      refuses.at under rest left long (below ++ front) below front covered.0 refl fit_front;
+}
+
+pub Refuses-under_i32 : (fit unreachable : Bool) (height : ℕ) (old mid : List OperandType) (wanted : List ValType) (t : OperandType) → Takes unreachable height old (t ∷ []) mid → OnFalse fit (Refuses unreachable height mid (known wanted)) → OnFalse fit (Refuses unreachable height old (known (wanted ++ I32 ∷ [])))
+Refuses-under_i32 true unreachable height old mid wanted t takes refuses = tt
+Refuses-under_i32 false unreachable height old mid wanted t takes refuses = subst (λ (z : List OperandType). Refuses unreachable height old z) (sym (map-append Known wanted (I32 ∷ []))) (Refuses-under unreachable height old mid (known wanted) t (Known I32) takes refuses)
+
+pub Refuses-i32 : (unreachable : Bool) (height : ℕ) (old : List OperandType) (wanted : List ValType) → Refuses unreachable height old (Known I32 ∷ []) → Refuses unreachable height old (known (wanted ++ I32 ∷ []))
+Refuses-i32 unreachable height old wanted refuses = subst (λ (z : List OperandType). Refuses unreachable height old z) (sym (map-append Known wanted (I32 ∷ []))) (Refuses-top unreachable height old (known wanted) (Known I32) refuses)

@@ -1,5 +1,5 @@
 -- Laws of what is taken from a level's operands.
-use Rattle.std.proofs.Common.{◌≡◌, ℕ, ◌+◌, ◌<◌, ◌≤◌, Bool, true, false, List, [], ◌∷◌, ◌++◌, length, length-append, take, drop, reverse, get_or, replicate, refl, sym, ap, ◌∙◌, inl, inr, append_assoc, arith}
+use Rattle.std.proofs.Common.{◌≡◌, ℕ, zero, suc, ◌+◌, ◌<◌, ◌≤◌, Bool, true, false, List, [], ◌∷◌, ◌++◌, length, length-append, take, drop, reverse, get_or, replicate, refl, sym, ap, ◌∙◌, inl, inr, append_assoc, arith}
 use Rattle.std.specs.Prelude.{Option, Some, None, IfSome, option_to_list}
 use Rattle.std.specs.Bool.{OnTrue}
 use Rattle.std.proofs.lemmas.List.{append-nil, drop_more, map-append, nil_from_length, replicate-append-replicate, reverse-append, take_more}
@@ -31,14 +31,6 @@ Takes-top unreachable height old new t e high = record {
   at = λ under own parts long.
       let (rest, left, taken) = last_of under own new t (sym e ∙ parts) (omega (arith, ap length e)) in
       (rest, left, inl taken);
-}
-
--- Where the level has no operand and can't be reached, an unknown one is.
-pub Takes-unknown : (height : ℕ) (old : List OperandType) → length old ≤ height → Takes true height old (Unknown ∷ []) old
-Takes-unknown height old low = record {
-  at = λ under own parts long.
-      let nothing : own ≡ [] = nil_from_length own (omega (arith, ap length parts, length-append under own)) in
-      ([], parts ∙ ap (λ (z : List OperandType). under ++ z) nothing, inr (refl, refl, (1, ap (λ (z : List OperandType). Unknown ∷ z) (sym nothing))));
 }
 
 pub Takes-nothing : (unreachable : Bool) (height : ℕ) (old : List OperandType) → Takes unreachable height old [] old
@@ -85,6 +77,13 @@ AllFit-down wanted left given t d less one more = rw (drop_more wanted left d le
 pub AllFit-up : (given : List OperandType) (wanted : List ValType) (i : ℕ) (d : OperandType) (e : ValType) → i < length given → i < length wanted → AllFit (take i given) (known (take i wanted)) → Fits (get_or given i d) (Known (get_or wanted i e)) → AllFit (take (i + 1) given) (known (take (i + 1) wanted))
 AllFit-up given wanted i d e less below before one =
     rw (take_more given i d less, take_more wanted i e below, map-append Known (take i wanted) (get_or wanted i e ∷ [])) (AllFit-joined (take i given) (known (take i wanted)) (get_or given i d ∷ []) (Known (get_or wanted i e) ∷ []) before (one, tt))
+
+-- At each place of two such lists the operand fits.
+pub AllFit-at : (given : List OperandType) (wanted : List ValType) (i : ℕ) (d : OperandType) (e : ValType) → i < length given → AllFit given (known wanted) → Fits (get_or given i d) (Known (get_or wanted i e))
+AllFit-at [] wanted i d e less fits = absurd (omega arith)
+AllFit-at (t ∷ given) [] i d e less fits = absurd fits
+AllFit-at (t ∷ given) (w ∷ wanted) zero d e less fits = fits.0
+AllFit-at (t ∷ given) (w ∷ wanted) (suc i) d e less fits = AllFit-at given wanted i d e (omega arith) fits.1
 
 -- The same, of what a pop answered.
 pub Takes-popped : (unreachable : Bool) (height : ℕ) (old new : List OperandType) (answer : Option OperandType) → old ≡ new ++ option_to_list answer → height < length old → IfSome answer (λ t. Takes unreachable height old (t ∷ []) new)

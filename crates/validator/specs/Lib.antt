@@ -5,6 +5,7 @@ pub mod Marks
 pub mod OpenBodies
 pub mod Operands
 pub mod Parts
+pub mod Possible
 pub mod Refusals
 pub mod Rules
 pub mod Scopes

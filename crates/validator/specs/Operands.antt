@@ -29,3 +29,7 @@ pub record Covers (unreachable : Bool) (own theirs : List OperandType) : Type 0 
 pub record Refuses (unreachable : Bool) (height : ℕ) (old wanted : List OperandType) : Type 0 where
   pub at : (under own : List OperandType) → old ≡ under ++ own → length under ≡ height
       → (theirs below top : List OperandType) → Covers unreachable own theirs → theirs ≡ below ++ top → AllFit top wanted → ⊥
+
+-- No typing has so many operands.
+pub record RefusesCount (unreachable : Bool) (height : ℕ) (old : List OperandType) (count : ℕ) : Type 0 where
+  pub at : (wanted : List OperandType) → length wanted ≡ count → Refuses unreachable height old wanted

@@ -1,9 +1,9 @@
-ghost use Rattle.std.specs.Prelude.{◌≡◌, ◌↔◌, ◌++◌, [], ◌∷◌, OnOk, IsTrue};
-ghost use Rattle.std.specs.Bool.{OnTrue};
+ghost use Rattle.std.specs.Prelude.{◌≡◌, ◌↔◌, ◌++◌, [], ◌∷◌, IfErr, IsTrue, OnOk};
 ghost use Rattle.core_types.specs.declared.op.Op.{Op as Operation};
 ghost use Rattle.core_types.specs.declared.op.Op.TheVariants as flat;
 ghost use Rattle.meaning.specs.Typing.{known};
 ghost use Rattle.validator.specs.declared.levels.LevelKind.TheVariants.{If};
+ghost use Rattle.validator.specs.Possible.{Bars, Leads, NeverCloses, OnInvalid};
 ghost use Rattle.validator.specs.OpenBodies.{Closes, IsMark, NeedsNoElse, Reads};
 
 use crate::call_rules::block_type;
@@ -46,7 +46,9 @@ fn step_begin<'a>(
     kind: LevelKind,
     block: BlockType,
 ) -> Result<(), Fault>
-    ensures { (o : Operation) → IsMark kind block o → OnOk result (Reads scope.now stacks.old stacks.new o) }
+    ensures reads { (o : Operation) → IsMark kind block o → OnOk result (Reads scope.now stacks.old stacks.new o) }
+    ensures leads { (o : Operation) → IsMark kind block o → OnOk result (Leads scope.now stacks.old stacks.new o) }
+    ensures bars { (o : Operation) → IsMark kind block o → IfErr result (OnInvalid (Bars scope.now stacks.old o)) }
 {
     let Some(ty) = block_type(scope, block) else {
         return Err(Fault::Invalid);
@@ -78,6 +80,7 @@ pub fn finish(stacks: &mut Stacks<'_>) -> Result<(), Fault>
     ensures now { stacks.new.now ≡ stacks.old.now }
     ensures outer { stacks.new.outer ≡ stacks.old.outer }
     ensures closes { OnOk result (Closes stacks.old stacks.new.operands.items) }
+    ensures refused { IfErr result (OnInvalid (NeverCloses stacks.old)) }
 {
     if !pop_types(&mut stacks.operands, &stacks.now, stacks.now.ends) {
         return Err(Fault::Invalid);
@@ -90,7 +93,9 @@ pub fn finish(stacks: &mut Stacks<'_>) -> Result<(), Fault>
 
 // The second body of an if begins.
 fn step_else(scope: &Scope<'_>, stacks: &mut Stacks<'_>) -> Result<(), Fault>
-    ensures { OnOk result (Reads scope.now stacks.old stacks.new flat.Else) }
+    ensures reads { OnOk result (Reads scope.now stacks.old stacks.new flat.Else) }
+    ensures leads { OnOk result (Leads scope.now stacks.old stacks.new flat.Else) }
+    ensures bars { IfErr result (OnInvalid (Bars scope.now stacks.old flat.Else)) }
 {
     let _ = scope;
     let LevelKind::If = stacks.now.kind else {
@@ -105,7 +110,7 @@ fn step_else(scope: &Scope<'_>, stacks: &mut Stacks<'_>) -> Result<(), Fault>
 
 // Whether the types are the same.
 fn same_types(first: &[ValType], second: &[ValType]) -> bool
-    ensures { OnTrue result (first.now ≡ second.now) }
+    ensures { IsTrue result ↔ (first.now ≡ second.now) }
 {
     if first.len() != second.len() {
         return false;
@@ -120,7 +125,7 @@ fn same_types(first: &[ValType], second: &[ValType]) -> bool
 
 // Whether the level may end without an else.
 fn ends_alone(level: &Level<'_>) -> bool
-    ensures { OnTrue result (NeedsNoElse level.now.kind level.now.starts.now level.now.ends.now) }
+    ensures { IsTrue result ↔ NeedsNoElse level.now.kind level.now.starts.now level.now.ends.now }
 {
     match level.kind {
         LevelKind::If => same_types(level.starts, level.ends),
@@ -130,7 +135,9 @@ fn ends_alone(level: &Level<'_>) -> bool
 
 // The innermost level ends, and its results go to the one around it.
 fn step_end(scope: &Scope<'_>, stacks: &mut Stacks<'_>) -> Result<(), Fault>
-    ensures { OnOk result (Reads scope.now stacks.old stacks.new flat.End) }
+    ensures reads { OnOk result (Reads scope.now stacks.old stacks.new flat.End) }
+    ensures leads { OnOk result (Leads scope.now stacks.old stacks.new flat.End) }
+    ensures bars { IfErr result (OnInvalid (Bars scope.now stacks.old flat.End)) }
 {
     let _ = scope;
     if !ends_alone(&stacks.now) {
@@ -152,7 +159,9 @@ pub fn step<'a>(
     stacks: &mut Stacks<'a>,
     op: &Op,
 ) -> Result<(), Fault>
-    ensures { OnOk result (Reads scope.now stacks.old stacks.new op.now) }
+    ensures reads { OnOk result (Reads scope.now stacks.old stacks.new op.now) }
+    ensures leads { OnOk result (Leads scope.now stacks.old stacks.new op.now) }
+    ensures bars { IfErr result (OnInvalid (Bars scope.now stacks.old op.now)) }
 {
     match op {
         Op::Plain(plain) => step_plain(alloc, scope, stacks, plain),

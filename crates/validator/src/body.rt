@@ -1,4 +1,5 @@
-ghost use Rattle.std.specs.Prelude.{OnOk};
+ghost use Rattle.std.specs.Prelude.{IfErr, OnOk};
+ghost use Rattle.validator.specs.Possible.{IsUntyped, OnInvalid};
 ghost use Rattle.validator.specs.Scopes.{IsTyped};
 
 use crate::blocks::{finish, step};
@@ -10,7 +11,8 @@ use std::alloc::Global;
 
 // Checks the body of a function, as flat operations without the last `End`.
 pub fn validate_body(alloc: Global, scope: &Scope<'_>, ops: &[Op]) -> Result<(), Fault>
-    ensures { OnOk result (IsTyped scope.now ops.now) }
+    ensures typed { OnOk result (IsTyped scope.now ops.now) }
+    ensures untyped { IfErr result (OnInvalid (IsUntyped scope.now ops.now)) }
 {
     let mut stacks = Stacks {
         operands: Vec::new(alloc),

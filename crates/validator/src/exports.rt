@@ -1,4 +1,4 @@
-ghost use Rattle.std.specs.Prelude.{◌≡◌, ◌↔◌, All, IfOk, IsTrue};
+ghost use Rattle.std.specs.Prelude.{◌↔◌, All, IfOk, IsTrue};
 ghost use Rattle.core_types.specs.declared.module.Export.{Export as Exported};
 ghost use Rattle.meaning.specs.Validity.{NamesDiffer};
 ghost use Rattle.validator.specs.Parts.{ExistsIn};

@@ -1,9 +1,10 @@
-ghost use Rattle.std.specs.Prelude.{◌≡◌, ◌≢◌, ℕ, ◌<◌, ◌↔◌, [], Some, All, IfErr, IsTrue, OnOk, slice_get};
+ghost use Rattle.std.specs.Prelude.{◌≡◌, ◌⊎◌, ◌<◌, ◌↔◌, [], Some, All, IfErr, IsTrue, OnOk, slice_get};
 ghost use Rattle.core_types.specs.declared.module.Func.{Func as Function};
 ghost use Rattle.meaning.specs.Validity.{IsValidFunction};
-ghost use Rattle.validator.specs.declared.valid_module.Place.TheVariants.{Section};
-ghost use Rattle.validator.specs.declared.valid_module.ValidateError.TheVariants.{Invalid};
+ghost use Rattle.validator.specs.declared.valid_module.ValidateError.TheVariants.{OutOfMemory};
+ghost use Rattle.validator.specs.Marks.{HasMarks};
 ghost use Rattle.validator.specs.Parts.{IsStartIn};
+ghost use Rattle.validator.specs.Possible.{OnInvalid};
 ghost use Rattle.validator.specs.Scopes.{AreSpaces};
 
 use crate::body::validate_body;
@@ -58,8 +59,10 @@ fn validate_function(
     spaces: &Spaces,
     func: &Func,
 ) -> Result<(), Fault>
-    requires { AreSpaces given.now spaces.now }
-    ensures { OnOk result (IsValidFunction given.now func.now) }
+    requires spaces { AreSpaces given.now spaces.now }
+    requires marks { HasMarks given.now spaces.now }
+    ensures valid { OnOk result (IsValidFunction given.now func.now) }
+    ensures invalid { IfErr result (OnInvalid (¬ IsValidFunction given.now func.now)) }
 {
     let Some(ty) = item(given.types.as_slice(), func.ty) else {
         return Err(Fault::Invalid);
@@ -80,9 +83,10 @@ pub fn validate_functions(
     given: &Module,
     spaces: &Spaces,
 ) -> Result<(), ValidateError>
-    requires { AreSpaces given.now spaces.now }
+    requires spaces { AreSpaces given.now spaces.now }
+    requires marks { HasMarks given.now spaces.now }
     ensures valid { OnOk result (All (IsValidFunction given.now) given.now.funcs) }
-    ensures no_section { IfErr result (λ error. (id : ℕ) → error ≢ Invalid (Section id)) }
+    ensures invalid { IfErr result (λ error. (error ≡ OutOfMemory) ⊎ (¬ All (IsValidFunction given.now) given.now.funcs)) }
 {
     for (index, func) in given.funcs.as_slice().iter().enumerate() {
         match validate_function(alloc, given, spaces, func) {

@@ -1,4 +1,4 @@
-ghost use Rattle.std.specs.Prelude.{◌≡◌, ◌↔◌, All, IsTrue};
+ghost use Rattle.std.specs.Prelude.{◌↔◌, All, IsTrue};
 ghost use Rattle.core_types.specs.declared.module.Import.{Import as Imported};
 ghost use Rattle.validator.specs.Declarations.{IsValidImport};
 

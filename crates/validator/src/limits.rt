@@ -1,4 +1,4 @@
-ghost use Rattle.std.specs.Prelude.{◌≡◌, ◌≤◌, ◌↔◌, length, All, IsTrue};
+ghost use Rattle.std.specs.Prelude.{◌≤◌, ◌↔◌, length, All, IsTrue};
 ghost use Rattle.core_types.specs.declared.types.TableType.{TableType as Table};
 ghost use Rattle.meaning.specs.Validity.{AreFewPages, AreOrdered};
 ghost use Rattle.validator.specs.Declarations.{IsValidMemory};

@@ -1,4 +1,4 @@
-ghost use Rattle.std.specs.Prelude.{◌≡◌, ◌<◌, ◌++◌, ◌↔◌, IfSome, IfNone, IsTrue, Some, None, length, map, option_copied, option_map, slice_get, true};
+ghost use Rattle.std.specs.Prelude.{◌≡◌, ◌<◌, ◌++◌, ◌↔◌, IsTrue, Some, None, length, option_copied, option_map, slice_get, true};
 ghost use Rattle.std.specs.Bool.{OnTrue, OnFalse};
 ghost use Rattle.core_types.specs.declared.module.ElementSegment.{ElementSegment};
 ghost use Rattle.core_types.specs.declared.types.TableType.{TableType};
@@ -68,7 +68,7 @@ pub fn has_memory(scope: &Scope<'_>) -> bool
 
 // Whether a function may be named by `ref.func`.
 pub fn is_declared(scope: &Scope<'_>, place: u32) -> bool
-    ensures { OnTrue result (slice_get scope.now.spaces.now.declared.items place ≡ Some true) }
+    ensures { IsTrue result ↔ (slice_get scope.now.spaces.now.declared.items place ≡ Some true) }
 {
     match item(&scope.spaces.declared, place) {
         Some(declared) => *declared,

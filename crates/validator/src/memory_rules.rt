@@ -1,8 +1,9 @@
-ghost use Rattle.std.specs.Prelude.{◌≡◌, ◌≤◌, ◌^◌, ◌↔◌, IfSome, IsTrue};
+ghost use Rattle.std.specs.Prelude.{◌≡◌, ◌≤◌, ◌^◌, ◌↔◌, IfNone, IfSome, IsTrue};
 ghost use Rattle.core_types.specs.declared.op.MemoryOp.TheVariants as memory_op;
 ghost use Rattle.core_types.specs.declared.op.PlainOp.TheVariants as plain;
 ghost use Rattle.meaning.specs.Typing.{load_type as type_of_load, load_width as width_of_load, store_type as type_of_store, store_width as width_of_store};
 ghost use Rattle.validator.specs.OpenBodies.{HasRule};
+ghost use Rattle.validator.specs.Possible.{HasNoRule, IsOnlyRule};
 ghost use Rattle.validator.specs.Signatures.{typed};
 
 use crate::lookups::{has_data, has_memory};
@@ -71,7 +72,9 @@ fn store_type(store: StoreOp) -> ValType
 
 // The type of a load.
 fn load_rule(scope: &Scope<'_>, load: LoadOp, argument: MemArg) -> Option<Signature<'static>>
-    ensures { IfSome result (λ s. HasRule scope.now (plain.Memory (memory_op.Load load argument)) (typed s)) }
+    ensures is { IfSome result (λ s. HasRule scope.now (plain.Memory (memory_op.Load load argument)) (typed s)) }
+    ensures only { IfSome result (λ s. IsOnlyRule scope.now (plain.Memory (memory_op.Load load argument)) (typed s)) }
+    ensures none { IfNone result (HasNoRule scope.now (plain.Memory (memory_op.Load load argument))) }
 {
     if !has_memory(scope) {
         return None;
@@ -84,7 +87,9 @@ fn load_rule(scope: &Scope<'_>, load: LoadOp, argument: MemArg) -> Option<Signat
 
 // The type of a store.
 fn store_rule(scope: &Scope<'_>, store: StoreOp, argument: MemArg) -> Option<Signature<'static>>
-    ensures { IfSome result (λ s. HasRule scope.now (plain.Memory (memory_op.Store store argument)) (typed s)) }
+    ensures is { IfSome result (λ s. HasRule scope.now (plain.Memory (memory_op.Store store argument)) (typed s)) }
+    ensures only { IfSome result (λ s. IsOnlyRule scope.now (plain.Memory (memory_op.Store store argument)) (typed s)) }
+    ensures none { IfNone result (HasNoRule scope.now (plain.Memory (memory_op.Store store argument))) }
 {
     if !has_memory(scope) {
         return None;
@@ -97,7 +102,9 @@ fn store_rule(scope: &Scope<'_>, store: StoreOp, argument: MemArg) -> Option<Sig
 
 // The type of `memory.init`.
 fn init_rule(scope: &Scope<'_>, segment: u32) -> Option<Signature<'static>>
-    ensures { IfSome result (λ s. HasRule scope.now (plain.Memory (memory_op.Init segment)) (typed s)) }
+    ensures is { IfSome result (λ s. HasRule scope.now (plain.Memory (memory_op.Init segment)) (typed s)) }
+    ensures only { IfSome result (λ s. IsOnlyRule scope.now (plain.Memory (memory_op.Init segment)) (typed s)) }
+    ensures none { IfNone result (HasNoRule scope.now (plain.Memory (memory_op.Init segment))) }
 {
     if !has_memory(scope) {
         return None;
@@ -110,7 +117,9 @@ fn init_rule(scope: &Scope<'_>, segment: u32) -> Option<Signature<'static>>
 
 // The type of an instruction on the memory or a data segment.
 pub fn memory(scope: &Scope<'_>, op: MemoryOp) -> Option<Signature<'static>>
-    ensures { IfSome result (λ s. HasRule scope.now (plain.Memory op) (typed s)) }
+    ensures is { IfSome result (λ s. HasRule scope.now (plain.Memory op) (typed s)) }
+    ensures only { IfSome result (λ s. IsOnlyRule scope.now (plain.Memory op) (typed s)) }
+    ensures none { IfNone result (HasNoRule scope.now (plain.Memory op)) }
 {
     match op {
         MemoryOp::Load(load, argument) => load_rule(scope, load, argument),

@@ -1,4 +1,4 @@
-ghost use Rattle.std.specs.Prelude.{◌≡◌, ◌⊎◌, ℕ, false, IfErr, IfOk, IsTrue, OnErr, OnOk};
+ghost use Rattle.std.specs.Prelude.{◌≡◌, ◌⊎◌, false, IfErr, IfOk, IsTrue, OnErr, OnOk};
 ghost use Rattle.meaning.specs.Validity.{IsValid};
 ghost use Rattle.validator.specs.declared.valid_module.Place.TheVariants.{Section};
 ghost use Rattle.validator.specs.declared.valid_module.ValidateError.TheVariants.{Invalid, OutOfMemory};
@@ -83,7 +83,7 @@ fn validate_parts(alloc: Global, given: &Module, spaces: &Spaces) -> Result<(), 
 // Checks a module by each rule.
 fn validate_module(alloc: Global, given: &Module) -> Result<(), ValidateError>
     ensures valid { OnOk result (IsValid given.now) }
-    ensures invalid { IfErr result (λ error. (id : ℕ) → error ≡ Invalid (Section id) → ¬ IsValid given.now) }
+    ensures invalid { IfErr result (λ error. (error ≡ OutOfMemory) ⊎ (¬ IsValid given.now)) }
 {
     validate_declarations(given)?;
     let spaces = module_spaces(alloc, given)?;
@@ -96,7 +96,7 @@ fn validate_module(alloc: Global, given: &Module) -> Result<(), ValidateError>
 pub fn validate(alloc: Global, given: Module) -> Result<ValidModule, ValidateError>
     ensures kept { IfOk result (λ valid. valid ≡ given) }
     ensures valid { OnOk result (IsValid given) }
-    ensures invalid { IfErr result (λ error. (id : ℕ) → error ≡ Invalid (Section id) → ¬ IsValid given) }
+    ensures invalid { IfErr result (λ error. (error ≡ OutOfMemory) ⊎ (¬ IsValid given)) }
 {
     validate_module(alloc, &given)?;
     Ok(ValidModule::new(given))

@@ -1,8 +1,9 @@
-ghost use Rattle.std.specs.Prelude.{◌≡◌, ◌++◌, ◌∷◌, [], ◌↔◌, List, IsTrue, IfSome, IfNone, IfOk, OnOk};
+ghost use Rattle.std.specs.Prelude.{◌≡◌, ◌++◌, ◌∷◌, [], ◌↔◌, List, IfErr, IfNone, IfOk, IfSome, IsTrue, OnOk, length};
 ghost use Rattle.std.specs.Bool.{OnTrue, OnFalse};
 ghost use Rattle.core_types.specs.declared.types.OperandType.{OperandType as Operand};
 ghost use Rattle.meaning.specs.Typing.{AllFit, Fits, known};
-ghost use Rattle.validator.specs.Operands.{IsDry, Refuses, Takes};
+ghost use Rattle.validator.specs.Operands.{IsDry, Refuses, RefusesCount, Takes};
+ghost use Rattle.validator.specs.Possible.{OnInvalid};
 
 use crate::fault::Fault;
 use crate::levels::Level;
@@ -73,10 +74,12 @@ pub fn take_operands(
     level: &Level<'_>,
     count: usize,
 ) -> Result<Vec<OperandType>, Fault>
-    ensures { IfOk result (λ given. Takes level.now.unreachable level.now.height operands.old.items given.items operands.new.items) }
+    ensures took { IfOk result (λ given. Takes level.now.unreachable level.now.height operands.old.items given.items operands.new.items) }
+    ensures count { IfOk result (λ given. length given.items ≡ count) }
+    ensures refused { IfErr result (OnInvalid (RefusesCount level.now.unreachable level.now.height operands.old.items count)) }
 {
     let mut given = Vec::new(alloc);
-    for _ in 0..count {
+    while given.len() < count {
         let Some(operand) = pop(operands, level) else {
             return Err(Fault::Invalid);
         };
@@ -88,7 +91,7 @@ pub fn take_operands(
 
 // Whether operands may stand where the types are wanted.
 pub fn all_fit(given: &[OperandType], wanted: &[ValType]) -> bool
-    ensures { OnTrue result (AllFit given.now (known wanted.now)) }
+    ensures { IsTrue result ↔ AllFit given.now (known wanted.now) }
 {
     if given.len() != wanted.len() {
         return false;

@@ -1,8 +1,9 @@
-ghost use Rattle.std.specs.Prelude.{IfSome};
+ghost use Rattle.std.specs.Prelude.{IfNone, IfSome};
 ghost use Rattle.core_types.specs.declared.op.PlainOp.TheVariants as plain;
 ghost use Rattle.core_types.specs.declared.op.VariableOp.TheVariants as variable_op;
 ghost use Rattle.core_types.specs.declared.op.TableOp.TheVariants as table_op;
 ghost use Rattle.validator.specs.OpenBodies.{HasRule};
+ghost use Rattle.validator.specs.Possible.{HasNoRule, IsOnlyRule};
 ghost use Rattle.validator.specs.Signatures.{typed};
 
 use crate::lookups::{global_type, local_type, segment_type, table_element};
@@ -16,7 +17,9 @@ use core_types::{Mutability, TableOp, ValType, VariableOp};
 
 // The type of `global.set`, for a global that may be set.
 fn global_set(scope: &Scope<'_>, place: u32) -> Option<Signature<'static>>
-    ensures { IfSome result (λ s. HasRule scope.now (plain.Variable (variable_op.GlobalSet place)) (typed s)) }
+    ensures is { IfSome result (λ s. HasRule scope.now (plain.Variable (variable_op.GlobalSet place)) (typed s)) }
+    ensures only { IfSome result (λ s. IsOnlyRule scope.now (plain.Variable (variable_op.GlobalSet place)) (typed s)) }
+    ensures none { IfNone result (HasNoRule scope.now (plain.Variable (variable_op.GlobalSet place))) }
 {
     let global = global_type(scope, place)?;
     match global.mutability {
@@ -27,7 +30,9 @@ fn global_set(scope: &Scope<'_>, place: u32) -> Option<Signature<'static>>
 
 // The type of an instruction on a local or a global.
 pub fn variable(scope: &Scope<'_>, op: VariableOp) -> Option<Signature<'static>>
-    ensures { IfSome result (λ s. HasRule scope.now (plain.Variable op) (typed s)) }
+    ensures is { IfSome result (λ s. HasRule scope.now (plain.Variable op) (typed s)) }
+    ensures only { IfSome result (λ s. IsOnlyRule scope.now (plain.Variable op) (typed s)) }
+    ensures none { IfNone result (HasNoRule scope.now (plain.Variable op)) }
 {
     match op {
         VariableOp::LocalGet(place) => {
@@ -54,7 +59,9 @@ pub fn variable(scope: &Scope<'_>, op: VariableOp) -> Option<Signature<'static>>
 
 // The type of `table.copy`, between tables of one type of elements.
 fn table_copy(scope: &Scope<'_>, target: u32, source: u32) -> Option<Signature<'static>>
-    ensures { IfSome result (λ s. HasRule scope.now (plain.Table (table_op.Copy target source)) (typed s)) }
+    ensures is { IfSome result (λ s. HasRule scope.now (plain.Table (table_op.Copy target source)) (typed s)) }
+    ensures only { IfSome result (λ s. IsOnlyRule scope.now (plain.Table (table_op.Copy target source)) (typed s)) }
+    ensures none { IfNone result (HasNoRule scope.now (plain.Table (table_op.Copy target source))) }
 {
     let into = table_element(scope, target)?;
     let from = table_element(scope, source)?;
@@ -67,7 +74,9 @@ fn table_copy(scope: &Scope<'_>, target: u32, source: u32) -> Option<Signature<'
 
 // The type of `table.init`, from a segment of the type of the table's elements.
 fn table_init(scope: &Scope<'_>, segment: u32, table: u32) -> Option<Signature<'static>>
-    ensures { IfSome result (λ s. HasRule scope.now (plain.Table (table_op.Init segment table)) (typed s)) }
+    ensures is { IfSome result (λ s. HasRule scope.now (plain.Table (table_op.Init segment table)) (typed s)) }
+    ensures only { IfSome result (λ s. IsOnlyRule scope.now (plain.Table (table_op.Init segment table)) (typed s)) }
+    ensures none { IfNone result (HasNoRule scope.now (plain.Table (table_op.Init segment table))) }
 {
     let into = table_element(scope, table)?;
     let from = segment_type(scope, segment)?;
@@ -80,7 +89,9 @@ fn table_init(scope: &Scope<'_>, segment: u32, table: u32) -> Option<Signature<'
 
 // The type of an instruction on a table or an element segment.
 pub fn table(scope: &Scope<'_>, op: TableOp) -> Option<Signature<'static>>
-    ensures { IfSome result (λ s. HasRule scope.now (plain.Table op) (typed s)) }
+    ensures is { IfSome result (λ s. HasRule scope.now (plain.Table op) (typed s)) }
+    ensures only { IfSome result (λ s. IsOnlyRule scope.now (plain.Table op) (typed s)) }
+    ensures none { IfNone result (HasNoRule scope.now (plain.Table op)) }
 {
     match op {
         TableOp::Get(place) => {

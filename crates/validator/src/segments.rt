@@ -1,4 +1,4 @@
-ghost use Rattle.std.specs.Prelude.{◌≡◌, ◌<◌, ◌↔◌, length, All, IsTrue};
+ghost use Rattle.std.specs.Prelude.{◌<◌, ◌↔◌, All, IsTrue};
 ghost use Rattle.core_types.specs.declared.module.DataSegment.{DataSegment as Data};
 ghost use Rattle.validator.specs.Parts.{AreItemsIn, IsDataModeIn, IsElementIn, IsElementModeIn};
 

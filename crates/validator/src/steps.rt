@@ -1,5 +1,5 @@
-ghost use Rattle.std.specs.Prelude.{◌≡◌, ◌++◌, ◌∷◌, [], All, IfSome, List, OnOk, take};
-ghost use Rattle.std.specs.Bool.{OnTrue};
+ghost use Rattle.std.specs.Prelude.{◌≡◌, ◌++◌, ◌∷◌, [], All, IfErr, IfNone, IfSome, List, OnOk, take};
+ghost use Rattle.std.specs.Bool.{OnFalse, OnTrue};
 ghost use Rattle.core_types.specs.declared.op.ControlOp.TheVariants as control;
 ghost use Rattle.core_types.specs.declared.op.Op.TheVariants as flat;
 ghost use Rattle.core_types.specs.declared.op.PlainOp.TheVariants as plain;
@@ -9,7 +9,8 @@ ghost use Rattle.core_types.specs.declared.types.OperandType.{OperandType as Ope
 ghost use Rattle.core_types.specs.declared.types.ValType.TheVariants.{I32};
 ghost use Rattle.meaning.specs.Typing.{AllFit, known};
 ghost use Rattle.validator.specs.OpenBodies.{Applies, AppliesSome, HasRule, MayCarry, Reads, stopped};
-ghost use Rattle.validator.specs.Operands.{Takes};
+ghost use Rattle.validator.specs.Operands.{Refuses, Takes};
+ghost use Rattle.validator.specs.Possible.{Bars, HasNoRule, IsOnlyRule, Leads, OnInvalid, RefusesSome, RefusesType};
 ghost use Rattle.validator.specs.Signatures.{typed};
 
 use crate::call_rules::{call, call_indirect, ref_func};
@@ -35,6 +36,7 @@ fn pop_under_i32(stacks: &mut Stacks<'_>, wanted: &[ValType]) -> bool
     ensures now { stacks.new.now ≡ stacks.old.now }
     ensures outer { stacks.new.outer ≡ stacks.old.outer }
     ensures took { OnTrue result ((given : List Operand) × Takes stacks.old.now.unreachable stacks.old.now.height stacks.old.operands.items given stacks.new.operands.items × AllFit given (known (wanted.now ++ I32 ∷ []))) }
+    ensures refused { OnFalse result (Refuses stacks.old.now.unreachable stacks.old.now.height stacks.old.operands.items (known (wanted.now ++ I32 ∷ []))) }
 {
     if !pop_fitting(
         &mut stacks.operands,
@@ -51,6 +53,7 @@ pub fn pop_operands(stacks: &mut Stacks<'_>, signature: &Signature<'_>) -> bool
     ensures now { stacks.new.now ≡ stacks.old.now }
     ensures outer { stacks.new.outer ≡ stacks.old.outer }
     ensures took { OnTrue result ((given : List Operand) × Takes stacks.old.now.unreachable stacks.old.now.height stacks.old.operands.items given stacks.new.operands.items × AllFit given (known (typed signature.now).operands)) }
+    ensures refused { OnFalse result (RefusesType stacks.old (typed signature.now)) }
 {
     if signature.i32_on_top {
         pop_under_i32(stacks, signature.operands)
@@ -61,7 +64,8 @@ pub fn pop_operands(stacks: &mut Stacks<'_>, signature: &Signature<'_>) -> bool
 
 // What an instruction of the type does.
 fn apply(stacks: &mut Stacks<'_>, signature: &Signature<'_>) -> Result<(), Fault>
-    ensures { OnOk result (Applies stacks.old stacks.new (typed signature.now)) }
+    ensures applied { OnOk result (Applies stacks.old stacks.new (typed signature.now)) }
+    ensures refused { IfErr result (OnInvalid (RefusesType stacks.old (typed signature.now))) }
 {
     if !pop_operands(stacks, signature) {
         return Err(Fault::Invalid);
@@ -72,7 +76,8 @@ fn apply(stacks: &mut Stacks<'_>, signature: &Signature<'_>) -> Result<(), Fault
 
 // The same, where there is a type.
 fn apply_some(stacks: &mut Stacks<'_>, found: &Option<Signature<'_>>) -> Result<(), Fault>
-    ensures { OnOk result (AppliesSome stacks.old stacks.new found.now) }
+    ensures applied { OnOk result (AppliesSome stacks.old stacks.new found.now) }
+    ensures refused { IfErr result (OnInvalid (RefusesSome stacks.old found.now)) }
 {
     match found {
         Some(signature) => apply(stacks, signature),
@@ -95,7 +100,9 @@ fn stop(stacks: &mut Stacks<'_>)
 
 // A branch.
 fn step_br(scope: &Scope<'_>, stacks: &mut Stacks<'_>, number: u32) -> Result<(), Fault>
-    ensures { OnOk result (Reads scope.now stacks.old stacks.new (flat.Plain (plain.Control (control.Br number)))) }
+    ensures reads { OnOk result (Reads scope.now stacks.old stacks.new (flat.Plain (plain.Control (control.Br number)))) }
+    ensures leads { OnOk result (Leads scope.now stacks.old stacks.new (flat.Plain (plain.Control (control.Br number)))) }
+    ensures bars { IfErr result (OnInvalid (Bars scope.now stacks.old (flat.Plain (plain.Control (control.Br number))))) }
 {
     let _ = scope;
     let Some(types) = label(&stacks.now, &stacks.outer, number) else {
@@ -110,7 +117,9 @@ fn step_br(scope: &Scope<'_>, stacks: &mut Stacks<'_>, number: u32) -> Result<()
 
 // A branch that may be taken.
 fn step_br_if(scope: &Scope<'_>, stacks: &mut Stacks<'_>, number: u32) -> Result<(), Fault>
-    ensures { OnOk result (Reads scope.now stacks.old stacks.new (flat.Plain (plain.Control (control.BrIf number)))) }
+    ensures reads { OnOk result (Reads scope.now stacks.old stacks.new (flat.Plain (plain.Control (control.BrIf number)))) }
+    ensures leads { OnOk result (Leads scope.now stacks.old stacks.new (flat.Plain (plain.Control (control.BrIf number)))) }
+    ensures bars { IfErr result (OnInvalid (Bars scope.now stacks.old (flat.Plain (plain.Control (control.BrIf number))))) }
 {
     let _ = scope;
     let Some(types) = label(&stacks.now, &stacks.outer, number) else {
@@ -121,7 +130,9 @@ fn step_br_if(scope: &Scope<'_>, stacks: &mut Stacks<'_>, number: u32) -> Result
 
 // A return.
 fn step_return(scope: &Scope<'_>, stacks: &mut Stacks<'_>) -> Result<(), Fault>
-    ensures { OnOk result (Reads scope.now stacks.old stacks.new (flat.Plain (plain.Control control.Return))) }
+    ensures reads { OnOk result (Reads scope.now stacks.old stacks.new (flat.Plain (plain.Control control.Return))) }
+    ensures leads { OnOk result (Leads scope.now stacks.old stacks.new (flat.Plain (plain.Control control.Return))) }
+    ensures bars { IfErr result (OnInvalid (Bars scope.now stacks.old (flat.Plain (plain.Control control.Return)))) }
 {
     if !pop_types(&mut stacks.operands, &stacks.now, scope.results) {
         return Err(Fault::Invalid);
@@ -137,7 +148,8 @@ fn fit_labels<'a>(
     outer: &[Level<'a>],
     numbers: &[u32],
 ) -> bool
-    ensures { OnTrue result (All (MayCarry now.now outer.now given.now) numbers.now) }
+    ensures fit { OnTrue result (All (MayCarry now.now outer.now given.now) numbers.now) }
+    ensures refused { OnFalse result (¬ All (MayCarry now.now outer.now given.now) numbers.now) }
 {
     for number in numbers {
         let Some(types) = label(now, outer, *number) else {
@@ -157,7 +169,9 @@ fn step_br_table(
     stacks: &mut Stacks<'_>,
     table: &BranchTable,
 ) -> Result<(), Fault>
-    ensures { OnOk result (Reads scope.now stacks.old stacks.new (flat.Plain (plain.BrTable table.now))) }
+    ensures reads { OnOk result (Reads scope.now stacks.old stacks.new (flat.Plain (plain.BrTable table.now))) }
+    ensures leads { OnOk result (Leads scope.now stacks.old stacks.new (flat.Plain (plain.BrTable table.now))) }
+    ensures bars { IfErr result (OnInvalid (Bars scope.now stacks.old (flat.Plain (plain.BrTable table.now)))) }
 {
     let _ = scope;
     if !pop_fitting(
@@ -183,7 +197,9 @@ fn step_br_table(
 
 // A control instruction.
 fn step_control(scope: &Scope<'_>, stacks: &mut Stacks<'_>, op: ControlOp) -> Result<(), Fault>
-    ensures { OnOk result (Reads scope.now stacks.old stacks.new (flat.Plain (plain.Control op))) }
+    ensures reads { OnOk result (Reads scope.now stacks.old stacks.new (flat.Plain (plain.Control op))) }
+    ensures leads { OnOk result (Leads scope.now stacks.old stacks.new (flat.Plain (plain.Control op))) }
+    ensures bars { IfErr result (OnInvalid (Bars scope.now stacks.old (flat.Plain (plain.Control op)))) }
 {
     match op {
         ControlOp::Unreachable => {
@@ -205,7 +221,9 @@ fn step_control(scope: &Scope<'_>, stacks: &mut Stacks<'_>, op: ControlOp) -> Re
 
 // A test of a reference.
 fn step_is_null(scope: &Scope<'_>, stacks: &mut Stacks<'_>) -> Result<(), Fault>
-    ensures { OnOk result (Reads scope.now stacks.old stacks.new (flat.Plain (plain.Reference reference_op.IsNull))) }
+    ensures reads { OnOk result (Reads scope.now stacks.old stacks.new (flat.Plain (plain.Reference reference_op.IsNull))) }
+    ensures leads { OnOk result (Leads scope.now stacks.old stacks.new (flat.Plain (plain.Reference reference_op.IsNull))) }
+    ensures bars { IfErr result (OnInvalid (Bars scope.now stacks.old (flat.Plain (plain.Reference reference_op.IsNull)))) }
 {
     let _ = scope;
     let Some(given) = pop(&mut stacks.operands, &stacks.now) else {
@@ -220,7 +238,9 @@ fn step_is_null(scope: &Scope<'_>, stacks: &mut Stacks<'_>) -> Result<(), Fault>
 
 // An instruction on references.
 fn step_reference(scope: &Scope<'_>, stacks: &mut Stacks<'_>, op: ReferenceOp) -> Result<(), Fault>
-    ensures { OnOk result (Reads scope.now stacks.old stacks.new (flat.Plain (plain.Reference op))) }
+    ensures reads { OnOk result (Reads scope.now stacks.old stacks.new (flat.Plain (plain.Reference op))) }
+    ensures leads { OnOk result (Leads scope.now stacks.old stacks.new (flat.Plain (plain.Reference op))) }
+    ensures bars { IfErr result (OnInvalid (Bars scope.now stacks.old (flat.Plain (plain.Reference op)))) }
 {
     match op {
         ReferenceOp::Null(ty) => apply(stacks, &takes_gives(&[], once(reference_type(ty)))),
@@ -231,7 +251,9 @@ fn step_reference(scope: &Scope<'_>, stacks: &mut Stacks<'_>, op: ReferenceOp) -
 
 // A drop.
 fn step_drop(scope: &Scope<'_>, stacks: &mut Stacks<'_>) -> Result<(), Fault>
-    ensures { OnOk result (Reads scope.now stacks.old stacks.new (flat.Plain (plain.Parametric parametric.DropOperand))) }
+    ensures reads { OnOk result (Reads scope.now stacks.old stacks.new (flat.Plain (plain.Parametric parametric.DropOperand))) }
+    ensures leads { OnOk result (Leads scope.now stacks.old stacks.new (flat.Plain (plain.Parametric parametric.DropOperand))) }
+    ensures bars { IfErr result (OnInvalid (Bars scope.now stacks.old (flat.Plain (plain.Parametric parametric.DropOperand)))) }
 {
     let _ = scope;
     match pop(&mut stacks.operands, &stacks.now) {
@@ -242,7 +264,9 @@ fn step_drop(scope: &Scope<'_>, stacks: &mut Stacks<'_>) -> Result<(), Fault>
 
 // A select without types.
 fn step_select(scope: &Scope<'_>, stacks: &mut Stacks<'_>) -> Result<(), Fault>
-    ensures { OnOk result (Reads scope.now stacks.old stacks.new (flat.Plain (plain.Parametric parametric.Select))) }
+    ensures reads { OnOk result (Reads scope.now stacks.old stacks.new (flat.Plain (plain.Parametric parametric.Select))) }
+    ensures leads { OnOk result (Leads scope.now stacks.old stacks.new (flat.Plain (plain.Parametric parametric.Select))) }
+    ensures bars { IfErr result (OnInvalid (Bars scope.now stacks.old (flat.Plain (plain.Parametric parametric.Select)))) }
 {
     let _ = scope;
     if !pop_fitting(
@@ -267,7 +291,9 @@ fn step_select(scope: &Scope<'_>, stacks: &mut Stacks<'_>) -> Result<(), Fault>
 
 // A select with types, of which there is one.
 fn select_typed(scope: &Scope<'_>, types: &[ValType]) -> Option<Signature<'static>>
-    ensures { IfSome result (λ s. HasRule scope.now (plain.SelectTyped types.now) (typed s)) }
+    ensures is { IfSome result (λ s. HasRule scope.now (plain.SelectTyped types.now) (typed s)) }
+    ensures only { IfSome result (λ s. IsOnlyRule scope.now (plain.SelectTyped types.now) (typed s)) }
+    ensures none { IfNone result (HasNoRule scope.now (plain.SelectTyped types.now)) }
 {
     let _ = scope;
     if types.len() != 1 {
@@ -283,7 +309,9 @@ pub fn step_plain(
     stacks: &mut Stacks<'_>,
     plain: &PlainOp,
 ) -> Result<(), Fault>
-    ensures { OnOk result (Reads scope.now stacks.old stacks.new (flat.Plain plain.now)) }
+    ensures reads { OnOk result (Reads scope.now stacks.old stacks.new (flat.Plain plain.now)) }
+    ensures leads { OnOk result (Leads scope.now stacks.old stacks.new (flat.Plain plain.now)) }
+    ensures bars { IfErr result (OnInvalid (Bars scope.now stacks.old (flat.Plain plain.now))) }
 {
     match plain {
         PlainOp::Control(op) => step_control(scope, stacks, *op),

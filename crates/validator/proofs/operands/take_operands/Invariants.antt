@@ -1,6 +1,9 @@
-use Rattle.std.proofs.Common.{reverse}
+use Rattle.std.proofs.Common.{◌-◌, ◌≤◌, length, reverse}
 use Rattle.validator.specs.Operands.{Takes}
 use Rattle.validator.proofs.operands.take_operands.Given as goal
 
-abbrev pub invariant-loop : goal.invariant-loop
-invariant-loop l = Takes l.level.unreachable l.level.height l.fn.operands.items (reverse l.given.items) l.operands.items
+abbrev pub invariant-loop-operands : goal.invariant-loop-operands
+invariant-loop-operands l = (length l.given.items ≤ l.count) × Takes l.level.unreachable l.level.height l.fn.operands.items (reverse l.given.items) l.operands.items
+
+abbrev pub decreases-loop-operands : goal.decreases-loop-operands
+decreases-loop-operands l = l.count - length l.given.items
