@@ -1,7 +1,8 @@
-ghost use Rattle.std.specs.Prelude.{◌≡◌, ◌⊎◌, ◌<◌, ◌↔◌, [], Some, All, IfErr, IsTrue, OnOk, slice_get};
+ghost use Rattle.std.specs.Prelude.{◌≡◌, ◌≢◌, ◌⊎◌, ℕ, ◌<◌, ◌↔◌, [], Some, All, IfErr, IsTrue, OnOk, slice_get};
 ghost use Rattle.core_types.specs.declared.module.Func.{Func as Function};
 ghost use Rattle.meaning.specs.Validity.{IsValidFunction};
-ghost use Rattle.validator.specs.declared.valid_module.ValidateError.TheVariants.{OutOfMemory};
+ghost use Rattle.validator.specs.declared.valid_module.Place.TheVariants.{Section};
+ghost use Rattle.validator.specs.declared.valid_module.ValidateError.TheVariants.{Invalid, OutOfMemory};
 ghost use Rattle.validator.specs.Marks.{HasMarks};
 ghost use Rattle.validator.specs.Parts.{IsStartIn};
 ghost use Rattle.validator.specs.Possible.{OnInvalid};
@@ -87,6 +88,7 @@ pub fn validate_functions(
     requires marks { HasMarks given.now spaces.now }
     ensures valid { OnOk result (All (IsValidFunction given.now) given.now.funcs) }
     ensures invalid { IfErr result (λ error. (error ≡ OutOfMemory) ⊎ (¬ All (IsValidFunction given.now) given.now.funcs)) }
+    ensures no_section { IfErr result (λ error. (id : ℕ) → error ≢ Invalid (Section id)) }
 {
     for (index, func) in given.funcs.as_slice().iter().enumerate() {
         match validate_function(alloc, given, spaces, func) {
