@@ -17,12 +17,7 @@ use Rattle.meaning.specs.Body.{Kind, BlockKind, LoopKind, IfKind, Body, Empty, T
 use Rattle.meaning.specs.Context.{Context}
 use Rattle.meaning.specs.Typing.{AllFit, Frames, HasType, known, reference_type, Rule}
 use Rattle.meaning.specs.Validity.{IsConstant}
-
-fit_length : (ts us : List OperandType) → AllFit ts us → length ts ≡ length us
-fit_length [] [] fit = refl
-fit_length (t ∷ ts) (u ∷ us) fit = omega (arith, fit_length ts us fit.1)
-fit_length [] (u ∷ us) fit = absurd fit
-fit_length (t ∷ ts) [] fit = absurd fit
+use Rattle.validator.proofs.Covering.{AllFit-length}
 
 none_given : (given : List OperandType) → AllFit given [] → given ≡ []
 none_given [] fit = refl
@@ -70,7 +65,7 @@ module _ (context : Context) where
       (one.0, subst (λ (results : List OperandType). Rule context op [] results) one.2 (subst (λ (operands : List OperandType). Rule context op operands typed.1) one.1 typed.3), subst (λ (ts : List OperandType). HasType context rest ts after) between typed.5)
 
   grows : (body : Body) (before after : List OperandType) → All (IsConstant context) (writing body) → HasType context body before after → length before ≤ length after
-  grows Empty before after all typed = omega (arith, fit_length before after typed)
+  grows Empty before after all typed = omega (arith, AllFit-length before after typed)
   grows (Then op rest) before after all typed =
       let first = first_gives op rest before after all typed in
       omega (arith, grows rest (before ++ known (first.0 ∷ [])) after (All-tail (IsConstant context) (Plain op) (writing rest) all) first.2, length-append before (known (first.0 ∷ [])))

@@ -83,19 +83,6 @@ Refuses-misfit unreachable height old given new wanted takes same wrong = record
       wrong (AllFit-through given top wanted fits fit);
 }
 
-no_fit : (us : List OperandType) → AllFit [] us → us ≡ []
-no_fit [] fits = refl
-no_fit (u ∷ us) fits = absurd fits
-
-pub Refuses-dry : (unreachable : Bool) (height : ℕ) (old : List OperandType) (wanted : OperandType) → IsDry unreachable height old → Refuses unreachable height old (wanted ∷ [])
-Refuses-dry unreachable height old wanted (alive, low) = record {
-  at = λ under own parts long theirs below top covers e fit.
-      let nothing : own ≡ [] = nil_from_length own (omega (arith, ap length parts, length-append under own)) in
-      let bare : covers.top ≡ [] = no_fit covers.top (rw nothing at covers.fits) in
-      let none : length theirs ≡ 0 = ap length covers.parts ∙ length-append covers.others covers.top ∙ rw (covers.alone alive, bare) refl in
-      omega (arith, none, ap length e, length-append below top, AllFit-length top (wanted ∷ []) fit);
-}
-
 -- All that the level has was taken, and it is less than what is wanted.
 pub Refuses-short : (unreachable : Bool) (height : ℕ) (old given new wanted : List OperandType) → Takes unreachable height old given new → IsDry unreachable height new → length given < length wanted → Refuses unreachable height old wanted
 Refuses-short unreachable height old given new wanted takes (alive, low) less = record {
@@ -110,6 +97,10 @@ Refuses-short unreachable height old given new wanted takes (alive, low) less = 
     taken_all : (own given rest : List OperandType) → unreachable ≡ false → rest ≡ [] → TakenFrom unreachable own given rest → length own ≡ length given
     taken_all own given rest alive nothing (inl parts) = ap length parts ∙ ap (λ (z : List OperandType). length (z ++ given)) nothing
     taken_all own given rest alive nothing (inr (dead, none, more)) = let both : true ≡ false = sym dead ∙ alive in absurd cc
+
+-- The level has no operand, where one is wanted.
+pub Refuses-dry : (unreachable : Bool) (height : ℕ) (old : List OperandType) (wanted : OperandType) → IsDry unreachable height old → Refuses unreachable height old (wanted ∷ [])
+Refuses-dry unreachable height old wanted dry = Refuses-short unreachable height old [] old (wanted ∷ []) (Takes-nothing unreachable height old) dry (omega arith)
 
 -- Where operands of the last types were taken and the one before is refused, all of them are.
 pub Refuses-more : (unreachable : Bool) (height : ℕ) (old given new front back : List OperandType) (wanted : OperandType) → Takes unreachable height old given new → AllFit given back → Refuses unreachable height new (wanted ∷ []) → Refuses unreachable height old (front ++ (wanted ∷ back))

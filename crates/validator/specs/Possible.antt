@@ -75,7 +75,7 @@ pub record Leads (s : Scope) (old new : Stacks) (o : Op) : Type 0 where
 pub record Bars (s : Scope) (old : Stacks) (o : Op) : Type 0 where
   pub at : (context : Context) → IsContext s context → (ops : List Op) → CanGo context old (o ∷ ops) → ⊥
 
--- The fault is not the want of memory only where this holds.
+-- If the fault is Invalid and not the want of memory, this holds.
 abbrev pub OnInvalid : Type 0 → Fault → Type 0
 OnInvalid p fault = fault ≡ Invalid → p
 
@@ -101,9 +101,11 @@ RefusesSome old (Some t) = RefusesType old (typed t)
 pub record NeverCloses (old : Stacks) : Type 0 where
   pub at : (under own theirs : List OperandType) → old.operands.items ≡ under ++ own → length under ≡ old.now.height → Covers old.now.unreachable own theirs → AllFit theirs (known old.now.ends.now) → ⊥
 
+-- The block has no other type than this, in any context of the scope.
 pub record IsOnlyBlockType (s : Scope) (t : BlockType) (signature : Signature) : Type 0 where
   pub same : (context : Context) → IsContext s context → (labels : List (List ValType)) (other : Signature) → IsBlockType (record context { labels = labels }) t other → other ≡ signature
 
+-- The block has no type, in any context of the scope.
 pub record HasNoBlockType (s : Scope) (t : BlockType) : Type 0 where
   pub at : (context : Context) → IsContext s context → (labels : List (List ValType)) (other : Signature) → IsBlockType (record context { labels = labels }) t other → ⊥
 
