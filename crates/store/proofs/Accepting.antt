@@ -1,6 +1,6 @@
 -- Values that have their types.
-use Rattle.std.proofs.Common.{◌≡◌, ℕ, suc, ◌+◌, ◌<◌, ◌≤◌, List, [], ◌∷◌, ◌++◌, length, get_or, take, refl, ap}
-use Rattle.std.proofs.lemmas.List.{take_all, take_more}
+use Rattle.std.proofs.Common.{◌≡◌, ℕ, zero, suc, ◌+◌, ◌<◌, List, [], ◌∷◌, ◌++◌, length, get_or, take, refl, ap, arith}
+use Rattle.std.proofs.lemmas.List.{take_more}
 use Rattle.core_types.specs.declared.types.ValType.{ValType}
 use Rattle.core_types.specs.declared.outcome.Val.{Val}
 use Rattle.meaning.specs.Store.{Store}
@@ -16,12 +16,16 @@ module _ (store : Store) where
   pub ValuesHaveTypes-next : (vs : List Val) (ts : List ValType) (k : ℕ) (v : Val) (t : ValType) → k < length vs → k < length ts → ValuesHaveTypes store (take k vs) (take k ts) → ValueHasType store (get_or vs k v) (get_or ts k t) → ValuesHaveTypes store (take (k + 1) vs) (take (k + 1) ts)
   ValuesHaveTypes-next vs ts k v t in_vs in_ts so_far h = rw (take_more vs k v in_vs, take_more ts k t in_ts) (push (take k vs) (take k ts) (get_or vs k v) (get_or ts k t) so_far h)
 
-  pub ValuesHaveTypes-whole : (vs : List Val) (ts : List ValType) (k : ℕ) → length vs ≤ k → length ts ≤ k → ValuesHaveTypes store (take k vs) (take k ts) → ValuesHaveTypes store vs ts
-  ValuesHaveTypes-whole vs ts k past_vs past_ts h = rw (take_all k vs past_vs, take_all k ts past_ts) at h
-
   -- There are as many values as types.
   pub length-typed : (vs : List Val) (ts : List ValType) → ValuesHaveTypes store vs ts → length vs ≡ length ts
   length-typed [] [] h = refl
   length-typed [] (t ∷ ts) h = absurd h
   length-typed (v ∷ vs) [] h = absurd h
   length-typed (v ∷ vs) (t ∷ ts) h = ap suc (length-typed vs ts h.1)
+
+  -- A value and the type at its place, where all have their types.
+  pub ValuesHaveTypes-at : (vs : List Val) (ts : List ValType) (k : ℕ) (v : Val) (t : ValType) → k < length vs → ValuesHaveTypes store vs ts → ValueHasType store (get_or vs k v) (get_or ts k t)
+  ValuesHaveTypes-at [] ts k v t inside h = absurd (omega (arith, inside))
+  ValuesHaveTypes-at (w ∷ vs) [] k v t inside h = absurd h
+  ValuesHaveTypes-at (w ∷ vs) (u ∷ ts) zero v t inside h = h.0
+  ValuesHaveTypes-at (w ∷ vs) (u ∷ ts) (suc k) v t inside h = ValuesHaveTypes-at vs ts k v t (omega (arith, inside)) h.1

@@ -1,4 +1,4 @@
-ghost use Rattle.std.specs.Bool.{OnTrue};
+ghost use Rattle.std.specs.Prelude.{◌↔◌, IsSome, IsTrue, slice_get};
 ghost use Rattle.meaning.specs.Soundness.{ValueHasType, ValuesHaveTypes};
 ghost use Rattle.store.specs.Calling.{TakesArguments};
 ghost use Rattle.store.specs.Stored.{store_of};
@@ -8,7 +8,7 @@ use core_types::{Val, ValType};
 
 // Whether a value has a type, in this store.
 fn value_has_type(store: &Store, value: Val, ty: ValType) -> bool
-    ensures { OnTrue result (ValueHasType (store_of store.now) value ty) }
+    ensures { IsTrue result ↔ ValueHasType (store_of store.now) value ty }
 {
     match ty {
         ValType::I32 => matches!(value, Val::I32(_)),
@@ -24,7 +24,7 @@ fn value_has_type(store: &Store, value: Val, ty: ValType) -> bool
 
 // Whether the values have the types, one by one.
 fn values_have_types(store: &Store, values: &[Val], types: &[ValType]) -> bool
-    ensures { OnTrue result (ValuesHaveTypes (store_of store.now) values.now types.now) }
+    ensures { IsTrue result ↔ ValuesHaveTypes (store_of store.now) values.now types.now }
 {
     if values.len() != types.len() {
         return false;
@@ -37,10 +37,10 @@ fn values_have_types(store: &Store, values: &[Val], types: &[ValType]) -> bool
     true
 }
 
-/// Whether the function at an address takes these arguments: the test for what `invoke` asks of its caller. False where there
-/// is no function.
+/// Whether there is a function at an address and it takes these arguments, as many as its parameters and each of its type: the
+/// test for what `invoke` asks of its caller (Execution, Modules, Invocation).
 pub fn accepts(store: &Store, address: u32, args: &[Val]) -> bool
-    ensures { OnTrue result (TakesArguments (store_of store.now) address args.now) }
+    ensures { IsTrue result ↔ (IsSome (slice_get (store_of store.now).functions address) × TakesArguments (store_of store.now) address args.now) }
 {
     match store.function(address) {
         Some(callee) => values_have_types(store, args, callee.ty.params.as_slice()),
