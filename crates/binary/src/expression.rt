@@ -1,4 +1,3 @@
-ghost use Rattle.std.specs.Prelude.{[]};
 ghost use Rattle.binary.specs.OperationReading.{expression_at};
 ghost use Rattle.binary.specs.Reading.{Gives};
 

@@ -1,4 +1,4 @@
-ghost use Rattle.std.specs.Prelude.{◌≡◌, ◌+◌, ◌≤◌, ◌↔◌, length, All, IsTrue, slice_get};
+ghost use Rattle.std.specs.Prelude.{◌≡◌, ◌↔◌, All, IsTrue, slice_get};
 ghost use Rattle.meaning.specs.Limits.{HasFewLocals, IsSmallType, parameter_count};
 
 use core_types::{Func, FuncType, Module};

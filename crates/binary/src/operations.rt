@@ -1,4 +1,3 @@
-ghost use Rattle.std.specs.Prelude.{◌≡◌};
 ghost use Rattle.binary.specs.Reading.{Gives, chosen_at, unsigned_at};
 ghost use Rattle.binary.specs.OperationReading.{branch_table_at, bulk_at, control_at, op_at, parametric_at, plain_at, reference_at, table_access_at, table_bulk_at, variable_at};
 

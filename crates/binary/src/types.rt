@@ -1,5 +1,4 @@
-ghost use Rattle.std.specs.Prelude.{◌≡◌};
-ghost use Rattle.binary.specs.Reading.{Gives, unsigned_at};
+ghost use Rattle.binary.specs.Reading.{Gives};
 ghost use Rattle.binary.specs.TypeReading.{block_type_at, func_type_at, global_type_at, limits_at, mutability_at, ref_type_at, table_type_at, val_type_at};
 
 use crate::error::DecodeError;

@@ -1,5 +1,3 @@
-ghost use Rattle.std.specs.Prelude.{◌≡◌, ◌↔◌, List, ℕ, IsTrue};
-
 use std::marker::Model;
 
 /// A name of the module format, which contracts see as the bytes of its text.

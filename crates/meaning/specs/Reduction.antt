@@ -9,7 +9,6 @@ use Rattle.core_types.specs.declared.op.BlockType.TheVariants as block
 use Rattle.core_types.specs.declared.op.BranchTable.{BranchTable}
 use Rattle.core_types.specs.declared.op.ControlOp.TheVariants.{Unreachable, Nop, Br, BrIf, Return, Call}
 use Rattle.core_types.specs.declared.op.Conversion.TheVariants.{I32WrapI64, I64ExtendI32S, I64ExtendI32U, I64Extend32S}
-use Rattle.core_types.specs.declared.op.Width.{Width}
 use Rattle.core_types.specs.declared.op.Width.TheVariants.{W32, W64}
 use Rattle.core_types.specs.declared.op.NumericOp.{NumericOp}
 use Rattle.core_types.specs.declared.op.NumericOp.TheVariants.{Eqz, Compare, Unary, Binary, Convert}
