@@ -1,3 +1,5 @@
+ghost use Rattle.std.specs.Prelude.{◌≡◌, true, false, IfSome, IfNone};
+ghost use Rattle.std.specs.Str.{is_utf8};
 ghost use Rattle.binary.specs.EntryReading.{export_at, export_desc_at, import_at, import_desc_at};
 ghost use Rattle.binary.specs.Reading.{Gives, GivesSeen, name_at};
 
@@ -58,16 +60,27 @@ fn read_name(alloc: Global, reader: &mut Reader<'_>) -> Result<Name, DecodeError
     Ok(Name::from_string(String::from_str(alloc, text)?))
 }
 
+// The text that bytes spell in UTF-8, if they spell one.
+fn text_in<'a>(bytes: &'a [u8]) -> Option<&'a str>
+    ensures some { IfSome result (λ text. (text.now ≡ bytes.now) × (is_utf8 bytes.now ≡ true)) }
+    ensures none { IfNone result (is_utf8 bytes.now ≡ false) }
+{
+    match std::str::from_utf8(bytes) {
+        Ok(text) => Some(text),
+        Err(_) => None,
+    }
+}
+
 // The text of a name, where it lies in the input.
 #[tactic(auto, unfolding(crate::specs::Reading::name_at))]
 pub fn read_text<'a>(reader: &mut Reader<'a>) -> Result<&'a str, DecodeError>
     ensures { GivesSeen (λ text. text.now) result reader.new (name_at reader.old) }
 {
     let part = reader.part()?;
-    let Ok(text) = std::str::from_utf8(part.rest()) else {
-        return Err(DecodeError::Malformed(part.place()));
-    };
-    Ok(text)
+    match text_in(part.rest()) {
+        Some(text) => Ok(text),
+        None => Err(DecodeError::Malformed(part.place())),
+    }
 }
 
 #[tactic(auto, unfolding(crate::specs::EntryReading::export_desc_at))]

@@ -7,7 +7,7 @@ use core_types::{Op, Stack};
 use std::alloc::AllocError;
 
 // What is open at a place of an expression.
-#[derive(Clone, Copy, PartialEq, Eq, Debug)]
+#[derive(Clone, Copy)]
 pub enum Level {
     // a body that goes down to an end
     InBlock,
@@ -16,7 +16,7 @@ pub enum Level {
 }
 
 // What an operation does to an expression.
-#[derive(Clone, Copy, PartialEq, Eq, Debug)]
+#[derive(Clone, Copy)]
 pub enum Next {
     // it goes on
     Onward,

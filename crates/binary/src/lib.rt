@@ -11,16 +11,10 @@ mod levels;
 mod limits;
 mod memory_operations;
 mod numeric_operations;
-#[cfg(test)]
-mod opcode_tests;
 mod operations;
 mod reader;
-#[cfg(test)]
-mod section_tests;
 mod sections;
 mod segments;
-#[cfg(test)]
-mod tests;
 mod types;
 mod vector;
 

@@ -2,7 +2,7 @@ use std::alloc::{AllocFailed, Global};
 use std::marker::Model;
 
 /// A value behind a pointer, which contracts see as the value.
-#[derive(Debug, Drop)]
+#[derive(Drop)]
 pub struct Boxed<T> {
     inner: Box<T>,
 }
@@ -30,15 +30,5 @@ impl<T> Boxed<T> {
         ensures { result.now ≡ self.now }
     {
         self.inner.as_ref()
-    }
-}
-
-impl<T: PartialEq> PartialEq for Boxed<T> {
-    ghost eq = { T.eq };
-
-    ghost laws = { T.laws };
-
-    fn eq(&self, other: &Boxed<T>) -> bool {
-        self.inner.as_ref() == other.inner.as_ref()
     }
 }

@@ -3,7 +3,7 @@ ghost use Rattle.std.specs.Prelude.{◌≡◌, ◌==◌, List, length};
 use std::marker::Model;
 
 /// A list, which contracts see as such, over a `Vec`.
-#[derive(Clone, Debug, Drop)]
+#[derive(Debug, Drop)]
 pub struct Items<T> {
     items: Vec<T>,
 }

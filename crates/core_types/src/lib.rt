@@ -9,8 +9,6 @@ mod module;
 mod op;
 mod outcome;
 mod stack;
-#[cfg(test)]
-mod tests;
 mod text;
 mod types;
 

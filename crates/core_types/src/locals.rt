@@ -6,14 +6,14 @@ use std::alloc::{AllocError, Global};
 use std::marker::Model;
 
 /// Locals of one type in a row, up to the place `end`.
-#[derive(Clone, Copy, PartialEq, Eq, Debug)]
+#[derive(Clone, Copy)]
 pub struct LocalRun {
     pub end: u32,
     pub ty: ValType,
 }
 
 /// The types of a function's locals, kept as runs of one type; contracts see the list of the types.
-#[derive(Debug, Drop)]
+#[derive(Drop)]
 pub struct Locals {
     runs: Vec<LocalRun>,
 }

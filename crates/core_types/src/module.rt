@@ -6,7 +6,7 @@ use crate::types::{FuncType, GlobalType, Limits, RefType, TableType};
 
 /// A function of a module: the index of its type, its locals without the parameters, and its flat body without the last
 /// `End` (Structure, Modules, Functions).
-#[derive(Debug, Drop)]
+#[derive(Drop)]
 pub struct Func {
     pub ty: u32,
     pub locals: Locals,
@@ -14,7 +14,7 @@ pub struct Func {
 }
 
 /// What an import asks for; a function by the index of its type (Structure, Modules, Imports).
-#[derive(Clone, Copy, PartialEq, Eq, Debug)]
+#[derive(Clone, Copy)]
 pub enum ImportDesc {
     Func(u32),
     Table(TableType),
@@ -23,7 +23,7 @@ pub enum ImportDesc {
 }
 
 /// An import under the name of a module and a name in it (Structure, Modules, Imports).
-#[derive(Debug, Drop)]
+#[derive(Drop)]
 pub struct Import {
     pub module_name: Name,
     pub name: Name,
@@ -31,7 +31,7 @@ pub struct Import {
 }
 
 /// What an export names, by its index (Structure, Modules, Exports).
-#[derive(Clone, Copy, PartialEq, Eq, Debug)]
+#[derive(Clone, Copy)]
 pub enum ExportDesc {
     Func(u32),
     Table(u32),
@@ -40,7 +40,7 @@ pub enum ExportDesc {
 }
 
 /// An export under its name (Structure, Modules, Exports).
-#[derive(Debug, Drop)]
+#[derive(Drop)]
 pub struct Export {
     pub name: Name,
     pub desc: ExportDesc,
@@ -48,7 +48,7 @@ pub struct Export {
 
 /// A global and its first value, as the flat operations of a constant expression without the last `End` (Structure,
 /// Modules, Globals).
-#[derive(Debug, Drop)]
+#[derive(Drop)]
 pub struct Global {
     pub ty: GlobalType,
     pub init: Items<Op>,
@@ -56,14 +56,14 @@ pub struct Global {
 
 /// The references of an element segment: function indices, each of which stands for the `ref.func` of it, or constant
 /// expressions.
-#[derive(Debug, Drop)]
+#[derive(Drop)]
 pub enum ElementItems {
     Functions(Items<u32>),
     Expressions(Items<Items<Op>>),
 }
 
 /// Whether an element segment is copied into a table at a link, and where (Structure, Modules, Element Segments).
-#[derive(Debug, Drop)]
+#[derive(Drop)]
 pub enum ElementMode {
     Passive,
     Active { table: u32, offset: Items<Op> },
@@ -71,7 +71,7 @@ pub enum ElementMode {
 }
 
 /// References for tables (Structure, Modules, Element Segments).
-#[derive(Debug, Drop)]
+#[derive(Drop)]
 pub struct ElementSegment {
     pub ty: RefType,
     pub items: ElementItems,
@@ -79,21 +79,21 @@ pub struct ElementSegment {
 }
 
 /// Whether a data segment is copied into a memory at a link, and where (Structure, Modules, Data Segments).
-#[derive(Debug, Drop)]
+#[derive(Drop)]
 pub enum DataMode {
     Passive,
     Active { memory: u32, offset: Items<Op> },
 }
 
 /// Bytes for memories (Structure, Modules, Data Segments).
-#[derive(Debug, Drop)]
+#[derive(Drop)]
 pub struct DataSegment {
     pub bytes: Items<u8>,
     pub mode: DataMode,
 }
 
 /// A module (Structure, Modules).
-#[derive(Debug, Drop)]
+#[derive(Drop)]
 pub struct Module {
     pub types: Items<FuncType>,
     pub imports: Items<Import>,

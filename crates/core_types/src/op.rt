@@ -3,21 +3,21 @@ use crate::items::Items;
 use crate::types::{RefType, ValType};
 
 /// The width of an integer type.
-#[derive(Clone, Copy, PartialEq, Eq, Debug)]
+#[derive(Clone, Copy)]
 pub enum Width {
     W32,
     W64,
 }
 
 /// How a number of fewer bits is read as one of more bits.
-#[derive(Clone, Copy, PartialEq, Eq, Debug)]
+#[derive(Clone, Copy)]
 pub enum Sign {
     Signed,
     Unsigned,
 }
 
 /// An operator on one integer, which gives one of the same width.
-#[derive(Clone, Copy, PartialEq, Eq, Debug)]
+#[derive(Clone, Copy)]
 pub enum UnaryOp {
     Clz,
     Ctz,
@@ -27,7 +27,7 @@ pub enum UnaryOp {
 }
 
 /// An operator on two integers of one width, which gives one of the same width.
-#[derive(Clone, Copy, PartialEq, Eq, Debug)]
+#[derive(Clone, Copy)]
 pub enum BinaryOp {
     Add,
     Sub,
@@ -47,7 +47,7 @@ pub enum BinaryOp {
 }
 
 /// A comparison of two integers of one width.
-#[derive(Clone, Copy, PartialEq, Eq, Debug)]
+#[derive(Clone, Copy)]
 pub enum Comparison {
     Eq,
     Ne,
@@ -62,7 +62,7 @@ pub enum Comparison {
 }
 
 /// An operator on one integer that exists for one width alone.
-#[derive(Clone, Copy, PartialEq, Eq, Debug)]
+#[derive(Clone, Copy)]
 pub enum Conversion {
     I32WrapI64,
     I64ExtendI32S,
@@ -71,7 +71,7 @@ pub enum Conversion {
 }
 
 /// A numeric instruction without an immediate (Structure, Instructions, Numeric Instructions).
-#[derive(Clone, Copy, PartialEq, Eq, Debug)]
+#[derive(Clone, Copy)]
 pub enum NumericOp {
     Eqz(Width),
     Compare(Width, Comparison),
@@ -81,7 +81,7 @@ pub enum NumericOp {
 }
 
 /// An instruction on references (Structure, Instructions, Reference Instructions).
-#[derive(Clone, Copy, PartialEq, Eq, Debug)]
+#[derive(Clone, Copy)]
 pub enum ReferenceOp {
     Null(RefType),
     IsNull,
@@ -89,14 +89,14 @@ pub enum ReferenceOp {
 }
 
 /// An instruction on operands of any type (Structure, Instructions, Parametric Instructions).
-#[derive(Clone, Copy, PartialEq, Eq, Debug)]
+#[derive(Clone, Copy)]
 pub enum ParametricOp {
     DropOperand,
     Select,
 }
 
 /// An instruction on a local or a global (Structure, Instructions, Variable Instructions).
-#[derive(Clone, Copy, PartialEq, Eq, Debug)]
+#[derive(Clone, Copy)]
 pub enum VariableOp {
     LocalGet(u32),
     LocalSet(u32),
@@ -106,7 +106,7 @@ pub enum VariableOp {
 }
 
 /// An instruction on a table or an element segment (Structure, Instructions, Table Instructions).
-#[derive(Clone, Copy, PartialEq, Eq, Debug)]
+#[derive(Clone, Copy)]
 pub enum TableOp {
     Get(u32),
     Set(u32),
@@ -119,7 +119,7 @@ pub enum TableOp {
 }
 
 /// What a load reads: a whole integer, or so many bits of one.
-#[derive(Clone, Copy, PartialEq, Eq, Debug)]
+#[derive(Clone, Copy)]
 pub enum LoadOp {
     Whole(Width),
     Bits8(Width, Sign),
@@ -128,7 +128,7 @@ pub enum LoadOp {
 }
 
 /// What a store writes: a whole integer, or its low bits.
-#[derive(Clone, Copy, PartialEq, Eq, Debug)]
+#[derive(Clone, Copy)]
 pub enum StoreOp {
     Whole(Width),
     Bits8(Width),
@@ -137,14 +137,14 @@ pub enum StoreOp {
 }
 
 /// The alignment, as an exponent of 2, and the offset of an access.
-#[derive(Clone, Copy, PartialEq, Eq, Debug)]
+#[derive(Clone, Copy)]
 pub struct MemArg {
     pub align: u32,
     pub offset: u32,
 }
 
 /// An instruction on the memory or a data segment (Structure, Instructions, Memory Instructions).
-#[derive(Clone, Copy, PartialEq, Eq, Debug)]
+#[derive(Clone, Copy)]
 pub enum MemoryOp {
     Load(LoadOp, MemArg),
     Store(StoreOp, MemArg),
@@ -157,7 +157,7 @@ pub enum MemoryOp {
 }
 
 /// A control instruction that has neither a body nor a list (Structure, Instructions, Control Instructions).
-#[derive(Clone, Copy, PartialEq, Eq, Debug)]
+#[derive(Clone, Copy)]
 pub enum ControlOp {
     Unreachable,
     Nop,
@@ -169,7 +169,7 @@ pub enum ControlOp {
 }
 
 /// The labels of a branch by number, and the label for all further numbers.
-#[derive(Debug, PartialEq, Drop)]
+#[derive(Drop)]
 pub struct BranchTable {
     pub labels: Items<u32>,
     pub default: u32,
@@ -177,7 +177,7 @@ pub struct BranchTable {
 
 /// An instruction that has no body (Structure, Instructions). Those with a list keep it on the heap, and those with eight
 /// bytes stand apart from their group, so that an `Op` takes no more than 24 bytes.
-#[derive(Debug, PartialEq, Drop)]
+#[derive(Drop)]
 pub enum PlainOp {
     Control(ControlOp),
     BrTable(Boxed<BranchTable>),
@@ -193,7 +193,7 @@ pub enum PlainOp {
 }
 
 /// The type of a block: from nothing to nothing, from nothing to one value, or the type of an index.
-#[derive(Clone, Copy, PartialEq, Eq, Debug)]
+#[derive(Clone, Copy)]
 pub enum BlockType {
     Empty,
     Value(ValType),
@@ -201,7 +201,7 @@ pub enum BlockType {
 }
 
 /// A flat operation: an instruction without a body, or a mark at which a body begins or ends.
-#[derive(Debug, PartialEq, Drop)]
+#[derive(Drop)]
 pub enum Op {
     Plain(PlainOp),
     Block(BlockType),

@@ -5,7 +5,7 @@ use std::alloc::{AllocError, Global};
 use std::marker::Model;
 
 /// A stack, which contracts see as the list of its elements from the top.
-#[derive(Debug, Drop)]
+#[derive(Drop)]
 pub struct Stack<T> {
     items: Vec<T>,
 }

@@ -1,7 +1,7 @@
 use std::marker::Model;
 
 /// A name of the module format, which contracts see as the bytes of its text.
-#[derive(Debug, Drop)]
+#[derive(Drop)]
 pub struct Name {
     text: String,
 }

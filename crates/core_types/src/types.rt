@@ -1,7 +1,7 @@
 use crate::items::Items;
 
 /// A type of values (Structure, Types, Value Types).
-#[derive(Clone, Copy, PartialEq, Eq, Debug)]
+#[derive(Clone, Copy, PartialEq, Eq)]
 pub enum ValType {
     I32,
     I64,
@@ -10,7 +10,7 @@ pub enum ValType {
 }
 
 /// A type of references (Structure, Types, Reference Types).
-#[derive(Clone, Copy, PartialEq, Eq, Debug)]
+#[derive(Clone, Copy, PartialEq, Eq)]
 pub enum RefType {
     FuncRef,
     ExternRef,
@@ -18,49 +18,49 @@ pub enum RefType {
 
 /// An operand's type while a body is validated: a value type, or any type, where an operand is taken that can't be reached
 /// (Validation, Instructions, Operand Types).
-#[derive(Clone, Copy, PartialEq, Eq, Debug)]
+#[derive(Clone, Copy, PartialEq, Eq)]
 pub enum OperandType {
     Known(ValType),
     Unknown,
 }
 
 /// The parameters and results of a function (Structure, Types, Function Types).
-#[derive(Debug, PartialEq, Drop)]
+#[derive(Drop)]
 pub struct FuncType {
     pub params: Items<ValType>,
     pub results: Items<ValType>,
 }
 
 /// The bounds of a memory or a table (Structure, Types, Limits).
-#[derive(Clone, Copy, PartialEq, Eq, Debug)]
+#[derive(Clone, Copy)]
 pub struct Limits {
     pub min: u32,
     pub max: Option<u32>,
 }
 
 /// What a table holds, and its bounds (Structure, Types, Table Types).
-#[derive(Clone, Copy, PartialEq, Eq, Debug)]
+#[derive(Clone, Copy)]
 pub struct TableType {
     pub element: RefType,
     pub limits: Limits,
 }
 
 /// Whether a global may be set (Structure, Types, Global Types).
-#[derive(Clone, Copy, PartialEq, Eq, Debug)]
+#[derive(Clone, Copy)]
 pub enum Mutability {
     Const,
     Var,
 }
 
 /// The type of a global (Structure, Types, Global Types).
-#[derive(Clone, Copy, PartialEq, Eq, Debug)]
+#[derive(Clone, Copy)]
 pub struct GlobalType {
     pub value: ValType,
     pub mutability: Mutability,
 }
 
 /// The type of what a module imports or exports (Structure, Types, External Types).
-#[derive(Debug, PartialEq, Drop)]
+#[derive(Drop)]
 pub enum ExternType {
     Func(FuncType),
     Table(TableType),

@@ -1,5 +1,5 @@
 /// The host functions that code may call. There are none yet.
-#[derive(Debug, Drop)]
+#[derive(Drop)]
 pub struct HostTable {}
 
 impl HostTable {

@@ -13,7 +13,7 @@ use fuel::Meter;
 use store::Store;
 
 /// How many operands a block takes and gives.
-#[derive(Clone, Copy, PartialEq, Eq, Debug)]
+#[derive(Clone, Copy)]
 pub struct Arity {
     pub params: usize,
     pub results: usize,

@@ -9,8 +9,6 @@ mod instructions;
 mod labels;
 mod machine;
 mod places;
-#[cfg(test)]
-mod tests;
 mod turn;
 
 pub use calls::invoke;

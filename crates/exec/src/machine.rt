@@ -16,7 +16,7 @@ pub enum Outcome {
 
 /// A label: how many values a branch to it keeps, the heights of the operands inside of it and outside of it, and the place
 /// where a branch goes on.
-#[derive(Clone, Copy, PartialEq, Eq, Debug)]
+#[derive(Clone, Copy)]
 pub struct Label {
     pub arity: usize,
     pub base: usize,
@@ -27,7 +27,7 @@ pub struct Label {
 /// A frame from within code: how many results it gives, the heights of the operands inside of it and outside of it, and where
 /// its caller goes on: the function and its instance, the place, the base of the locals, and how many controls there are up to
 /// the caller's frame.
-#[derive(Clone, Copy, PartialEq, Eq, Debug)]
+#[derive(Clone, Copy)]
 pub struct Caller {
     pub arity: usize,
     pub base: usize,
@@ -40,7 +40,7 @@ pub struct Caller {
 }
 
 /// What is open around the instructions that run.
-#[derive(Clone, Copy, PartialEq, Eq, Debug)]
+#[derive(Clone, Copy)]
 pub enum Control {
     /// A label.
     InLabel(Label),
@@ -52,7 +52,7 @@ pub enum Control {
 
 /// The state of a run: the function that runs, its instance and the place in its code, the operands, the locals, what is open
 /// around, and how many controls there are up to the frame.
-#[derive(Debug, Drop)]
+#[derive(Drop)]
 pub struct Machine {
     pub function: u32,
     pub instance: u32,
@@ -64,7 +64,7 @@ pub struct Machine {
 }
 
 /// What a turn of the machine led to.
-#[derive(Clone, Copy, PartialEq, Eq, Debug)]
+#[derive(Clone, Copy)]
 pub enum Turn {
     /// One step was done, within the function.
     Goes,

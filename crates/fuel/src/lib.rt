@@ -2,7 +2,5 @@
 #![tactic(auto)]
 
 mod meter;
-#[cfg(test)]
-mod tests;
 
 pub use meter::Meter;

@@ -5,7 +5,7 @@ ghost use Rattle.fuel.specs.Metering.{metered};
 use std::marker::Model;
 
 /// The fuel that is left, and how many frames are open under a bound.
-#[derive(Debug, Drop)]
+#[derive(Drop)]
 pub struct Meter {
     left: u64,
     bound: u32,

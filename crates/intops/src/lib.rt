@@ -7,10 +7,6 @@ mod comparison;
 mod conversion;
 mod division;
 mod signed;
-#[cfg(test)]
-mod test_rows;
-#[cfg(test)]
-mod tests;
 mod unary;
 
 pub use binary::{binary_32, binary_64};

@@ -3,8 +3,6 @@
 
 mod laws;
 mod signed;
-#[cfg(test)]
-mod tests;
 mod unsigned;
 mod width;
 

@@ -1,7 +1,7 @@
 use core_types::Trap;
 
 /// What came of an instruction without control. Unless all of it is done, the operands and the locals may have changed in part.
-#[derive(Clone, Copy, PartialEq, Eq, Debug)]
+#[derive(Clone, Copy, PartialEq, Eq)]
 pub enum Did {
     /// All of it is done.
     AllDone,

@@ -6,8 +6,6 @@ mod numeric;
 mod parametric;
 mod plain;
 mod popping;
-#[cfg(test)]
-mod tests;
 mod variable;
 
 pub use did::Did;

@@ -9,7 +9,7 @@ use std::alloc::{AllocError, Global};
 use std::marker::Model;
 
 /// The locals of the open frames, in two parts: those of the innermost frame, and those of the frames below it.
-#[derive(Debug, Drop)]
+#[derive(Drop)]
 pub struct FrameLocals {
     items: Vec<Val>,
     base: usize,

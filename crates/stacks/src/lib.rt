@@ -4,8 +4,6 @@
 
 mod frame_locals;
 mod operands;
-#[cfg(test)]
-mod tests;
 
 pub use frame_locals::FrameLocals;
 pub use operands::Operands;

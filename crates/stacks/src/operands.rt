@@ -8,7 +8,7 @@ use std::marker::Model;
 
 /// The operands of a run, in two parts: those inside of the innermost label, and those below them. Contracts see both parts
 /// as lists from the top.
-#[derive(Debug, Drop)]
+#[derive(Drop)]
 pub struct Operands {
     items: Vec<Val>,
     floor: usize,

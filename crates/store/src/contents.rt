@@ -14,7 +14,7 @@ use validator::ValidModule;
 
 /// A function of the store: the number of its instance, its index in the instance's module, and for each place of its code
 /// the place at which the body ends in which it stands.
-#[derive(Debug, Drop)]
+#[derive(Drop)]
 pub struct FunctionInstance {
     pub instance: u32,
     pub index: u32,
@@ -22,7 +22,7 @@ pub struct FunctionInstance {
 }
 
 /// An instance of a module without imports, whose functions stand in the store from the address `first` on.
-#[derive(Debug, Drop)]
+#[derive(Drop)]
 pub struct Instance {
     pub module: ValidModule,
     pub first: u32,
@@ -39,7 +39,7 @@ pub struct Callee<'a> {
 }
 
 /// Functions and module instances by address (Execution, Runtime Structure, Store).
-#[derive(Debug, Drop)]
+#[derive(Drop)]
 pub struct Store {
     functions: Vec<FunctionInstance>,
     instances: Vec<Instance>,

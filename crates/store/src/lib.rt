@@ -5,8 +5,7 @@ mod arguments;
 mod contents;
 mod ends;
 mod entries;
-#[cfg(test)]
-mod tests;
 
 pub use arguments::accepts;
 pub use contents::{Callee, FunctionInstance, Instance, Store};
+pub use ends::ends_of;

@@ -4,7 +4,7 @@ ghost use Rattle.validator.specs.declared.fault.Fault.TheVariants.{OutOfMemory};
 use std::alloc::{AllocError, AllocFailed};
 
 /// Why a part of a module is refused.
-#[derive(Clone, Copy, PartialEq, Eq, Debug)]
+#[derive(Clone, Copy)]
 pub enum Fault {
     /// No typing accepts it.
     Invalid,

@@ -4,7 +4,7 @@ ghost use Rattle.validator.specs.OpenBodies.{label_of};
 use core_types::{OperandType, ValType};
 
 /// What opened a level.
-#[derive(Clone, Copy, PartialEq, Eq, Debug)]
+#[derive(Clone, Copy)]
 pub enum LevelKind {
     Function,
     Block,

@@ -23,8 +23,6 @@ mod segments;
 mod signatures;
 mod spaces;
 mod steps;
-#[cfg(test)]
-mod tests;
 mod valid_module;
 
 pub use modules::validate;

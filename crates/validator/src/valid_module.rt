@@ -59,7 +59,7 @@ impl From<AllocError> for ValidateError {
 }
 
 /// A module that is valid.
-#[derive(Debug, Drop)]
+#[derive(Drop)]
 pub struct ValidModule {
     inner: Module,
 }

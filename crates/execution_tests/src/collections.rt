@@ -1,0 +1,154 @@
+//! The lists, names, locals, boxes and stacks of `core_types`, and the size of an operation.
+
+use core_types::{Boxed, Items, Locals, Name, Op, Stack, ValType};
+use std::alloc::{AllocError, Global};
+use std::mem::size_of;
+
+// How many locals of a type come in a row.
+static RUNS: [(u32, ValType); 6] = [
+    (2, ValType::I32),
+    (0, ValType::FuncRef),
+    (1, ValType::I64),
+    (0, ValType::I64),
+    (3, ValType::ExternRef),
+    (0, ValType::I32),
+];
+
+// An index, and the type of the local that it names.
+#[rattlefmt::skip]
+static LOCALS: [(u32, Option<ValType>); 8] = [
+    (0, Some(ValType::I32)),
+    (1, Some(ValType::I32)),
+    (2, Some(ValType::I64)),
+    (3, Some(ValType::ExternRef)),
+    (4, Some(ValType::ExternRef)),
+    (5, Some(ValType::ExternRef)),
+    (6, None),
+    (u32::MAX, None),
+];
+
+// Locals in runs.
+fn locals_of(alloc: Global, runs: &[(u32, ValType)]) -> Result<Locals, AllocError> {
+    let mut locals = Locals::new(alloc);
+    for (count, ty) in runs {
+        if locals.len() < 100 && *count < 100 {
+            locals.push(*count, *ty)?;
+        }
+    }
+    Ok(locals)
+}
+
+// How many locals there are in the runs, and which one is at an index.
+fn local_at(alloc: Global, index: u32) -> Option<(u32, Option<ValType>)> {
+    let locals = locals_of(alloc, &RUNS).ok()?;
+    Some((locals.len(), locals.get(index)))
+}
+
+#[test]
+fn finds_locals_by_index(rt: HostRuntime) {
+    for (index, ty) in &LOCALS {
+        assert!(rt; local_at(rt.alloc(), *index) == Some((6, *ty)), "{index}");
+    }
+}
+
+// Whether there are no locals at first, and as many as there are numbers after one run.
+fn counts_locals(alloc: Global) -> Result<bool, AllocError> {
+    let mut locals = Locals::new(alloc);
+    let none = locals.len() == 0 && locals.get(0).is_none();
+    locals.push(u32::MAX, ValType::I64)?;
+    let last = locals.get(u32::MAX - 1) == Some(ValType::I64);
+    Ok(none && last && locals.get(u32::MAX).is_none())
+}
+
+#[test]
+fn keeps_many_locals(rt: HostRuntime) {
+    assert!(rt; counts_locals(rt.alloc()) == Ok(true));
+}
+
+// Whether a list keeps its elements.
+fn keeps_elements(alloc: Global) -> Result<bool, AllocError> {
+    let items = Items::from_vec(vec![in alloc; 1u32, 2, 3]?);
+    let same = Items::from_vec(vec![in alloc; 1u32, 2, 3]?);
+    let is_read = items.len() == 3 && !items.is_empty() && items.as_slice() == [1, 2, 3].as_slice();
+    let is_equal = items == same;
+    Ok(is_read && is_equal && items.into_vec().as_slice() == [1, 2, 3].as_slice())
+}
+
+#[test]
+fn keeps_items(rt: HostRuntime) {
+    let none: Items<u32> = Items::from_vec(Vec::new(rt.alloc()));
+    assert!(rt; none.is_empty() && keeps_elements(rt.alloc()) == Ok(true));
+}
+
+// Whether a name keeps its text.
+fn keeps_text(alloc: Global) -> Result<bool, AllocError> {
+    let name = Name::from_string(String::from_str(alloc, "add")?);
+    Ok(name.as_str() == "add" && name.into_string().as_str() == "add")
+}
+
+// Whether a box keeps its value.
+fn keeps_value(alloc: Global) -> Result<bool, AllocError> {
+    let boxed = Boxed::new(alloc, 7u32)?;
+    Ok(*boxed.get() == 7)
+}
+
+#[test]
+fn keeps_names_and_boxes(rt: HostRuntime) {
+    assert!(rt; keeps_text(rt.alloc()) == Ok(true));
+    assert!(rt; keeps_value(rt.alloc()) == Ok(true));
+}
+
+// A call of a stack, and its answer where it has one.
+#[derive(Clone, Copy)]
+enum Step {
+    Push(u32),
+    Pop(Option<u32>),
+    Top(Option<u32>),
+    Get(usize, Option<u32>),
+    Len(usize),
+    DropTop(usize),
+}
+
+use Step::{DropTop, Get, Len, Pop, Push, Top};
+
+#[rattlefmt::skip]
+static STEPS: [Step; 14] = [
+    Pop(None), Push(1), Push(2), Push(3), Top(Some(3)), Get(0, Some(3)), Get(2, Some(1)), Get(3, None),
+    Pop(Some(3)), Len(2), Push(5), Push(6), DropTop(2), Len(2),
+];
+
+// Whether a stack takes a step so.
+fn takes(stack: &mut Stack<u32>, step: Step) -> bool {
+    match step {
+        Push(x) => stack.push(x).is_ok(),
+        Pop(x) => stack.pop() == x,
+        Top(x) => stack.top() == x,
+        Get(index, x) => stack.get(index) == x,
+        Len(count) => stack.len() == count,
+        DropTop(count) if count <= stack.len() => {
+            stack.drop_top(count);
+            true
+        }
+        DropTop(_) => false,
+    }
+}
+
+// Whether a stack takes all steps so, and gives its items from the bottom.
+fn takes_all(alloc: Global) -> bool {
+    let mut stack = Stack::new(alloc);
+    let mut all = true;
+    for step in &STEPS {
+        all &= takes(&mut stack, *step);
+    }
+    all && stack.into_items().as_slice() == [1, 2].as_slice()
+}
+
+#[test]
+fn keeps_stacks(rt: HostRuntime) {
+    assert!(rt; takes_all(rt.alloc()));
+}
+
+#[test]
+fn operations_are_small(rt: HostRuntime) {
+    assert!(rt; size_of::<Op>() <= 24);
+}

@@ -1,0 +1,21 @@
+//! Tests of what runs: of `core_types`, `intops`, `fuel`, `stacks`, `plain`, `store` and `exec`.
+#![tactic(auto)]
+
+#[cfg(test)]
+mod collections;
+#[cfg(test)]
+mod instructions;
+#[cfg(test)]
+mod metering;
+#[cfg(test)]
+mod modules;
+#[cfg(test)]
+mod numeric_rows;
+#[cfg(test)]
+mod numerics;
+#[cfg(test)]
+mod operands;
+#[cfg(test)]
+mod runs;
+#[cfg(test)]
+mod stores;

@@ -1,0 +1,294 @@
+//! Calls of functions: how they end, and the fuel that they leave.
+
+use crate::modules::store_with;
+use core_types::{Exhaustion, Trap, Val};
+use exec::{HostTable, Outcome, invoke};
+use fuel::Meter;
+use std::alloc::{AllocError, Global};
+use store::{Store, accepts};
+
+// In each row a name, arguments, fuel, a depth bound, how a call of the first function ends, the fuel that it leaves, and the
+// module.
+const ROWS: &str = "\
+i32.div_s of 4294967289 and 2 | | 3 | 1 | values i32 4294967293 | 0 | (func (result i32) i32.const 4294967289 i32.const 2 i32.div_s)
+i32.rem_s of 4294967289 and 2 | | 3 | 1 | values i32 4294967295 | 0 | (func (result i32) i32.const 4294967289 i32.const 2 i32.rem_s)
+i32.rem_s of 2147483648 and 4294967295 | | 3 | 1 | values i32 0 | 0 | (func (result i32) i32.const 2147483648 i32.const 4294967295 i32.rem_s)
+i32.rotl of 2147483649 and 33 | | 3 | 1 | values i32 3 | 0 | (func (result i32) i32.const 2147483649 i32.const 33 i32.rotl)
+i32.shr_s of 2147483648 and 31 | | 3 | 1 | values i32 4294967295 | 0 | (func (result i32) i32.const 2147483648 i32.const 31 i32.shr_s)
+i32.extend8_s of 128 | | 2 | 1 | values i32 4294967168 | 0 | (func (result i32) i32.const 128 i32.extend8_s)
+i32.wrap_i64 of 4294967301 | | 2 | 1 | values i32 5 | 0 | (func (result i32) i64.const 4294967301 i32.wrap_i64)
+i32.clz of 0 | | 2 | 1 | values i32 32 | 0 | (func (result i32) i32.const 0 i32.clz)
+i64.ctz of 0 | | 2 | 1 | values i64 64 | 0 | (func (result i64) i64.const 0 i64.ctz)
+i32.div_s that traps, fuel 10 | | 10 | 1 | trap integer overflow | 7 | (func (result i32) i32.const 2147483648 i32.const 4294967295 i32.div_s)
+i32.div_s that traps, fuel 3 | | 3 | 1 | trap integer overflow | 0 | (func (result i32) i32.const 2147483648 i32.const 4294967295 i32.div_s)
+i32.div_s that traps, fuel 2 | | 2 | 1 | exhausted fuel | 0 | (func (result i32) i32.const 2147483648 i32.const 4294967295 i32.div_s)
+i32.div_u that traps, fuel 10 | | 10 | 1 | trap integer divide by zero | 7 | (func (result i32) i32.const 1 i32.const 0 i32.div_u)
+i32.div_u that traps, fuel 3 | | 3 | 1 | trap integer divide by zero | 0 | (func (result i32) i32.const 1 i32.const 0 i32.div_u)
+i32.div_u that traps, fuel 2 | | 2 | 1 | exhausted fuel | 0 | (func (result i32) i32.const 1 i32.const 0 i32.div_u)
+unreachable that traps, fuel 10 | | 10 | 1 | trap unreachable | 7 | (func (result i32) nop nop unreachable)
+unreachable that traps, fuel 3 | | 3 | 1 | trap unreachable | 0 | (func (result i32) nop nop unreachable)
+unreachable that traps, fuel 2 | | 2 | 1 | exhausted fuel | 0 | (func (result i32) nop nop unreachable)
+a sum, with fuel for it | i32 3 | 31 | 1 | values i32 6 | 0 | (func (param i32) (result i32) (local i32) loop local.get 1 local.get 0 i32.add local.set 1 local.get 0 i32.const 1 i32.sub local.tee 0 br_if 0 end local.get 1)
+a sum, one fuel short | i32 3 | 30 | 1 | exhausted fuel | 0 | (func (param i32) (result i32) (local i32) loop local.get 1 local.get 0 i32.add local.set 1 local.get 0 i32.const 1 i32.sub local.tee 0 br_if 0 end local.get 1)
+a sum, argument 1 | i32 1 | 11 | 9 | values i32 1 | 0 | (func (param i32) (result i32) (local i32) loop local.get 1 local.get 0 i32.add local.set 1 local.get 0 i32.const 1 i32.sub local.tee 0 br_if 0 end local.get 1)
+a sum, argument 4 | i32 4 | 41 | 9 | values i32 10 | 0 | (func (param i32) (result i32) (local i32) loop local.get 1 local.get 0 i32.add local.set 1 local.get 0 i32.const 1 i32.sub local.tee 0 br_if 0 end local.get 1)
+a call past the depth | | 10 | 1 | exhausted depth | 10 | (func call 1) (func)
+a call past the depth without fuel | | 0 | 1 | exhausted fuel | 0 | (func call 1) (func)
+a call without fuel | | 0 | 2 | exhausted fuel | 0 | (func call 1) (func)
+a call | | 1 | 2 | values | 0 | (func call 1) (func)
+a function that calls itself | | 1000 | 100 | exhausted depth | 901 | (func call 0)
+a loop without end | | 1000 | 1 | exhausted fuel | 0 | (func loop br 0 end)
+an empty body without fuel | | 0 | 1 | values | 0 | (func)
+an empty body at depth 0 | | 5 | 0 | exhausted depth | 5 | (func)
+an empty body at depth 0 without fuel | | 0 | 0 | exhausted depth | 0 | (func)
+nested bodies | | 3 | 1 | values | 0 | (func block loop block end end end)
+nested bodies, one fuel short | | 2 | 1 | exhausted fuel | 0 | (func block loop block end end end)
+1 and 2, fuel 10 | i32 1 i32 2 | 10 | 1 | values i32 3 | 7 | (func (param i32 i32) (result i32) local.get 0 local.get 1 i32.add)
+1 and 2, fuel 3 | i32 1 i32 2 | 3 | 1 | values i32 3 | 0 | (func (param i32 i32) (result i32) local.get 0 local.get 1 i32.add)
+4294967295 and 1, fuel 1000000000 | i32 4294967295 i32 1 | 1000000000 | 1 | values i32 0 | 999999997 | (func (param i32 i32) (result i32) local.get 0 local.get 1 i32.add)
+1 and 2, fuel 2 | i32 1 i32 2 | 2 | 1 | exhausted fuel | 0 | (func (param i32 i32) (result i32) local.get 0 local.get 1 i32.add)
+results in order | | 2 | 1 | values i32 1 i64 2 | 0 | (func (result i32 i64) i32.const 1 i64.const 2)
+first values of locals | | 4 | 1 | values i32 0 i64 0 funcref null externref null | 0 | (func (result i32 i64 funcref externref) (local i32 i64 funcref externref) local.get 0 local.get 1 local.get 2 local.get 3)
+a sum of 64 bits that wraps | | 9 | 1 | values i64 2 | 6 | (func (result i64) i64.const 18446744073709551615 i64.const 3 i64.add)
+a branch keeps the topmost operand | | 10 | 1 | values i32 3 | 5 | (func (result i32) block (result i32) i32.const 1 i32.const 2 i32.const 3 br 0 end)
+a branch to the function keeps two | | 10 | 1 | values i32 2 i32 3 | 6 | (func (result i32 i32) i32.const 1 i32.const 2 i32.const 3 br 0)
+a branch out of three | | 20 | 1 | values i32 105 | 9 | (func (result i32) i32.const 100 block (result i32) i32.const 1 i32.const 2 loop i32.const 3 block i32.const 4 i32.const 5 br 2 end drop end drop end i32.add)
+br_if, argument 0 | i32 0 | 8 | 9 | values i32 13 | 0 | (func (param i32) (result i32) (local i32) i32.const 5 block (result i32) i32.const 7 local.get 0 br_if 0 i32.const 1 i32.add end i32.add)
+br_if, argument 1 | i32 1 | 6 | 9 | values i32 12 | 0 | (func (param i32) (result i32) (local i32) i32.const 5 block (result i32) i32.const 7 local.get 0 br_if 0 i32.const 1 i32.add end i32.add)
+br_if, argument 2147483648 | i32 2147483648 | 6 | 9 | values i32 12 | 0 | (func (param i32) (result i32) (local i32) i32.const 5 block (result i32) i32.const 7 local.get 0 br_if 0 i32.const 1 i32.add end i32.add)
+br_table, argument 0 | i32 0 | 8 | 9 | values i32 10 | 0 | (func (param i32) (result i32) (local i32) block block block block local.get 0 br_table 0 1 2 3 end i32.const 10 return end i32.const 11 return end i32.const 12 return end i32.const 13)
+br_table, argument 1 | i32 1 | 8 | 9 | values i32 11 | 0 | (func (param i32) (result i32) (local i32) block block block block local.get 0 br_table 0 1 2 3 end i32.const 10 return end i32.const 11 return end i32.const 12 return end i32.const 13)
+br_table, argument 2 | i32 2 | 8 | 9 | values i32 12 | 0 | (func (param i32) (result i32) (local i32) block block block block local.get 0 br_table 0 1 2 3 end i32.const 10 return end i32.const 11 return end i32.const 12 return end i32.const 13)
+br_table, argument 3 | i32 3 | 7 | 9 | values i32 13 | 0 | (func (param i32) (result i32) (local i32) block block block block local.get 0 br_table 0 1 2 3 end i32.const 10 return end i32.const 11 return end i32.const 12 return end i32.const 13)
+br_table, argument 4 | i32 4 | 7 | 9 | values i32 13 | 0 | (func (param i32) (result i32) (local i32) block block block block local.get 0 br_table 0 1 2 3 end i32.const 10 return end i32.const 11 return end i32.const 12 return end i32.const 13)
+br_table, argument 4294967295 | i32 4294967295 | 7 | 9 | values i32 13 | 0 | (func (param i32) (result i32) (local i32) block block block block local.get 0 br_table 0 1 2 3 end i32.const 10 return end i32.const 11 return end i32.const 12 return end i32.const 13)
+br_table with operands, argument 0 | i32 0 | 8 | 9 | values i32 102 | 0 | (func (param i32) (result i32) (local i32) i32.const 100 block (result i32) block (result i32) i32.const 1 i32.const 2 local.get 0 br_table 1 0 1 0 end i32.const 10 i32.mul end i32.add)
+br_table with operands, argument 1 | i32 1 | 10 | 9 | values i32 120 | 0 | (func (param i32) (result i32) (local i32) i32.const 100 block (result i32) block (result i32) i32.const 1 i32.const 2 local.get 0 br_table 1 0 1 0 end i32.const 10 i32.mul end i32.add)
+br_table with operands, argument 2 | i32 2 | 8 | 9 | values i32 102 | 0 | (func (param i32) (result i32) (local i32) i32.const 100 block (result i32) block (result i32) i32.const 1 i32.const 2 local.get 0 br_table 1 0 1 0 end i32.const 10 i32.mul end i32.add)
+br_table with operands, argument 3 | i32 3 | 10 | 9 | values i32 120 | 0 | (func (param i32) (result i32) (local i32) i32.const 100 block (result i32) block (result i32) i32.const 1 i32.const 2 local.get 0 br_table 1 0 1 0 end i32.const 10 i32.mul end i32.add)
+a block takes and gives by a type | | 9 | 1 | values i32 105 | 3 | (func (result i32) i32.const 100 i32.const 9 i32.const 4 block (param i32 i32) (result i32) i32.sub end i32.add)
+a branch out of such a block | | 9 | 1 | values i32 91 | 2 | (func (result i32) i32.const 100 i32.const 9 i32.const 4 block (param i32 i32) (result i32) i32.const 9 br 0 end i32.sub)
+a loop with a parameter, argument 1 | i32 1 | 11 | 9 | values i32 102 | 0 | (func (param i32) (result i32) (local i32) i32.const 100 i32.const 1 loop (param i32) (result i32) i32.const 2 i32.mul local.get 0 i32.const 1 i32.sub local.tee 0 br_if 0 end i32.add)
+a loop with a parameter, argument 3 | i32 3 | 27 | 9 | values i32 108 | 0 | (func (param i32) (result i32) (local i32) i32.const 100 i32.const 1 loop (param i32) (result i32) i32.const 2 i32.mul local.get 0 i32.const 1 i32.sub local.tee 0 br_if 0 end i32.add)
+a loop with a parameter, argument 10 | i32 10 | 83 | 9 | values i32 1124 | 0 | (func (param i32) (result i32) (local i32) i32.const 100 i32.const 1 loop (param i32) (result i32) i32.const 2 i32.mul local.get 0 i32.const 1 i32.sub local.tee 0 br_if 0 end i32.add)
+a branch to a loop, argument 1 | i32 1 | 11 | 9 | values i32 102 | 0 | (func (param i32) (result i32) (local i32) i32.const 100 i32.const 1 loop (param i32) (result i32) i32.const 2 i32.mul local.get 0 i32.const 1 i32.sub local.tee 0 if i32.const 7 i32.const 3 br 1 end end i32.add)
+a branch to a loop, argument 2 | i32 2 | 22 | 9 | values i32 106 | 0 | (func (param i32) (result i32) (local i32) i32.const 100 i32.const 1 loop (param i32) (result i32) i32.const 2 i32.mul local.get 0 i32.const 1 i32.sub local.tee 0 if i32.const 7 i32.const 3 br 1 end end i32.add)
+if, condition 1 | i32 1 | 3 | 1 | values i32 7 | 0 | (func (param i32) (result i32) (local i32) local.get 0 if (result i32) i32.const 7 else i32.const 8 end)
+if, condition 0 | i32 0 | 3 | 1 | values i32 8 | 0 | (func (param i32) (result i32) (local i32) local.get 0 if (result i32) i32.const 7 else i32.const 8 end)
+a branch out of an if and a block, argument 0 | i32 0 | 5 | 9 | values i32 2 | 0 | (func (param i32) (result i32) (local i32) block (result i32) local.get 0 if i32.const 1 br 1 else nop end i32.const 2 end)
+a branch out of an if and a block, argument 1 | i32 1 | 5 | 9 | values i32 1 | 0 | (func (param i32) (result i32) (local i32) block (result i32) local.get 0 if i32.const 1 br 1 else nop end i32.const 2 end)
+a branch out of an if and a block, argument 4294967295 | i32 4294967295 | 5 | 9 | values i32 1 | 0 | (func (param i32) (result i32) (local i32) block (result i32) local.get 0 if i32.const 1 br 1 else nop end i32.const 2 end)
+a branch to the end of an if, argument 0 | i32 0 | 3 | 9 | values i32 8 | 0 | (func (param i32) (result i32) (local i32) local.get 0 if (result i32) i32.const 6 i32.const 7 br 0 else i32.const 8 end)
+a branch to the end of an if, argument 1 | i32 1 | 5 | 9 | values i32 7 | 0 | (func (param i32) (result i32) (local i32) local.get 0 if (result i32) i32.const 6 i32.const 7 br 0 else i32.const 8 end)
+an if without else, argument 0 | i32 0 | 3 | 9 | values i32 0 | 0 | (func (param i32) (result i32) (local i32) local.get 0 if i32.const 7 local.set 1 end local.get 1)
+an if without else, argument 1 | i32 1 | 5 | 9 | values i32 7 | 0 | (func (param i32) (result i32) (local i32) local.get 0 if i32.const 7 local.set 1 end local.get 1)
+an if without else, argument 2 | i32 2 | 5 | 9 | values i32 7 | 0 | (func (param i32) (result i32) (local i32) local.get 0 if i32.const 7 local.set 1 end local.get 1)
+an if with a parameter and without else, argument 0 | i32 0 | 3 | 9 | values i32 20 | 0 | (func (param i32) (result i32) (local i32) i32.const 20 local.get 0 if (param i32) (result i32) i32.const 1 i32.add end)
+an if with a parameter and without else, argument 1 | i32 1 | 5 | 9 | values i32 21 | 0 | (func (param i32) (result i32) (local i32) i32.const 20 local.get 0 if (param i32) (result i32) i32.const 1 i32.add end)
+a return from two labels | | 9 | 1 | values i32 4 | 2 | (func (result i32) i32.const 1 block i32.const 2 block i32.const 3 i32.const 4 return end drop end)
+a return, with fuel for it | | 7 | 1 | values i32 4 | 0 | (func (result i32) i32.const 1 block i32.const 2 block i32.const 3 i32.const 4 return end drop end)
+a return, one fuel short | | 6 | 1 | exhausted fuel | 0 | (func (result i32) i32.const 1 block i32.const 2 block i32.const 3 i32.const 4 return end drop end)
+a return to a caller | | 10 | 2 | values i32 104 | 0 | (func (result i32) i32.const 100 call 1 i32.add) (func (result i32) i32.const 1 block i32.const 2 block i32.const 3 i32.const 4 return end drop end)
+a return to a caller, fuel short | | 8 | 2 | exhausted fuel | 0 | (func (result i32) i32.const 100 call 1 i32.add) (func (result i32) i32.const 1 block i32.const 2 block i32.const 3 i32.const 4 return end drop end)
+arguments and results in order | | 8 | 2 | values i32 7 i32 5 i32 4 | 0 | (func (result i32 i32 i32) i32.const 7 i32.const 9 i32.const 4 call 1) (func (param i32 i32) (result i32 i32) local.get 0 local.get 1 i32.sub local.get 1)
+locals of a callee begin at zero | | 10 | 2 | values i32 5 i32 5 | 0 | (func (result i32 i32) call 1 call 1) (func (result i32) (local i32) local.get 0 i32.const 5 i32.add local.tee 0)
+locals stay over a call, argument 40 | i32 40 | 11 | 9 | values i32 48 | 0 | (func (param i32) (result i32) (local i32) i32.const 3 local.set 1 call 1 local.get 0 i32.add local.get 1 i32.add) (func (result i32) (local i32) local.get 0 i32.const 5 i32.add local.tee 0)
+factorial of 0 | i64 0 | 4 | 1 | values i64 1 | 0 | (func (param i64) (result i64) local.get 0 i64.eqz if (result i64) i64.const 1 else local.get 0 local.get 0 i64.const 1 i64.sub call 0 i64.mul end)
+factorial of 5 | i64 5 | 50 | 6 | values i64 120 | 1 | (func (param i64) (result i64) local.get 0 i64.eqz if (result i64) i64.const 1 else local.get 0 local.get 0 i64.const 1 i64.sub call 0 i64.mul end)
+factorial of 20 | i64 20 | 184 | 21 | values i64 2432902008176640000 | 0 | (func (param i64) (result i64) local.get 0 i64.eqz if (result i64) i64.const 1 else local.get 0 local.get 0 i64.const 1 i64.sub call 0 i64.mul end)
+factorial of 5 past the depth | i64 5 | 100 | 5 | exhausted depth | 61 | (func (param i64) (result i64) local.get 0 i64.eqz if (result i64) i64.const 1 else local.get 0 local.get 0 i64.const 1 i64.sub call 0 i64.mul end)
+fibonacci of 10 | i32 10 | 1589 | 10 | values i32 55 | 0 | (func (param i32) (result i32) (local i32) local.get 0 i32.const 2 i32.lt_u if (result i32) local.get 0 else local.get 0 i32.const 1 i32.sub call 0 local.get 0 i32.const 2 i32.sub call 0 i32.add end)
+a trap in a callee | | 10 | 2 | trap integer divide by zero | 5 | (func (result i32) i32.const 1 call 1 i32.add) (func (result i32) i32.const 1 i32.const 0 i32.div_u)
+a callee without fuel | | 4 | 2 | exhausted fuel | 0 | (func (result i32) i32.const 1 call 1 i32.add) (func (result i32) i32.const 1 i32.const 0 i32.div_u)
+block br 0 end, one fuel short | | 1 | 2 | exhausted fuel | 0 | (func block br 0 end) (func)
+block br 0 end, with fuel for it | | 2 | 2 | values | 0 | (func block br 0 end) (func)
+block i32.const 1 br_if 0 end, one fuel short | | 2 | 2 | exhausted fuel | 0 | (func block i32.const 1 br_if 0 end) (func)
+block i32.const 1 br_if 0 end, with fuel for it | | 3 | 2 | values | 0 | (func block i32.const 1 br_if 0 end) (func)
+block i32.const 0 br_if 0 end, one fuel short | | 2 | 2 | exhausted fuel | 0 | (func block i32.const 0 br_if 0 end) (func)
+block i32.const 0 br_if 0 end, with fuel for it | | 3 | 2 | values | 0 | (func block i32.const 0 br_if 0 end) (func)
+i32.const 9 br_table 0 0 0 0, one fuel short | | 1 | 2 | exhausted fuel | 0 | (func i32.const 9 br_table 0 0 0 0) (func)
+i32.const 9 br_table 0 0 0 0, with fuel for it | | 2 | 2 | values | 0 | (func i32.const 9 br_table 0 0 0 0) (func)
+i32.const 1 if end, one fuel short | | 1 | 2 | exhausted fuel | 0 | (func i32.const 1 if end) (func)
+i32.const 1 if end, with fuel for it | | 2 | 2 | values | 0 | (func i32.const 1 if end) (func)
+nop return, one fuel short | | 1 | 2 | exhausted fuel | 0 | (func nop return) (func)
+nop return, with fuel for it | | 2 | 2 | values | 0 | (func nop return) (func)
+nop nop call 1, one fuel short | | 2 | 2 | exhausted fuel | 0 | (func nop nop call 1) (func)
+nop nop call 1, with fuel for it | | 3 | 2 | values | 0 | (func nop nop call 1) (func)";
+
+// The value of a type that a word writes.
+fn value(ty: &str, word: &str) -> Option<Val> {
+    match (ty, word) {
+        ("i32", _) => Some(Val::I32(word.parse().ok()?)),
+        ("i64", _) => Some(Val::I64(word.parse().ok()?)),
+        ("funcref", "null") => Some(Val::FuncRef(None)),
+        ("externref", "null") => Some(Val::ExternRef(None)),
+        _ => None,
+    }
+}
+
+// The values of a text, each as its type and a word.
+fn values(alloc: Global, text: &str) -> Result<Vec<Val>, AllocError> {
+    let words: Vec<&str> = text.split_whitespace().collect(alloc)?;
+    words
+        .chunks(2)
+        .filter_map(|pair| match pair {
+            [ty, word] => value(ty, word),
+            _ => None,
+        })
+        .collect(alloc)
+}
+
+fn trap_text(trap: Trap) -> &'static str {
+    match trap {
+        Trap::Unreachable => "unreachable",
+        Trap::DivideByZero => "integer divide by zero",
+        Trap::IntegerOverflow => "integer overflow",
+        _ => "another trap",
+    }
+}
+
+fn exhaustion_text(what: Exhaustion) -> &'static str {
+    match what {
+        Exhaustion::Fuel => "fuel",
+        Exhaustion::Depth => "depth",
+        Exhaustion::Memory => "memory",
+    }
+}
+
+// Whether these are the values of a text.
+fn are_values(alloc: Global, found: &[Val], text: &str) -> bool {
+    match values(alloc, text) {
+        Ok(wanted) => found == wanted.as_slice(),
+        Err(_) => false,
+    }
+}
+
+// Whether a call ends as a text says.
+fn ends_so(alloc: Global, outcome: &Outcome, text: &str) -> bool {
+    let (how, what) = text.split_once(' ').unwrap_or((text, ""));
+    match outcome {
+        Outcome::Values(found) => how == "values" && are_values(alloc, found.as_slice(), what),
+        Outcome::Trap(trap) => how == "trap" && trap_text(*trap) == what,
+        Outcome::Exhausted(found) => how == "exhausted" && exhaustion_text(*found) == what,
+        Outcome::Stuck => false,
+    }
+}
+
+// Whether a call of the function at an address ends so within fuel and depth, and leaves so much fuel.
+fn calls_so(
+    alloc: Global,
+    store: &mut Store,
+    (address, args): (u32, &[Val]),
+    (fuel, depth): (u64, u32),
+    (ends, left): (&str, u64),
+) -> bool {
+    if !accepts(store, address, args) {
+        return false;
+    }
+    let mut hosts = HostTable::new();
+    let mut meter = Meter::new(fuel, depth);
+    let outcome = invoke(alloc, store, &mut hosts, &mut meter, address, args);
+    ends_so(alloc, &outcome, ends) && meter.left() == left
+}
+
+// Whether the first function of a module is run so.
+fn runs_so(
+    alloc: Global,
+    text: &str,
+    args: &[Val],
+    bounds: (u64, u32),
+    wanted: (&str, u64),
+) -> bool {
+    match store_with(alloc, &[text]) {
+        Some(mut store) => calls_so(alloc, &mut store, (0, args), bounds, wanted),
+        None => false,
+    }
+}
+
+// A row cut into its parts.
+#[derive(Clone, Copy)]
+struct Row<'a> {
+    args: &'a str,
+    fuel: u64,
+    depth: u32,
+    ends: &'a str,
+    left: u64,
+    text: &'a str,
+}
+
+fn row_of(line: &str) -> Option<Row<'_>> {
+    let (_, parts) = line.split_once(" |")?;
+    let (args, parts) = parts.split_once(" | ")?;
+    let (fuel, parts) = parts.split_once(" | ")?;
+    let (depth, parts) = parts.split_once(" | ")?;
+    let (ends, parts) = parts.split_once(" | ")?;
+    let (left, text) = parts.split_once(" | ")?;
+    Some(Row {
+        args,
+        fuel: fuel.parse().ok()?,
+        depth: depth.parse().ok()?,
+        ends,
+        left: left.parse().ok()?,
+        text,
+    })
+}
+
+// Whether a row is run as it says.
+fn agrees(alloc: Global, line: &str) -> bool {
+    let Some(row) = row_of(line) else {
+        return false;
+    };
+    match values(alloc, row.args) {
+        Ok(args) => runs_so(
+            alloc,
+            row.text,
+            &args,
+            (row.fuel, row.depth),
+            (row.ends, row.left),
+        ),
+        Err(_) => false,
+    }
+}
+
+#[test]
+fn runs_functions(rt: HostRuntime) {
+    assert!(rt; ROWS.lines().count() == 104);
+    for line in ROWS.lines() {
+        assert!(rt; agrees(rt.alloc(), line), "{line}");
+    }
+}
+
+// Two modules, of which the first function of the second calls the last one of its own.
+#[rattlefmt::skip]
+static TWO: [&str; 2] = [
+    "(func (result i32) i32.const 10) (func (result i32) i32.const 11)",
+    "(func (result i32) call 2 i32.const 100 i32.add) (func (result i32) i32.const 21) (func (result i32) i32.const 22)",
+];
+
+// An address, how a call of its function ends with fuel 9, and the fuel left.
+#[rattlefmt::skip]
+static ADDRESSES: [(u32, &str, u64); 5] = [
+    (0, "values i32 10", 8),
+    (1, "values i32 11", 8),
+    (2, "values i32 122", 5),
+    (3, "values i32 21", 8),
+    (4, "values i32 22", 8),
+];
+
+// Whether the function at an address is run so, in a store of both modules.
+fn runs_in_its_instance(alloc: Global, address: u32, ends: &str, left: u64) -> bool {
+    match store_with(alloc, &TWO) {
+        Some(mut store) => calls_so(alloc, &mut store, (address, &[]), (9, 2), (ends, left)),
+        None => false,
+    }
+}
+
+#[test]
+fn calls_within_the_instance(rt: HostRuntime) {
+    for (address, ends, left) in &ADDRESSES {
+        assert!(rt;
+            runs_in_its_instance(rt.alloc(), *address, ends, *left),
+            "{address}"
+        );
+    }
+}

@@ -1,0 +1,245 @@
+//! Functions, types and instances by address, the ends of bodies, and the arguments that a function takes.
+
+use crate::modules::{append, store_with};
+use core_types::{BlockType, Op, PlainOp, Val, ValType};
+use std::alloc::{AllocError, Global};
+use store::{Callee, Store, accepts, ends_of};
+
+// A flat operation, as the rows list it; `Other` has no body and is no mark.
+#[derive(Clone, Copy)]
+enum Mark {
+    Other,
+    Block,
+    Loop,
+    If,
+    Else,
+    End,
+}
+
+use Mark::{Block, Else, End, If, Loop, Other};
+
+// Flat code, and for each index, that behind the last operation too, where the body ends in which it stands.
+struct Ends {
+    name: &'static str,
+    code: &'static [Mark],
+    ends: &'static [usize],
+}
+
+#[rattlefmt::skip]
+static ENDS: [Ends; 8] = [
+    Ends { name: "no operation", code: &[], ends: &[0] },
+    Ends { name: "no body", code: &[Other, Other], ends: &[2, 2, 2] },
+    Ends { name: "a block", code: &[Block, Other, End, Other], ends: &[4, 2, 2, 4, 4] },
+    Ends { name: "a loop in a block", code: &[Block, Loop, Other, End, Other, End], ends: &[6, 5, 3, 3, 5, 5, 6] },
+    Ends { name: "an if", code: &[Other, If, Other, End], ends: &[4, 4, 3, 3, 4] },
+    Ends { name: "an if with an else", code: &[If, Other, Else, Other, End, Other], ends: &[6, 2, 2, 4, 4, 6, 6] },
+    Ends { name: "a loop in an if in a block", code: &[Block, If, Loop, End, Else, Other, End, End], ends: &[8, 7, 4, 3, 4, 6, 6, 7, 8] },
+    Ends { name: "the writing of no body", code: &[If, Else, Other, Else, End], ends: &[5, 1, 3, 3, 4, 5] },
+];
+
+fn operation_of(mark: Mark) -> Op {
+    match mark {
+        Other => Op::Plain(PlainOp::I32Const(0)),
+        Block => Op::Block(BlockType::Empty),
+        Loop => Op::Loop(BlockType::Empty),
+        If => Op::If(BlockType::Empty),
+        Else => Op::Else,
+        End => Op::End,
+    }
+}
+
+fn code_of(alloc: Global, marks: &[Mark]) -> Result<Vec<Op>, AllocError> {
+    marks.iter().map(|mark| operation_of(*mark)).collect(alloc)
+}
+
+// Whether the bodies of a row's code end so.
+fn end_so(alloc: Global, row: &Ends) -> Result<bool, AllocError> {
+    let code = code_of(alloc, row.code)?;
+    Ok(ends_of(alloc, &code)?.as_slice() == row.ends)
+}
+
+#[test]
+fn finds_the_ends_of_bodies(rt: HostRuntime) {
+    for row in &ENDS {
+        assert!(rt; end_so(rt.alloc(), row) == Ok(true), "{}", row.name);
+    }
+}
+
+// Whether the function of a module is kept with the ends of its bodies.
+fn keeps_ends(alloc: Global) -> bool {
+    let text = "(func i32.const 0 if block end else end)";
+    match store_with(alloc, &[text]) {
+        Some(store) => {
+            store.function(0).map(|callee| callee.ends) == Some([6, 6, 4, 3, 4, 5, 6].as_slice())
+        }
+        None => false,
+    }
+}
+
+#[test]
+fn keeps_the_ends_of_bodies(rt: HostRuntime) {
+    assert!(rt; keeps_ends(rt.alloc()));
+}
+
+// Whether the instance at a number has the function at that address, which takes no arguments.
+fn is_kept(store: &Store, address: u32) -> bool {
+    store.function(address).map(|callee| callee.instance) == Some(address)
+        && store.instance(address).map(|instance| instance.first) == Some(address)
+        && accepts(store, address, &[])
+}
+
+// Whether a module that is put into a store three times has an instance and a function of its own each time.
+fn keeps_modules(alloc: Global) -> bool {
+    let mut store = Store::new(alloc);
+    let mut all = true;
+    for number in 0..3u32 {
+        all &= append(alloc, &mut store, "(func (result i32) i32.const 7)") == Some(number);
+    }
+    for address in 0..3u32 {
+        all &= is_kept(&store, address);
+    }
+    all && store.function(3).is_none() && store.instance(3).is_none()
+}
+
+#[test]
+fn keeps_modules_by_address(rt: HostRuntime) {
+    assert!(rt; keeps_modules(rt.alloc()));
+}
+
+// Modules of one function, of three and of none, with two types each: from nothing to nothing, and from nothing to an i32.
+#[rattlefmt::skip]
+static THREE: [&str; 3] = [
+    "(type (func)) (type (func (result i32))) (func (type 1) i32.const 10)",
+    "(type (func)) (type (func (result i32))) (func (type 1) i32.const 20) (func (type 1) i32.const 21) (func (type 1) i32.const 22)",
+    "(type (func)) (type (func (result i32)))",
+];
+
+// An instance, an index of a function, and its address.
+#[rattlefmt::skip]
+static ADDRESSES: [(u32, u32, Option<u32>); 8] = [
+    (0, 0, Some(0)),
+    (0, 1, None),
+    (1, 0, Some(1)),
+    (1, 2, Some(3)),
+    (1, 3, None),
+    (1, u32::MAX, None),
+    (2, 0, None),
+    (3, 0, None),
+];
+
+// Whether a function has this address, in a store of the three modules.
+fn is_at(alloc: Global, instance: u32, x: u32, address: Option<u32>) -> bool {
+    match store_with(alloc, &THREE) {
+        Some(store) => store.function_address(instance, x) == address,
+        None => false,
+    }
+}
+
+#[test]
+fn looks_up_addresses(rt: HostRuntime) {
+    for (instance, x, address) in &ADDRESSES {
+        assert!(rt;
+            is_at(rt.alloc(), *instance, *x, *address),
+            "{instance} {x}"
+        );
+    }
+}
+
+// An address, the instance of its function and the number that the function gives.
+static FUNCTIONS: [(u32, u32, u32); 4] = [(0, 0, 10), (1, 1, 20), (2, 1, 21), (3, 1, 22)];
+
+// Whether a function of the instance gives an i32, by a body of this constant alone.
+fn gives(callee: Callee<'_>, instance: u32, number: u32) -> bool {
+    let is_constant = match callee.func.body.as_slice() {
+        [Op::Plain(PlainOp::I32Const(n))] => *n == number,
+        _ => false,
+    };
+    let results = callee.ty.results.as_slice();
+    callee.instance == instance && results == [ValType::I32].as_slice() && is_constant
+}
+
+// Whether the function at an address is such a one, in a store of the three modules.
+fn has_function(alloc: Global, address: u32, instance: u32, number: u32) -> bool {
+    match store_with(alloc, &THREE) {
+        Some(store) => match store.function(address) {
+            Some(callee) => gives(callee, instance, number) && store.function(4).is_none(),
+            None => false,
+        },
+        None => false,
+    }
+}
+
+#[test]
+fn looks_up_functions(rt: HostRuntime) {
+    for (address, instance, number) in &FUNCTIONS {
+        assert!(rt;
+            has_function(rt.alloc(), *address, *instance, *number),
+            "{address}"
+        );
+    }
+}
+
+// An instance, an index of a type, and the results of that type.
+#[rattlefmt::skip]
+static TYPES: [(u32, u32, Option<&[ValType]>); 6] = [
+    (0, 0, Some(&[])),
+    (1, 1, Some(&[ValType::I32])),
+    (1, 2, None),
+    (2, 1, Some(&[ValType::I32])),
+    (2, 3, None),
+    (3, 0, None),
+];
+
+// Whether the type at an index gives these results, in a store of the three modules.
+fn has_type(alloc: Global, instance: u32, x: u32, results: Option<&[ValType]>) -> bool {
+    match store_with(alloc, &THREE) {
+        Some(store) => store.type_at(instance, x).map(|ty| ty.results.as_slice()) == results,
+        None => false,
+    }
+}
+
+#[test]
+fn looks_up_types(rt: HostRuntime) {
+    for (instance, x, results) in &TYPES {
+        assert!(rt;
+            has_type(rt.alloc(), *instance, *x, *results),
+            "{instance} {x}"
+        );
+    }
+}
+
+// Arguments for the function at an address, and whether it takes them.
+struct Arguments {
+    name: &'static str,
+    address: u32,
+    values: &'static [Val],
+    are_taken: bool,
+}
+
+#[rattlefmt::skip]
+static ARGUMENTS: [Arguments; 8] = [
+    Arguments { name: "a null", address: 0, values: &[Val::I32(1), Val::I64(2), Val::FuncRef(None), Val::ExternRef(Some(9))], are_taken: true },
+    Arguments { name: "a function", address: 0, values: &[Val::I32(1), Val::I64(2), Val::FuncRef(Some(0)), Val::ExternRef(Some(9))], are_taken: true },
+    Arguments { name: "no function", address: 0, values: &[Val::I32(1), Val::I64(2), Val::FuncRef(Some(1)), Val::ExternRef(Some(9))], are_taken: false },
+    Arguments { name: "an i64 for an i32", address: 0, values: &[Val::I64(1), Val::I64(2), Val::FuncRef(None), Val::ExternRef(Some(9))], are_taken: false },
+    Arguments { name: "references of each other's type", address: 0, values: &[Val::I32(1), Val::I64(2), Val::ExternRef(Some(9)), Val::FuncRef(None)], are_taken: false },
+    Arguments { name: "too few", address: 0, values: &[Val::I32(1), Val::I64(2), Val::FuncRef(None)], are_taken: false },
+    Arguments { name: "none", address: 0, values: &[], are_taken: false },
+    Arguments { name: "no function to take them", address: 1, values: &[Val::I32(1), Val::I64(2), Val::FuncRef(None), Val::ExternRef(Some(9))], are_taken: false },
+];
+
+// Whether arguments are taken so, in a store with one function that takes one of each type.
+fn takes_so(alloc: Global, row: &Arguments) -> bool {
+    let text = "(func (param i32 i64 funcref externref))";
+    match store_with(alloc, &[text]) {
+        Some(store) => accepts(&store, row.address, row.values) == row.are_taken,
+        None => false,
+    }
+}
+
+#[test]
+fn takes_arguments(rt: HostRuntime) {
+    for row in &ARGUMENTS {
+        assert!(rt; takes_so(rt.alloc(), row), "{}", row.name);
+    }
+}

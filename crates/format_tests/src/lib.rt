@@ -1,0 +1,19 @@
+//! Tests of the binary format: of `leb` and `binary`.
+#![tactic(auto)]
+
+#[cfg(test)]
+mod decoding;
+#[cfg(test)]
+mod integers;
+#[cfg(test)]
+mod mnemonics;
+#[cfg(test)]
+mod modules;
+#[cfg(test)]
+mod operations;
+#[cfg(test)]
+mod printing;
+#[cfg(test)]
+mod refusals;
+#[cfg(test)]
+mod sections;

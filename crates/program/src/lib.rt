@@ -1,0 +1,17 @@
+//! The program over its words, the files that it reads and the writers that it prints to.
+#![tactic(auto)]
+
+mod args;
+mod digits;
+mod engine;
+mod inputs;
+mod line;
+mod print;
+mod program;
+mod support;
+
+pub use args::{ArgsFault, read_args};
+pub use engine::Refusal;
+pub use inputs::{Files, ReadFault, System};
+pub use print::{print_end, print_fault};
+pub use program::{CallEnd, Fault, refuse_words, run};

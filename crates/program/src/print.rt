@@ -1,0 +1,150 @@
+//! What the program prints, and the exit status that goes with it.
+
+ghost use Rattle.program.specs.Statuses.{IsStatus};
+
+use crate::engine::Refusal;
+use crate::program::{CallEnd, Fault};
+use core_types::{Exhaustion, Trap, Val};
+use exec::Outcome;
+use std::io::{self, Write};
+
+fn trap_text(trap: Trap) -> &'static str {
+    match trap {
+        Trap::Unreachable => "unreachable",
+        Trap::DivideByZero => "integer divide by zero",
+        Trap::IntegerOverflow => "integer overflow",
+        Trap::MemoryBounds => "out of bounds memory access",
+        Trap::TableBounds => "out of bounds table access",
+        Trap::UndefinedElement => "undefined element",
+        Trap::UninitializedElement => "uninitialized element",
+        Trap::IndirectType => "indirect call type mismatch",
+        Trap::Host(_) => "host trap",
+    }
+}
+
+fn exhaustion_text(exhaustion: Exhaustion) -> &'static str {
+    match exhaustion {
+        Exhaustion::Fuel => "fuel",
+        Exhaustion::Depth => "depth",
+        Exhaustion::Memory => "memory",
+    }
+}
+
+fn print_reference<W: Write>(out: &mut W, ty: &str, reference: Option<u32>) -> io::Result<()> {
+    match reference {
+        Some(number) => writeln!(out, "{ty} {number}"),
+        None => writeln!(out, "{ty} null"),
+    }
+}
+
+fn print_value<W: Write>(out: &mut W, value: Val) -> io::Result<()> {
+    match value {
+        Val::I32(number) => writeln!(out, "i32 {number}"),
+        Val::I64(number) => writeln!(out, "i64 {number}"),
+        Val::FuncRef(reference) => print_reference(out, "funcref", reference),
+        Val::ExternRef(reference) => print_reference(out, "externref", reference),
+    }
+}
+
+fn print_values<W: Write>(out: &mut W, values: &[Val]) -> io::Result<()> {
+    for value in values {
+        print_value(out, *value)?;
+    }
+    Ok(())
+}
+
+fn print_outcome<W: Write>(out: &mut W, outcome: &Outcome) -> io::Result<()> {
+    match outcome {
+        Outcome::Values(values) => print_values(out, values.as_slice()),
+        Outcome::Trap(trap) => writeln!(out, "trap: {}", trap_text(*trap)),
+        Outcome::Exhausted(exhaustion) => {
+            writeln!(out, "exhausted: {}", exhaustion_text(*exhaustion))
+        }
+        Outcome::Stuck => writeln!(out, "stuck"),
+    }
+}
+
+fn print_lines<W: Write>(out: &mut W, end: &CallEnd) -> io::Result<()> {
+    let left = end.fuel_left;
+    print_outcome(out, &end.outcome)?;
+    writeln!(out, "fuel left {left}")?;
+    out.flush()
+}
+
+fn outcome_status(outcome: &Outcome) -> u8
+    ensures { IsStatus result }
+{
+    match outcome {
+        Outcome::Values(_) => 0,
+        Outcome::Trap(_) => 1,
+        Outcome::Exhausted(_) => 6,
+        Outcome::Stuck => 1,
+    }
+}
+
+/// Prints how a call ended, and answers the exit status: 1 where the writer fails.
+pub fn print_end<W: Write>(out: &mut W, end: &CallEnd) -> u8
+    ensures { IsStatus result }
+{
+    match print_lines(out, end) {
+        Ok(()) => outcome_status(&end.outcome),
+        Err(_) => 1,
+    }
+}
+
+fn print_valid_line<W: Write>(out: &mut W) -> io::Result<()> {
+    writeln!(out, "valid")?;
+    out.flush()
+}
+
+/// Prints that a module is valid, and answers the exit status: 1 where the writer fails.
+pub fn print_valid<W: Write>(out: &mut W) -> u8
+    ensures { IsStatus result }
+{
+    match print_valid_line(out) {
+        Ok(()) => 0,
+        Err(_) => 1,
+    }
+}
+
+fn refusal_status(refusal: Refusal) -> u8
+    ensures { IsStatus result }
+{
+    match refusal {
+        Refusal::Malformed => 5,
+        Refusal::Unsupported => 5,
+        Refusal::Limit => 5,
+        Refusal::Invalid => 5,
+        Refusal::UnknownExport => 2,
+        Refusal::WrongKind => 2,
+        Refusal::OutOfMemory => 6,
+    }
+}
+
+fn fault_status(fault: &Fault<'_>) -> u8
+    ensures { IsStatus result }
+{
+    match fault {
+        Fault::Usage => 2,
+        Fault::CannotRead(_) => 3,
+        Fault::Refused(refusal) => refusal_status(*refusal),
+        Fault::BadArguments => 2,
+    }
+}
+
+fn print_fault_line<E: Write>(err: &mut E, fault: &Fault<'_>) -> io::Result<()> {
+    match fault {
+        Fault::Usage => writeln!(err, "usage"),
+        Fault::CannotRead(path) => writeln!(err, "cannot read {path}"),
+        Fault::Refused(refusal) => writeln!(err, "refused {} {}", refusal.number(), refusal.name()),
+        Fault::BadArguments => writeln!(err, "bad arguments"),
+    }
+}
+
+/// Prints a fault's line, and answers the exit status, also where the writer fails.
+pub fn print_fault<E: Write>(err: &mut E, fault: &Fault<'_>) -> u8
+    ensures { IsStatus result }
+{
+    let _ = print_fault_line(err, fault);
+    fault_status(fault)
+}

@@ -1,0 +1,159 @@
+//! The program over its words, its files and its writers.
+
+ghost use Rattle.program.specs.Statuses.{IsStatus};
+
+use crate::args::{ArgsFault, read_args};
+use crate::engine::{Engine, Refusal, check};
+use crate::inputs::{Files, ReadFault};
+use crate::line::{CallOrder, LineFault, Order, read_line};
+use crate::print::{print_end, print_fault, print_valid};
+use exec::Outcome;
+use std::alloc::Global;
+use std::io::{self, Write};
+use validator::ValidModule;
+
+/// How a call ended.
+#[derive(Drop)]
+pub struct CallEnd {
+    pub outcome: Outcome,
+    pub fuel_left: u64,
+}
+
+/// How the program did what it was asked for.
+#[derive(Drop)]
+pub enum End {
+    /// The function was called.
+    Called(CallEnd),
+    /// The module is valid.
+    Valid,
+}
+
+/// Why nothing was called, or no module found valid.
+#[derive(Clone, Copy)]
+pub enum Fault<'a> {
+    /// The words are not of the form that the program reads.
+    Usage,
+    /// The file at this path could not be read.
+    CannotRead(&'a str),
+    /// The engine refused.
+    Refused(Refusal),
+    /// The words for the arguments do not fit the function.
+    BadArguments,
+}
+
+impl From<LineFault> for Fault<'_> {
+    fn from(fault: LineFault) -> Self {
+        match fault {
+            LineFault::Usage => Fault::Usage,
+            LineFault::Memory => Fault::Refused(Refusal::OutOfMemory),
+        }
+    }
+}
+
+impl From<Refusal> for Fault<'_> {
+    fn from(refusal: Refusal) -> Self {
+        Fault::Refused(refusal)
+    }
+}
+
+impl From<ArgsFault> for Fault<'_> {
+    fn from(fault: ArgsFault) -> Self {
+        match fault {
+            ArgsFault::Unreadable => Fault::BadArguments,
+            ArgsFault::Memory => Fault::Refused(Refusal::OutOfMemory),
+        }
+    }
+}
+
+// The bytes of a file.
+fn read_file<'a, F: Files>(files: &mut F, path: &'a str) -> Result<Vec<u8>, Fault<'a>> {
+    match files.read(path) {
+        Ok(bytes) => Ok(bytes),
+        Err(ReadFault::Failed) => Err(Fault::CannotRead(path)),
+        Err(ReadFault::Memory) => Err(Fault::Refused(Refusal::OutOfMemory)),
+    }
+}
+
+// The module in a file, if it is valid and all of it is run.
+fn load_file<'a, F: Files>(
+    engine: &Engine,
+    files: &mut F,
+    path: &'a str,
+) -> Result<ValidModule, Fault<'a>> {
+    let bytes = read_file(files, path)?;
+    Ok(engine.load(bytes.as_slice())?)
+}
+
+// Calls what the order names.
+fn call<'a, F: Files>(
+    alloc: Global,
+    order: &CallOrder<'a>,
+    files: &mut F,
+) -> Result<CallEnd, Fault<'a>> {
+    let mut engine = Engine::new(alloc, order.fuel, order.depth);
+    let module = load_file(&engine, files, order.file)?;
+    let instance = engine.link(module)?;
+    let address = engine.exported_function(instance, order.export)?;
+    let args = read_args(alloc, engine.parameters(address), order.args.as_slice())?;
+    match engine.call(address, args.as_slice()) {
+        Some(outcome) => Ok(CallEnd {
+            outcome,
+            fuel_left: engine.fuel_left(),
+        }),
+        None => Err(Fault::BadArguments),
+    }
+}
+
+// Decodes and validates the module in a file.
+fn check_file<'a, F: Files>(alloc: Global, files: &mut F, path: &'a str) -> Result<(), Fault<'a>> {
+    let bytes = read_file(files, path)?;
+    Ok(check(alloc, bytes.as_slice())?)
+}
+
+// Reads the words and does what they ask for.
+fn perform<'a, F: Files>(
+    alloc: Global,
+    words: &'a [String],
+    files: &mut F,
+) -> Result<End, Fault<'a>> {
+    match read_line(alloc, words)? {
+        Order::Call(order) => Ok(End::Called(call(alloc, &order, files)?)),
+        Order::Check(path) => {
+            check_file(alloc, files, path)?;
+            Ok(End::Valid)
+        }
+    }
+}
+
+/// Runs the program over the words after its name, and answers its exit status.
+pub fn run<F: Files, W: Write, E: Write>(
+    alloc: Global,
+    words: &[String],
+    files: &mut F,
+    out: &mut W,
+    err: &mut E,
+) -> u8
+    ensures { IsStatus result }
+{
+    match perform(alloc, words, files) {
+        Ok(End::Called(end)) => print_end(out, &end),
+        Ok(End::Valid) => print_valid(out),
+        Err(fault) => print_fault(err, &fault),
+    }
+}
+
+// What it means that the words cannot be had: one that is no text is none that the program reads.
+fn words_fault(error: &io::Error) -> Fault<'static> {
+    if error.kind() == io::ErrorKind::OutOfMemory {
+        Fault::Refused(Refusal::OutOfMemory)
+    } else {
+        Fault::Usage
+    }
+}
+
+/// Prints why the words after the program's name cannot be had, and answers the exit status.
+pub fn refuse_words<E: Write>(error: &io::Error, err: &mut E) -> u8
+    ensures { IsStatus result }
+{
+    print_fault(err, &words_fault(error))
+}

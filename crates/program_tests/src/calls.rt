@@ -1,0 +1,200 @@
+//! Calls of modules with instructions that are run, and with some that are not.
+
+use crate::runs::{Ending, ends_so_on};
+use std::alloc::{AllocError, Global};
+
+// A name, the sections of a module, and what a call of its function `f` with fuel for 100 steps prints.
+struct Run {
+    name: &'static str,
+    sections: &'static str,
+    out: &'static str,
+}
+
+#[rattlefmt::skip]
+static RUN: [Run; 22] = [
+    Run {
+        name: "i32.eqz",
+        sections: "0105016000017F 03020100 07050101660000 0A070105004100450B",
+        out: "i32 1\nfuel left 98\n",
+    },
+    Run {
+        name: "i64.lt_u",
+        sections: "0105016000017F 03020100 07050101660000 0A0901070042014202540B",
+        out: "i32 1\nfuel left 97\n",
+    },
+    Run {
+        name: "i32.clz",
+        sections: "0105016000017F 03020100 07050101660000 0A070105004101670B",
+        out: "i32 31\nfuel left 98\n",
+    },
+    Run {
+        name: "i32.extend8_s",
+        sections: "0105016000017F 03020100 07050101660000 0A08010600418001C00B",
+        out: "i32 4294967168\nfuel left 98\n",
+    },
+    Run {
+        name: "i32.sub",
+        sections: "0105016000017F 03020100 07050101660000 0A09010700410741026B0B",
+        out: "i32 5\nfuel left 97\n",
+    },
+    Run {
+        name: "i64.mul_and_i32.wrap_i64",
+        sections: "0105016000017F 03020100 07050101660000 0A0A010800420342047EA70B",
+        out: "i32 12\nfuel left 96\n",
+    },
+    Run {
+        name: "i64.extend_i32_u_and_i64.eqz",
+        sections: "0105016000017F 03020100 07050101660000 0A080106004100AD500B",
+        out: "i32 1\nfuel left 97\n",
+    },
+    Run {
+        name: "drop",
+        sections: "0105016000017F 03020100 07050101660000 0A09010700410741081A0B",
+        out: "i32 7\nfuel left 97\n",
+    },
+    Run {
+        name: "select",
+        sections: "0105016000017F 03020100 07050101660000 0A0B0109004107410841001B0B",
+        out: "i32 8\nfuel left 96\n",
+    },
+    Run {
+        name: "select_with_types",
+        sections: "0105016000017F 03020100 07050101660000 0A0D010B004107410841011C017F0B",
+        out: "i32 7\nfuel left 96\n",
+    },
+    Run {
+        name: "local.set_and_local.get",
+        sections: "0105016000017F 03020100 07050101660000 0A0C010A01017F4107210020000B",
+        out: "i32 7\nfuel left 97\n",
+    },
+    Run {
+        name: "local.tee",
+        sections: "0105016000017F 03020100 07050101660000 0A0D010B01017F4107220020006A0B",
+        out: "i32 14\nfuel left 96\n",
+    },
+    Run {
+        name: "nop",
+        sections: "0105016000017F 03020100 07050101660000 0A070105000141070B",
+        out: "i32 7\nfuel left 98\n",
+    },
+    Run {
+        name: "block",
+        sections: "0105016000017F 03020100 07050101660000 0A09010700027F41070B0B",
+        out: "i32 7\nfuel left 98\n",
+    },
+    Run {
+        name: "loop",
+        sections: "0105016000017F 03020100 07050101660000 0A09010700037F41070B0B",
+        out: "i32 7\nfuel left 98\n",
+    },
+    Run {
+        name: "if_with_else",
+        sections: "0105016000017F 03020100 07050101660000 0A0E010C004100047F41070541080B0B",
+        out: "i32 8\nfuel left 97\n",
+    },
+    Run {
+        name: "if_without_else",
+        sections: "0105016000017F 03020100 07050101660000 0A0C010A0041000440010B41070B",
+        out: "i32 7\nfuel left 97\n",
+    },
+    Run {
+        name: "br",
+        sections: "0105016000017F 03020100 07050101660000 0A0B010900027F41070C000B0B",
+        out: "i32 7\nfuel left 97\n",
+    },
+    Run {
+        name: "br_if",
+        sections: "0105016000017F 03020100 07050101660000 0A10010E00027F410741010D001A41080B0B",
+        out: "i32 7\nfuel left 96\n",
+    },
+    Run {
+        name: "br_table",
+        sections: "0105016000017F 03020100 07050101660000 0A0E010C00027F410741000E00000B0B",
+        out: "i32 7\nfuel left 96\n",
+    },
+    Run {
+        name: "return",
+        sections: "0105016000017F 03020100 07050101660000 0A0C010A00024041070F0B41080B",
+        out: "i32 7\nfuel left 97\n",
+    },
+    Run {
+        name: "call",
+        sections: "0105016000017F 0303020000 07050101660000 0A0E020700100141016A0B040041070B",
+        out: "i32 8\nfuel left 96\n",
+    },
+];
+
+fn is_run(alloc: Global, run: &Run) -> Result<bool, AllocError> {
+    let words = "call module.wasm f --fuel 100";
+    ends_so_on(alloc, words, run.sections, Ending::Out(run.out, 0))
+}
+
+#[test]
+fn runs_each_group_of_instructions(rt: HostRuntime) {
+    for run in &RUN {
+        assert!(rt; is_run(rt.alloc(), run) == Ok(true), "{}", run.name);
+    }
+}
+
+// A name, and the sections of a module.
+struct NotRun {
+    name: &'static str,
+    sections: &'static str,
+}
+
+#[rattlefmt::skip]
+static NOT_RUN: [NotRun; 22] = [
+    NotRun { name: "ref.null", sections: "0105016000017F 03020100 07050101660000 0A09010700D0701A41070B" },
+    NotRun { name: "ref.is_null", sections: "0105016000017F 03020100 07050101660000 0A07010500D070D10B" },
+    NotRun { name: "ref.func", sections: "0105016000017F 03020100 07050101660000 0A09010700D2001A41070B" },
+    NotRun { name: "global.get", sections: "0105016000017F 03020100 07050101660000 0A0601040023000B" },
+    NotRun { name: "global.set", sections: "0105016000017F 03020100 07050101660000 0A0A0108004100240041070B" },
+    NotRun { name: "table.get", sections: "0105016000017F 03020100 07050101660000 0A0B010900410025001A41070B" },
+    NotRun { name: "table.size", sections: "0105016000017F 03020100 07050101660000 0A07010500FC10000B" },
+    NotRun { name: "elem.drop", sections: "0105016000017F 03020100 07050101660000 0A09010700FC0D0041070B" },
+    NotRun { name: "i32.load", sections: "0105016000017F 03020100 07050101660000 0A0901070041002802000B" },
+    NotRun { name: "i32.store", sections: "0105016000017F 03020100 07050101660000 0A0D010B004100410036020041070B" },
+    NotRun { name: "memory.size", sections: "0105016000017F 03020100 07050101660000 0A060104003F000B" },
+    NotRun { name: "call_indirect", sections: "0105016000017F 03020100 07050101660000 0A0901070041001100000B" },
+    NotRun {
+        name: "ref.null_within_a_block_that_is_left",
+        sections: "0105016000017F 03020100 07050101660000 0A0E010C0002400C00D0701A0B41070B",
+    },
+    NotRun { name: "data.drop", sections: "0105016000017F 03020100 07050101660000 0C0100 0A09010700FC090041070B" },
+    NotRun {
+        name: "ref.null_in_the_second_function",
+        sections: "0105016000017F 0303020000 07050101660000 0A0C02040041070B0500D070D10B",
+    },
+    NotRun {
+        name: "an_import",
+        sections: "0105016000017F 020701016101620000 03020100 07050101660000 0A0601040041070B",
+    },
+    NotRun { name: "a_table", sections: "0105016000017F 03020100 040401700001 07050101660000 0A0601040041070B" },
+    NotRun { name: "a_memory", sections: "0105016000017F 03020100 0503010001 07050101660000 0A0601040041070B" },
+    NotRun { name: "a_global", sections: "0105016000017F 03020100 0606017F0041000B 07050101660000 0A0601040041070B" },
+    NotRun {
+        name: "an_element_segment",
+        sections: "0105016000017F 03020100 07050101660000 09050101000100 0A0601040041070B",
+    },
+    NotRun { name: "a_data_segment", sections: "0105016000017F 03020100 07050101660000 0A0601040041070B 0B0401010161" },
+    NotRun {
+        name: "a_start",
+        sections: "0108026000017F600000 0303020001 07050101660000 080101 0A0A02040041070B0300010B",
+    },
+];
+
+fn is_refused(alloc: Global, sections: &str) -> Result<bool, AllocError> {
+    let ending = Ending::Err("refused 2 Unsupported\n", 5);
+    ends_so_on(alloc, "call module.wasm f", sections, ending)
+}
+
+#[test]
+fn refuses_what_is_not_run(rt: HostRuntime) {
+    for row in &NOT_RUN {
+        assert!(rt;
+            is_refused(rt.alloc(), row.sections) == Ok(true),
+            "{}",
+            row.name
+        );
+    }
+}

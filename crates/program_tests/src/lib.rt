@@ -1,0 +1,23 @@
+//! Tests of the program, over words, files and writers in memory.
+#![tactic(auto)]
+
+#[cfg(test)]
+mod arguments;
+#[cfg(test)]
+mod calls;
+#[cfg(test)]
+mod checks;
+#[cfg(test)]
+mod depths;
+#[cfg(test)]
+mod files;
+#[cfg(test)]
+mod lines;
+#[cfg(test)]
+mod outputs;
+#[cfg(test)]
+mod printing;
+#[cfg(test)]
+mod runs;
+#[cfg(test)]
+mod usage;

@@ -1,0 +1,75 @@
+//! Runs of the program over files and writers in memory.
+
+use crate::files::OneModule;
+use program::{Files, run};
+use std::alloc::{AllocError, Global};
+
+/// The text that a run prints to one of its writers, where it prints nothing to the other, and its exit status.
+#[derive(Clone, Copy)]
+pub enum Ending<'a> {
+    Out(&'a str, u8),
+    Err(&'a str, u8),
+}
+
+/// The words of a run with blanks between them, where `''` is the empty word, and how the run ends.
+pub struct Row {
+    pub words: &'static str,
+    pub ending: Ending<'static>,
+}
+
+/// The words of a row, as the program has them.
+pub fn words_of(alloc: Global, text: &str) -> Result<Vec<String>, AllocError> {
+    let mut words = Vec::new(alloc);
+    for word in text.split_whitespace() {
+        let word = if word == "''" { "" } else { word };
+        words.push(String::from_str(alloc, word)?)?;
+    }
+    Ok(words)
+}
+
+// What a run printed, and its exit status.
+#[derive(Drop)]
+struct Printed {
+    out: Vec<u8>,
+    err: Vec<u8>,
+    status: u8,
+}
+
+fn run_in_memory<F: Files>(alloc: Global, words: &[String], files: &mut F) -> Printed {
+    let mut out = Vec::new(alloc);
+    let mut err = Vec::new(alloc);
+    let status = run(alloc, words, files, &mut out, &mut err);
+    Printed { out, err, status }
+}
+
+fn is_printed(got: &Printed, out: &str, err: &str, status: u8) -> bool {
+    got.out.as_slice() == out.as_bytes()
+        && got.err.as_slice() == err.as_bytes()
+        && got.status == status
+}
+
+/// Whether a run over these words and files ends so.
+pub fn ends_so<F: Files>(
+    alloc: Global,
+    words: &[String],
+    files: &mut F,
+    ending: Ending<'_>,
+) -> bool {
+    let got = run_in_memory(alloc, words, files);
+    match ending {
+        Ending::Out(text, status) => is_printed(&got, text, "", status),
+        Ending::Err(text, status) => is_printed(&got, "", text, status),
+    }
+}
+
+/// Whether a run over these words and the module of these sections, hexadecimal numbers, ends so.
+pub fn ends_so_on(
+    alloc: Global,
+    words: &str,
+    sections: &str,
+    ending: Ending<'_>,
+) -> Result<bool, AllocError> {
+    let words = words_of(alloc, words)?;
+    let mut module = OneModule { alloc, sections };
+    Ok(ends_so(alloc, words.as_slice(), &mut module, ending))
+}

@@ -1,0 +1,23 @@
+//! Tests of the validator, over modules in the binary format.
+#![tactic(auto)]
+
+#[cfg(test)]
+mod answers;
+#[cfg(test)]
+mod blocks;
+#[cfg(test)]
+mod control;
+#[cfg(test)]
+mod memories;
+#[cfg(test)]
+mod mixed;
+#[cfg(test)]
+mod modules;
+#[cfg(test)]
+mod numeric;
+#[cfg(test)]
+mod operands;
+#[cfg(test)]
+mod refusals;
+#[cfg(test)]
+mod tables;
