@@ -47,8 +47,9 @@ struct Row {
     wanted: Wanted,
 }
 
+// Operators on two integers.
 #[rattlefmt::skip]
-static ROWS: [Row; 100] = [
+static BINARY: [Row; 30] = [
     Row { name: "i32.add", instruction: Numeric(NumericOp::Binary(Width::W32, BinaryOp::Add)), operands: &[Val::I32(4294967295), Val::I32(2)], wanted: Gives(Val::I32(1)) },
     Row { name: "i32.sub", instruction: Numeric(NumericOp::Binary(Width::W32, BinaryOp::Sub)), operands: &[Val::I32(7), Val::I32(9)], wanted: Gives(Val::I32(4294967294)) },
     Row { name: "i32.mul", instruction: Numeric(NumericOp::Binary(Width::W32, BinaryOp::Mul)), operands: &[Val::I32(65536), Val::I32(65537)], wanted: Gives(Val::I32(65536)) },
@@ -79,6 +80,11 @@ static ROWS: [Row; 100] = [
     Row { name: "i64.shr_u", instruction: Numeric(NumericOp::Binary(Width::W64, BinaryOp::ShrU)), operands: &[Val::I64(18446744073709551608), Val::I64(1)], wanted: Gives(Val::I64(9223372036854775804)) },
     Row { name: "i64.rotl", instruction: Numeric(NumericOp::Binary(Width::W64, BinaryOp::Rotl)), operands: &[Val::I64(9223372036854775809), Val::I64(1)], wanted: Gives(Val::I64(3)) },
     Row { name: "i64.rotr", instruction: Numeric(NumericOp::Binary(Width::W64, BinaryOp::Rotr)), operands: &[Val::I64(3), Val::I64(1)], wanted: Gives(Val::I64(9223372036854775809)) },
+];
+
+// Comparisons.
+#[rattlefmt::skip]
+static COMPARISONS: [Row; 20] = [
     Row { name: "i32.eq", instruction: Numeric(NumericOp::Compare(Width::W32, Comparison::Eq)), operands: &[Val::I32(4294967295), Val::I32(1)], wanted: Gives(Val::I32(0)) },
     Row { name: "i64.eq", instruction: Numeric(NumericOp::Compare(Width::W64, Comparison::Eq)), operands: &[Val::I64(18446744073709551615), Val::I64(1)], wanted: Gives(Val::I32(0)) },
     Row { name: "i32.ne", instruction: Numeric(NumericOp::Compare(Width::W32, Comparison::Ne)), operands: &[Val::I32(4294967295), Val::I32(1)], wanted: Gives(Val::I32(1)) },
@@ -99,6 +105,11 @@ static ROWS: [Row; 100] = [
     Row { name: "i64.ge_s", instruction: Numeric(NumericOp::Compare(Width::W64, Comparison::GeS)), operands: &[Val::I64(18446744073709551615), Val::I64(1)], wanted: Gives(Val::I32(0)) },
     Row { name: "i32.ge_u", instruction: Numeric(NumericOp::Compare(Width::W32, Comparison::GeU)), operands: &[Val::I32(4294967295), Val::I32(1)], wanted: Gives(Val::I32(1)) },
     Row { name: "i64.ge_u", instruction: Numeric(NumericOp::Compare(Width::W64, Comparison::GeU)), operands: &[Val::I64(18446744073709551615), Val::I64(1)], wanted: Gives(Val::I32(1)) },
+];
+
+// Operators on one integer.
+#[rattlefmt::skip]
+static UNARY: [Row; 18] = [
     Row { name: "i32.clz", instruction: Numeric(NumericOp::Unary(Width::W32, UnaryOp::Clz)), operands: &[Val::I32(1)], wanted: Gives(Val::I32(31)) },
     Row { name: "i64.clz", instruction: Numeric(NumericOp::Unary(Width::W64, UnaryOp::Clz)), operands: &[Val::I64(1)], wanted: Gives(Val::I64(63)) },
     Row { name: "i32.ctz", instruction: Numeric(NumericOp::Unary(Width::W32, UnaryOp::Ctz)), operands: &[Val::I32(8)], wanted: Gives(Val::I32(3)) },
@@ -117,6 +128,11 @@ static ROWS: [Row; 100] = [
     Row { name: "i64.extend_i32_s", instruction: Numeric(NumericOp::Convert(Conversion::I64ExtendI32S)), operands: &[Val::I32(4294967295)], wanted: Gives(Val::I64(18446744073709551615)) },
     Row { name: "i64.extend_i32_u", instruction: Numeric(NumericOp::Convert(Conversion::I64ExtendI32U)), operands: &[Val::I32(4294967295)], wanted: Gives(Val::I64(4294967295)) },
     Row { name: "i64.extend32_s", instruction: Numeric(NumericOp::Convert(Conversion::I64Extend32S)), operands: &[Val::I64(2147483648)], wanted: Gives(Val::I64(18446744071562067968)) },
+];
+
+// Instructions that trap.
+#[rattlefmt::skip]
+static TRAPS: [Row; 11] = [
     Row { name: "i32.div_s by zero", instruction: Numeric(NumericOp::Binary(Width::W32, BinaryOp::DivS)), operands: &[Val::I32(7), Val::I32(0)], wanted: Traps(Trap::DivideByZero) },
     Row { name: "i64.div_s by zero", instruction: Numeric(NumericOp::Binary(Width::W64, BinaryOp::DivS)), operands: &[Val::I64(7), Val::I64(0)], wanted: Traps(Trap::DivideByZero) },
     Row { name: "i32.div_u by zero", instruction: Numeric(NumericOp::Binary(Width::W32, BinaryOp::DivU)), operands: &[Val::I32(7), Val::I32(0)], wanted: Traps(Trap::DivideByZero) },
@@ -128,6 +144,11 @@ static ROWS: [Row; 100] = [
     Row { name: "i32.div_s of the least by -1", instruction: Numeric(NumericOp::Binary(Width::W32, BinaryOp::DivS)), operands: &[Val::I32(2147483648), Val::I32(4294967295)], wanted: Traps(Trap::IntegerOverflow) },
     Row { name: "i64.div_s of the least by -1", instruction: Numeric(NumericOp::Binary(Width::W64, BinaryOp::DivS)), operands: &[Val::I64(9223372036854775808), Val::I64(18446744073709551615)], wanted: Traps(Trap::IntegerOverflow) },
     Row { name: "unreachable", instruction: Control(ControlOp::Unreachable), operands: &[], wanted: Traps(Trap::Unreachable) },
+];
+
+// Selections and constants.
+#[rattlefmt::skip]
+static OTHERS: [Row; 8] = [
     Row { name: "select by 7", instruction: Parametric(ParametricOp::Select), operands: &[Val::I32(10), Val::I32(20), Val::I32(7)], wanted: Gives(Val::I32(10)) },
     Row { name: "select by 0", instruction: Parametric(ParametricOp::Select), operands: &[Val::I32(10), Val::I32(20), Val::I32(0)], wanted: Gives(Val::I32(20)) },
     Row { name: "select by an i64", instruction: Parametric(ParametricOp::Select), operands: &[Val::I32(10), Val::I32(20), Val::I64(7)], wanted: Lacks },
@@ -136,6 +157,11 @@ static ROWS: [Row; 100] = [
     Row { name: "select (result i32) by an i64", instruction: SelectTyped(ValType::I32), operands: &[Val::I32(10), Val::I32(20), Val::I64(7)], wanted: Lacks },
     Row { name: "i32.const", instruction: I32Const(4294967295), operands: &[], wanted: Gives(Val::I32(4294967295)) },
     Row { name: "i64.const", instruction: I64Const(4294967296), operands: &[], wanted: Gives(Val::I64(4294967296)) },
+];
+
+// Instructions that find no operand or local of their kind, or are none that is run here.
+#[rattlefmt::skip]
+static LACKING: [Row; 13] = [
     Row { name: "i32.add of other types", instruction: Numeric(NumericOp::Binary(Width::W32, BinaryOp::Add)), operands: &[Val::I64(1), Val::I32(2)], wanted: Lacks },
     Row { name: "i32.add of other types", instruction: Numeric(NumericOp::Binary(Width::W32, BinaryOp::Add)), operands: &[Val::I32(1), Val::I64(2)], wanted: Lacks },
     Row { name: "i32.add of other types", instruction: Numeric(NumericOp::Binary(Width::W32, BinaryOp::Add)), operands: &[Val::FuncRef(None), Val::I32(2)], wanted: Lacks },
@@ -204,8 +230,43 @@ fn agrees(alloc: Global, row: &Row) -> Result<bool, AllocError> {
 }
 
 #[test]
-fn runs_instructions(rt: HostRuntime) {
-    for row in &ROWS {
+fn computes_from_two(rt: HostRuntime) {
+    for row in &BINARY {
+        assert!(rt; agrees(rt.alloc(), row) == Ok(true), "{}", row.name);
+    }
+}
+
+#[test]
+fn compares(rt: HostRuntime) {
+    for row in &COMPARISONS {
+        assert!(rt; agrees(rt.alloc(), row) == Ok(true), "{}", row.name);
+    }
+}
+
+#[test]
+fn computes_from_one(rt: HostRuntime) {
+    for row in &UNARY {
+        assert!(rt; agrees(rt.alloc(), row) == Ok(true), "{}", row.name);
+    }
+}
+
+#[test]
+fn traps(rt: HostRuntime) {
+    for row in &TRAPS {
+        assert!(rt; agrees(rt.alloc(), row) == Ok(true), "{}", row.name);
+    }
+}
+
+#[test]
+fn selects_and_gives_constants(rt: HostRuntime) {
+    for row in &OTHERS {
+        assert!(rt; agrees(rt.alloc(), row) == Ok(true), "{}", row.name);
+    }
+}
+
+#[test]
+fn lacks_operands_and_locals(rt: HostRuntime) {
+    for row in &LACKING {
         assert!(rt; agrees(rt.alloc(), row) == Ok(true), "{}", row.name);
     }
 }

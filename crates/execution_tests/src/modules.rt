@@ -8,14 +8,20 @@ use validator::{ValidModule, validate};
 
 /// The valid module of a text; none where the text is no module, or an invalid one.
 pub fn valid_module(alloc: Global, text: &str) -> Option<ValidModule> {
-    let bytes = assemble(alloc, text).ok()?;
-    let decoded = decode(alloc, &bytes).ok()?;
+    let Ok(bytes) = assemble(alloc, text) else {
+        return None;
+    };
+    let Ok(decoded) = decode(alloc, &bytes) else {
+        return None;
+    };
     validate(alloc, decoded).ok()
 }
 
 /// Puts the module of a text into a store, and answers the number of its instance.
 pub fn append(alloc: Global, store: &mut Store, text: &str) -> Option<u32> {
-    let valid = valid_module(alloc, text)?;
+    let Some(valid) = valid_module(alloc, text) else {
+        return None;
+    };
     if !store.has_room_for(&valid) {
         return None;
     }

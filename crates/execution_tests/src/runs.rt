@@ -205,47 +205,29 @@ fn runs_so(
     }
 }
 
-// A row cut into its parts.
-#[derive(Clone, Copy)]
-struct Row<'a> {
-    args: &'a str,
-    fuel: u64,
-    depth: u32,
-    ends: &'a str,
-    left: u64,
-    text: &'a str,
+// The parts of a row.
+fn parts_of(alloc: Global, line: &str) -> Result<Vec<&str>, AllocError> {
+    line.split('|').map(|part| part.trim()).collect(alloc)
 }
 
-fn row_of(line: &str) -> Option<Row<'_>> {
-    let (_, parts) = line.split_once(" |")?;
-    let (args, parts) = parts.split_once(" | ")?;
-    let (fuel, parts) = parts.split_once(" | ")?;
-    let (depth, parts) = parts.split_once(" | ")?;
-    let (ends, parts) = parts.split_once(" | ")?;
-    let (left, text) = parts.split_once(" | ")?;
-    Some(Row {
-        args,
-        fuel: fuel.parse().ok()?,
-        depth: depth.parse().ok()?,
-        ends,
-        left: left.parse().ok()?,
-        text,
-    })
+// Whether the first function of a module is run as the parts of a row say.
+fn parts_agree(alloc: Global, parts: &[&str]) -> bool {
+    let [_, args, fuel, depth, ends, left, text] = parts else {
+        return false;
+    };
+    let (Ok(fuel), Ok(depth), Ok(left)) = (fuel.parse(), depth.parse(), left.parse()) else {
+        return false;
+    };
+    match values(alloc, args) {
+        Ok(args) => runs_so(alloc, text, &args, (fuel, depth), (ends, left)),
+        Err(_) => false,
+    }
 }
 
 // Whether a row is run as it says.
 fn agrees(alloc: Global, line: &str) -> bool {
-    let Some(row) = row_of(line) else {
-        return false;
-    };
-    match values(alloc, row.args) {
-        Ok(args) => runs_so(
-            alloc,
-            row.text,
-            &args,
-            (row.fuel, row.depth),
-            (row.ends, row.left),
-        ),
+    match parts_of(alloc, line) {
+        Ok(parts) => parts_agree(alloc, &parts),
         Err(_) => false,
     }
 }
@@ -275,20 +257,23 @@ static ADDRESSES: [(u32, &str, u64); 5] = [
     (4, "values i32 22", 8),
 ];
 
-// Whether the function at an address is run so, in a store of both modules.
-fn runs_in_its_instance(alloc: Global, address: u32, ends: &str, left: u64) -> bool {
-    match store_with(alloc, &TWO) {
-        Some(mut store) => calls_so(alloc, &mut store, (address, &[]), (9, 2), (ends, left)),
-        None => false,
+// Calls the functions at all addresses in turn, in one store of both modules: the first that is not run so.
+fn first_at_fault(alloc: Global) -> Option<u32> {
+    let Some(mut store) = store_with(alloc, &TWO) else {
+        return Some(0);
+    };
+    let mut first = None;
+    for (address, ends, left) in &ADDRESSES {
+        let wanted = (*ends, *left);
+        if first.is_none() && !calls_so(alloc, &mut store, (*address, &[]), (9, 2), wanted) {
+            first = Some(*address);
+        }
     }
+    first
 }
 
 #[test]
 fn calls_within_the_instance(rt: HostRuntime) {
-    for (address, ends, left) in &ADDRESSES {
-        assert!(rt;
-            runs_in_its_instance(rt.alloc(), *address, ends, *left),
-            "{address}"
-        );
-    }
+    let first = first_at_fault(rt.alloc());
+    assert!(rt; first.is_none(), "{first:?}");
 }
