@@ -1,6 +1,9 @@
-pub mod Reading
-pub mod TypeReading
-pub mod OperationReading
-pub mod EntryReading
-pub mod ModuleReading
-pub mod Refusals
+pub mod Conventions
+pub mod Values
+pub mod Types
+pub mod Instructions
+pub mod Expressions
+pub mod Sections
+pub mod Modules
+pub mod Limits
+pub mod Errors

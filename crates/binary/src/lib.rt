@@ -1,22 +1,17 @@
 //! The decoder: reads modules in the binary format.
 #![tactic(auto)]
 
-mod code;
-mod data_count;
-mod decoding;
-mod error;
-mod expression;
-mod externals;
-mod levels;
+mod errors;
+mod expressions;
+mod instructions;
+mod laws;
 mod limits;
-mod memory_operations;
-mod numeric_operations;
-mod operations;
+mod modules;
 mod reader;
 mod sections;
-mod segments;
 mod types;
-mod vector;
+mod values;
 
-pub use decoding::decode;
-pub use error::DecodeError;
+pub use errors::DecodeError;
+pub use laws::bytes_spell_one_module;
+pub use modules::decode;

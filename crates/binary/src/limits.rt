@@ -1,18 +1,23 @@
-ghost use Rattle.std.specs.Prelude.{◌≡◌, ◌↔◌, All, IsTrue, slice_get};
-ghost use Rattle.meaning.specs.Limits.{HasFewLocals, IsSmallType, parameter_count};
+//! The limits on a module, which are this project's own.
+
+ghost use Rattle.std.specs.Prelude.{◌≡◌, ◌↔◌, IsTrue, slice_get};
+ghost use Rattle.binary.specs.Limits.{HasSmallParts};
+ghost use Rattle.meaning.specs.binary.Limits.{HasFewLocals, IsSmallType, parameter_count};
 
 use core_types::{Func, FuncType, Module};
 
+// Of a module, in bytes.
 pub const MAX_SIZE: usize = 67_108_864;
 
 // Of parameters of a type, and of its results.
 const MAX_VALUES: usize = 1_000;
 
+// Of locals of a function, its parameters included.
 const MAX_LOCALS: usize = 50_000;
 
 // Whether the module's types and functions are within the limits.
 pub fn has_small_parts(decoded: &Module) -> bool
-    ensures { IsTrue result ↔ (All IsSmallType decoded.now.types × All (HasFewLocals decoded.now.types) decoded.now.funcs) }
+    ensures { IsTrue result ↔ HasSmallParts decoded.now }
 {
     let types = decoded.types.as_slice();
     types.iter().all(is_small_type)

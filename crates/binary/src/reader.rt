@@ -1,17 +1,17 @@
 ghost use Rattle.std.specs.Prelude.{◌≡◌, ◌≢◌, ◌==◌, [], length, drop, if◌then◌else◌, ◌^◌, ◌<ℤ◌, pos, OnOk, IfOk, IfErr};
-ghost use Rattle.binary.specs.Reading.{Gives, begins_with, byte_at, part_at, unsigned_at, signed_at};
-ghost use Rattle.binary.specs.Refusals.{OnRefused};
-ghost use Rattle.binary.specs.TypeReading.{begins_negative};
+ghost use Rattle.binary.specs.Conventions.{Gives};
+ghost use Rattle.binary.specs.Errors.{OnRefused};
+ghost use Rattle.binary.specs.Values.{begins_negative, begins_with, byte_at, part_at, signed_at, unsigned_at};
 
-use crate::error::DecodeError;
+use crate::errors::DecodeError;
 use leb::{read_s32, read_s33, read_s64, read_u32};
 use std::marker::Model;
 
-// Reads from left to right. Contracts see the bytes that are left.
+// A reader of the input, from left to right. Contracts see the bytes that are not read yet.
 #[derive(Drop)]
 pub struct Reader<'a> {
     bytes: &'a [u8],
-    place: usize,
+    offset: usize,
 }
 
 impl<'a> Model for Reader<'a> {
@@ -19,34 +19,36 @@ impl<'a> Model for Reader<'a> {
 
     ghost Value = { List ℕ };
 
-    ghost view = { λ a. drop a.place a.bytes.now };
+    ghost view = { λ a. drop a.offset a.bytes.now };
 
-    ghost invariant = { λ a. a.place ≤ length a.bytes.now };
+    ghost invariant = { λ a. a.offset ≤ length a.bytes.now };
 }
 
 impl<'a> Reader<'a> {
+    // A reader of all these bytes.
     pub fn new(bytes: &'a [u8]) -> Reader<'a>
         ensures { result ≡ bytes.now }
     {
-        Reader { bytes, place: 0 }
+        Reader { bytes, offset: 0 }
     }
 
+    // Whether all bytes are read.
     pub fn is_empty(&self) -> bool
         ensures { result ≡ (length self.now == 0) }
     {
-        self.place == self.bytes.len()
+        self.offset == self.bytes.len()
     }
 
     // The offset in the whole input.
-    pub fn place(&self) -> usize {
-        self.place
+    pub fn offset(&self) -> usize {
+        self.offset
     }
 
-    // The bytes that are left.
+    // The bytes that are not read yet.
     pub fn rest(&self) -> &'a [u8]
         ensures { result.now ≡ self.now }
     {
-        &self.bytes[self.place..]
+        &self.bytes[self.offset..]
     }
 
     // Passes the next byte if it is this one.
@@ -54,99 +56,104 @@ impl<'a> Reader<'a> {
         ensures accepted { result ≡ begins_with byte self.old }
         ensures rest { self.new ≡ (if result then drop 1 self.old else self.old) }
     {
-        if self.place >= self.bytes.len() || self.bytes[self.place] != byte {
+        if self.offset >= self.bytes.len() || self.bytes[self.offset] != byte {
             return false;
         }
-        self.place += 1;
+        self.offset += 1;
         true
     }
 
-    // Refuses bytes that are left.
+    // Refuses bytes that are not read.
     pub fn finish(&self) -> Result<(), DecodeError>
         ensures ok { OnOk result (self.now ≡ []) }
         ensures refused { IfErr result (λ error. OnRefused error (self.now ≢ [])) }
     {
         if !self.is_empty() {
-            return Err(DecodeError::Malformed(self.place));
+            return Err(DecodeError::Malformed(self.offset));
         }
         Ok(())
     }
 
+    // Reads a byte.
     pub fn byte(&mut self) -> Result<u8, DecodeError>
         ensures { Gives result self.new (byte_at self.old) }
     {
-        if self.place >= self.bytes.len() {
-            return Err(DecodeError::Malformed(self.place));
+        if self.offset >= self.bytes.len() {
+            return Err(DecodeError::Malformed(self.offset));
         }
-        let byte = self.bytes[self.place];
-        self.place += 1;
+        let byte = self.bytes[self.offset];
+        self.offset += 1;
         Ok(byte)
     }
 
+    // Reads an unsigned integer of 32 bits.
     pub fn u32(&mut self) -> Result<u32, DecodeError>
         ensures { Gives result self.new (unsigned_at 32 self.old) }
     {
-        let Some((value, end)) = read_u32(self.bytes, self.place) else {
-            return Err(DecodeError::Malformed(self.place));
+        let Some((value, end)) = read_u32(self.bytes, self.offset) else {
+            return Err(DecodeError::Malformed(self.offset));
         };
-        self.place = end;
+        self.offset = end;
         Ok(value)
     }
 
+    // Reads a signed integer of 32 bits.
     pub fn s32(&mut self) -> Result<i32, DecodeError>
         ensures { Gives result self.new (signed_at 32 self.old) }
     {
-        let Some((value, end)) = read_s32(self.bytes, self.place) else {
-            return Err(DecodeError::Malformed(self.place));
+        let Some((value, end)) = read_s32(self.bytes, self.offset) else {
+            return Err(DecodeError::Malformed(self.offset));
         };
-        self.place = end;
+        self.offset = end;
         Ok(value)
     }
 
+    // Reads a signed integer of 33 bits.
     pub fn s33(&mut self) -> Result<i64, DecodeError>
         ensures gives { Gives result self.new (signed_at 33 self.old) }
         ensures range { IfOk result (λ value. value <ℤ pos (2 ^ 32)) }
     {
-        let Some((value, end)) = read_s33(self.bytes, self.place) else {
-            return Err(DecodeError::Malformed(self.place));
+        let Some((value, end)) = read_s33(self.bytes, self.offset) else {
+            return Err(DecodeError::Malformed(self.offset));
         };
-        self.place = end;
+        self.offset = end;
         Ok(value)
     }
 
+    // Reads a signed integer of 64 bits.
     pub fn s64(&mut self) -> Result<i64, DecodeError>
         ensures { Gives result self.new (signed_at 64 self.old) }
     {
-        let Some((value, end)) = read_s64(self.bytes, self.place) else {
-            return Err(DecodeError::Malformed(self.place));
+        let Some((value, end)) = read_s64(self.bytes, self.offset) else {
+            return Err(DecodeError::Malformed(self.offset));
         };
-        self.place = end;
+        self.offset = end;
         Ok(value)
     }
 
-    // Whether the next byte, alone, spells a negative number.
+    // Whether the next byte, on its own, spells a negative number.
     pub fn begins_negative(&self) -> bool
         ensures { result ≡ begins_negative self.now }
     {
         matches!(self.rest().first(), Some(0x40..=0x7F))
     }
 
-    // Reads a size, and sets so many bytes apart.
-    #[tactic(auto, unfolding(crate::specs::Reading::part_at))]
+    // Reads a size, and gives a reader of that many bytes.
+    #[tactic(auto, unfolding(crate::specs::Values::part_at))]
     pub fn part(&mut self) -> Result<Reader<'a>, DecodeError>
         ensures { Gives result self.new (part_at self.old) }
     {
         let size = self.u32()? as usize;
-        if self.bytes.len() - self.place < size {
-            return Err(DecodeError::Malformed(self.place));
+        if self.bytes.len() - self.offset < size {
+            return Err(DecodeError::Malformed(self.offset));
         }
-        let place = self.place;
-        let end = place + size;
+        let offset = self.offset;
+        let end = offset + size;
         let bytes = self.bytes;
-        self.place = end;
+        self.offset = end;
         Ok(Reader {
             bytes: &bytes[..end],
-            place,
+            offset,
         })
     }
 }

@@ -1,16 +1,18 @@
-ghost use Rattle.binary.specs.Reading.{Gives};
-ghost use Rattle.binary.specs.TypeReading.{block_type_at, func_type_at, global_type_at, limits_at, mutability_at, ref_type_at, table_type_at, val_type_at};
+//! Types (Binary Format, Types).
 
-use crate::error::DecodeError;
+ghost use Rattle.binary.specs.Conventions.{Gives};
+ghost use Rattle.binary.specs.Types.{block_type_at, global_type_at, limits_at, mutability_at, ref_type_at, table_type_at, val_type_at};
+
+use crate::errors::DecodeError;
 use crate::reader::Reader;
-use crate::vector::{Readable, read_vector};
+use crate::values::{Readable, read_vector};
 use core_types::{
     BlockType, FuncType, GlobalType, Limits, Mutability, RefType, TableType, ValType,
 };
 use std::alloc::Global;
 
 impl Readable for ValType {
-    ghost use Rattle.binary.specs.TypeReading.{val_type_at};
+    ghost use Rattle.binary.specs.Types.{val_type_at};
 
     ghost reads = { val_type_at };
 
@@ -19,18 +21,26 @@ impl Readable for ValType {
     }
 }
 
+// A function type.
 impl Readable for FuncType {
-    ghost use Rattle.binary.specs.TypeReading.{func_type_at};
+    ghost use Rattle.binary.specs.Types.{func_type_at};
 
     ghost reads = { func_type_at };
 
+    #[tactic(auto, unfolding(crate::specs::Types::func_type_at))]
     fn read(alloc: Global, reader: &mut Reader<'_>) -> Result<FuncType, DecodeError> {
-        read_func_type(alloc, reader)
+        let offset = reader.offset();
+        if reader.byte()? != 0x60 {
+            return Err(DecodeError::Malformed(offset));
+        }
+        let params = read_vector::<ValType>(alloc, reader)?;
+        let results = read_vector::<ValType>(alloc, reader)?;
+        Ok(FuncType { params, results })
     }
 }
 
 impl Readable for Limits {
-    ghost use Rattle.binary.specs.TypeReading.{limits_at};
+    ghost use Rattle.binary.specs.Types.{limits_at};
 
     ghost reads = { limits_at };
 
@@ -40,7 +50,7 @@ impl Readable for Limits {
 }
 
 impl Readable for TableType {
-    ghost use Rattle.binary.specs.TypeReading.{table_type_at};
+    ghost use Rattle.binary.specs.Types.{table_type_at};
 
     ghost reads = { table_type_at };
 
@@ -49,51 +59,41 @@ impl Readable for TableType {
     }
 }
 
-#[tactic(auto, unfolding(crate::specs::TypeReading::val_type_at))]
+// A value type: a number type or a reference type.
+#[tactic(auto, unfolding(crate::specs::Types::val_type_at))]
 pub fn read_val_type(reader: &mut Reader<'_>) -> Result<ValType, DecodeError>
     ensures { Gives result reader.new (val_type_at reader.old) }
 {
-    let place = reader.place();
+    let offset = reader.offset();
     match reader.byte()? {
         0x7F => Ok(ValType::I32),
         0x7E => Ok(ValType::I64),
         0x70 => Ok(ValType::FuncRef),
         0x6F => Ok(ValType::ExternRef),
-        0x7B..=0x7D => Err(DecodeError::Unsupported(place)),
-        _ => Err(DecodeError::Malformed(place)),
+        0x7B..=0x7D => Err(DecodeError::Unsupported(offset)),
+        _ => Err(DecodeError::Malformed(offset)),
     }
 }
 
-#[tactic(auto, unfolding(crate::specs::TypeReading::ref_type_at))]
+// A reference type.
+#[tactic(auto, unfolding(crate::specs::Types::ref_type_at))]
 pub fn read_ref_type(reader: &mut Reader<'_>) -> Result<RefType, DecodeError>
     ensures { Gives result reader.new (ref_type_at reader.old) }
 {
-    let place = reader.place();
+    let offset = reader.offset();
     match reader.byte()? {
         0x70 => Ok(RefType::FuncRef),
         0x6F => Ok(RefType::ExternRef),
-        _ => Err(DecodeError::Malformed(place)),
+        _ => Err(DecodeError::Malformed(offset)),
     }
 }
 
-#[tactic(auto, unfolding(crate::specs::TypeReading::func_type_at))]
-fn read_func_type(alloc: Global, reader: &mut Reader<'_>) -> Result<FuncType, DecodeError>
-    ensures { Gives result reader.new (func_type_at reader.old) }
-{
-    let place = reader.place();
-    if reader.byte()? != 0x60 {
-        return Err(DecodeError::Malformed(place));
-    }
-    let params = read_vector::<ValType>(alloc, reader)?;
-    let results = read_vector::<ValType>(alloc, reader)?;
-    Ok(FuncType { params, results })
-}
-
-#[tactic(auto, unfolding(crate::specs::TypeReading::limits_at))]
+// Limits, which are also the type of a memory.
+#[tactic(auto, unfolding(crate::specs::Types::limits_at))]
 pub fn read_limits(reader: &mut Reader<'_>) -> Result<Limits, DecodeError>
     ensures { Gives result reader.new (limits_at reader.old) }
 {
-    let place = reader.place();
+    let offset = reader.offset();
     match reader.byte()? {
         0x00 => {
             let min = reader.u32()?;
@@ -104,11 +104,12 @@ pub fn read_limits(reader: &mut Reader<'_>) -> Result<Limits, DecodeError>
             let max = Some(reader.u32()?);
             Ok(Limits { min, max })
         }
-        _ => Err(DecodeError::Malformed(place)),
+        _ => Err(DecodeError::Malformed(offset)),
     }
 }
 
-#[tactic(auto, unfolding(crate::specs::TypeReading::table_type_at))]
+// A table type.
+#[tactic(auto, unfolding(crate::specs::Types::table_type_at))]
 pub fn read_table_type(reader: &mut Reader<'_>) -> Result<TableType, DecodeError>
     ensures { Gives result reader.new (table_type_at reader.old) }
 {
@@ -117,19 +118,20 @@ pub fn read_table_type(reader: &mut Reader<'_>) -> Result<TableType, DecodeError
     Ok(TableType { element, limits })
 }
 
-#[tactic(auto, unfolding(crate::specs::TypeReading::mutability_at))]
+#[tactic(auto, unfolding(crate::specs::Types::mutability_at))]
 fn read_mutability(reader: &mut Reader<'_>) -> Result<Mutability, DecodeError>
     ensures { Gives result reader.new (mutability_at reader.old) }
 {
-    let place = reader.place();
+    let offset = reader.offset();
     match reader.byte()? {
         0x00 => Ok(Mutability::Const),
         0x01 => Ok(Mutability::Var),
-        _ => Err(DecodeError::Malformed(place)),
+        _ => Err(DecodeError::Malformed(offset)),
     }
 }
 
-#[tactic(auto, unfolding(crate::specs::TypeReading::global_type_at))]
+// A global type.
+#[tactic(auto, unfolding(crate::specs::Types::global_type_at))]
 pub fn read_global_type(reader: &mut Reader<'_>) -> Result<GlobalType, DecodeError>
     ensures { Gives result reader.new (global_type_at reader.old) }
 {
@@ -138,8 +140,8 @@ pub fn read_global_type(reader: &mut Reader<'_>) -> Result<GlobalType, DecodeErr
     Ok(GlobalType { value, mutability })
 }
 
-// The type of a block: nothing, a value type, or an index, which is a signed number of 33 bits that is not negative.
-#[tactic(auto, unfolding(crate::specs::TypeReading::block_type_at))]
+// A block type: nothing, a value type, or an index, which is a signed integer of 33 bits that is not negative.
+#[tactic(auto, unfolding(crate::specs::Types::block_type_at))]
 pub fn read_block_type(reader: &mut Reader<'_>) -> Result<BlockType, DecodeError>
     ensures { Gives result reader.new (block_type_at reader.old) }
 {
@@ -149,9 +151,9 @@ pub fn read_block_type(reader: &mut Reader<'_>) -> Result<BlockType, DecodeError
     if reader.begins_negative() {
         return Ok(BlockType::Value(read_val_type(reader)?));
     }
-    let place = reader.place();
+    let offset = reader.offset();
     match u32::try_from(reader.s33()?) {
         Ok(index) => Ok(BlockType::Index(index)),
-        Err(_) => Err(DecodeError::Malformed(place)),
+        Err(_) => Err(DecodeError::Malformed(offset)),
     }
 }

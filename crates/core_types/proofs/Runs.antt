@@ -7,7 +7,7 @@ use Rattle.core_types.specs.declared.types.ValType.{ValType}
 use Rattle.core_types.specs.declared.locals.LocalRun.{LocalRun}
 use Rattle.core_types.specs.LocalRuns.{expanded, IsAscending, end_of, start_of}
 
--- A run behind so many locals.
+-- A run behind other locals.
 abbrev added : ℕ → ℕ → ValType → LocalRun
 added len count ty = record { end = len + count; ty = ty }
 
@@ -53,17 +53,17 @@ slice_get-behind : {A : Type 0} (n k : ℕ) (x : A) (rest : List A) → slice_ge
 slice_get-behind zero k x rest = ap (slice_get rest) (omega arith)
 slice_get-behind (suc n) k x rest = let e : suc n + k ≡ suc (n + k) = omega arith in rw e (slice_get-behind n k x rest)
 
--- The local at a place is of the type of the run around it.
-pub expanded-within : (start : ℕ) (runs : List LocalRun) (k place : ℕ) (run : LocalRun) → IsAscending start runs → slice_get runs k ≡ Some run → start_of start runs k ≤ place → place < run.end → slice_get (expanded start runs) (place - start) ≡ Some run.ty
-expanded-within start [] k place run h e le lt = absurd cc
-expanded-within start (first ∷ runs) zero place run h e le lt =
+-- The local at a index is of the type of the run around it.
+pub expanded-within : (start : ℕ) (runs : List LocalRun) (k index : ℕ) (run : LocalRun) → IsAscending start runs → slice_get runs k ≡ Some run → start_of start runs k ≤ index → index < run.end → slice_get (expanded start runs) (index - start) ≡ Some run.ty
+expanded-within start [] k index run h e le lt = absurd cc
+expanded-within start (first ∷ runs) zero index run h e le lt =
     let same : first ≡ run = cc in
-    let there : place < first.end = rw same lt in
-    slice_get-replicate (first.end - start) (place - start) first.ty (expanded first.end runs) (omega arith) ∙ ap (λ (r : LocalRun). Some r.ty) same
-expanded-within start (first ∷ runs) (suc k) place run h e le lt =
+    let there : index < first.end = rw same lt in
+    slice_get-replicate (first.end - start) (index - start) first.ty (expanded first.end runs) (omega arith) ∙ ap (λ (r : LocalRun). Some r.ty) same
+expanded-within start (first ∷ runs) (suc k) index run h e le lt =
     let above = start_of-above first.end runs k h.1 in
-    let split : place - start ≡ (first.end - start) + (place - first.end) = omega (arith, above, h.0, le) in
-    rw split (slice_get-behind (first.end - start) (place - first.end) first.ty (expanded first.end runs) ∙ expanded-within first.end runs k place run h.1 e le lt)
+    let split : index - start ≡ (first.end - start) + (index - first.end) = omega (arith, above, h.0, le) in
+    rw split (slice_get-behind (first.end - start) (index - first.end) first.ty (expanded first.end runs) ∙ expanded-within first.end runs k index run h.1 e le lt)
 
 start_of-past : (start : ℕ) (runs : List LocalRun) (k : ℕ) → length runs ≤ k → start_of start runs k ≡ end_of start runs
 start_of-past start [] zero h = refl
@@ -88,20 +88,20 @@ module _ (runs : List LocalRun) (types : List ValType) (ascending : IsAscending 
       let more : len + count - end_of 0 runs ≡ count = omega (arith, ends_with) in
       expanded-push 0 runs (added len count ty) ∙ rw (more, is) refl
 
-  -- The local at a place is of the type of the run around it.
-  pub type_within : (k place : ℕ) (run : LocalRun) → k < length runs → run ≡ get_or runs k run → start_of 0 runs k ≤ place → IfSome (slice_get runs k) (λ r. place < r.end) → Some run.ty ≡ slice_get types place
-  type_within k place run lt e begins ends =
+  -- The local at a index is of the type of the run around it.
+  pub type_within : (k index : ℕ) (run : LocalRun) → k < length runs → run ≡ get_or runs k run → start_of 0 runs k ≤ index → IfSome (slice_get runs k) (λ r. index < r.end) → Some run.ty ≡ slice_get types index
+  type_within k index run lt e begins ends =
       let there = slice_get_read runs (length runs) k run refl lt e in
-      let less : place < run.end = rw there at ends in
-      let whole : place - 0 ≡ place = omega arith in
-      sym (rw whole at (expanded-within 0 runs k place run ascending there begins less)) ∙ ap (λ (ts : List ValType). slice_get ts place) is
+      let less : index < run.end = rw there at ends in
+      let whole : index - 0 ≡ index = omega arith in
+      sym (rw whole at (expanded-within 0 runs k index run ascending there begins less)) ∙ ap (λ (ts : List ValType). slice_get ts index) is
 
   -- Behind the last run there is no local.
-  pub none_past : (k place : ℕ) → length runs ≤ k → start_of 0 runs k ≤ place → None ≡ slice_get types place
-  none_past k place past le = sym (slice_get_past types place (omega (arith, ends_with, start_of-past 0 runs k past)))
+  pub none_past : (k index : ℕ) → length runs ≤ k → start_of 0 runs k ≤ index → None ≡ slice_get types index
+  none_past k index past le = sym (slice_get_past types index (omega (arith, ends_with, start_of-past 0 runs k past)))
 
-pub begins_next : (runs : List LocalRun) (k place : ℕ) (default : LocalRun) → k < length runs → (get_or runs k default).end ≤ place → start_of 0 runs (k + 1) ≤ place
-begins_next runs k place default lt le = rw (add-one, start_of-next 0 runs k (get_or runs k default) (slice_get-get_or runs k default lt)) le
+pub begins_next : (runs : List LocalRun) (k index : ℕ) (default : LocalRun) → k < length runs → (get_or runs k default).end ≤ index → start_of 0 runs (k + 1) ≤ index
+begins_next runs k index default lt le = rw (add-one, start_of-next 0 runs k (get_or runs k default) (slice_get-get_or runs k default lt)) le
 
-pub ends_there : (runs : List LocalRun) (k place : ℕ) (default : LocalRun) → k < length runs → place < (get_or runs k default).end → IfSome (slice_get runs k) (λ run. place < run.end)
-ends_there runs k place default lt less = rw (slice_get-get_or runs k default lt) less
+pub ends_there : (runs : List LocalRun) (k index : ℕ) (default : LocalRun) → k < length runs → index < (get_or runs k default).end → IfSome (slice_get runs k) (λ run. index < run.end)
+ends_there runs k index default lt less = rw (slice_get-get_or runs k default lt) less

@@ -5,7 +5,7 @@ use crate::types::ValType;
 use std::alloc::{AllocError, Global};
 use std::marker::Model;
 
-/// Locals of one type in a row, up to the place `end`.
+/// Locals of one type in a row, up to the index `end`.
 #[derive(Clone, Copy)]
 pub struct LocalRun {
     pub end: u32,
@@ -51,7 +51,7 @@ impl Locals {
         }
     }
 
-    /// Adds `count` locals of one type. After want of memory the locals are as before.
+    /// Adds `count` locals of one type. Where memory runs out, the locals are as before.
     pub fn push(&mut self, count: u32, ty: ValType) -> Result<(), AllocError>
         requires { length self.old + count < 2 ^ 32 }
         ensures ok { OnOk result (self.new ≡ self.old ++ replicate count ty) }
@@ -62,11 +62,11 @@ impl Locals {
         Ok(())
     }
 
-    /// The type of the local at this place, found by halving.
-    pub fn get(&self, place: u32) -> Option<ValType>
-        ensures { result ≡ slice_get self.now place }
+    /// The type of the local at this index, found by halving.
+    pub fn get(&self, index: u32) -> Option<ValType>
+        ensures { result ≡ slice_get self.now index }
     {
-        let found = run_at(&self.runs, place);
+        let found = run_at(&self.runs, index);
         if found < self.runs.len() {
             Some(self.runs[found].ty)
         } else {

@@ -54,7 +54,7 @@ pub struct Global {
     pub init: Items<Op>,
 }
 
-/// The references of an element segment: function indices, each of which stands for the `ref.func` of it, or constant
+/// The references of an element segment: function indices, each of which represents the `ref.func` of it, or constant
 /// expressions.
 #[derive(Drop)]
 pub enum ElementItems {

@@ -118,7 +118,7 @@ pub enum TableOp {
     ElemDrop(u32),
 }
 
-/// What a load reads: a whole integer, or so many bits of one.
+/// What a load reads: a whole integer, or some low bits of one.
 #[derive(Clone, Copy)]
 pub enum LoadOp {
     Whole(Width),

@@ -50,7 +50,7 @@ impl<T> Stack<T> {
 }
 
 impl<T: Drop> Stack<T> {
-    /// Puts an element on top. After want of memory the stack is as before.
+    /// Puts an element on top. Where memory runs out, the stack is as before.
     pub fn push(&mut self, x: T) -> Result<(), AllocError>
         ensures ok { OnOk result (self.new ≡ x ∷ self.old) }
         ensures err { OnErr result (self.new ≡ self.old) }
@@ -77,12 +77,12 @@ impl<T: Copy> Stack<T> {
         self.items.last().copied()
     }
 
-    /// The element so many places below the topmost one, which stays.
-    pub fn get(&self, place: usize) -> Option<T>
-        ensures { result ≡ slice_get self.now place }
+    /// The element at a depth below the topmost one, which stays.
+    pub fn get(&self, depth: usize) -> Option<T>
+        ensures { result ≡ slice_get self.now depth }
     {
-        if place < self.items.len() {
-            Some(self.items[self.items.len() - 1 - place])
+        if depth < self.items.len() {
+            Some(self.items[self.items.len() - 1 - depth])
         } else {
             None
         }

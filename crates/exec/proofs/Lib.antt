@@ -1,15 +1,1 @@
-pub mod Branching
-pub mod Calling
-pub mod Choosing
-pub mod Entering
-pub mod Fitting
-pub mod Instructing
-pub mod Labelling
-pub mod Layering
-pub mod Leading
-pub mod Leaving
-pub mod Placing
-pub mod Plainly
-pub mod Returning
-pub mod Spending
-pub mod Wholes
+pub mod simulation

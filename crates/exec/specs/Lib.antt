@@ -1,5 +1,5 @@
-pub mod Layers
-pub mod Places
-pub mod Standing
+pub mod Contexts
+pub mod Positions
+pub mod Representation
 pub mod Frames
-pub mod Turning
+pub mod Simulation

@@ -1,16 +1,14 @@
 //! The interpreter: a call from outside is a bounded run of the reduction.
 #![tactic(auto)]
 
-mod branches;
-mod calls;
-mod frames;
+mod control;
+mod effects;
 mod host_table;
 mod instructions;
-mod labels;
+mod invocation;
 mod machine;
-mod places;
-mod turn;
+mod positions;
 
-pub use calls::invoke;
 pub use host_table::HostTable;
+pub use invocation::invoke;
 pub use machine::Outcome;

@@ -8,13 +8,13 @@ pub enum Outcome {
     Values(Items<Val>),
     /// With a trap.
     Trap(Trap),
-    /// For want of fuel, depth or memory.
+    /// Out of fuel, depth or memory.
     Exhausted(Exhaustion),
     /// At a configuration that is neither an end nor ready: a fault of the engine.
     Stuck,
 }
 
-/// A label: how many values a branch to it keeps, the heights of the operands inside of it and outside of it, and the place
+/// A label: how many values a branch to it keeps, the heights of the operands inside of it and outside of it, and the position
 /// where a branch goes on.
 #[derive(Clone, Copy)]
 pub struct Label {
@@ -25,7 +25,7 @@ pub struct Label {
 }
 
 /// A frame from within code: how many results it gives, the heights of the operands inside of it and outside of it, and where
-/// its caller goes on: the function and its instance, the place, the base of the locals, and how many controls there are up to
+/// its caller goes on: the function and its instance, the position, the base of the locals, and how many controls there are up to
 /// the caller's frame.
 #[derive(Clone, Copy)]
 pub struct Caller {
@@ -34,7 +34,7 @@ pub struct Caller {
     pub outside: usize,
     pub function: u32,
     pub instance: u32,
-    pub place: usize,
+    pub position: usize,
     pub locals: usize,
     pub outer: usize,
 }
@@ -50,13 +50,13 @@ pub enum Control {
     FromOutside(usize),
 }
 
-/// The state of a run: the function that runs, its instance and the place in its code, the operands, the locals, what is open
+/// The state of a run: the function that runs, its instance and the position in its code, the operands, the locals, what is open
 /// around, and how many controls there are up to the frame.
 #[derive(Drop)]
 pub struct Machine {
     pub function: u32,
     pub instance: u32,
-    pub place: usize,
+    pub position: usize,
     pub operands: Operands,
     pub locals: FrameLocals,
     pub controls: Stack<Control>,
@@ -65,7 +65,7 @@ pub struct Machine {
 
 /// What a turn of the machine led to.
 #[derive(Clone, Copy)]
-pub enum Turn {
+pub enum Step {
     /// One step was done, within the function.
     Goes,
     /// One step was done, into another function or back from one.

@@ -1,4 +1,4 @@
-//! Spellings of integers and what they stand for, alone and within other bytes.
+//! Spellings of integers and what they represent, alone and within other bytes.
 
 ghost use Rattle.std.specs.Prelude.{◌≤◌, IfOk, length, vec_len};
 

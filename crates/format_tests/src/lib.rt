@@ -1,10 +1,14 @@
-//! Tests of the binary format: of `leb` and `binary`.
+//! Tests of the binary format: of `leb` and `binary`, and of the assembler in `testing`.
 #![tactic(auto)]
 
+#[cfg(test)]
+mod assembling;
 #[cfg(test)]
 mod decoding;
 #[cfg(test)]
 mod integers;
+#[cfg(test)]
+mod limits;
 #[cfg(test)]
 mod mnemonics;
 #[cfg(test)]

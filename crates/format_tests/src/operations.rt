@@ -16,7 +16,7 @@ static FRONT: [u8; 13] = [
 static BACK: [u8; 6] = [0x0B, 0x0B, 0x03, 0x01, 0x01, 0x00];
 
 // In each row the bytes of an instruction, with its end where it has a body, and its text.
-const ROWS: &str = "\
+pub const ROWS: &str = "\
 00 = unreachable
 01 = nop
 02 40 0b = block

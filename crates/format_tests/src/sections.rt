@@ -57,14 +57,14 @@ fn answers_sections(rt: HostRuntime) {
 }
 
 // The one item of a section with this id, and its text.
-struct Item {
-    id: u8,
-    bytes: &'static str,
-    text: &'static str,
+pub struct Item {
+    pub id: u8,
+    pub bytes: &'static str,
+    pub text: &'static str,
 }
 
 #[rattlefmt::skip]
-static ITEMS: [Item; 21] = [
+pub static ITEMS: [Item; 21] = [
     Item { id: 2, bytes: "0161 0162 0005", text: "(import \"a\" \"b\" (func (type 5)))" },
     Item { id: 2, bytes: "0161 0162 01700003", text: "(import \"a\" \"b\" (table 3 funcref))" },
     Item { id: 2, bytes: "0161 0162 016F010304", text: "(import \"a\" \"b\" (table 3 4 externref))" },
@@ -88,12 +88,11 @@ static ITEMS: [Item; 21] = [
     Item { id: 11, bytes: "02 04 41010B 020506", text: "(data (memory 4) (offset i32.const 1) \"\\05\\06\")" },
 ];
 
-// A module with one section, whose content is a vector of one item.
-fn module_of(alloc: Global, item: &Item) -> Result<Vec<u8>, AllocError> {
+/// A section whose content is a vector of one item.
+pub fn section_of(alloc: Global, item: &Item) -> Result<Vec<u8>, AllocError> {
     let content = bytes_of(alloc, item.bytes)?;
     let size = content.len().min(100) as u8;
-    let sections = join(alloc, &[&[item.id, size + 1, 0x01], &content])?;
-    with_header(alloc, &sections)
+    join(alloc, &[&[item.id, size + 1, 0x01], &content])
 }
 
 // The text of the module that these bytes spell, empty where they spell none.
@@ -106,7 +105,7 @@ fn text_behind(alloc: Global, bytes: &[u8]) -> Result<String, AllocError> {
 
 // Whether the bytes of an item are decoded to its text.
 fn decodes_to_text(alloc: Global, item: &Item) -> Result<bool, AllocError> {
-    let bytes = module_of(alloc, item)?;
+    let bytes = with_header(alloc, &section_of(alloc, item)?)?;
     Ok(text_behind(alloc, &bytes)?.as_str().trim() == item.text)
 }
 

@@ -1,5 +1,5 @@
-pub mod Casting
-pub mod Counting
-pub mod Dividing
-pub mod Rotating
-pub mod Shifting
+pub mod Casts
+pub mod Counts
+pub mod Quotients
+pub mod Rotations
+pub mod Shifts

@@ -1,5 +1,5 @@
 ghost use Rattle.std.specs.Prelude.{◌≡◌};
-ghost use Rattle.meaning.specs.Operators.{binary_operator};
+ghost use Rattle.meaning.specs.execution.Numerics.{binary_operator};
 
 use crate::bits::{
     rotate_left_32, rotate_left_64, rotate_right_32, rotate_right_64, shift_left_32, shift_left_64,

@@ -1,6 +1,6 @@
 ghost use Rattle.std.specs.Prelude.{◌≡◌, ◌*◌, ◌/◌, ◌%◌, ◌^◌, pos};
 ghost use Rattle.std.specs.Int.{int_div_euclid};
-ghost use Rattle.meaning.specs.Operators.{integer, rotated_left, rotated_right, signed};
+ghost use Rattle.meaning.specs.execution.Numerics.{integer, rotated_left, rotated_right, signed};
 
 use crate::signed::{integer_32, integer_64, signed_32, signed_64};
 
@@ -33,7 +33,7 @@ pub fn shift_right_unsigned_64(a: u64, k: u64) -> u64
 }
 
 // The bits of an integer of 32 bits, moved down, with its highest bit above them.
-#[tactic(auto, using(crate::proofs::Shifting::shifted_is))]
+#[tactic(auto, using(crate::proofs::Shifts::shifted_is))]
 pub fn shift_right_signed_32(a: u32, k: u32) -> u32
     ensures { result ≡ integer 32 (int_div_euclid (signed 32 a) (pos (2 ^ (k % 32)))) }
 {
@@ -41,7 +41,7 @@ pub fn shift_right_signed_32(a: u32, k: u32) -> u32
 }
 
 // The bits of an integer of 64 bits, moved down, with its highest bit above them.
-#[tactic(auto, using(crate::proofs::Shifting::shifted_is))]
+#[tactic(auto, using(crate::proofs::Shifts::shifted_is))]
 pub fn shift_right_signed_64(a: u64, k: u64) -> u64
     ensures { result ≡ integer 64 (int_div_euclid (signed 64 a) (pos (2 ^ (k % 64)))) }
 {
@@ -49,7 +49,7 @@ pub fn shift_right_signed_64(a: u64, k: u64) -> u64
 }
 
 // The bits of an integer of 32 bits, rotated up.
-#[tactic(auto, using(crate::proofs::Rotating::left_32_is))]
+#[tactic(auto, using(crate::proofs::Rotations::left_32_is))]
 pub fn rotate_left_32(a: u32, k: u32) -> u32
     ensures { result ≡ rotated_left 32 a (k % 32) }
 {
@@ -57,7 +57,7 @@ pub fn rotate_left_32(a: u32, k: u32) -> u32
 }
 
 // The bits of an integer of 64 bits, rotated up.
-#[tactic(auto, using(crate::proofs::Rotating::left_64_is))]
+#[tactic(auto, using(crate::proofs::Rotations::left_64_is))]
 pub fn rotate_left_64(a: u64, k: u64) -> u64
     ensures { result ≡ rotated_left 64 a (k % 64) }
 {
@@ -65,7 +65,7 @@ pub fn rotate_left_64(a: u64, k: u64) -> u64
 }
 
 // The bits of an integer of 32 bits, rotated down.
-#[tactic(auto, using(crate::proofs::Rotating::right_32_is))]
+#[tactic(auto, using(crate::proofs::Rotations::right_32_is))]
 pub fn rotate_right_32(a: u32, k: u32) -> u32
     ensures { result ≡ rotated_right 32 a (k % 32) }
 {
@@ -73,7 +73,7 @@ pub fn rotate_right_32(a: u32, k: u32) -> u32
 }
 
 // The bits of an integer of 64 bits, rotated down.
-#[tactic(auto, using(crate::proofs::Rotating::right_64_is))]
+#[tactic(auto, using(crate::proofs::Rotations::right_64_is))]
 pub fn rotate_right_64(a: u64, k: u64) -> u64
     ensures { result ≡ rotated_right 64 a (k % 64) }
 {

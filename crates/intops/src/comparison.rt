@@ -1,5 +1,5 @@
 ghost use Rattle.std.specs.Prelude.{◌≡◌};
-ghost use Rattle.meaning.specs.Operators.{comparison_operator, eqz_operator, truth};
+ghost use Rattle.meaning.specs.execution.Numerics.{comparison_operator, eqz_operator, truth};
 
 use crate::signed::{signed_32, signed_64};
 use core_types::Comparison;

@@ -1,6 +1,6 @@
 ghost use Rattle.std.specs.Prelude.{◌≡◌};
 ghost use Rattle.core_types.specs.declared.op.Conversion.TheVariants.{I32WrapI64, I64ExtendI32S, I64ExtendI32U, I64Extend32S};
-ghost use Rattle.meaning.specs.Operators.{conversion_operator};
+ghost use Rattle.meaning.specs.execution.Numerics.{conversion_operator};
 
 use crate::signed::{integer_64, signed_32};
 

@@ -1,5 +1,5 @@
 ghost use Rattle.std.specs.Prelude.{◌≡◌};
-ghost use Rattle.meaning.specs.Operators.{quotient_signed, quotient_unsigned, remainder_signed, remainder_unsigned};
+ghost use Rattle.meaning.specs.execution.Numerics.{quotient_signed, quotient_unsigned, remainder_signed, remainder_unsigned};
 
 use crate::signed::{integer_32, integer_64, signed_32, signed_64};
 use core_types::Trap;
@@ -27,7 +27,7 @@ pub fn quotient_unsigned_64(a: u64, b: u64) -> Result<u64, Trap>
 }
 
 // The remainder of two integers of 32 bits.
-#[tactic(auto, using(crate::proofs::Dividing::remainder_is))]
+#[tactic(auto, using(crate::proofs::Quotients::remainder_is))]
 pub fn remainder_unsigned_32(a: u32, b: u32) -> Result<u32, Trap>
     ensures { result ≡ remainder_unsigned a b }
 {
@@ -39,7 +39,7 @@ pub fn remainder_unsigned_32(a: u32, b: u32) -> Result<u32, Trap>
 }
 
 // The remainder of two integers of 64 bits.
-#[tactic(auto, using(crate::proofs::Dividing::remainder_is))]
+#[tactic(auto, using(crate::proofs::Quotients::remainder_is))]
 pub fn remainder_unsigned_64(a: u64, b: u64) -> Result<u64, Trap>
     ensures { result ≡ remainder_unsigned a b }
 {

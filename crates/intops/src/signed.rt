@@ -1,48 +1,48 @@
 ghost use Rattle.std.specs.Prelude.{◌≡◌};
-ghost use Rattle.meaning.specs.Operators.{integer, signed};
+ghost use Rattle.meaning.specs.execution.Numerics.{integer, signed};
 
-// The signed number that an integer of 8 bits stands for.
-#[tactic(auto, using(crate::proofs::Casting::signed_8_is))]
+// The signed number that an integer of 8 bits represents.
+#[tactic(auto, using(crate::proofs::Casts::signed_8_is))]
 pub fn signed_8(a: u8) -> i8
     ensures { result ≡ signed 8 a }
 {
     a.cast_signed()
 }
 
-// The signed number that an integer of 16 bits stands for.
-#[tactic(auto, using(crate::proofs::Casting::signed_16_is))]
+// The signed number that an integer of 16 bits represents.
+#[tactic(auto, using(crate::proofs::Casts::signed_16_is))]
 pub fn signed_16(a: u16) -> i16
     ensures { result ≡ signed 16 a }
 {
     a.cast_signed()
 }
 
-// The signed number that an integer of 32 bits stands for.
-#[tactic(auto, using(crate::proofs::Casting::signed_32_is))]
+// The signed number that an integer of 32 bits represents.
+#[tactic(auto, using(crate::proofs::Casts::signed_32_is))]
 pub fn signed_32(a: u32) -> i32
     ensures { result ≡ signed 32 a }
 {
     a.cast_signed()
 }
 
-// The signed number that an integer of 64 bits stands for.
-#[tactic(auto, using(crate::proofs::Casting::signed_64_is))]
+// The signed number that an integer of 64 bits represents.
+#[tactic(auto, using(crate::proofs::Casts::signed_64_is))]
 pub fn signed_64(a: u64) -> i64
     ensures { result ≡ signed 64 a }
 {
     a.cast_signed()
 }
 
-// The integer of 32 bits that stands for a signed number.
-#[tactic(auto, using(crate::proofs::Casting::integer_32_is))]
+// The integer of 32 bits that represents a signed number.
+#[tactic(auto, using(crate::proofs::Casts::integer_32_is))]
 pub fn integer_32(z: i32) -> u32
     ensures { result ≡ integer 32 z }
 {
     z.cast_unsigned()
 }
 
-// The integer of 64 bits that stands for a signed number.
-#[tactic(auto, using(crate::proofs::Casting::integer_64_is))]
+// The integer of 64 bits that represents a signed number.
+#[tactic(auto, using(crate::proofs::Casts::integer_64_is))]
 pub fn integer_64(z: i64) -> u64
     ensures { result ≡ integer 64 z }
 {

@@ -1,5 +1,5 @@
 ghost use Rattle.std.specs.Prelude.{◌≡◌};
-ghost use Rattle.meaning.specs.Operators.{extended, unary_operator};
+ghost use Rattle.meaning.specs.execution.Numerics.{extended, unary_operator};
 
 use crate::signed::{integer_32, integer_64, signed_8, signed_16};
 use core_types::UnaryOp;
@@ -33,7 +33,7 @@ fn extended_16_to_64(a: u64) -> u64
 }
 
 /// What an operator gives from an integer of 32 bits (Execution, Numerics, Integer Operations, iclz to iextendM_s).
-#[tactic(auto, using(crate::proofs::Counting::leading_is, crate::proofs::Counting::trailing_is, crate::proofs::Counting::ones_are))]
+#[tactic(auto, using(crate::proofs::Counts::leading_is, crate::proofs::Counts::trailing_is, crate::proofs::Counts::ones_are))]
 pub fn unary_32(op: UnaryOp, a: u32) -> u32
     ensures { result ≡ unary_operator 32 op a }
 {
@@ -47,7 +47,7 @@ pub fn unary_32(op: UnaryOp, a: u32) -> u32
 }
 
 /// What an operator gives from an integer of 64 bits (Execution, Numerics, Integer Operations, iclz to iextendM_s).
-#[tactic(auto, using(crate::proofs::Counting::leading_is, crate::proofs::Counting::trailing_is, crate::proofs::Counting::ones_are))]
+#[tactic(auto, using(crate::proofs::Counts::leading_is, crate::proofs::Counts::trailing_is, crate::proofs::Counts::ones_are))]
 pub fn unary_64(op: UnaryOp, a: u64) -> u64
     ensures { result ≡ unary_operator 64 op a }
 {

@@ -1,8 +1,8 @@
 -- No spelling of an integer begins another one, and each spells one integer.
 use Rattle.std.proofs.Common.{◌≡◌, ℕ, ◌-◌, [], ◌∷◌, ◌++◌, ℤ, arith, ap, inl, inr, subst}
 use Rattle.std.proofs.lemmas.Int.{ints}
-use Rattle.meaning.specs.NumberSpelling.{EndsSigned, SpellsSigned, SpellsUnsigned}
-use Rattle.meaning.specs.Spelling.{IsPrefixFree}
+use Rattle.meaning.specs.binary.Values.{EndsSigned, SpellsSigned, SpellsUnsigned}
+use Rattle.meaning.specs.binary.Conventions.{IsPrefixFree}
 use Rattle.leb.proofs.SignedLaws.{ends_low}
 
 pub unsigned-prefix_free : (bits : ℕ) → IsPrefixFree (SpellsUnsigned bits)

@@ -3,8 +3,8 @@ use Rattle.std.proofs.Common.{◌≡◌, ℕ, ◌-◌, ◌^◌, ◌<◌, ◌≤�
 use Rattle.std.proofs.lemmas.Int.{ints}
 use Rattle.leb.proofs.Widths.{half_at_most}
 use Rattle.leb.specs.Ranges.{IsInRange}
-use Rattle.meaning.specs.NumberSpelling.{EndsSigned, SpellsSigned}
-use Rattle.meaning.specs.Spelling.{NoFront, Reads}
+use Rattle.meaning.specs.binary.Values.{EndsSigned, SpellsSigned}
+use Rattle.meaning.specs.binary.Conventions.{NoFront, Reads}
 
 pub ends_low : (bits byte : ℕ) (z : ℤ) → EndsSigned bits byte z → byte < 2 ^ 7
 ends_low bits byte z (inl p) = omega arith
@@ -14,7 +14,7 @@ ends_low bits byte z (inr p) = omega arith
 pub IsInRange-fits : (bits : ℕ) (z : ℤ) → bits ≤ 64 → IsInRange bits z → FitsSigned w64 z
 IsInRange-fits bits z narrow range = omega (arith, ints, half_at_most bits narrow, range)
 
--- A last byte stands for the number.
+-- A last byte represents the number.
 pub last_reads : (bits byte : ℕ) (z : ℤ) (after : List ℕ) → EndsSigned bits byte z → Reads (SpellsSigned bits) (byte ∷ after) z after
 last_reads bits byte z after ends = record { text = byte ∷ []; spelt = ends; parts = refl }
 
@@ -27,7 +27,7 @@ pub more_reads : (bits byte : ℕ) (high z : ℤ) (bytes after : List ℕ) → 2
 more_reads bits byte high z bytes after more wide rest value =
     record { text = byte ∷ rest.text; spelt = more_spelt bits byte high z rest.text more wide rest.spelt value; parts = ap (λ (x : List ℕ). byte ∷ x) rest.parts }
 
--- No spelling begins with a last byte that stands for nothing, nor with another byte where the rest spells nothing.
+-- No spelling begins with a last byte that represents nothing, nor with another byte where the rest spells nothing.
 pub none_reads : (bits byte : ℕ) (bytes : List ℕ) → (byte < 2 ^ 7 → (z : ℤ) → EndsSigned bits byte z → ⊥) → (2 ^ 7 ≤ byte → 7 < bits → NoFront (SpellsSigned (bits - 7)) bytes) → NoFront (SpellsSigned bits) (byte ∷ bytes)
 none_reads bits byte bytes last more [] rest z parts spelt = absurd spelt
 none_reads bits byte bytes last more (first ∷ []) rest z parts spelt =

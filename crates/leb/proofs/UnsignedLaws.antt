@@ -1,7 +1,7 @@
 -- What the first byte says of an unsigned integer's spelling.
 use Rattle.std.proofs.Common.{◌≡◌, ℕ, ◌+◌, ◌-◌, ◌*◌, ◌^◌, ◌<◌, ◌≤◌, List, [], ◌∷◌, ◌++◌, arith, ap, refl}
-use Rattle.meaning.specs.NumberSpelling.{SpellsUnsigned}
-use Rattle.meaning.specs.Spelling.{NoFront, Reads}
+use Rattle.meaning.specs.binary.Values.{SpellsUnsigned}
+use Rattle.meaning.specs.binary.Conventions.{NoFront, Reads}
 
 -- A last byte is the number.
 pub last_reads : (bits byte : ℕ) (after : List ℕ) → byte < 2 ^ 7 → byte < 2 ^ bits → Reads (SpellsUnsigned bits) (byte ∷ after) byte after

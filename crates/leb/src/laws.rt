@@ -1,6 +1,6 @@
 ghost use Rattle.std.specs.Prelude.{ℕ};
-ghost use Rattle.meaning.specs.NumberSpelling.{SpellsSigned, SpellsUnsigned};
-ghost use Rattle.meaning.specs.Spelling.{IsPrefixFree};
+ghost use Rattle.meaning.specs.binary.Values.{SpellsSigned, SpellsUnsigned};
+ghost use Rattle.meaning.specs.binary.Conventions.{IsPrefixFree};
 
 /// No spelling of an integer begins another one, and each spells one integer.
 ///

@@ -1,11 +1,11 @@
 ghost use Rattle.std.specs.Prelude.{◌≡◌, ◌+◌, ◌-◌, ◌^◌, ◌<◌, ◌≤◌, ◌<ℤ◌, ℤ, pos, ◌+ℤ◌, ◌*ℤ◌, length, drop, IfNone, IfSome};
 ghost use Rattle.leb.specs.Ranges.{IsInRange};
-ghost use Rattle.meaning.specs.NumberSpelling.{EndsSigned, SpellsSigned};
-ghost use Rattle.meaning.specs.Spelling.{NoFront, Reads};
+ghost use Rattle.meaning.specs.binary.Values.{EndsSigned, SpellsSigned};
+ghost use Rattle.meaning.specs.binary.Conventions.{NoFront, Reads};
 
 use crate::width::is_within;
 
-// The signed integer of so many bits that a last byte stands for.
+// The signed integer of `bits` bits that a last byte represents.
 fn last_value(bits: u32, byte: u8) -> Option<i64>
     requires some_bits { 0 < bits }
     requires last { byte < 2 ^ 7 }
@@ -20,7 +20,7 @@ fn last_value(bits: u32, byte: u8) -> Option<i64>
     }
 }
 
-// A byte that is not the last, before what the rest stands for.
+// A byte that is not the last, before what the rest represents.
 fn joined_value(bits: u32, byte: u8, high: i64) -> i64
     requires at_least { 7 < bits }
     requires at_most { bits ≤ 64 }
@@ -32,7 +32,7 @@ fn joined_value(bits: u32, byte: u8, high: i64) -> i64
     high * 0x80 + i64::from(byte - 0x80)
 }
 
-// The signed integer of so many bits that a front of the bytes spells, and how many bytes spell it.
+// The signed integer of `bits` bits that a front of the bytes spells, and how many bytes spell it.
 fn signed_front(bytes: &[u8], bits: u32) -> Option<(i64, usize)>
     requires some_bits { 0 < bits }
     requires at_most { bits ≤ 64 }
@@ -54,7 +54,7 @@ fn signed_front(bytes: &[u8], bits: u32) -> Option<(i64, usize)>
     Some((joined_value(bits, byte, high), size + 1))
 }
 
-/// Reads the signed integer of 32 bits whose spelling begins at `at`, and says at which place the spelling ends.
+/// Reads the signed integer of 32 bits whose spelling begins at `at`, and says at which offset the spelling ends.
 ///
 /// `at` is at most the number of bytes. The answer is `None` where no spelling begins there: the bytes end too early, it
 /// would take more than five, or those spell a number beyond 32 bits (Binary Format, Values, Integers).
@@ -68,7 +68,7 @@ pub fn read_s32(bytes: &[u8], at: usize) -> Option<(i32, usize)>
     Some((value as i32, at + size))
 }
 
-/// Reads the signed integer of 33 bits whose spelling begins at `at`, and says at which place the spelling ends.
+/// Reads the signed integer of 33 bits whose spelling begins at `at`, and says at which offset the spelling ends.
 ///
 /// `at` is at most the number of bytes. The answer is `None` where no spelling begins there: the bytes end too early, it
 /// would take more than five, or those spell a number beyond 33 bits (Binary Format, Values, Integers).
@@ -83,7 +83,7 @@ pub fn read_s33(bytes: &[u8], at: usize) -> Option<(i64, usize)>
     Some((value, at + size))
 }
 
-/// Reads the signed integer of 64 bits whose spelling begins at `at`, and says at which place the spelling ends.
+/// Reads the signed integer of 64 bits whose spelling begins at `at`, and says at which offset the spelling ends.
 ///
 /// `at` is at most the number of bytes. The answer is `None` where no spelling begins there: the bytes end too early, it
 /// would take more than ten, or those spell a number beyond 64 bits (Binary Format, Values, Integers).

@@ -1,10 +1,10 @@
 ghost use Rattle.std.specs.Prelude.{◌^◌, ◌<◌, ◌≤◌, length, drop, IfNone, IfSome};
-ghost use Rattle.meaning.specs.NumberSpelling.{SpellsUnsigned};
-ghost use Rattle.meaning.specs.Spelling.{NoFront, Reads};
+ghost use Rattle.meaning.specs.binary.Values.{SpellsUnsigned};
+ghost use Rattle.meaning.specs.binary.Conventions.{NoFront, Reads};
 
 use crate::width::is_within;
 
-// The unsigned integer of so many bits that a front of the bytes spells, and how many bytes spell it.
+// The unsigned integer of `bits` bits that a front of the bytes spells, and how many bytes spell it.
 fn unsigned_front(bytes: &[u8], bits: u32) -> Option<(u64, usize)>
     requires { bits ≤ 64 }
     ensures size { IfSome result (λ f. (0 < f.1) × (f.1 ≤ length bytes.now)) }
@@ -27,7 +27,7 @@ fn unsigned_front(bytes: &[u8], bits: u32) -> Option<(u64, usize)>
     Some((high * 0x80 + u64::from(byte - 0x80), size + 1))
 }
 
-/// Reads the unsigned integer of 32 bits whose spelling begins at `at`, and says at which place the spelling ends.
+/// Reads the unsigned integer of 32 bits whose spelling begins at `at`, and says at which offset the spelling ends.
 ///
 /// `at` is at most the number of bytes. The answer is `None` where no spelling begins there: the bytes end too early, it
 /// would take more than five, or those spell a number beyond 32 bits (Binary Format, Values, Integers).

@@ -2,8 +2,8 @@
 use Rattle.std.specs.Prelude.{◌≡◌, List, [], ◌∷◌}
 use Rattle.core_types.specs.declared.outcome.Val.{Val}
 use Rattle.core_types.specs.declared.outcome.Val.TheVariants.{I32, I64, FuncRef, ExternRef}
-use Rattle.meaning.specs.Reduction.{Effect, Done, Fails, Lacks}
-use Rattle.meaning.specs.Store.{Store}
+use Rattle.meaning.specs.execution.Instructions.{Effect, Done, Fails, Lacks}
+use Rattle.meaning.specs.execution.Store.{Store}
 use Rattle.stacks.specs.Stacked.{LocalStack, OperandStack, operand_stack}
 use Rattle.plain.specs.declared.did.Did.{Did}
 use Rattle.plain.specs.declared.did.Did.TheVariants.{AllDone, Failed, Lacking, NoRoom}
@@ -16,7 +16,8 @@ IsDone Lacks = ⊥
 -- The instruction had this effect: it left the locals and the operands so, and those below as they were. Where there was no
 -- memory it would have been done.
 abbrev pub DidEffect : Did → Effect → Store → LocalStack → OperandStack → List Val → List Val → Type 0
-DidEffect AllDone e store locals operands below locals_below = (e ≡ Done store locals.own operands.own) × (operands.below ≡ below) × (locals.below ≡ locals_below)
+DidEffect AllDone e store locals operands below locals_below =
+    (e ≡ Done store locals.own operands.own) × (operands.below ≡ below) × (locals.below ≡ locals_below)
 DidEffect (Failed trap) e store locals operands below locals_below = e ≡ Fails trap
 DidEffect Lacking e store locals operands below locals_below = e ≡ Lacks
 DidEffect NoRoom e store locals operands below locals_below = IsDone e

@@ -1,12 +1,12 @@
-ghost use Rattle.meaning.specs.Configuration.{Frame};
-ghost use Rattle.meaning.specs.Reduction.{numeric_effect};
-ghost use Rattle.meaning.specs.Store.{Store};
+ghost use Rattle.meaning.specs.execution.Configurations.{Frame};
+ghost use Rattle.meaning.specs.execution.Instructions.{numeric_effect};
+ghost use Rattle.meaning.specs.execution.Store.{Store};
 ghost use Rattle.core_types.specs.declared.op.NumericOp.TheVariants.{Eqz, Compare, Unary, Binary, Convert};
 ghost use Rattle.core_types.specs.declared.op.Width.TheVariants.{W32, W64};
 ghost use Rattle.plain.specs.Effects.{DidOperands};
 
 use crate::did::Did;
-use crate::popping::{pop_i32, pop_i64, pushed};
+use crate::popping::{pop_i32, pop_i64, push_value};
 use core_types::{BinaryOp, Comparison, Conversion, NumericOp, UnaryOp, Val, Width};
 use intops::{
     binary_32, binary_64, compare_32, compare_64, eqz_32, eqz_64, extend_low_signed, extend_signed,
@@ -23,13 +23,13 @@ fn run_eqz(width: Width, operands: &mut Operands) -> Did
             let Some(a) = pop_i32(operands) else {
                 return Did::Lacking;
             };
-            pushed(operands, Val::I32(eqz_32(a)))
+            push_value(operands, Val::I32(eqz_32(a)))
         }
         Width::W64 => {
             let Some(a) = pop_i64(operands) else {
                 return Did::Lacking;
             };
-            pushed(operands, Val::I32(eqz_64(a)))
+            push_value(operands, Val::I32(eqz_64(a)))
         }
     }
 }
@@ -46,7 +46,7 @@ fn run_compare(width: Width, op: Comparison, operands: &mut Operands) -> Did
             let Some(a) = pop_i32(operands) else {
                 return Did::Lacking;
             };
-            pushed(operands, Val::I32(compare_32(op, a, b)))
+            push_value(operands, Val::I32(compare_32(op, a, b)))
         }
         Width::W64 => {
             let Some(b) = pop_i64(operands) else {
@@ -55,7 +55,7 @@ fn run_compare(width: Width, op: Comparison, operands: &mut Operands) -> Did
             let Some(a) = pop_i64(operands) else {
                 return Did::Lacking;
             };
-            pushed(operands, Val::I32(compare_64(op, a, b)))
+            push_value(operands, Val::I32(compare_64(op, a, b)))
         }
     }
 }
@@ -69,13 +69,13 @@ fn run_unary(width: Width, op: UnaryOp, operands: &mut Operands) -> Did
             let Some(a) = pop_i32(operands) else {
                 return Did::Lacking;
             };
-            pushed(operands, Val::I32(unary_32(op, a)))
+            push_value(operands, Val::I32(unary_32(op, a)))
         }
         Width::W64 => {
             let Some(a) = pop_i64(operands) else {
                 return Did::Lacking;
             };
-            pushed(operands, Val::I64(unary_64(op, a)))
+            push_value(operands, Val::I64(unary_64(op, a)))
         }
     }
 }
@@ -91,7 +91,7 @@ fn run_binary_32(op: BinaryOp, operands: &mut Operands) -> Did
         return Did::Lacking;
     };
     match binary_32(op, a, b) {
-        Ok(n) => pushed(operands, Val::I32(n)),
+        Ok(n) => push_value(operands, Val::I32(n)),
         Err(trap) => Did::Failed(trap),
     }
 }
@@ -107,7 +107,7 @@ fn run_binary_64(op: BinaryOp, operands: &mut Operands) -> Did
         return Did::Lacking;
     };
     match binary_64(op, a, b) {
-        Ok(n) => pushed(operands, Val::I64(n)),
+        Ok(n) => push_value(operands, Val::I64(n)),
         Err(trap) => Did::Failed(trap),
     }
 }
@@ -131,25 +131,25 @@ fn run_convert(op: Conversion, operands: &mut Operands) -> Did
             let Some(a) = pop_i64(operands) else {
                 return Did::Lacking;
             };
-            pushed(operands, Val::I32(wrap(a)))
+            push_value(operands, Val::I32(wrap(a)))
         }
         Conversion::I64ExtendI32S => {
             let Some(a) = pop_i32(operands) else {
                 return Did::Lacking;
             };
-            pushed(operands, Val::I64(extend_signed(a)))
+            push_value(operands, Val::I64(extend_signed(a)))
         }
         Conversion::I64ExtendI32U => {
             let Some(a) = pop_i32(operands) else {
                 return Did::Lacking;
             };
-            pushed(operands, Val::I64(extend_unsigned(a)))
+            push_value(operands, Val::I64(extend_unsigned(a)))
         }
         Conversion::I64Extend32S => {
             let Some(a) = pop_i64(operands) else {
                 return Did::Lacking;
             };
-            pushed(operands, Val::I64(extend_low_signed(a)))
+            push_value(operands, Val::I64(extend_low_signed(a)))
         }
     }
 }

@@ -1,11 +1,11 @@
-ghost use Rattle.meaning.specs.Configuration.{Frame};
-ghost use Rattle.meaning.specs.Reduction.{parametric_effect, selected};
-ghost use Rattle.meaning.specs.Store.{Store};
+ghost use Rattle.meaning.specs.execution.Configurations.{Frame};
+ghost use Rattle.meaning.specs.execution.Instructions.{parametric_effect, select_operand};
+ghost use Rattle.meaning.specs.execution.Store.{Store};
 ghost use Rattle.core_types.specs.declared.op.ParametricOp.TheVariants.{DropOperand};
 ghost use Rattle.plain.specs.Effects.{DidOperands};
 
 use crate::did::Did;
-use crate::popping::{pop_i32, pushed};
+use crate::popping::{pop_i32, push_value};
 use core_types::ParametricOp;
 use stacks::Operands;
 
@@ -20,8 +20,8 @@ fn drop_operand(operands: &mut Operands) -> Did
 }
 
 // One of two operands, by the i32 over them.
-pub fn run_selected(operands: &mut Operands) -> Did
-    ensures { (store : Store) (frame : Frame) → DidOperands result (selected store frame operands.old.own) store frame.locals operands.new operands.old.below }
+pub fn run_select(operands: &mut Operands) -> Did
+    ensures { (store : Store) (frame : Frame) → DidOperands result (select_operand store frame operands.old.own) store frame.locals operands.new operands.old.below }
 {
     let Some(condition) = pop_i32(operands) else {
         return Did::Lacking;
@@ -33,9 +33,9 @@ pub fn run_selected(operands: &mut Operands) -> Did
         return Did::Lacking;
     };
     if condition == 0 {
-        pushed(operands, second)
+        push_value(operands, second)
     } else {
-        pushed(operands, first)
+        push_value(operands, first)
     }
 }
 
@@ -45,6 +45,6 @@ pub fn run_parametric(op: ParametricOp, operands: &mut Operands) -> Did
 {
     match op {
         ParametricOp::DropOperand => drop_operand(operands),
-        ParametricOp::Select => run_selected(operands),
+        ParametricOp::Select => run_select(operands),
     }
 }

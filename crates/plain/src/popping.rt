@@ -38,7 +38,7 @@ pub fn peek(operands: &Operands) -> Option<Val>
 }
 
 // A value on top of the operands.
-pub fn pushed(operands: &mut Operands, value: Val) -> Did
+pub fn push_value(operands: &mut Operands, value: Val) -> Did
     ensures { Pushed result value operands.old operands.new }
 {
     match operands.push(value) {

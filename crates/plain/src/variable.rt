@@ -1,12 +1,12 @@
 ghost use Rattle.std.specs.Prelude.{◌≡◌};
 ghost use Rattle.core_types.specs.declared.op.VariableOp.TheVariants.{LocalGet, LocalSet, LocalTee};
-ghost use Rattle.meaning.specs.Configuration.{Frame};
-ghost use Rattle.meaning.specs.Reduction.{variable_effect};
-ghost use Rattle.meaning.specs.Store.{Store};
+ghost use Rattle.meaning.specs.execution.Configurations.{Frame};
+ghost use Rattle.meaning.specs.execution.Instructions.{variable_effect};
+ghost use Rattle.meaning.specs.execution.Store.{Store};
 ghost use Rattle.plain.specs.Effects.{DidEffect, DidOperands};
 
 use crate::did::Did;
-use crate::popping::{peek, pushed};
+use crate::popping::{peek, push_value};
 use core_types::VariableOp;
 use stacks::{FrameLocals, Operands};
 
@@ -15,7 +15,7 @@ fn get_local(x: u32, locals: &FrameLocals, operands: &mut Operands) -> Did
     ensures { (store : Store) (frame : Frame) → frame.locals ≡ locals.now.own → DidOperands result (variable_effect store frame (LocalGet x) operands.old.own) store frame.locals operands.new operands.old.below }
 {
     match locals.get(x) {
-        Some(value) => pushed(operands, value),
+        Some(value) => push_value(operands, value),
         None => Did::Lacking,
     }
 }

@@ -1,6 +1,6 @@
 //! The words for a function's arguments.
 
-use crate::digits::{number, short_number};
+use command_line::{number, short_number};
 use core_types::{Val, ValType};
 use std::alloc::{AllocFailed, Global};
 

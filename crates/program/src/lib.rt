@@ -2,10 +2,8 @@
 #![tactic(auto)]
 
 mod args;
-mod digits;
 mod engine;
 mod inputs;
-mod line;
 mod print;
 mod program;
 mod support;

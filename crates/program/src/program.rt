@@ -5,8 +5,8 @@ ghost use Rattle.program.specs.Statuses.{IsStatus};
 use crate::args::{ArgsFault, read_args};
 use crate::engine::{Engine, Refusal, check};
 use crate::inputs::{Files, ReadFault};
-use crate::line::{CallOrder, LineFault, Order, read_line};
 use crate::print::{print_end, print_fault, print_valid};
+use command_line::{CallOrder, Order, WordsFault, read_words};
 use exec::Outcome;
 use std::alloc::Global;
 use std::io::{self, Write};
@@ -41,11 +41,11 @@ pub enum Fault<'a> {
     BadArguments,
 }
 
-impl From<LineFault> for Fault<'_> {
-    fn from(fault: LineFault) -> Self {
+impl From<WordsFault> for Fault<'_> {
+    fn from(fault: WordsFault) -> Self {
         match fault {
-            LineFault::Usage => Fault::Usage,
-            LineFault::Memory => Fault::Refused(Refusal::OutOfMemory),
+            WordsFault::Usage => Fault::Usage,
+            WordsFault::Memory => Fault::Refused(Refusal::OutOfMemory),
         }
     }
 }
@@ -116,7 +116,7 @@ fn perform<'a, F: Files>(
     words: &'a [String],
     files: &mut F,
 ) -> Result<End, Fault<'a>> {
-    match read_line(alloc, words)? {
+    match read_words(alloc, words)? {
         Order::Call(order) => Ok(End::Called(call(alloc, &order, files)?)),
         Order::Check(path) => {
             check_file(alloc, files, path)?;

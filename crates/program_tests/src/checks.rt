@@ -101,7 +101,7 @@ static PARAMETERS: [Parameters; 2] = [
     Parameters { front: "01EE07 01 60 E907", count: 1001, ending: LIMIT },
 ];
 
-// The section of a type of so many parameters of type i32.
+// The section of a type of many parameters of type i32.
 fn type_section(alloc: Global, front: &str, count: usize) -> Result<String, AllocError> {
     let params = "7F".repeat(alloc, count)?;
     format!(in alloc; "{front} {params} 00")

@@ -6,7 +6,7 @@ use program::run;
 use std::alloc::{AllocError, Global};
 use std::io::{self, Write};
 
-// A writer that takes so many calls of `write`, fails from then on, and cannot be flushed.
+// A writer that takes a number of calls of `write`, fails from then on, and cannot be flushed.
 #[derive(Drop)]
 struct Failing {
     writes: u32,

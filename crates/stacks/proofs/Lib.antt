@@ -1,2 +1,2 @@
-pub mod Opening
-pub mod Viewing
+pub mod Frames
+pub mod Views

@@ -1,7 +1,7 @@
 ghost use Rattle.std.specs.Prelude.{◌≡◌, ◌≤◌, ◌<◌, ◌↔◌, List, [], ◌++◌, length, map, take, slice_get, slice_set, OnOk, OnErr, IsTrue};
 ghost use Rattle.std.specs.Bool.{OnTrue, OnFalse};
 ghost use Rattle.core_types.specs.declared.outcome.Val.{Val as AnyVal};
-ghost use Rattle.meaning.specs.Reduction.{default_of};
+ghost use Rattle.meaning.specs.execution.Instructions.{default_of};
 ghost use Rattle.stacks.specs.Stacked.{local_stack};
 
 use core_types::{Locals, Val, ValType};
@@ -38,14 +38,14 @@ fn default_value(ty: ValType) -> Val
     }
 }
 
-// Adds the arguments, and the first values of the further locals. After want of memory a part of them may be there.
+// Adds the arguments, and the first values of the further locals. Where memory runs out, a part of them may be there.
 fn add_locals(values: &mut Vec<Val>, args: &[Val], types: &Locals) -> Result<(), AllocError>
     ensures added { OnOk result (values.new.items ≡ values.old.items ++ (args.now ++ map default_of types.now)) }
     ensures kept { OnErr result (take (length values.old.items) values.new.items ≡ values.old.items) }
 {
     values.extend_from_slice(args)?;
-    for place in 0..types.len() {
-        if let Some(ty) = types.get(place) {
+    for index in 0..types.len() {
+        if let Some(ty) = types.get(index) {
             values.push(default_value(ty))?;
         }
     }
@@ -90,7 +90,7 @@ impl FrameLocals {
         true
     }
 
-    /// Opens a frame with these arguments, and the first values of the further locals. After want of memory the locals are as
+    /// Opens a frame with these arguments, and the first values of the further locals. Where memory runs out, the locals are as
     /// before.
     pub fn enter(&mut self, args: &[Val], types: &Locals) -> Result<(), AllocError>
         ensures opened { OnOk result (self.new ≡ local_stack (args.now ++ map default_of types.now) (self.old.below ++ self.old.own)) }

@@ -50,7 +50,7 @@ impl Operands {
         self.floor
     }
 
-    /// Puts an operand on top. After want of memory the stack is as before.
+    /// Puts an operand on top. Where memory runs out, the stack is as before.
     pub fn push(&mut self, value: Val) -> Result<(), AllocError>
         ensures pushed { OnOk result (self.new ≡ operand_stack (value ∷ self.old.own) (self.old.below)) }
         ensures unchanged { OnErr result (self.new ≡ self.old) }

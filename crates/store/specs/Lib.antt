@@ -1,3 +1,3 @@
-pub mod Calling
+pub mod Arguments
 pub mod Ends
-pub mod Stored
+pub mod Contents

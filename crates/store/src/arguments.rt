@@ -1,9 +1,9 @@
 ghost use Rattle.std.specs.Prelude.{◌↔◌, IsSome, IsTrue, slice_get};
-ghost use Rattle.meaning.specs.Soundness.{ValueHasType, ValuesHaveTypes};
-ghost use Rattle.store.specs.Calling.{TakesArguments};
-ghost use Rattle.store.specs.Stored.{store_of};
+ghost use Rattle.meaning.specs.soundness.Values.{ValueHasType, ValuesHaveTypes};
+ghost use Rattle.store.specs.Arguments.{TakesArguments};
+ghost use Rattle.store.specs.Contents.{store_of};
 
-use crate::contents::Store;
+use crate::instances::Store;
 use core_types::{Val, ValType};
 
 // Whether a value has a type, in this store.

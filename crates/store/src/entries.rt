@@ -1,8 +1,8 @@
 ghost use Rattle.std.specs.Prelude.{◌≡◌, ◌^◌, ◌<◌, ◌∷◌, ◌++◌, [], length, IfOk, OnOk, OnErr};
-ghost use Rattle.store.specs.Stored.{HasAdded, IsEntry};
+ghost use Rattle.store.specs.Contents.{HasAdded, IsEntry};
 
-use crate::contents::FunctionInstance;
 use crate::ends::ends_of;
+use crate::instances::FunctionInstance;
 use core_types::Func;
 use std::alloc::{AllocError, Global};
 
@@ -23,7 +23,7 @@ fn entry_of(
     })
 }
 
-// Adds the entry of one more function. After want of memory the list is as before.
+// Adds the entry of one more function. Where memory runs out, the list is as before.
 fn push_entry(
     alloc: Global,
     functions: &mut Vec<FunctionInstance>,
@@ -39,7 +39,7 @@ fn push_entry(
     Ok(())
 }
 
-/// Adds an entry for each of the functions of an instance. After want of memory the list is as before.
+/// Adds an entry for each of the functions of an instance. Where memory runs out, the list is as before.
 pub fn push_entries(
     alloc: Global,
     functions: &mut Vec<FunctionInstance>,

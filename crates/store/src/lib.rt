@@ -1,11 +1,11 @@
-//! The store of a run: functions and module instances by address, and for each function the places at which its bodies end.
+//! The store of a run: functions and module instances by address, and for each function the positions at which its bodies end.
 #![tactic(auto)]
 
 mod arguments;
-mod contents;
 mod ends;
 mod entries;
+mod instances;
 
 pub use arguments::accepts;
-pub use contents::{Callee, FunctionInstance, Instance, Store};
 pub use ends::ends_of;
+pub use instances::{Callee, FunctionInstance, Instance, Store};

@@ -11,11 +11,11 @@ pub struct FunctionTypes {
     has_failed: bool,
 }
 
-// The place of the first type with these bytes; where there is none, the one behind all types.
-fn place_of(types: &[Writer], ty: &[u8]) -> usize {
-    for (place, other) in types.iter().enumerate() {
+// The index of the first type with these bytes; where there is none, the one behind all types.
+fn index_of(types: &[Writer], ty: &[u8]) -> usize {
+    for (index, other) in types.iter().enumerate() {
         if other.as_slice() == ty {
-            return place;
+            return index;
         }
     }
     types.len()
@@ -53,11 +53,11 @@ impl FunctionTypes {
         if let Some(index) = header.type_index {
             return index;
         }
-        let place = place_of(&self.types, self.type_of(header).as_slice());
-        if place == self.types.len() {
+        let index = index_of(&self.types, self.type_of(header).as_slice());
+        if index == self.types.len() {
             self.add(header);
         }
-        place as u64
+        index as u64
     }
 
     /// The section of the types.

@@ -188,7 +188,7 @@ static COLUMNS: [(&str, Immediates); 18] = [
     ("constant64", Immediates::Constant64),
 ];
 
-// What a word of the last column stands for.
+// What a word of the last column represents.
 fn immediates_of(column: &str) -> Immediates {
     for (word, immediates) in &COLUMNS {
         if *word == column {

@@ -1,22 +1,9 @@
-ghost use Rattle.std.specs.Prelude.{◌<◌, IfSome};
-
+use crate::hexadecimal::digit;
 use crate::reader::Reader;
 use crate::writer::Writer;
 use std::alloc::Global;
 
-// The value of a hexadecimal digit.
-fn digit(code: u8) -> Option<u8>
-    ensures { IfSome result (λ value. value < 16) }
-{
-    match code {
-        b'0'..=b'9' => Some(code - b'0'),
-        b'A'..=b'F' => Some(code - b'A' + 10),
-        b'a'..=b'f' => Some(code - b'a' + 10),
-        _ => None,
-    }
-}
-
-// Writes the bytes that a quoted text stands for: a backslash and two digits stand for one. Answers whether it is one.
+// Writes the bytes that a quoted text represents: a backslash and two digits represent one. Answers whether it is one.
 fn write_quoted(quoted: &[u8], writer: &mut Writer) -> bool {
     let mut codes = quoted.iter();
     while let Some(code) = codes.next() {

@@ -8,11 +8,14 @@ use crate::section::Section;
 use crate::writer::Writer;
 use std::alloc::Global;
 
-// What a segment goes to: the index of a table or a memory, if it is given, and the expression of the place, without which the
-// segment is passive or declarative.
+// The code of the type of references to functions, which an active segment in table 0 need not name.
+const FUNC_REF: u8 = 0x70;
+
+// What a segment goes to: the index of a table or a memory, and the expression of the offset, without which the segment is
+// passive or declarative.
 #[derive(Drop)]
 struct Target {
-    index: Option<u64>,
+    index: u64,
     offset: Option<Writer>,
     is_declared: bool,
 }
@@ -21,7 +24,7 @@ impl Target {
     // Reads one list.
     fn read_list(&mut self, alloc: Global, types: &mut FunctionTypes, reader: &mut Reader<'_>) {
         match reader.word() {
-            "table" | "memory" => self.index = Some(reader.number()),
+            "table" | "memory" => self.index = reader.number(),
             "offset" => {
                 let mut offset = Writer::new(alloc);
                 write_expression(alloc, types, reader, &mut offset);
@@ -36,11 +39,11 @@ impl Target {
     fn form(&self) -> u8
         ensures { result ≤ 3 }
     {
-        match (&self.offset, self.index) {
-            (Some(_), Some(_)) => 2,
-            (Some(_), None) => 0,
-            (None, _) if self.is_declared => 3,
-            (None, _) => 1,
+        match &self.offset {
+            Some(_) if self.index == 0 => 0,
+            Some(_) => 2,
+            None if self.is_declared => 3,
+            None => 1,
         }
     }
 
@@ -48,8 +51,8 @@ impl Target {
     fn write(&self, form: u8, writer: &mut Writer) {
         writer.write_byte(form);
         if let Some(offset) = &self.offset {
-            if let Some(index) = self.index {
-                writer.write_number(index);
+            if form == 2 || form == 6 {
+                writer.write_number(self.index);
             }
             writer.append(offset);
         }
@@ -59,7 +62,7 @@ impl Target {
 // Reads the word and the lists in front.
 fn read_target(alloc: Global, types: &mut FunctionTypes, reader: &mut Reader<'_>) -> Target {
     let mut target = Target {
-        index: None,
+        index: 0,
         offset: None,
         is_declared: reader.accepts("declare"),
     };
@@ -110,8 +113,11 @@ fn write_expressions(
     reader: &mut Reader<'_>,
     writer: &mut Writer,
 ) {
-    let form = target.form();
     let ty = reader.value_type();
+    let form = match target.form() {
+        0 if ty != FUNC_REF => 2,
+        form => form,
+    };
     target.write(form + 4, writer);
     if form != 0 {
         writer.write_byte(ty);

@@ -3,118 +3,118 @@
 use crate::answers::check_rows;
 
 const ROWS: &str = "\
-block_of_a_missing_type 01170560000060017F0060017F017F60017F017E6000027F7E 03020100 0A0701050002050B0B invalid
-block_of_a_type 01170560000060017F0060017F017F60017F017E6000027F7E 03020100 0A0701050002000B0B valid
-block_with_an_i64 01170560000060017F0060017F017F60017F017E6000027F7E 03020100 0A0A010800420002011A0B0B invalid
-block_with_an_i32 01170560000060017F0060017F017F60017F017E6000027F7E 03020100 0A0A010800410002011A0B0B valid
-block_without_its_parameter 01170560000060017F0060017F017F60017F017E6000027F7E 03020100 0A0801060002011A0B0B invalid
-block_takes_an_operand_from_below 01170560000060017F0060017F017F60017F017E6000027F7E 03020100 0A0D010B00410002401A41000B1A0B invalid
-block_leaves_an_operand_below 01170560000060017F0060017F017F60017F017E6000027F7E 03020100 0A0A010800410002400B1A0B valid
-block_with_an_i64_at_its_end 01170560000060017F0060017F017F60017F017E6000027F7E 03020100 0A0A010800027F42000B1A0B invalid
-block_with_nothing_at_its_end 01170560000060017F0060017F017F60017F017E6000027F7E 03020100 0A08010600027F0B1A0B invalid
-block_with_too_many_at_its_end 01170560000060017F0060017F017F60017F017E6000027F7E 03020100 0A0D010B00027F410041000B1A1A0B invalid
-block_with_an_i32_at_its_end 01170560000060017F0060017F017F60017F017E6000027F7E 03020100 0A0A010800027F41000B1A0B valid
-block_that_gives_no_i64 01170560000060017F0060017F017F60017F017E6000027F7E 03020100 0A0B010900027F41000B501A0B invalid
-block_that_gives_an_i32 01170560000060017F0060017F017F60017F017E6000027F7E 03020100 0A0B010900027F41000B451A0B valid
-block_without_results_with_an_i32_at_its_end 01170560000060017F0060017F017F60017F017E6000027F7E 03020100 0A0A010800024041000B1A0B invalid
-block_without_results_with_nothing_at_its_end 01170560000060017F0060017F017F60017F017E6000027F7E 03020100 0A0A010800024041001A0B0B valid
-block_without_results_with_an_i32_after_unreachable 01170560000060017F0060017F017F60017F017E6000027F7E 03020100 0A0B01090002400041000B1A0B invalid
-block_without_results_with_nothing_after_unreachable 01170560000060017F0060017F017F60017F017E6000027F7E 03020100 0A0B01090002400041001A0B0B valid
-block_with_results_in_the_other_order 01170560000060017F0060017F017F60017F017E6000027F7E 03020100 0A0D010B000204420041000B1A1A0B invalid
-block_with_results_in_order 01170560000060017F0060017F017F60017F017E6000027F7E 03020100 0A0D010B000204410042000B1A1A0B valid
-block_keeps_no_result_from_unreachable 01170560000060017F0060017F017F60017F017E6000027F7E 03020100 0A090107000240000B1A0B invalid
-block_ends_after_unreachable 01170560000060017F0060017F017F60017F017E6000027F7E 03020100 0A080106000240000B0B valid
-loop_of_a_missing_type 01170560000060017F0060017F017F60017F017E6000027F7E 03020100 0A0701050003050B0B invalid
-loop_of_a_type 01170560000060017F0060017F017F60017F017E6000027F7E 03020100 0A0701050003000B0B valid
-loop_with_an_i64 01170560000060017F0060017F017F60017F017E6000027F7E 03020100 0A0A010800420003011A0B0B invalid
-loop_with_an_i32 01170560000060017F0060017F017F60017F017E6000027F7E 03020100 0A0A010800410003011A0B0B valid
-loop_without_its_parameter 01170560000060017F0060017F017F60017F017E6000027F7E 03020100 0A0801060003011A0B0B invalid
-loop_takes_an_operand_from_below 01170560000060017F0060017F017F60017F017E6000027F7E 03020100 0A0D010B00410003401A41000B1A0B invalid
-loop_leaves_an_operand_below 01170560000060017F0060017F017F60017F017E6000027F7E 03020100 0A0A010800410003400B1A0B valid
-loop_with_an_i64_at_its_end 01170560000060017F0060017F017F60017F017E6000027F7E 03020100 0A0A010800037F42000B1A0B invalid
-loop_with_nothing_at_its_end 01170560000060017F0060017F017F60017F017E6000027F7E 03020100 0A08010600037F0B1A0B invalid
-loop_with_too_many_at_its_end 01170560000060017F0060017F017F60017F017E6000027F7E 03020100 0A0D010B00037F410041000B1A1A0B invalid
-loop_with_an_i32_at_its_end 01170560000060017F0060017F017F60017F017E6000027F7E 03020100 0A0A010800037F41000B1A0B valid
-loop_that_gives_no_i64 01170560000060017F0060017F017F60017F017E6000027F7E 03020100 0A0B010900037F41000B501A0B invalid
-loop_that_gives_an_i32 01170560000060017F0060017F017F60017F017E6000027F7E 03020100 0A0B010900037F41000B451A0B valid
-loop_without_results_with_an_i32_at_its_end 01170560000060017F0060017F017F60017F017E6000027F7E 03020100 0A0A010800034041000B1A0B invalid
-loop_without_results_with_nothing_at_its_end 01170560000060017F0060017F017F60017F017E6000027F7E 03020100 0A0A010800034041001A0B0B valid
-loop_without_results_with_an_i32_after_unreachable 01170560000060017F0060017F017F60017F017E6000027F7E 03020100 0A0B01090003400041000B1A0B invalid
-loop_without_results_with_nothing_after_unreachable 01170560000060017F0060017F017F60017F017E6000027F7E 03020100 0A0B01090003400041001A0B0B valid
-loop_with_results_in_the_other_order 01170560000060017F0060017F017F60017F017E6000027F7E 03020100 0A0D010B000304420041000B1A1A0B invalid
-loop_with_results_in_order 01170560000060017F0060017F017F60017F017E6000027F7E 03020100 0A0D010B000304410042000B1A1A0B valid
-loop_keeps_no_result_from_unreachable 01170560000060017F0060017F017F60017F017E6000027F7E 03020100 0A090107000340000B1A0B invalid
-loop_ends_after_unreachable 01170560000060017F0060017F017F60017F017E6000027F7E 03020100 0A080106000340000B0B valid
-if_of_a_missing_type 01170560000060017F0060017F017F60017F017E6000027F7E 03020100 0A09010700410004050B0B invalid
-if_of_a_type 01170560000060017F0060017F017F60017F017E6000027F7E 03020100 0A09010700410004000B0B valid
-if_with_an_i64 01170560000060017F0060017F017F60017F017E6000027F7E 03020100 0A0E010C004200410004011A051A0B0B invalid
-if_with_an_i32 01170560000060017F0060017F017F60017F017E6000027F7E 03020100 0A0E010C004100410004011A051A0B0B valid
-if_without_its_parameter 01170560000060017F0060017F017F60017F017E6000027F7E 03020100 0A0C010A00410004011A051A0B0B invalid
-if_takes_an_operand_from_below 01170560000060017F0060017F017F60017F017E6000027F7E 03020100 0A0F010D004100410004401A41000B1A0B invalid
-if_leaves_an_operand_below 01170560000060017F0060017F017F60017F017E6000027F7E 03020100 0A0C010A004100410004400B1A0B valid
-if_with_an_i64_at_its_end 01170560000060017F0060017F017F60017F017E6000027F7E 03020100 0A0F010D004100047F42000541000B1A0B invalid
-if_with_nothing_at_its_end 01170560000060017F0060017F017F60017F017E6000027F7E 03020100 0A0D010B004100047F0541000B1A0B invalid
-if_with_too_many_at_its_end 01170560000060017F0060017F017F60017F017E6000027F7E 03020100 0A120110004100047F410041000541000B1A1A0B invalid
-if_with_an_i32_at_its_end 01170560000060017F0060017F017F60017F017E6000027F7E 03020100 0A0F010D004100047F41000541000B1A0B valid
-if_that_gives_no_i64 01170560000060017F0060017F017F60017F017E6000027F7E 03020100 0A10010E004100047F41000541000B501A0B invalid
-if_that_gives_an_i32 01170560000060017F0060017F017F60017F017E6000027F7E 03020100 0A10010E004100047F41000541000B451A0B valid
-if_without_results_with_an_i32_at_its_end 01170560000060017F0060017F017F60017F017E6000027F7E 03020100 0A0C010A004100044041000B1A0B invalid
-if_without_results_with_nothing_at_its_end 01170560000060017F0060017F017F60017F017E6000027F7E 03020100 0A0C010A004100044041001A0B0B valid
-if_without_results_with_an_i32_after_unreachable 01170560000060017F0060017F017F60017F017E6000027F7E 03020100 0A0D010B00410004400041000B1A0B invalid
-if_without_results_with_nothing_after_unreachable 01170560000060017F0060017F017F60017F017E6000027F7E 03020100 0A0D010B00410004400041001A0B0B valid
-if_with_results_in_the_other_order 01170560000060017F0060017F017F60017F017E6000027F7E 03020100 0A14011200410004044200410005410042000B1A1A0B invalid
-if_with_results_in_order 01170560000060017F0060017F017F60017F017E6000027F7E 03020100 0A14011200410004044100420005410042000B1A1A0B valid
-if_keeps_no_result_from_unreachable 01170560000060017F0060017F017F60017F017E6000027F7E 03020100 0A0B01090041000440000B1A0B invalid
-if_ends_after_unreachable 01170560000060017F0060017F017F60017F017E6000027F7E 03020100 0A0A01080041000440000B0B valid
-unknown_operand_behind_the_end_of_an_i64_block 01170560000060017F0060017F017F60017F017E6000027F7E 03020100 0A0A010800027E000B451A0B invalid
-unknown_operand_behind_the_end_of_an_i32_block 01170560000060017F0060017F017F60017F017E6000027F7E 03020100 0A0A010800027F000B451A0B valid
-block_after_unreachable_drops_nothing 01170560000060017F0060017F017F60017F017E6000027F7E 03020100 0A090107000002401A0B0B invalid
-block_after_unreachable_drops_an_i32 01170560000060017F0060017F017F60017F017E6000027F7E 03020100 0A0B01090000024041001A0B0B valid
-unknown_operand_behind_a_block 01170560000060017F0060017F017F60017F017E6000027F7E 03020100 0A0901070002400B451A0B invalid
-unknown_operand_behind_a_block_after_unreachable 01170560000060017F0060017F017F60017F017E6000027F7E 03020100 0A0A0108000002400B451A0B valid
-i64_below_a_block_for_i32.eqz_behind_it 01170560000060017F0060017F017F60017F017E6000027F7E 03020100 0A0E010C004200024000451A0B451A0B invalid
-i64_below_a_block_that_ends_after_unreachable 01170560000060017F0060017F017F60017F017E6000027F7E 03020100 0A0E010C004200024000451A0B501A0B valid
-if_without_else_of_no_parameter_and_an_i32 01170560000060017F0060017F017F60017F017E6000027F7E 03020100 0A0C010A004100047F41000B1A0B invalid
-if_with_else_of_no_parameter_and_an_i32 01170560000060017F0060017F017F60017F017E6000027F7E 03020100 0A0F010D004100047F41000541000B1A0B valid
-if_without_else_of_an_i32_and_an_i64 01170560000060017F0060017F017F60017F017E6000027F7E 03020100 0A0F010D004101410004031A42000B1A0B invalid
-if_with_else_of_an_i32_and_an_i64 01170560000060017F0060017F017F60017F017E6000027F7E 03020100 0A130111004101410004031A4200051A42000B1A0B valid
-if_without_else_of_an_i32_and_an_i32 01170560000060017F0060017F017F60017F017E6000027F7E 03020100 0A0C010A004101410004020B1A0B valid
-if_without_else_of_an_i32_and_nothing 01170560000060017F0060017F017F60017F017E6000027F7E 03020100 0A0C010A004101410004011A0B0B invalid
-if_with_else_of_an_i32_and_nothing 01170560000060017F0060017F017F60017F017E6000027F7E 03020100 0A0E010C004101410004011A051A0B0B valid
-if_without_else_of_an_i32_and_nothing_after_unreachable 01170560000060017F0060017F017F60017F017E6000027F7E 03020100 0A090107000004011A0B0B invalid
-if_with_else_of_an_i32_and_nothing_after_unreachable 01170560000060017F0060017F017F60017F017E6000027F7E 03020100 0A0B0109000004011A051A0B0B valid
-if_without_condition 01170560000060017F0060017F017F60017F017E6000027F7E 03020100 0A0701050004400B0B invalid
-if_by_an_i64 01170560000060017F0060017F017F60017F017E6000027F7E 03020100 0A09010700420004400B0B invalid
-if_by_an_i32 01170560000060017F0060017F017F60017F017E6000027F7E 03020100 0A09010700410004400B0B valid
-if_by_a_reference 01170560000060017F0060017F017F60017F017E6000027F7E 03020100 0A09010700D07004400B0B invalid
-if_with_its_condition_below_its_parameter 01120460000060017E0060017E017E60017E017E 03020100 0A0D010B00410042000403050B1A0B invalid
-if_with_its_condition_above_its_parameter 01120460000060017E0060017E017E60017E017E 03020100 0A0D010B00420041000403050B1A0B valid
-else_with_an_i64_at_its_end 01170560000060017F0060017F017F60017F017E6000027F7E 03020100 0A0F010D004100047F41000542000B1A0B invalid
-else_with_nothing_at_its_end 01170560000060017F0060017F017F60017F017E6000027F7E 03020100 0A0D010B004100047F4100050B1A0B invalid
-else_with_too_many_at_its_end 01170560000060017F0060017F017F60017F017E6000027F7E 03020100 0A120110004100047F410005410041000B1A1A0B invalid
-else_with_an_i32_at_its_end 01170560000060017F0060017F017F60017F017E6000027F7E 03020100 0A0F010D004100047F41000541000B1A0B valid
-else_that_leaves_its_parameter 01170560000060017F0060017F017F60017F017E6000027F7E 03020100 0A0E010C004101410004011A050B1A0B invalid
-else_that_drops_its_parameter 01170560000060017F0060017F017F60017F017E6000027F7E 03020100 0A0E010C004101410004011A051A0B0B valid
-else_after_unreachable_is_reached 01170560000060017F0060017F017F60017F017E6000027F7E 03020100 0A0D010B004100044000056A1A0B0B invalid
-if_after_unreachable_is_not_reached 01170560000060017F0060017F017F60017F017E6000027F7E 03020100 0A0D010B0041000440006A1A050B0B valid
-else_takes_no_operand_of_the_other_branch 01170560000060017F0060017F017F60017F017E6000027F7E 03020100 0A10010E004100047F4100051A41000B1A0B invalid
-body_without_its_result 0105016000017F 03020100 0A040102000B invalid
-body_with_two_results 0105016000017F 03020100 0A08010600410041000B invalid
-body_with_an_i64 0105016000017F 03020100 0A0601040042000B invalid
-body_with_its_result 0105016000017F 03020100 0A0601040041000B valid
-body_of_no_results_with_an_i32 010401600000 03020100 0A0601040041000B invalid
-body_of_no_results 010401600000 03020100 0A05010300010B valid
-body_with_results_in_the_other_order 0106016000027F7E 03020100 0A08010600420041000B invalid
-body_with_results_in_order 0106016000027F7E 03020100 0A08010600410042000B valid
-body_with_one_of_two_results 0106016000027F7E 03020100 0A0601040042000B invalid
-body_with_one_of_two_results_after_unreachable 0106016000027F7E 03020100 0A070105000042000B valid
-body_with_an_i32_too_many_after_unreachable 010401600000 03020100 0A070105000041000B invalid
-body_with_an_i64_after_unreachable 0105016000017F 03020100 0A070105000042000B invalid
-body_with_nothing_after_unreachable 0105016000017F 03020100 0A05010300000B valid
-body_with_a_reference_of_another_type 01050160000170 03020100 0A06010400D06F0B invalid
-body_with_a_reference 01050160000170 03020100 0A06010400D0700B valid
-second_function_with_an_i32 010401600000 0303020000 0A090202000B040041000B invalid
-second_function_with_nothing 010401600000 0303020000 0A0A0202000B050041001A0B valid";
+block_of_a_missing_type | (type (func)) (type (func (param i32))) (type (func (param i32) (result i32))) (type (func (param i32) (result i64))) (type (func (result i32 i64))) (func (type 0) block (type 5) end) | invalid
+block_of_a_type | (type (func)) (type (func (param i32))) (type (func (param i32) (result i32))) (type (func (param i32) (result i64))) (type (func (result i32 i64))) (func (type 0) block (type 0) end) | valid
+block_with_an_i64 | (type (func)) (type (func (param i32))) (type (func (param i32) (result i32))) (type (func (param i32) (result i64))) (type (func (result i32 i64))) (func (type 0) i64.const 0 block (type 1) drop end) | invalid
+block_with_an_i32 | (type (func)) (type (func (param i32))) (type (func (param i32) (result i32))) (type (func (param i32) (result i64))) (type (func (result i32 i64))) (func (type 0) i32.const 0 block (type 1) drop end) | valid
+block_without_its_parameter | (type (func)) (type (func (param i32))) (type (func (param i32) (result i32))) (type (func (param i32) (result i64))) (type (func (result i32 i64))) (func (type 0) block (type 1) drop end) | invalid
+block_takes_an_operand_from_below | (type (func)) (type (func (param i32))) (type (func (param i32) (result i32))) (type (func (param i32) (result i64))) (type (func (result i32 i64))) (func (type 0) i32.const 0 block drop i32.const 0 end drop) | invalid
+block_leaves_an_operand_below | (type (func)) (type (func (param i32))) (type (func (param i32) (result i32))) (type (func (param i32) (result i64))) (type (func (result i32 i64))) (func (type 0) i32.const 0 block end drop) | valid
+block_with_an_i64_at_its_end | (type (func)) (type (func (param i32))) (type (func (param i32) (result i32))) (type (func (param i32) (result i64))) (type (func (result i32 i64))) (func (type 0) block (result i32) i64.const 0 end drop) | invalid
+block_with_nothing_at_its_end | (type (func)) (type (func (param i32))) (type (func (param i32) (result i32))) (type (func (param i32) (result i64))) (type (func (result i32 i64))) (func (type 0) block (result i32) end drop) | invalid
+block_with_too_many_at_its_end | (type (func)) (type (func (param i32))) (type (func (param i32) (result i32))) (type (func (param i32) (result i64))) (type (func (result i32 i64))) (func (type 0) block (result i32) i32.const 0 i32.const 0 end drop drop) | invalid
+block_with_an_i32_at_its_end | (type (func)) (type (func (param i32))) (type (func (param i32) (result i32))) (type (func (param i32) (result i64))) (type (func (result i32 i64))) (func (type 0) block (result i32) i32.const 0 end drop) | valid
+block_that_gives_no_i64 | (type (func)) (type (func (param i32))) (type (func (param i32) (result i32))) (type (func (param i32) (result i64))) (type (func (result i32 i64))) (func (type 0) block (result i32) i32.const 0 end i64.eqz drop) | invalid
+block_that_gives_an_i32 | (type (func)) (type (func (param i32))) (type (func (param i32) (result i32))) (type (func (param i32) (result i64))) (type (func (result i32 i64))) (func (type 0) block (result i32) i32.const 0 end i32.eqz drop) | valid
+block_without_results_with_an_i32_at_its_end | (type (func)) (type (func (param i32))) (type (func (param i32) (result i32))) (type (func (param i32) (result i64))) (type (func (result i32 i64))) (func (type 0) block i32.const 0 end drop) | invalid
+block_without_results_with_nothing_at_its_end | (type (func)) (type (func (param i32))) (type (func (param i32) (result i32))) (type (func (param i32) (result i64))) (type (func (result i32 i64))) (func (type 0) block i32.const 0 drop end) | valid
+block_without_results_with_an_i32_after_unreachable | (type (func)) (type (func (param i32))) (type (func (param i32) (result i32))) (type (func (param i32) (result i64))) (type (func (result i32 i64))) (func (type 0) block unreachable i32.const 0 end drop) | invalid
+block_without_results_with_nothing_after_unreachable | (type (func)) (type (func (param i32))) (type (func (param i32) (result i32))) (type (func (param i32) (result i64))) (type (func (result i32 i64))) (func (type 0) block unreachable i32.const 0 drop end) | valid
+block_with_results_in_the_other_order | (type (func)) (type (func (param i32))) (type (func (param i32) (result i32))) (type (func (param i32) (result i64))) (type (func (result i32 i64))) (func (type 0) block (type 4) i64.const 0 i32.const 0 end drop drop) | invalid
+block_with_results_in_order | (type (func)) (type (func (param i32))) (type (func (param i32) (result i32))) (type (func (param i32) (result i64))) (type (func (result i32 i64))) (func (type 0) block (type 4) i32.const 0 i64.const 0 end drop drop) | valid
+block_keeps_no_result_from_unreachable | (type (func)) (type (func (param i32))) (type (func (param i32) (result i32))) (type (func (param i32) (result i64))) (type (func (result i32 i64))) (func (type 0) block unreachable end drop) | invalid
+block_ends_after_unreachable | (type (func)) (type (func (param i32))) (type (func (param i32) (result i32))) (type (func (param i32) (result i64))) (type (func (result i32 i64))) (func (type 0) block unreachable end) | valid
+loop_of_a_missing_type | (type (func)) (type (func (param i32))) (type (func (param i32) (result i32))) (type (func (param i32) (result i64))) (type (func (result i32 i64))) (func (type 0) loop (type 5) end) | invalid
+loop_of_a_type | (type (func)) (type (func (param i32))) (type (func (param i32) (result i32))) (type (func (param i32) (result i64))) (type (func (result i32 i64))) (func (type 0) loop (type 0) end) | valid
+loop_with_an_i64 | (type (func)) (type (func (param i32))) (type (func (param i32) (result i32))) (type (func (param i32) (result i64))) (type (func (result i32 i64))) (func (type 0) i64.const 0 loop (type 1) drop end) | invalid
+loop_with_an_i32 | (type (func)) (type (func (param i32))) (type (func (param i32) (result i32))) (type (func (param i32) (result i64))) (type (func (result i32 i64))) (func (type 0) i32.const 0 loop (type 1) drop end) | valid
+loop_without_its_parameter | (type (func)) (type (func (param i32))) (type (func (param i32) (result i32))) (type (func (param i32) (result i64))) (type (func (result i32 i64))) (func (type 0) loop (type 1) drop end) | invalid
+loop_takes_an_operand_from_below | (type (func)) (type (func (param i32))) (type (func (param i32) (result i32))) (type (func (param i32) (result i64))) (type (func (result i32 i64))) (func (type 0) i32.const 0 loop drop i32.const 0 end drop) | invalid
+loop_leaves_an_operand_below | (type (func)) (type (func (param i32))) (type (func (param i32) (result i32))) (type (func (param i32) (result i64))) (type (func (result i32 i64))) (func (type 0) i32.const 0 loop end drop) | valid
+loop_with_an_i64_at_its_end | (type (func)) (type (func (param i32))) (type (func (param i32) (result i32))) (type (func (param i32) (result i64))) (type (func (result i32 i64))) (func (type 0) loop (result i32) i64.const 0 end drop) | invalid
+loop_with_nothing_at_its_end | (type (func)) (type (func (param i32))) (type (func (param i32) (result i32))) (type (func (param i32) (result i64))) (type (func (result i32 i64))) (func (type 0) loop (result i32) end drop) | invalid
+loop_with_too_many_at_its_end | (type (func)) (type (func (param i32))) (type (func (param i32) (result i32))) (type (func (param i32) (result i64))) (type (func (result i32 i64))) (func (type 0) loop (result i32) i32.const 0 i32.const 0 end drop drop) | invalid
+loop_with_an_i32_at_its_end | (type (func)) (type (func (param i32))) (type (func (param i32) (result i32))) (type (func (param i32) (result i64))) (type (func (result i32 i64))) (func (type 0) loop (result i32) i32.const 0 end drop) | valid
+loop_that_gives_no_i64 | (type (func)) (type (func (param i32))) (type (func (param i32) (result i32))) (type (func (param i32) (result i64))) (type (func (result i32 i64))) (func (type 0) loop (result i32) i32.const 0 end i64.eqz drop) | invalid
+loop_that_gives_an_i32 | (type (func)) (type (func (param i32))) (type (func (param i32) (result i32))) (type (func (param i32) (result i64))) (type (func (result i32 i64))) (func (type 0) loop (result i32) i32.const 0 end i32.eqz drop) | valid
+loop_without_results_with_an_i32_at_its_end | (type (func)) (type (func (param i32))) (type (func (param i32) (result i32))) (type (func (param i32) (result i64))) (type (func (result i32 i64))) (func (type 0) loop i32.const 0 end drop) | invalid
+loop_without_results_with_nothing_at_its_end | (type (func)) (type (func (param i32))) (type (func (param i32) (result i32))) (type (func (param i32) (result i64))) (type (func (result i32 i64))) (func (type 0) loop i32.const 0 drop end) | valid
+loop_without_results_with_an_i32_after_unreachable | (type (func)) (type (func (param i32))) (type (func (param i32) (result i32))) (type (func (param i32) (result i64))) (type (func (result i32 i64))) (func (type 0) loop unreachable i32.const 0 end drop) | invalid
+loop_without_results_with_nothing_after_unreachable | (type (func)) (type (func (param i32))) (type (func (param i32) (result i32))) (type (func (param i32) (result i64))) (type (func (result i32 i64))) (func (type 0) loop unreachable i32.const 0 drop end) | valid
+loop_with_results_in_the_other_order | (type (func)) (type (func (param i32))) (type (func (param i32) (result i32))) (type (func (param i32) (result i64))) (type (func (result i32 i64))) (func (type 0) loop (type 4) i64.const 0 i32.const 0 end drop drop) | invalid
+loop_with_results_in_order | (type (func)) (type (func (param i32))) (type (func (param i32) (result i32))) (type (func (param i32) (result i64))) (type (func (result i32 i64))) (func (type 0) loop (type 4) i32.const 0 i64.const 0 end drop drop) | valid
+loop_keeps_no_result_from_unreachable | (type (func)) (type (func (param i32))) (type (func (param i32) (result i32))) (type (func (param i32) (result i64))) (type (func (result i32 i64))) (func (type 0) loop unreachable end drop) | invalid
+loop_ends_after_unreachable | (type (func)) (type (func (param i32))) (type (func (param i32) (result i32))) (type (func (param i32) (result i64))) (type (func (result i32 i64))) (func (type 0) loop unreachable end) | valid
+if_of_a_missing_type | (type (func)) (type (func (param i32))) (type (func (param i32) (result i32))) (type (func (param i32) (result i64))) (type (func (result i32 i64))) (func (type 0) i32.const 0 if (type 5) end) | invalid
+if_of_a_type | (type (func)) (type (func (param i32))) (type (func (param i32) (result i32))) (type (func (param i32) (result i64))) (type (func (result i32 i64))) (func (type 0) i32.const 0 if (type 0) end) | valid
+if_with_an_i64 | (type (func)) (type (func (param i32))) (type (func (param i32) (result i32))) (type (func (param i32) (result i64))) (type (func (result i32 i64))) (func (type 0) i64.const 0 i32.const 0 if (type 1) drop else drop end) | invalid
+if_with_an_i32 | (type (func)) (type (func (param i32))) (type (func (param i32) (result i32))) (type (func (param i32) (result i64))) (type (func (result i32 i64))) (func (type 0) i32.const 0 i32.const 0 if (type 1) drop else drop end) | valid
+if_without_its_parameter | (type (func)) (type (func (param i32))) (type (func (param i32) (result i32))) (type (func (param i32) (result i64))) (type (func (result i32 i64))) (func (type 0) i32.const 0 if (type 1) drop else drop end) | invalid
+if_takes_an_operand_from_below | (type (func)) (type (func (param i32))) (type (func (param i32) (result i32))) (type (func (param i32) (result i64))) (type (func (result i32 i64))) (func (type 0) i32.const 0 i32.const 0 if drop i32.const 0 end drop) | invalid
+if_leaves_an_operand_below | (type (func)) (type (func (param i32))) (type (func (param i32) (result i32))) (type (func (param i32) (result i64))) (type (func (result i32 i64))) (func (type 0) i32.const 0 i32.const 0 if end drop) | valid
+if_with_an_i64_at_its_end | (type (func)) (type (func (param i32))) (type (func (param i32) (result i32))) (type (func (param i32) (result i64))) (type (func (result i32 i64))) (func (type 0) i32.const 0 if (result i32) i64.const 0 else i32.const 0 end drop) | invalid
+if_with_nothing_at_its_end | (type (func)) (type (func (param i32))) (type (func (param i32) (result i32))) (type (func (param i32) (result i64))) (type (func (result i32 i64))) (func (type 0) i32.const 0 if (result i32) else i32.const 0 end drop) | invalid
+if_with_too_many_at_its_end | (type (func)) (type (func (param i32))) (type (func (param i32) (result i32))) (type (func (param i32) (result i64))) (type (func (result i32 i64))) (func (type 0) i32.const 0 if (result i32) i32.const 0 i32.const 0 else i32.const 0 end drop drop) | invalid
+if_with_an_i32_at_its_end | (type (func)) (type (func (param i32))) (type (func (param i32) (result i32))) (type (func (param i32) (result i64))) (type (func (result i32 i64))) (func (type 0) i32.const 0 if (result i32) i32.const 0 else i32.const 0 end drop) | valid
+if_that_gives_no_i64 | (type (func)) (type (func (param i32))) (type (func (param i32) (result i32))) (type (func (param i32) (result i64))) (type (func (result i32 i64))) (func (type 0) i32.const 0 if (result i32) i32.const 0 else i32.const 0 end i64.eqz drop) | invalid
+if_that_gives_an_i32 | (type (func)) (type (func (param i32))) (type (func (param i32) (result i32))) (type (func (param i32) (result i64))) (type (func (result i32 i64))) (func (type 0) i32.const 0 if (result i32) i32.const 0 else i32.const 0 end i32.eqz drop) | valid
+if_without_results_with_an_i32_at_its_end | (type (func)) (type (func (param i32))) (type (func (param i32) (result i32))) (type (func (param i32) (result i64))) (type (func (result i32 i64))) (func (type 0) i32.const 0 if i32.const 0 end drop) | invalid
+if_without_results_with_nothing_at_its_end | (type (func)) (type (func (param i32))) (type (func (param i32) (result i32))) (type (func (param i32) (result i64))) (type (func (result i32 i64))) (func (type 0) i32.const 0 if i32.const 0 drop end) | valid
+if_without_results_with_an_i32_after_unreachable | (type (func)) (type (func (param i32))) (type (func (param i32) (result i32))) (type (func (param i32) (result i64))) (type (func (result i32 i64))) (func (type 0) i32.const 0 if unreachable i32.const 0 end drop) | invalid
+if_without_results_with_nothing_after_unreachable | (type (func)) (type (func (param i32))) (type (func (param i32) (result i32))) (type (func (param i32) (result i64))) (type (func (result i32 i64))) (func (type 0) i32.const 0 if unreachable i32.const 0 drop end) | valid
+if_with_results_in_the_other_order | (type (func)) (type (func (param i32))) (type (func (param i32) (result i32))) (type (func (param i32) (result i64))) (type (func (result i32 i64))) (func (type 0) i32.const 0 if (type 4) i64.const 0 i32.const 0 else i32.const 0 i64.const 0 end drop drop) | invalid
+if_with_results_in_order | (type (func)) (type (func (param i32))) (type (func (param i32) (result i32))) (type (func (param i32) (result i64))) (type (func (result i32 i64))) (func (type 0) i32.const 0 if (type 4) i32.const 0 i64.const 0 else i32.const 0 i64.const 0 end drop drop) | valid
+if_keeps_no_result_from_unreachable | (type (func)) (type (func (param i32))) (type (func (param i32) (result i32))) (type (func (param i32) (result i64))) (type (func (result i32 i64))) (func (type 0) i32.const 0 if unreachable end drop) | invalid
+if_ends_after_unreachable | (type (func)) (type (func (param i32))) (type (func (param i32) (result i32))) (type (func (param i32) (result i64))) (type (func (result i32 i64))) (func (type 0) i32.const 0 if unreachable end) | valid
+unknown_operand_behind_the_end_of_an_i64_block | (type (func)) (type (func (param i32))) (type (func (param i32) (result i32))) (type (func (param i32) (result i64))) (type (func (result i32 i64))) (func (type 0) block (result i64) unreachable end i32.eqz drop) | invalid
+unknown_operand_behind_the_end_of_an_i32_block | (type (func)) (type (func (param i32))) (type (func (param i32) (result i32))) (type (func (param i32) (result i64))) (type (func (result i32 i64))) (func (type 0) block (result i32) unreachable end i32.eqz drop) | valid
+block_after_unreachable_drops_nothing | (type (func)) (type (func (param i32))) (type (func (param i32) (result i32))) (type (func (param i32) (result i64))) (type (func (result i32 i64))) (func (type 0) unreachable block drop end) | invalid
+block_after_unreachable_drops_an_i32 | (type (func)) (type (func (param i32))) (type (func (param i32) (result i32))) (type (func (param i32) (result i64))) (type (func (result i32 i64))) (func (type 0) unreachable block i32.const 0 drop end) | valid
+unknown_operand_behind_a_block | (type (func)) (type (func (param i32))) (type (func (param i32) (result i32))) (type (func (param i32) (result i64))) (type (func (result i32 i64))) (func (type 0) block end i32.eqz drop) | invalid
+unknown_operand_behind_a_block_after_unreachable | (type (func)) (type (func (param i32))) (type (func (param i32) (result i32))) (type (func (param i32) (result i64))) (type (func (result i32 i64))) (func (type 0) unreachable block end i32.eqz drop) | valid
+i64_below_a_block_for_i32.eqz_behind_it | (type (func)) (type (func (param i32))) (type (func (param i32) (result i32))) (type (func (param i32) (result i64))) (type (func (result i32 i64))) (func (type 0) i64.const 0 block unreachable i32.eqz drop end i32.eqz drop) | invalid
+i64_below_a_block_that_ends_after_unreachable | (type (func)) (type (func (param i32))) (type (func (param i32) (result i32))) (type (func (param i32) (result i64))) (type (func (result i32 i64))) (func (type 0) i64.const 0 block unreachable i32.eqz drop end i64.eqz drop) | valid
+if_without_else_of_no_parameter_and_an_i32 | (type (func)) (type (func (param i32))) (type (func (param i32) (result i32))) (type (func (param i32) (result i64))) (type (func (result i32 i64))) (func (type 0) i32.const 0 if (result i32) i32.const 0 end drop) | invalid
+if_with_else_of_no_parameter_and_an_i32 | (type (func)) (type (func (param i32))) (type (func (param i32) (result i32))) (type (func (param i32) (result i64))) (type (func (result i32 i64))) (func (type 0) i32.const 0 if (result i32) i32.const 0 else i32.const 0 end drop) | valid
+if_without_else_of_an_i32_and_an_i64 | (type (func)) (type (func (param i32))) (type (func (param i32) (result i32))) (type (func (param i32) (result i64))) (type (func (result i32 i64))) (func (type 0) i32.const 1 i32.const 0 if (type 3) drop i64.const 0 end drop) | invalid
+if_with_else_of_an_i32_and_an_i64 | (type (func)) (type (func (param i32))) (type (func (param i32) (result i32))) (type (func (param i32) (result i64))) (type (func (result i32 i64))) (func (type 0) i32.const 1 i32.const 0 if (type 3) drop i64.const 0 else drop i64.const 0 end drop) | valid
+if_without_else_of_an_i32_and_an_i32 | (type (func)) (type (func (param i32))) (type (func (param i32) (result i32))) (type (func (param i32) (result i64))) (type (func (result i32 i64))) (func (type 0) i32.const 1 i32.const 0 if (type 2) end drop) | valid
+if_without_else_of_an_i32_and_nothing | (type (func)) (type (func (param i32))) (type (func (param i32) (result i32))) (type (func (param i32) (result i64))) (type (func (result i32 i64))) (func (type 0) i32.const 1 i32.const 0 if (type 1) drop end) | invalid
+if_with_else_of_an_i32_and_nothing | (type (func)) (type (func (param i32))) (type (func (param i32) (result i32))) (type (func (param i32) (result i64))) (type (func (result i32 i64))) (func (type 0) i32.const 1 i32.const 0 if (type 1) drop else drop end) | valid
+if_without_else_of_an_i32_and_nothing_after_unreachable | (type (func)) (type (func (param i32))) (type (func (param i32) (result i32))) (type (func (param i32) (result i64))) (type (func (result i32 i64))) (func (type 0) unreachable if (type 1) drop end) | invalid
+if_with_else_of_an_i32_and_nothing_after_unreachable | (type (func)) (type (func (param i32))) (type (func (param i32) (result i32))) (type (func (param i32) (result i64))) (type (func (result i32 i64))) (func (type 0) unreachable if (type 1) drop else drop end) | valid
+if_without_condition | (type (func)) (type (func (param i32))) (type (func (param i32) (result i32))) (type (func (param i32) (result i64))) (type (func (result i32 i64))) (func (type 0) if end) | invalid
+if_by_an_i64 | (type (func)) (type (func (param i32))) (type (func (param i32) (result i32))) (type (func (param i32) (result i64))) (type (func (result i32 i64))) (func (type 0) i64.const 0 if end) | invalid
+if_by_an_i32 | (type (func)) (type (func (param i32))) (type (func (param i32) (result i32))) (type (func (param i32) (result i64))) (type (func (result i32 i64))) (func (type 0) i32.const 0 if end) | valid
+if_by_a_reference | (type (func)) (type (func (param i32))) (type (func (param i32) (result i32))) (type (func (param i32) (result i64))) (type (func (result i32 i64))) (func (type 0) ref.null func if end) | invalid
+if_with_its_condition_below_its_parameter | (type (func)) (type (func (param i64))) (type (func (param i64) (result i64))) (type (func (param i64) (result i64))) (func (type 0) i32.const 0 i64.const 0 if (type 3) else end drop) | invalid
+if_with_its_condition_above_its_parameter | (type (func)) (type (func (param i64))) (type (func (param i64) (result i64))) (type (func (param i64) (result i64))) (func (type 0) i64.const 0 i32.const 0 if (type 3) else end drop) | valid
+else_with_an_i64_at_its_end | (type (func)) (type (func (param i32))) (type (func (param i32) (result i32))) (type (func (param i32) (result i64))) (type (func (result i32 i64))) (func (type 0) i32.const 0 if (result i32) i32.const 0 else i64.const 0 end drop) | invalid
+else_with_nothing_at_its_end | (type (func)) (type (func (param i32))) (type (func (param i32) (result i32))) (type (func (param i32) (result i64))) (type (func (result i32 i64))) (func (type 0) i32.const 0 if (result i32) i32.const 0 else end drop) | invalid
+else_with_too_many_at_its_end | (type (func)) (type (func (param i32))) (type (func (param i32) (result i32))) (type (func (param i32) (result i64))) (type (func (result i32 i64))) (func (type 0) i32.const 0 if (result i32) i32.const 0 else i32.const 0 i32.const 0 end drop drop) | invalid
+else_with_an_i32_at_its_end | (type (func)) (type (func (param i32))) (type (func (param i32) (result i32))) (type (func (param i32) (result i64))) (type (func (result i32 i64))) (func (type 0) i32.const 0 if (result i32) i32.const 0 else i32.const 0 end drop) | valid
+else_that_leaves_its_parameter | (type (func)) (type (func (param i32))) (type (func (param i32) (result i32))) (type (func (param i32) (result i64))) (type (func (result i32 i64))) (func (type 0) i32.const 1 i32.const 0 if (type 1) drop else end drop) | invalid
+else_that_drops_its_parameter | (type (func)) (type (func (param i32))) (type (func (param i32) (result i32))) (type (func (param i32) (result i64))) (type (func (result i32 i64))) (func (type 0) i32.const 1 i32.const 0 if (type 1) drop else drop end) | valid
+else_after_unreachable_is_reached | (type (func)) (type (func (param i32))) (type (func (param i32) (result i32))) (type (func (param i32) (result i64))) (type (func (result i32 i64))) (func (type 0) i32.const 0 if unreachable else i32.add drop end) | invalid
+if_after_unreachable_is_not_reached | (type (func)) (type (func (param i32))) (type (func (param i32) (result i32))) (type (func (param i32) (result i64))) (type (func (result i32 i64))) (func (type 0) i32.const 0 if unreachable i32.add drop else end) | valid
+else_takes_no_operand_of_the_other_branch | (type (func)) (type (func (param i32))) (type (func (param i32) (result i32))) (type (func (param i32) (result i64))) (type (func (result i32 i64))) (func (type 0) i32.const 0 if (result i32) i32.const 0 else drop i32.const 0 end drop) | invalid
+body_without_its_result | (func (result i32)) | invalid
+body_with_two_results | (func (result i32) i32.const 0 i32.const 0) | invalid
+body_with_an_i64 | (func (result i32) i64.const 0) | invalid
+body_with_its_result | (func (result i32) i32.const 0) | valid
+body_of_no_results_with_an_i32 | (func i32.const 0) | invalid
+body_of_no_results | (func nop) | valid
+body_with_results_in_the_other_order | (func (result i32 i64) i64.const 0 i32.const 0) | invalid
+body_with_results_in_order | (func (result i32 i64) i32.const 0 i64.const 0) | valid
+body_with_one_of_two_results | (func (result i32 i64) i64.const 0) | invalid
+body_with_one_of_two_results_after_unreachable | (func (result i32 i64) unreachable i64.const 0) | valid
+body_with_an_i32_too_many_after_unreachable | (func unreachable i32.const 0) | invalid
+body_with_an_i64_after_unreachable | (func (result i32) unreachable i64.const 0) | invalid
+body_with_nothing_after_unreachable | (func (result i32) unreachable) | valid
+body_with_a_reference_of_another_type | (func (result funcref) ref.null extern) | invalid
+body_with_a_reference | (func (result funcref) ref.null func) | valid
+second_function_with_an_i32 | (func) (func i32.const 0) | invalid
+second_function_with_nothing | (func) (func i32.const 0 drop) | valid";
 
 #[test]
 fn checks_blocks_and_the_ends_of_bodies(rt: HostRuntime) {

@@ -3,86 +3,86 @@
 use crate::answers::check_rows;
 
 const ROWS: &str = "\
-br_to_a_missing_label 010401600000 03020100 0A060104000C010B invalid
-br_to_the_body 010401600000 03020100 0A060104000C000B valid
-br_to_a_missing_label_from_a_block 010401600000 03020100 0A0901070002400C020B0B invalid
-br_to_the_body_from_a_block 010401600000 03020100 0A0901070002400C010B0B valid
-br_without_an_operand 010401600000 03020100 0A0A010800027F0C000B1A0B invalid
-br_with_an_i64 010401600000 03020100 0A0C010A00027F42000C000B1A0B invalid
-br_with_an_i32 010401600000 03020100 0A0C010A00027F41000C000B1A0B valid
-br_with_operands_below 010401600000 03020100 0A0E010C00027F420041000C000B1A0B valid
-br_to_a_body_without_its_result 0105016000017F 03020100 0A060104000C000B invalid
-br_to_a_body_with_its_result 0105016000017F 03020100 0A0801060041000C000B valid
-i64_for_i32.eqz_after_br 010401600000 03020100 0A0A0108000C004200451A0B invalid
-i32_for_i32.eqz_after_br 010401600000 03020100 0A0A0108000C004100451A0B valid
-br_if_to_a_missing_label 010401600000 03020100 0A0801060041000D010B invalid
-br_if_to_the_body 010401600000 03020100 0A0801060041000D000B valid
-br_if_by_an_i64 010401600000 03020100 0A0801060042000D000B invalid
-br_if_by_nothing 010401600000 03020100 0A060104000D000B invalid
-br_if_with_an_i64 010401600000 03020100 0A11010F00027F420041000D001A41000B1A0B invalid
-br_if_with_an_i32 010401600000 03020100 0A11010F00027F410041000D001A41000B1A0B valid
-br_if_without_an_operand 010401600000 03020100 0A0F010D00027F41000D001A41000B1A0B invalid
-br_if_gives_no_i64 010401600000 03020100 0A0F010D00027F410041000D00500B1A0B invalid
-br_if_gives_an_i32 010401600000 03020100 0A0F010D00027F410041000D00450B1A0B valid
-br_table_with_a_missing_label 010401600000 03020100 0A0A01080041000E0101000B invalid
-br_table_with_a_missing_default 010401600000 03020100 0A0A01080041000E0100010B invalid
-br_table_to_the_body 010401600000 03020100 0A0A01080041000E0100000B valid
-br_table_with_a_missing_only_label 010401600000 03020100 0A0901070041000E00010B invalid
-br_table_with_a_default_alone 010401600000 03020100 0A0901070041000E00000B valid
-br_table_by_an_i64 010401600000 03020100 0A0A01080042000E0100000B invalid
-br_table_by_nothing 010401600000 03020100 0A080106000E0100000B invalid
-br_table_with_an_i64 010401600000 03020100 0A10010E00027F420041000E0100000B1A0B invalid
-br_table_with_an_i32 010401600000 03020100 0A10010E00027F410041000E0100000B1A0B valid
-br_table_without_an_operand 010401600000 03020100 0A0E010C00027F41000E0100000B1A0B invalid
-br_table_with_labels_of_unequal_arity 010401600000 03020100 0A15011300027F0240410141000E0100010B41000B1A0B invalid
-br_table_with_labels_of_equal_arity 010401600000 03020100 0A15011300027F0240410141000E0101010B41000B1A0B valid
-br_table_with_labels_of_unequal_arity_after_unreachable 010401600000 03020100 0A12011000027F0240000E0100010B41000B1A0B invalid
-br_table_with_labels_of_equal_arity_after_unreachable 010401600000 03020100 0A12011000027F0240000E0101010B41000B1A0B valid
-br_table_of_an_i64_label_with_an_i32_after_unreachable 010401600000 03020100 0A11010F00027E00410141000E0100000B1A0B invalid
-br_table_of_an_i64_label_with_an_i64_after_unreachable 010401600000 03020100 0A11010F00027E00420141000E0100000B1A0B valid
-br_table_with_an_i64_and_a_default_alone 010401600000 03020100 0A0F010D00027F420041000E00000B1A0B invalid
-br_table_with_an_i32_and_a_default_alone 010401600000 03020100 0A0F010D00027F410041000E00000B1A0B valid
-br_table_with_an_i64_default_and_an_i32_label 010401600000 03020100 0A16011400027F027E420041000E0101000B1A41000B1A0B invalid
-br_table_with_an_i64_default_and_an_i64_label 010401600000 03020100 0A16011400027F027E420041000E0100000B1A41000B1A0B valid
-br_to_the_outer_block_with_an_i64 010401600000 03020100 0A11010F00027F024042000C010B41000B1A0B invalid
-br_to_the_outer_block_with_an_i32 010401600000 03020100 0A11010F00027F024041000C010B41000B1A0B valid
-br_in_an_if_without_its_result 010401600000 03020100 0A0F010D004100047F0C000541000B1A0B invalid
-br_in_an_if_with_its_result 010401600000 03020100 0A11010F004100047F41000C000541000B1A0B valid
-br_in_an_else_without_its_result 010401600000 03020100 0A0F010D004100047F4100050C000B1A0B invalid
-br_in_an_else_with_its_result 010401600000 03020100 0A11010F004100047F41000541000C000B1A0B valid
-return_with_an_i64 0105016000017F 03020100 0A0701050042000F0B invalid
-return_with_nothing 0105016000017F 03020100 0A050103000F0B invalid
-return_with_an_i32 0105016000017F 03020100 0A0701050041000F0B valid
-return_from_a_block_with_an_i64 0105016000017F 03020100 0A0B010900024042000F0B000B invalid
-return_from_a_block_with_an_i32 0105016000017F 03020100 0A0B010900024041000F0B000B valid
-i64_for_i32.eqz_after_return 010401600000 03020100 0A090107000F4200451A0B invalid
-i32_for_i32.eqz_after_return 010401600000 03020100 0A090107000F4100451A0B valid
-call_of_a_missing_function 010401600000 03020100 0A0601040010010B invalid
-call_of_the_function_itself 010401600000 03020100 0A0601040010000B valid
-call_with_an_i64 01090260000060017F017E 0303020001 0A0E020700420010011A0B040042000B invalid
-call_with_nothing 01090260000060017F017E 0303020001 0A0C02050010011A0B040042000B invalid
-call_with_an_i32 01090260000060017F017E 0303020001 0A0E020700410010011A0B040042000B valid
-call_gives_no_i32 01090260000060017F017E 0303020001 0A0F02080041001001451A0B040042000B invalid
-call_gives_an_i64 01090260000060017F017E 0303020001 0A0F02080041001001501A0B040042000B valid
-imported_functions_come_last 01090260000060017F017E 020701016D01690001 03020100 0A0A01080041001001501A0B invalid
-imported_functions_come_first 01090260000060017F017E 020701016D01690001 03020100 0A0A01080041001000501A0B valid
-call_of_a_function_behind_the_last 01090260000060017F017E 020701016D01690001 03020100 0A0601040010020B invalid
-call_of_the_last_function 01090260000060017F017E 020701016D01690001 03020100 0A0601040010010B valid
-call_with_arguments_in_the_other_order 01090260000060027F7E00 0303020001 0A0D0208004200410010010B02000B invalid
-call_with_arguments_in_order 01090260000060027F7E00 0303020001 0A0D0208004100420010010B02000B valid
-call_indirect_with_a_missing_type 01090260000060017F017E 03020100 040401700001 0A0C010A00410041001102001A0B invalid
-call_indirect_without_a_table 01090260000060017F017E 03020100 0A0C010A00410041001101001A0B invalid
-call_indirect_with_a_missing_table 01090260000060017F017E 03020100 040401700001 0A0C010A00410041001101011A0B invalid
-call_indirect_of_externref 01090260000060017F017E 03020100 0404016F0001 0A0C010A00410041001101001A0B invalid
-call_indirect_by_an_i64 01090260000060017F017E 03020100 040401700001 0A0C010A00410042001101001A0B invalid
-call_indirect_with_an_i64 01090260000060017F017E 03020100 040401700001 0A0C010A00420041001101001A0B invalid
-call_indirect_by_nothing 01090260000060017F017E 03020100 040401700001 0A070105001100000B invalid
-call_indirect_gives_no_i32 01090260000060017F017E 03020100 040401700001 0A0D010B0041004100110100451A0B invalid
-call_indirect_by_an_i32 01090260000060017F017E 03020100 040401700001 0A0C010A00410041001101001A0B valid
-call_indirect_gives_an_i64 01090260000060017F017E 03020100 040401700001 0A0D010B0041004100110100501A0B valid
-call_indirect_by_an_i32_alone 01090260000060017F017E 03020100 040401700001 0A0901070041001100000B valid
-imported_tables_come_last 01090260000060017F017E 020901016D0169016F0001 03020100 040401700001 0A0901070041001100000B invalid
-imported_tables_come_first 01090260000060017F017E 020901016D0169016F0001 03020100 040401700001 0A0901070041001100010B valid";
+br_to_a_missing_label | (func br 1) | invalid
+br_to_the_body | (func br 0) | valid
+br_to_a_missing_label_from_a_block | (func block br 2 end) | invalid
+br_to_the_body_from_a_block | (func block br 1 end) | valid
+br_without_an_operand | (func block (result i32) br 0 end drop) | invalid
+br_with_an_i64 | (func block (result i32) i64.const 0 br 0 end drop) | invalid
+br_with_an_i32 | (func block (result i32) i32.const 0 br 0 end drop) | valid
+br_with_operands_below | (func block (result i32) i64.const 0 i32.const 0 br 0 end drop) | valid
+br_to_a_body_without_its_result | (func (result i32) br 0) | invalid
+br_to_a_body_with_its_result | (func (result i32) i32.const 0 br 0) | valid
+i64_for_i32.eqz_after_br | (func br 0 i64.const 0 i32.eqz drop) | invalid
+i32_for_i32.eqz_after_br | (func br 0 i32.const 0 i32.eqz drop) | valid
+br_if_to_a_missing_label | (func i32.const 0 br_if 1) | invalid
+br_if_to_the_body | (func i32.const 0 br_if 0) | valid
+br_if_by_an_i64 | (func i64.const 0 br_if 0) | invalid
+br_if_by_nothing | (func br_if 0) | invalid
+br_if_with_an_i64 | (func block (result i32) i64.const 0 i32.const 0 br_if 0 drop i32.const 0 end drop) | invalid
+br_if_with_an_i32 | (func block (result i32) i32.const 0 i32.const 0 br_if 0 drop i32.const 0 end drop) | valid
+br_if_without_an_operand | (func block (result i32) i32.const 0 br_if 0 drop i32.const 0 end drop) | invalid
+br_if_gives_no_i64 | (func block (result i32) i32.const 0 i32.const 0 br_if 0 i64.eqz end drop) | invalid
+br_if_gives_an_i32 | (func block (result i32) i32.const 0 i32.const 0 br_if 0 i32.eqz end drop) | valid
+br_table_with_a_missing_label | (func i32.const 0 br_table 1 0) | invalid
+br_table_with_a_missing_default | (func i32.const 0 br_table 0 1) | invalid
+br_table_to_the_body | (func i32.const 0 br_table 0 0) | valid
+br_table_with_a_missing_only_label | (func i32.const 0 br_table 1) | invalid
+br_table_with_a_default_alone | (func i32.const 0 br_table 0) | valid
+br_table_by_an_i64 | (func i64.const 0 br_table 0 0) | invalid
+br_table_by_nothing | (func br_table 0 0) | invalid
+br_table_with_an_i64 | (func block (result i32) i64.const 0 i32.const 0 br_table 0 0 end drop) | invalid
+br_table_with_an_i32 | (func block (result i32) i32.const 0 i32.const 0 br_table 0 0 end drop) | valid
+br_table_without_an_operand | (func block (result i32) i32.const 0 br_table 0 0 end drop) | invalid
+br_table_with_labels_of_unequal_arity | (func block (result i32) block i32.const 1 i32.const 0 br_table 0 1 end i32.const 0 end drop) | invalid
+br_table_with_labels_of_equal_arity | (func block (result i32) block i32.const 1 i32.const 0 br_table 1 1 end i32.const 0 end drop) | valid
+br_table_with_labels_of_unequal_arity_after_unreachable | (func block (result i32) block unreachable br_table 0 1 end i32.const 0 end drop) | invalid
+br_table_with_labels_of_equal_arity_after_unreachable | (func block (result i32) block unreachable br_table 1 1 end i32.const 0 end drop) | valid
+br_table_of_an_i64_label_with_an_i32_after_unreachable | (func block (result i64) unreachable i32.const 1 i32.const 0 br_table 0 0 end drop) | invalid
+br_table_of_an_i64_label_with_an_i64_after_unreachable | (func block (result i64) unreachable i64.const 1 i32.const 0 br_table 0 0 end drop) | valid
+br_table_with_an_i64_and_a_default_alone | (func block (result i32) i64.const 0 i32.const 0 br_table 0 end drop) | invalid
+br_table_with_an_i32_and_a_default_alone | (func block (result i32) i32.const 0 i32.const 0 br_table 0 end drop) | valid
+br_table_with_an_i64_default_and_an_i32_label | (func block (result i32) block (result i64) i64.const 0 i32.const 0 br_table 1 0 end drop i32.const 0 end drop) | invalid
+br_table_with_an_i64_default_and_an_i64_label | (func block (result i32) block (result i64) i64.const 0 i32.const 0 br_table 0 0 end drop i32.const 0 end drop) | valid
+br_to_the_outer_block_with_an_i64 | (func block (result i32) block i64.const 0 br 1 end i32.const 0 end drop) | invalid
+br_to_the_outer_block_with_an_i32 | (func block (result i32) block i32.const 0 br 1 end i32.const 0 end drop) | valid
+br_in_an_if_without_its_result | (func i32.const 0 if (result i32) br 0 else i32.const 0 end drop) | invalid
+br_in_an_if_with_its_result | (func i32.const 0 if (result i32) i32.const 0 br 0 else i32.const 0 end drop) | valid
+br_in_an_else_without_its_result | (func i32.const 0 if (result i32) i32.const 0 else br 0 end drop) | invalid
+br_in_an_else_with_its_result | (func i32.const 0 if (result i32) i32.const 0 else i32.const 0 br 0 end drop) | valid
+return_with_an_i64 | (func (result i32) i64.const 0 return) | invalid
+return_with_nothing | (func (result i32) return) | invalid
+return_with_an_i32 | (func (result i32) i32.const 0 return) | valid
+return_from_a_block_with_an_i64 | (func (result i32) block i64.const 0 return end unreachable) | invalid
+return_from_a_block_with_an_i32 | (func (result i32) block i32.const 0 return end unreachable) | valid
+i64_for_i32.eqz_after_return | (func return i64.const 0 i32.eqz drop) | invalid
+i32_for_i32.eqz_after_return | (func return i32.const 0 i32.eqz drop) | valid
+call_of_a_missing_function | (func call 1) | invalid
+call_of_the_function_itself | (func call 0) | valid
+call_with_an_i64 | (func i64.const 0 call 1 drop) (func (param i32) (result i64) i64.const 0) | invalid
+call_with_nothing | (func call 1 drop) (func (param i32) (result i64) i64.const 0) | invalid
+call_with_an_i32 | (func i32.const 0 call 1 drop) (func (param i32) (result i64) i64.const 0) | valid
+call_gives_no_i32 | (func i32.const 0 call 1 i32.eqz drop) (func (param i32) (result i64) i64.const 0) | invalid
+call_gives_an_i64 | (func i32.const 0 call 1 i64.eqz drop) (func (param i32) (result i64) i64.const 0) | valid
+imported_functions_come_last | (type (func)) (type (func (param i32) (result i64))) (import \"m\" \"i\" (func (type 1))) (func (type 0) i32.const 0 call 1 i64.eqz drop) | invalid
+imported_functions_come_first | (type (func)) (type (func (param i32) (result i64))) (import \"m\" \"i\" (func (type 1))) (func (type 0) i32.const 0 call 0 i64.eqz drop) | valid
+call_of_a_function_behind_the_last | (type (func)) (type (func (param i32) (result i64))) (import \"m\" \"i\" (func (type 1))) (func (type 0) call 2) | invalid
+call_of_the_last_function | (type (func)) (type (func (param i32) (result i64))) (import \"m\" \"i\" (func (type 1))) (func (type 0) call 1) | valid
+call_with_arguments_in_the_other_order | (func i64.const 0 i32.const 0 call 1) (func (param i32 i64)) | invalid
+call_with_arguments_in_order | (func i32.const 0 i64.const 0 call 1) (func (param i32 i64)) | valid
+call_indirect_with_a_missing_type | (type (func)) (type (func (param i32) (result i64))) (func (type 0) i32.const 0 i32.const 0 call_indirect 0 (type 2) drop) (table 1 funcref) | invalid
+call_indirect_without_a_table | (type (func)) (type (func (param i32) (result i64))) (func (type 0) i32.const 0 i32.const 0 call_indirect 0 (type 1) drop) | invalid
+call_indirect_with_a_missing_table | (type (func)) (type (func (param i32) (result i64))) (func (type 0) i32.const 0 i32.const 0 call_indirect 1 (type 1) drop) (table 1 funcref) | invalid
+call_indirect_of_externref | (type (func)) (type (func (param i32) (result i64))) (func (type 0) i32.const 0 i32.const 0 call_indirect 0 (type 1) drop) (table 1 externref) | invalid
+call_indirect_by_an_i64 | (type (func)) (type (func (param i32) (result i64))) (func (type 0) i32.const 0 i64.const 0 call_indirect 0 (type 1) drop) (table 1 funcref) | invalid
+call_indirect_with_an_i64 | (type (func)) (type (func (param i32) (result i64))) (func (type 0) i64.const 0 i32.const 0 call_indirect 0 (type 1) drop) (table 1 funcref) | invalid
+call_indirect_by_nothing | (type (func)) (type (func (param i32) (result i64))) (func (type 0) call_indirect 0 (type 0)) (table 1 funcref) | invalid
+call_indirect_gives_no_i32 | (type (func)) (type (func (param i32) (result i64))) (func (type 0) i32.const 0 i32.const 0 call_indirect 0 (type 1) i32.eqz drop) (table 1 funcref) | invalid
+call_indirect_by_an_i32 | (type (func)) (type (func (param i32) (result i64))) (func (type 0) i32.const 0 i32.const 0 call_indirect 0 (type 1) drop) (table 1 funcref) | valid
+call_indirect_gives_an_i64 | (type (func)) (type (func (param i32) (result i64))) (func (type 0) i32.const 0 i32.const 0 call_indirect 0 (type 1) i64.eqz drop) (table 1 funcref) | valid
+call_indirect_by_an_i32_alone | (type (func)) (type (func (param i32) (result i64))) (func (type 0) i32.const 0 call_indirect 0 (type 0)) (table 1 funcref) | valid
+imported_tables_come_last | (type (func)) (type (func (param i32) (result i64))) (import \"m\" \"i\" (table 1 externref)) (func (type 0) i32.const 0 call_indirect 0 (type 0)) (table 1 funcref) | invalid
+imported_tables_come_first | (type (func)) (type (func (param i32) (result i64))) (import \"m\" \"i\" (table 1 externref)) (func (type 0) i32.const 0 call_indirect 1 (type 0)) (table 1 funcref) | valid";
 
 #[test]
 fn checks_branches_returns_and_calls(rt: HostRuntime) {

@@ -1,4 +1,4 @@
-//! Tests of the validator, over modules in the binary format.
+//! Tests of the validator, over modules in the text format.
 #![tactic(auto)]
 
 #[cfg(test)]
@@ -19,5 +19,7 @@ mod numeric;
 mod operands;
 #[cfg(test)]
 mod refusals;
+#[cfg(test)]
+mod spellings;
 #[cfg(test)]
 mod tables;

@@ -3,156 +3,148 @@
 use crate::answers::check_rows;
 
 const ROWS: &str = "\
-i32.load_of_too_large_an_alignment 010401600000 03020100 0503010001 0A0A01080041002803001A0B invalid
-i32.load_without_a_memory 010401600000 03020100 0A0A01080041002802001A0B invalid
-i32.load_at_an_i64 010401600000 03020100 0503010001 0A0A01080042002802001A0B invalid
-i32.load_at_an_i32 010401600000 03020100 0503010001 0A0A01080041002802001A0B valid
-i32.load_gives_no_i64 010401600000 03020100 0503010001 0A0B0109004100280200501A0B invalid
-i32.load_gives_an_i32 010401600000 03020100 0503010001 0A0B0109004100280200451A0B valid
-i64.load_of_too_large_an_alignment 010401600000 03020100 0503010001 0A0A01080041002904001A0B invalid
-i64.load_without_a_memory 010401600000 03020100 0A0A01080041002903001A0B invalid
-i64.load_at_an_i64 010401600000 03020100 0503010001 0A0A01080042002903001A0B invalid
-i64.load_at_an_i32 010401600000 03020100 0503010001 0A0A01080041002903001A0B valid
-i64.load_gives_no_i32 010401600000 03020100 0503010001 0A0B0109004100290300451A0B invalid
-i64.load_gives_an_i64 010401600000 03020100 0503010001 0A0B0109004100290300501A0B valid
-i32.load8_s_of_too_large_an_alignment 010401600000 03020100 0503010001 0A0A01080041002C01001A0B invalid
-i32.load8_s_without_a_memory 010401600000 03020100 0A0A01080041002C00001A0B invalid
-i32.load8_s_at_an_i64 010401600000 03020100 0503010001 0A0A01080042002C00001A0B invalid
-i32.load8_s_at_an_i32 010401600000 03020100 0503010001 0A0A01080041002C00001A0B valid
-i32.load8_s_gives_no_i64 010401600000 03020100 0503010001 0A0B01090041002C0000501A0B invalid
-i32.load8_s_gives_an_i32 010401600000 03020100 0503010001 0A0B01090041002C0000451A0B valid
-i32.load8_u_of_too_large_an_alignment 010401600000 03020100 0503010001 0A0A01080041002D01001A0B invalid
-i32.load8_u_without_a_memory 010401600000 03020100 0A0A01080041002D00001A0B invalid
-i32.load8_u_at_an_i64 010401600000 03020100 0503010001 0A0A01080042002D00001A0B invalid
-i32.load8_u_at_an_i32 010401600000 03020100 0503010001 0A0A01080041002D00001A0B valid
-i32.load8_u_gives_no_i64 010401600000 03020100 0503010001 0A0B01090041002D0000501A0B invalid
-i32.load8_u_gives_an_i32 010401600000 03020100 0503010001 0A0B01090041002D0000451A0B valid
-i32.load16_s_of_too_large_an_alignment 010401600000 03020100 0503010001 0A0A01080041002E02001A0B invalid
-i32.load16_s_without_a_memory 010401600000 03020100 0A0A01080041002E01001A0B invalid
-i32.load16_s_at_an_i64 010401600000 03020100 0503010001 0A0A01080042002E01001A0B invalid
-i32.load16_s_at_an_i32 010401600000 03020100 0503010001 0A0A01080041002E01001A0B valid
-i32.load16_s_gives_no_i64 010401600000 03020100 0503010001 0A0B01090041002E0100501A0B invalid
-i32.load16_s_gives_an_i32 010401600000 03020100 0503010001 0A0B01090041002E0100451A0B valid
-i32.load16_u_of_too_large_an_alignment 010401600000 03020100 0503010001 0A0A01080041002F02001A0B invalid
-i32.load16_u_without_a_memory 010401600000 03020100 0A0A01080041002F01001A0B invalid
-i32.load16_u_at_an_i64 010401600000 03020100 0503010001 0A0A01080042002F01001A0B invalid
-i32.load16_u_at_an_i32 010401600000 03020100 0503010001 0A0A01080041002F01001A0B valid
-i32.load16_u_gives_no_i64 010401600000 03020100 0503010001 0A0B01090041002F0100501A0B invalid
-i32.load16_u_gives_an_i32 010401600000 03020100 0503010001 0A0B01090041002F0100451A0B valid
-i64.load8_s_of_too_large_an_alignment 010401600000 03020100 0503010001 0A0A01080041003001001A0B invalid
-i64.load8_s_without_a_memory 010401600000 03020100 0A0A01080041003000001A0B invalid
-i64.load8_s_at_an_i64 010401600000 03020100 0503010001 0A0A01080042003000001A0B invalid
-i64.load8_s_at_an_i32 010401600000 03020100 0503010001 0A0A01080041003000001A0B valid
-i64.load8_s_gives_no_i32 010401600000 03020100 0503010001 0A0B0109004100300000451A0B invalid
-i64.load8_s_gives_an_i64 010401600000 03020100 0503010001 0A0B0109004100300000501A0B valid
-i64.load8_u_of_too_large_an_alignment 010401600000 03020100 0503010001 0A0A01080041003101001A0B invalid
-i64.load8_u_without_a_memory 010401600000 03020100 0A0A01080041003100001A0B invalid
-i64.load8_u_at_an_i64 010401600000 03020100 0503010001 0A0A01080042003100001A0B invalid
-i64.load8_u_at_an_i32 010401600000 03020100 0503010001 0A0A01080041003100001A0B valid
-i64.load8_u_gives_no_i32 010401600000 03020100 0503010001 0A0B0109004100310000451A0B invalid
-i64.load8_u_gives_an_i64 010401600000 03020100 0503010001 0A0B0109004100310000501A0B valid
-i64.load16_s_of_too_large_an_alignment 010401600000 03020100 0503010001 0A0A01080041003202001A0B invalid
-i64.load16_s_without_a_memory 010401600000 03020100 0A0A01080041003201001A0B invalid
-i64.load16_s_at_an_i64 010401600000 03020100 0503010001 0A0A01080042003201001A0B invalid
-i64.load16_s_at_an_i32 010401600000 03020100 0503010001 0A0A01080041003201001A0B valid
-i64.load16_s_gives_no_i32 010401600000 03020100 0503010001 0A0B0109004100320100451A0B invalid
-i64.load16_s_gives_an_i64 010401600000 03020100 0503010001 0A0B0109004100320100501A0B valid
-i64.load16_u_of_too_large_an_alignment 010401600000 03020100 0503010001 0A0A01080041003302001A0B invalid
-i64.load16_u_without_a_memory 010401600000 03020100 0A0A01080041003301001A0B invalid
-i64.load16_u_at_an_i64 010401600000 03020100 0503010001 0A0A01080042003301001A0B invalid
-i64.load16_u_at_an_i32 010401600000 03020100 0503010001 0A0A01080041003301001A0B valid
-i64.load16_u_gives_no_i32 010401600000 03020100 0503010001 0A0B0109004100330100451A0B invalid
-i64.load16_u_gives_an_i64 010401600000 03020100 0503010001 0A0B0109004100330100501A0B valid
-i64.load32_s_of_too_large_an_alignment 010401600000 03020100 0503010001 0A0A01080041003403001A0B invalid
-i64.load32_s_without_a_memory 010401600000 03020100 0A0A01080041003402001A0B invalid
-i64.load32_s_at_an_i64 010401600000 03020100 0503010001 0A0A01080042003402001A0B invalid
-i64.load32_s_at_an_i32 010401600000 03020100 0503010001 0A0A01080041003402001A0B valid
-i64.load32_s_gives_no_i32 010401600000 03020100 0503010001 0A0B0109004100340200451A0B invalid
-i64.load32_s_gives_an_i64 010401600000 03020100 0503010001 0A0B0109004100340200501A0B valid
-i64.load32_u_of_too_large_an_alignment 010401600000 03020100 0503010001 0A0A01080041003503001A0B invalid
-i64.load32_u_without_a_memory 010401600000 03020100 0A0A01080041003502001A0B invalid
-i64.load32_u_at_an_i64 010401600000 03020100 0503010001 0A0A01080042003502001A0B invalid
-i64.load32_u_at_an_i32 010401600000 03020100 0503010001 0A0A01080041003502001A0B valid
-i64.load32_u_gives_no_i32 010401600000 03020100 0503010001 0A0B0109004100350200451A0B invalid
-i64.load32_u_gives_an_i64 010401600000 03020100 0503010001 0A0B0109004100350200501A0B valid
-i32.store_of_too_large_an_alignment 010401600000 03020100 0503010001 0A0B010900410041003603000B invalid
-i32.store_without_a_memory 010401600000 03020100 0A0B010900410041003602000B invalid
-i32.store_at_an_i64 010401600000 03020100 0503010001 0A0B010900420041003602000B invalid
-i32.store_of_an_i64 010401600000 03020100 0503010001 0A0B010900410042003602000B invalid
-i32.store_of_an_i32 010401600000 03020100 0503010001 0A0B010900410041003602000B valid
-i64.store_of_too_large_an_alignment 010401600000 03020100 0503010001 0A0B010900410042003704000B invalid
-i64.store_without_a_memory 010401600000 03020100 0A0B010900410042003703000B invalid
-i64.store_at_an_i64 010401600000 03020100 0503010001 0A0B010900420042003703000B invalid
-i64.store_of_an_i32 010401600000 03020100 0503010001 0A0B010900410041003703000B invalid
-i64.store_of_an_i64 010401600000 03020100 0503010001 0A0B010900410042003703000B valid
-i32.store8_of_too_large_an_alignment 010401600000 03020100 0503010001 0A0B010900410041003A01000B invalid
-i32.store8_without_a_memory 010401600000 03020100 0A0B010900410041003A00000B invalid
-i32.store8_at_an_i64 010401600000 03020100 0503010001 0A0B010900420041003A00000B invalid
-i32.store8_of_an_i64 010401600000 03020100 0503010001 0A0B010900410042003A00000B invalid
-i32.store8_of_an_i32 010401600000 03020100 0503010001 0A0B010900410041003A00000B valid
-i32.store16_of_too_large_an_alignment 010401600000 03020100 0503010001 0A0B010900410041003B02000B invalid
-i32.store16_without_a_memory 010401600000 03020100 0A0B010900410041003B01000B invalid
-i32.store16_at_an_i64 010401600000 03020100 0503010001 0A0B010900420041003B01000B invalid
-i32.store16_of_an_i64 010401600000 03020100 0503010001 0A0B010900410042003B01000B invalid
-i32.store16_of_an_i32 010401600000 03020100 0503010001 0A0B010900410041003B01000B valid
-i64.store8_of_too_large_an_alignment 010401600000 03020100 0503010001 0A0B010900410042003C01000B invalid
-i64.store8_without_a_memory 010401600000 03020100 0A0B010900410042003C00000B invalid
-i64.store8_at_an_i64 010401600000 03020100 0503010001 0A0B010900420042003C00000B invalid
-i64.store8_of_an_i32 010401600000 03020100 0503010001 0A0B010900410041003C00000B invalid
-i64.store8_of_an_i64 010401600000 03020100 0503010001 0A0B010900410042003C00000B valid
-i64.store16_of_too_large_an_alignment 010401600000 03020100 0503010001 0A0B010900410042003D02000B invalid
-i64.store16_without_a_memory 010401600000 03020100 0A0B010900410042003D01000B invalid
-i64.store16_at_an_i64 010401600000 03020100 0503010001 0A0B010900420042003D01000B invalid
-i64.store16_of_an_i32 010401600000 03020100 0503010001 0A0B010900410041003D01000B invalid
-i64.store16_of_an_i64 010401600000 03020100 0503010001 0A0B010900410042003D01000B valid
-i64.store32_of_too_large_an_alignment 010401600000 03020100 0503010001 0A0B010900410042003E03000B invalid
-i64.store32_without_a_memory 010401600000 03020100 0A0B010900410042003E02000B invalid
-i64.store32_at_an_i64 010401600000 03020100 0503010001 0A0B010900420042003E02000B invalid
-i64.store32_of_an_i32 010401600000 03020100 0503010001 0A0B010900410041003E02000B invalid
-i64.store32_of_an_i64 010401600000 03020100 0503010001 0A0B010900410042003E02000B valid
-i32.load_of_alignment_32 010401600000 03020100 0503010001 0A0A01080041002820001A0B invalid
-i64.store_of_alignment_32 010401600000 03020100 0503010001 0A0B010900410042003720000B invalid
-i32.load_of_alignment_64 010401600000 03020100 0503010001 0A0A01080041002840001A0B invalid
-i64.store_of_alignment_64 010401600000 03020100 0503010001 0A0B010900410042003740000B invalid
-i32.load_of_alignment_4294967295 010401600000 03020100 0503010001 0A0E010C00410028FFFFFFFF0F001A0B invalid
-i64.store_of_alignment_4294967295 010401600000 03020100 0503010001 0A0F010D004100420037FFFFFFFF0F000B invalid
-i32.load_of_the_least_alignment_and_the_largest_offset 010401600000 03020100 0503010001 0A0E010C0041002800FFFFFFFF0F1A0B valid
-memory.size_without_a_memory 010401600000 03020100 0A070105003F001A0B invalid
-memory.size_gives_no_i64 010401600000 03020100 0503010001 0A080106003F00501A0B invalid
-memory.size_gives_an_i32 010401600000 03020100 0503010001 0A080106003F00451A0B valid
-memory.size_of_a_memory 010401600000 03020100 0503010001 0A070105003F001A0B valid
-memory.size_of_an_imported_memory 010401600000 020801016D0169020001 03020100 0A070105003F001A0B valid
-memory.grow_without_a_memory 010401600000 03020100 0A09010700410040001A0B invalid
-memory.grow_by_an_i64 010401600000 03020100 0503010001 0A09010700420040001A0B invalid
-memory.grow_by_nothing 010401600000 03020100 0503010001 0A0701050040001A0B invalid
-memory.grow_gives_no_i64 010401600000 03020100 0503010001 0A0A01080041004000501A0B invalid
-memory.grow_gives_an_i32 010401600000 03020100 0503010001 0A0A01080041004000451A0B valid
-memory.grow_by_an_i32 010401600000 03020100 0503010001 0A09010700410040001A0B valid
-memory.fill_without_a_memory 010401600000 03020100 0A0D010B00410041004100FC0B000B invalid
-memory.fill_of_a_memory 010401600000 03020100 0503010001 0A0D010B00410041004100FC0B000B valid
-memory.fill_into_an_i64 010401600000 03020100 0503010001 0A0D010B00420041004100FC0B000B invalid
-memory.fill_with_an_i64 010401600000 03020100 0503010001 0A0D010B00410042004100FC0B000B invalid
-memory.fill_of_an_i64_number 010401600000 03020100 0503010001 0A0D010B00410041004200FC0B000B invalid
-memory.fill_of_two_operands 010401600000 03020100 0503010001 0A0B01090041004100FC0B000B invalid
-memory.copy_without_a_memory 010401600000 03020100 0A0E010C00410041004100FC0A00000B invalid
-memory.copy_of_a_memory 010401600000 03020100 0503010001 0A0E010C00410041004100FC0A00000B valid
-memory.copy_into_an_i64 010401600000 03020100 0503010001 0A0E010C00420041004100FC0A00000B invalid
-memory.copy_from_an_i64 010401600000 03020100 0503010001 0A0E010C00410042004100FC0A00000B invalid
-memory.copy_of_an_i64_number 010401600000 03020100 0503010001 0A0E010C00410041004200FC0A00000B invalid
-memory.copy_of_two_operands 010401600000 03020100 0503010001 0A0C010A0041004100FC0A00000B invalid
-memory.init_without_a_memory 010401600000 03020100 0C0101 0A0E010C00410041004100FC0800000B 0B03010100 invalid
-memory.init_of_a_memory 010401600000 03020100 0503010001 0C0101 0A0E010C00410041004100FC0800000B 0B03010100 valid
-memory.init_into_an_i64 010401600000 03020100 0503010001 0C0101 0A0E010C00420041004100FC0800000B 0B03010100 invalid
-memory.init_from_an_i64 010401600000 03020100 0503010001 0C0101 0A0E010C00410042004100FC0800000B 0B03010100 invalid
-memory.init_of_an_i64_number 010401600000 03020100 0503010001 0C0101 0A0E010C00410041004200FC0800000B 0B03010100 invalid
-memory.init_of_two_operands 010401600000 03020100 0503010001 0C0101 0A0C010A0041004100FC0800000B 0B03010100 invalid
-memory.init_without_a_segment 010401600000 03020100 0503010001 0C0100 0A0E010C00410041004100FC0800000B invalid
-memory.init_of_a_missing_segment 010401600000 03020100 0503010001 0C0101 0A0E010C00410041004100FC0801000B 0B03010100 invalid
-data.drop_without_a_segment 010401600000 03020100 0C0100 0A07010500FC09000B invalid
-data.drop_of_a_missing_segment 010401600000 03020100 0C0101 0A07010500FC09010B 0B03010100 invalid
-data.drop_of_a_segment 010401600000 03020100 0C0101 0A07010500FC09000B 0B03010100 valid";
+i32.load_of_too_large_an_alignment | (func i32.const 0 i32.load offset=0 align=8 drop) (memory 1) | invalid
+i32.load_without_a_memory | (func i32.const 0 i32.load offset=0 align=4 drop) | invalid
+i32.load_at_an_i64 | (func i64.const 0 i32.load offset=0 align=4 drop) (memory 1) | invalid
+i32.load_at_an_i32 | (func i32.const 0 i32.load offset=0 align=4 drop) (memory 1) | valid
+i32.load_gives_no_i64 | (func i32.const 0 i32.load offset=0 align=4 i64.eqz drop) (memory 1) | invalid
+i32.load_gives_an_i32 | (func i32.const 0 i32.load offset=0 align=4 i32.eqz drop) (memory 1) | valid
+i64.load_of_too_large_an_alignment | (func i32.const 0 i64.load offset=0 align=16 drop) (memory 1) | invalid
+i64.load_without_a_memory | (func i32.const 0 i64.load offset=0 align=8 drop) | invalid
+i64.load_at_an_i64 | (func i64.const 0 i64.load offset=0 align=8 drop) (memory 1) | invalid
+i64.load_at_an_i32 | (func i32.const 0 i64.load offset=0 align=8 drop) (memory 1) | valid
+i64.load_gives_no_i32 | (func i32.const 0 i64.load offset=0 align=8 i32.eqz drop) (memory 1) | invalid
+i64.load_gives_an_i64 | (func i32.const 0 i64.load offset=0 align=8 i64.eqz drop) (memory 1) | valid
+i32.load8_s_of_too_large_an_alignment | (func i32.const 0 i32.load8_s offset=0 align=2 drop) (memory 1) | invalid
+i32.load8_s_without_a_memory | (func i32.const 0 i32.load8_s offset=0 align=1 drop) | invalid
+i32.load8_s_at_an_i64 | (func i64.const 0 i32.load8_s offset=0 align=1 drop) (memory 1) | invalid
+i32.load8_s_at_an_i32 | (func i32.const 0 i32.load8_s offset=0 align=1 drop) (memory 1) | valid
+i32.load8_s_gives_no_i64 | (func i32.const 0 i32.load8_s offset=0 align=1 i64.eqz drop) (memory 1) | invalid
+i32.load8_s_gives_an_i32 | (func i32.const 0 i32.load8_s offset=0 align=1 i32.eqz drop) (memory 1) | valid
+i32.load8_u_of_too_large_an_alignment | (func i32.const 0 i32.load8_u offset=0 align=2 drop) (memory 1) | invalid
+i32.load8_u_without_a_memory | (func i32.const 0 i32.load8_u offset=0 align=1 drop) | invalid
+i32.load8_u_at_an_i64 | (func i64.const 0 i32.load8_u offset=0 align=1 drop) (memory 1) | invalid
+i32.load8_u_at_an_i32 | (func i32.const 0 i32.load8_u offset=0 align=1 drop) (memory 1) | valid
+i32.load8_u_gives_no_i64 | (func i32.const 0 i32.load8_u offset=0 align=1 i64.eqz drop) (memory 1) | invalid
+i32.load8_u_gives_an_i32 | (func i32.const 0 i32.load8_u offset=0 align=1 i32.eqz drop) (memory 1) | valid
+i32.load16_s_of_too_large_an_alignment | (func i32.const 0 i32.load16_s offset=0 align=4 drop) (memory 1) | invalid
+i32.load16_s_without_a_memory | (func i32.const 0 i32.load16_s offset=0 align=2 drop) | invalid
+i32.load16_s_at_an_i64 | (func i64.const 0 i32.load16_s offset=0 align=2 drop) (memory 1) | invalid
+i32.load16_s_at_an_i32 | (func i32.const 0 i32.load16_s offset=0 align=2 drop) (memory 1) | valid
+i32.load16_s_gives_no_i64 | (func i32.const 0 i32.load16_s offset=0 align=2 i64.eqz drop) (memory 1) | invalid
+i32.load16_s_gives_an_i32 | (func i32.const 0 i32.load16_s offset=0 align=2 i32.eqz drop) (memory 1) | valid
+i32.load16_u_of_too_large_an_alignment | (func i32.const 0 i32.load16_u offset=0 align=4 drop) (memory 1) | invalid
+i32.load16_u_without_a_memory | (func i32.const 0 i32.load16_u offset=0 align=2 drop) | invalid
+i32.load16_u_at_an_i64 | (func i64.const 0 i32.load16_u offset=0 align=2 drop) (memory 1) | invalid
+i32.load16_u_at_an_i32 | (func i32.const 0 i32.load16_u offset=0 align=2 drop) (memory 1) | valid
+i32.load16_u_gives_no_i64 | (func i32.const 0 i32.load16_u offset=0 align=2 i64.eqz drop) (memory 1) | invalid
+i32.load16_u_gives_an_i32 | (func i32.const 0 i32.load16_u offset=0 align=2 i32.eqz drop) (memory 1) | valid
+i64.load8_s_of_too_large_an_alignment | (func i32.const 0 i64.load8_s offset=0 align=2 drop) (memory 1) | invalid
+i64.load8_s_without_a_memory | (func i32.const 0 i64.load8_s offset=0 align=1 drop) | invalid
+i64.load8_s_at_an_i64 | (func i64.const 0 i64.load8_s offset=0 align=1 drop) (memory 1) | invalid
+i64.load8_s_at_an_i32 | (func i32.const 0 i64.load8_s offset=0 align=1 drop) (memory 1) | valid
+i64.load8_s_gives_no_i32 | (func i32.const 0 i64.load8_s offset=0 align=1 i32.eqz drop) (memory 1) | invalid
+i64.load8_s_gives_an_i64 | (func i32.const 0 i64.load8_s offset=0 align=1 i64.eqz drop) (memory 1) | valid
+i64.load8_u_of_too_large_an_alignment | (func i32.const 0 i64.load8_u offset=0 align=2 drop) (memory 1) | invalid
+i64.load8_u_without_a_memory | (func i32.const 0 i64.load8_u offset=0 align=1 drop) | invalid
+i64.load8_u_at_an_i64 | (func i64.const 0 i64.load8_u offset=0 align=1 drop) (memory 1) | invalid
+i64.load8_u_at_an_i32 | (func i32.const 0 i64.load8_u offset=0 align=1 drop) (memory 1) | valid
+i64.load8_u_gives_no_i32 | (func i32.const 0 i64.load8_u offset=0 align=1 i32.eqz drop) (memory 1) | invalid
+i64.load8_u_gives_an_i64 | (func i32.const 0 i64.load8_u offset=0 align=1 i64.eqz drop) (memory 1) | valid
+i64.load16_s_of_too_large_an_alignment | (func i32.const 0 i64.load16_s offset=0 align=4 drop) (memory 1) | invalid
+i64.load16_s_without_a_memory | (func i32.const 0 i64.load16_s offset=0 align=2 drop) | invalid
+i64.load16_s_at_an_i64 | (func i64.const 0 i64.load16_s offset=0 align=2 drop) (memory 1) | invalid
+i64.load16_s_at_an_i32 | (func i32.const 0 i64.load16_s offset=0 align=2 drop) (memory 1) | valid
+i64.load16_s_gives_no_i32 | (func i32.const 0 i64.load16_s offset=0 align=2 i32.eqz drop) (memory 1) | invalid
+i64.load16_s_gives_an_i64 | (func i32.const 0 i64.load16_s offset=0 align=2 i64.eqz drop) (memory 1) | valid
+i64.load16_u_of_too_large_an_alignment | (func i32.const 0 i64.load16_u offset=0 align=4 drop) (memory 1) | invalid
+i64.load16_u_without_a_memory | (func i32.const 0 i64.load16_u offset=0 align=2 drop) | invalid
+i64.load16_u_at_an_i64 | (func i64.const 0 i64.load16_u offset=0 align=2 drop) (memory 1) | invalid
+i64.load16_u_at_an_i32 | (func i32.const 0 i64.load16_u offset=0 align=2 drop) (memory 1) | valid
+i64.load16_u_gives_no_i32 | (func i32.const 0 i64.load16_u offset=0 align=2 i32.eqz drop) (memory 1) | invalid
+i64.load16_u_gives_an_i64 | (func i32.const 0 i64.load16_u offset=0 align=2 i64.eqz drop) (memory 1) | valid
+i64.load32_s_of_too_large_an_alignment | (func i32.const 0 i64.load32_s offset=0 align=8 drop) (memory 1) | invalid
+i64.load32_s_without_a_memory | (func i32.const 0 i64.load32_s offset=0 align=4 drop) | invalid
+i64.load32_s_at_an_i64 | (func i64.const 0 i64.load32_s offset=0 align=4 drop) (memory 1) | invalid
+i64.load32_s_at_an_i32 | (func i32.const 0 i64.load32_s offset=0 align=4 drop) (memory 1) | valid
+i64.load32_s_gives_no_i32 | (func i32.const 0 i64.load32_s offset=0 align=4 i32.eqz drop) (memory 1) | invalid
+i64.load32_s_gives_an_i64 | (func i32.const 0 i64.load32_s offset=0 align=4 i64.eqz drop) (memory 1) | valid
+i64.load32_u_of_too_large_an_alignment | (func i32.const 0 i64.load32_u offset=0 align=8 drop) (memory 1) | invalid
+i64.load32_u_without_a_memory | (func i32.const 0 i64.load32_u offset=0 align=4 drop) | invalid
+i64.load32_u_at_an_i64 | (func i64.const 0 i64.load32_u offset=0 align=4 drop) (memory 1) | invalid
+i64.load32_u_at_an_i32 | (func i32.const 0 i64.load32_u offset=0 align=4 drop) (memory 1) | valid
+i64.load32_u_gives_no_i32 | (func i32.const 0 i64.load32_u offset=0 align=4 i32.eqz drop) (memory 1) | invalid
+i64.load32_u_gives_an_i64 | (func i32.const 0 i64.load32_u offset=0 align=4 i64.eqz drop) (memory 1) | valid
+i32.store_of_too_large_an_alignment | (func i32.const 0 i32.const 0 i32.store offset=0 align=8) (memory 1) | invalid
+i32.store_without_a_memory | (func i32.const 0 i32.const 0 i32.store offset=0 align=4) | invalid
+i32.store_at_an_i64 | (func i64.const 0 i32.const 0 i32.store offset=0 align=4) (memory 1) | invalid
+i32.store_of_an_i64 | (func i32.const 0 i64.const 0 i32.store offset=0 align=4) (memory 1) | invalid
+i32.store_of_an_i32 | (func i32.const 0 i32.const 0 i32.store offset=0 align=4) (memory 1) | valid
+i64.store_of_too_large_an_alignment | (func i32.const 0 i64.const 0 i64.store offset=0 align=16) (memory 1) | invalid
+i64.store_without_a_memory | (func i32.const 0 i64.const 0 i64.store offset=0 align=8) | invalid
+i64.store_at_an_i64 | (func i64.const 0 i64.const 0 i64.store offset=0 align=8) (memory 1) | invalid
+i64.store_of_an_i32 | (func i32.const 0 i32.const 0 i64.store offset=0 align=8) (memory 1) | invalid
+i64.store_of_an_i64 | (func i32.const 0 i64.const 0 i64.store offset=0 align=8) (memory 1) | valid
+i32.store8_of_too_large_an_alignment | (func i32.const 0 i32.const 0 i32.store8 offset=0 align=2) (memory 1) | invalid
+i32.store8_without_a_memory | (func i32.const 0 i32.const 0 i32.store8 offset=0 align=1) | invalid
+i32.store8_at_an_i64 | (func i64.const 0 i32.const 0 i32.store8 offset=0 align=1) (memory 1) | invalid
+i32.store8_of_an_i64 | (func i32.const 0 i64.const 0 i32.store8 offset=0 align=1) (memory 1) | invalid
+i32.store8_of_an_i32 | (func i32.const 0 i32.const 0 i32.store8 offset=0 align=1) (memory 1) | valid
+i32.store16_of_too_large_an_alignment | (func i32.const 0 i32.const 0 i32.store16 offset=0 align=4) (memory 1) | invalid
+i32.store16_without_a_memory | (func i32.const 0 i32.const 0 i32.store16 offset=0 align=2) | invalid
+i32.store16_at_an_i64 | (func i64.const 0 i32.const 0 i32.store16 offset=0 align=2) (memory 1) | invalid
+i32.store16_of_an_i64 | (func i32.const 0 i64.const 0 i32.store16 offset=0 align=2) (memory 1) | invalid
+i32.store16_of_an_i32 | (func i32.const 0 i32.const 0 i32.store16 offset=0 align=2) (memory 1) | valid
+i64.store8_of_too_large_an_alignment | (func i32.const 0 i64.const 0 i64.store8 offset=0 align=2) (memory 1) | invalid
+i64.store8_without_a_memory | (func i32.const 0 i64.const 0 i64.store8 offset=0 align=1) | invalid
+i64.store8_at_an_i64 | (func i64.const 0 i64.const 0 i64.store8 offset=0 align=1) (memory 1) | invalid
+i64.store8_of_an_i32 | (func i32.const 0 i32.const 0 i64.store8 offset=0 align=1) (memory 1) | invalid
+i64.store8_of_an_i64 | (func i32.const 0 i64.const 0 i64.store8 offset=0 align=1) (memory 1) | valid
+i64.store16_of_too_large_an_alignment | (func i32.const 0 i64.const 0 i64.store16 offset=0 align=4) (memory 1) | invalid
+i64.store16_without_a_memory | (func i32.const 0 i64.const 0 i64.store16 offset=0 align=2) | invalid
+i64.store16_at_an_i64 | (func i64.const 0 i64.const 0 i64.store16 offset=0 align=2) (memory 1) | invalid
+i64.store16_of_an_i32 | (func i32.const 0 i32.const 0 i64.store16 offset=0 align=2) (memory 1) | invalid
+i64.store16_of_an_i64 | (func i32.const 0 i64.const 0 i64.store16 offset=0 align=2) (memory 1) | valid
+i64.store32_of_too_large_an_alignment | (func i32.const 0 i64.const 0 i64.store32 offset=0 align=8) (memory 1) | invalid
+i64.store32_without_a_memory | (func i32.const 0 i64.const 0 i64.store32 offset=0 align=4) | invalid
+i64.store32_at_an_i64 | (func i64.const 0 i64.const 0 i64.store32 offset=0 align=4) (memory 1) | invalid
+i64.store32_of_an_i32 | (func i32.const 0 i32.const 0 i64.store32 offset=0 align=4) (memory 1) | invalid
+i64.store32_of_an_i64 | (func i32.const 0 i64.const 0 i64.store32 offset=0 align=4) (memory 1) | valid
+i32.load_of_the_least_alignment_and_the_largest_offset | (func i32.const 0 i32.load offset=4294967295 align=1 drop) (memory 1) | valid
+memory.size_without_a_memory | (func memory.size drop) | invalid
+memory.size_gives_no_i64 | (func memory.size i64.eqz drop) (memory 1) | invalid
+memory.size_gives_an_i32 | (func memory.size i32.eqz drop) (memory 1) | valid
+memory.size_of_a_memory | (func memory.size drop) (memory 1) | valid
+memory.size_of_an_imported_memory | (import \"m\" \"i\" (memory 1)) (func memory.size drop) | valid
+memory.grow_without_a_memory | (func i32.const 0 memory.grow drop) | invalid
+memory.grow_by_an_i64 | (func i64.const 0 memory.grow drop) (memory 1) | invalid
+memory.grow_by_nothing | (func memory.grow drop) (memory 1) | invalid
+memory.grow_gives_no_i64 | (func i32.const 0 memory.grow i64.eqz drop) (memory 1) | invalid
+memory.grow_gives_an_i32 | (func i32.const 0 memory.grow i32.eqz drop) (memory 1) | valid
+memory.grow_by_an_i32 | (func i32.const 0 memory.grow drop) (memory 1) | valid
+memory.fill_without_a_memory | (func i32.const 0 i32.const 0 i32.const 0 memory.fill) | invalid
+memory.fill_of_a_memory | (func i32.const 0 i32.const 0 i32.const 0 memory.fill) (memory 1) | valid
+memory.fill_into_an_i64 | (func i64.const 0 i32.const 0 i32.const 0 memory.fill) (memory 1) | invalid
+memory.fill_with_an_i64 | (func i32.const 0 i64.const 0 i32.const 0 memory.fill) (memory 1) | invalid
+memory.fill_of_an_i64_number | (func i32.const 0 i32.const 0 i64.const 0 memory.fill) (memory 1) | invalid
+memory.fill_of_two_operands | (func i32.const 0 i32.const 0 memory.fill) (memory 1) | invalid
+memory.copy_without_a_memory | (func i32.const 0 i32.const 0 i32.const 0 memory.copy) | invalid
+memory.copy_of_a_memory | (func i32.const 0 i32.const 0 i32.const 0 memory.copy) (memory 1) | valid
+memory.copy_into_an_i64 | (func i64.const 0 i32.const 0 i32.const 0 memory.copy) (memory 1) | invalid
+memory.copy_from_an_i64 | (func i32.const 0 i64.const 0 i32.const 0 memory.copy) (memory 1) | invalid
+memory.copy_of_an_i64_number | (func i32.const 0 i32.const 0 i64.const 0 memory.copy) (memory 1) | invalid
+memory.copy_of_two_operands | (func i32.const 0 i32.const 0 memory.copy) (memory 1) | invalid
+memory.init_without_a_memory | (func i32.const 0 i32.const 0 i32.const 0 memory.init 0) (data \"\") | invalid
+memory.init_of_a_memory | (func i32.const 0 i32.const 0 i32.const 0 memory.init 0) (memory 1) (data \"\") | valid
+memory.init_into_an_i64 | (func i64.const 0 i32.const 0 i32.const 0 memory.init 0) (memory 1) (data \"\") | invalid
+memory.init_from_an_i64 | (func i32.const 0 i64.const 0 i32.const 0 memory.init 0) (memory 1) (data \"\") | invalid
+memory.init_of_an_i64_number | (func i32.const 0 i32.const 0 i64.const 0 memory.init 0) (memory 1) (data \"\") | invalid
+memory.init_of_two_operands | (func i32.const 0 i32.const 0 memory.init 0) (memory 1) (data \"\") | invalid
+memory.init_of_a_missing_segment | (func i32.const 0 i32.const 0 i32.const 0 memory.init 1) (memory 1) (data \"\") | invalid
+data.drop_of_a_missing_segment | (func data.drop 1) (data \"\") | invalid
+data.drop_of_a_segment | (func data.drop 0) (data \"\") | valid";
 
 #[test]
 fn checks_memory_instructions(rt: HostRuntime) {
-    check_rows(&rt, rt.alloc(), ROWS, 148);
+    check_rows(&rt, rt.alloc(), ROWS, 140);
 }

@@ -3,159 +3,156 @@
 use crate::answers::check_rows;
 
 const ROWS: &str = "\
-module_without_sections  valid
-function_of_a_missing_type 010401600000 03020101 0A040102000B invalid
-function_of_a_type 010401600000 03020100 0A040102000B valid
-function_without_types 03020100 0A040102000B invalid
-import_of_a_missing_type 010401600000 020701016D01690001 invalid
-import_of_a_type 010401600000 020701016D01690000 valid
-start_with_a_parameter 01050160017F00 03020100 080100 0A040102000B invalid
-start_with_a_result 0105016000017F 03020100 080100 0A0601040041000B invalid
-start_of_nothing 010401600000 03020100 080100 0A040102000B valid
-start_of_a_missing_function 010401600000 03020100 080101 0A040102000B invalid
-start_without_functions 010401600000 080100 invalid
-start_of_an_import_with_a_parameter 01080260000060017F00 020701016D01690001 03020100 080100 0A040102000B invalid
-start_of_a_function_behind_an_import 01080260000060017F00 020701016D01690001 03020100 080101 0A040102000B valid
-start_of_an_import 010401600000 020701016D01690000 080100 valid
-funcref_table_of_minimum_above_maximum 04050170010201 invalid
-funcref_table_of_minimum_at_maximum 04050170010101 valid
-externref_table_of_minimum_above_maximum 0405016F010201 invalid
-externref_table_of_minimum_at_maximum 0405016F010101 valid
-imported_table_of_minimum_above_maximum 020A01016D01690170010201 invalid
-imported_table_of_minimum_at_maximum 020A01016D01690170010101 valid
-second_table_of_minimum_above_maximum 04080270000170010100 invalid
-second_table_of_minimum_at_maximum 04080270000170010101 valid
-memory_of_minimum_above_maximum 050401010201 invalid
-memory_of_minimum_at_maximum 050401010101 valid
-imported_memory_of_minimum_above_maximum 020901016D016902010201 invalid
-imported_memory_of_minimum_at_maximum 020901016D016902010101 valid
-memory_of_minimum_65537 05050100818004 invalid
-memory_of_minimum_65536 05050100808004 valid
-memory_of_maximum_65537 0506010100818004 invalid
-memory_of_maximum_65536 0506010100808004 valid
-imported_memory_of_minimum_65537 020A01016D01690200818004 invalid
-imported_memory_of_minimum_65536 020A01016D01690200808004 valid
-imported_memory_of_maximum_65537 020B01016D0169020100818004 invalid
-imported_memory_of_maximum_65536 020B01016D0169020100808004 valid
-two_memories 05050200010001 invalid
-two_imported_memories 020F02016D0169020001016D0169020001 invalid
-imported_memory_and_a_memory 020801016D0169020001 0503010001 invalid
-one_memory 0503010001 valid
-one_imported_memory 020801016D0169020001 valid
-two_tables 0407027000016F0001 valid
-global_of_another_type 0606017F0042000B invalid
-global_of_its_type 0606017E0042000B valid
-i64_global_of_another_type 0606017E0141000B invalid
-i64_global_of_its_type 0606017E0142000B valid
-global_that_is_not_constant 0607017F004100450B invalid
-global_with_nop 0607017F004100010B invalid
-global_of_unreachable 0605017F00000B invalid
-global_with_a_block 0609017F00027F41000B0B invalid
-global_that_is_constant 0606017F0041000B valid
-global_of_a_sum 0609017F00410041006A0B invalid
-global_of_two_values 0608017F00410041000B invalid
-global_of_no_value 0604017F000B invalid
-global_of_one_value 0606017F0041000B valid
-global_that_names_a_mutable_import 020801016D0169037F01 0606017F0023000B invalid
-global_that_names_an_immutable_import 020801016D0169037F00 0606017F0023000B valid
-global_that_names_an_import_of_another_type 020801016D0169037E00 0606017F0023000B invalid
-global_that_names_a_missing_global 020801016D0169037F00 0606017F0023010B invalid
-global_that_names_a_global_of_the_module 060B027F0041000B7F0023000B invalid
-global_beside_a_global_of_the_module 060B027F0041000B7F0041000B valid
-global_that_names_itself 0606017F0023000B invalid
-global_of_a_missing_function 010401600000 03020100 0606017000D2010B 0A040102000B invalid
-global_of_a_function 010401600000 03020100 0606017000D2000B 0A040102000B valid
-funcref_global_of_an_external 0606017000D06F0B invalid
-funcref_global_of_a_null_function 0606017000D0700B valid
-externref_global_of_a_null_external 0606016F00D06F0B valid
-externref_segment_of_a_function 010401600000 03020100 090701056F01D2000B 0A040102000B invalid
-funcref_segment_of_a_function 010401600000 03020100 090701057001D2000B 0A040102000B valid
-funcref_segment_of_an_external 010401600000 03020100 090701057001D06F0B 0A040102000B invalid
-externref_segment_of_an_external 010401600000 03020100 090701056F01D06F0B 0A040102000B valid
-segment_of_an_i32 010401600000 03020100 09070105700141000B 0A040102000B invalid
-segment_of_no_value 010401600000 03020100 0905010570010B 0A040102000B invalid
-segment_of_two_values 010401600000 03020100 090901057001D070D0700B 0A040102000B invalid
-segment_with_nop 010401600000 03020100 090801057001D070010B 0A040102000B invalid
-segment_of_one_value 010401600000 03020100 090701057001D0700B 0A040102000B valid
-segment_with_an_external_behind_a_function 010401600000 03020100 090A01057002D2000BD06F0B 0A040102000B invalid
-segment_with_a_function_behind_a_function 010401600000 03020100 090A01057002D2000BD0700B 0A040102000B valid
-declarative_segment_of_an_external 010401600000 03020100 090701077001D06F0B 0A040102000B invalid
-declarative_segment_of_a_null_function 010401600000 03020100 090701077001D0700B 0A040102000B valid
-segment_that_names_a_mutable_import 010401600000 020801016D0169036F01 03020100 090701056F0123000B 0A040102000B invalid
-segment_that_names_an_immutable_import 010401600000 020801016D0169036F00 03020100 090701056F0123000B 0A040102000B valid
-passive_segment_of_a_missing_function 010401600000 03020100 09050101000101 0A040102000B invalid
-passive_segment_of_a_function 010401600000 03020100 09050101000100 0A040102000B valid
-declarative_segment_of_a_missing_function 010401600000 03020100 09050103000101 0A040102000B invalid
-declarative_segment_of_a_function 010401600000 03020100 09050103000100 0A040102000B valid
-passive_segment_with_a_missing_function_behind 010401600000 03020100 0906010100020001 0A040102000B invalid
-passive_segment_with_a_function_behind 010401600000 03020100 0906010100020000 0A040102000B valid
-passive_segment_expression_of_a_missing_function 010401600000 03020100 090701057001D2010B 0A040102000B invalid
-active_segment_of_a_missing_function 010401600000 03020100 040401700001 0907010041000B0101 0A040102000B invalid
-active_segment_of_a_function 010401600000 03020100 040401700001 0907010041000B0100 0A040102000B valid
-active_segment_without_a_table 010401600000 03020100 0907010041000B0100 0A040102000B invalid
-active_segment_of_a_missing_table 010401600000 03020100 040401700001 090901020141000B000100 0A040102000B invalid
-active_segment_of_a_table 010401600000 03020100 040401700001 090901020041000B000100 0A040102000B valid
-active_segment_of_functions_in_externref 010401600000 03020100 0404016F0001 0907010041000B0100 0A040102000B invalid
-active_segment_of_externals_in_funcref 010401600000 03020100 040401700001 090B01060041000B6F01D06F0B 0A040102000B invalid
-active_segment_of_externals_in_externref 010401600000 03020100 0404016F0001 090B01060041000B6F01D06F0B 0A040102000B valid
-active_segment_of_the_first_of_two_tables 010401600000 03020100 0407027000016F0001 090B01060041000B6F01D06F0B 0A040102000B invalid
-active_segment_of_the_second_of_two_tables 010401600000 03020100 0407027000016F0001 090B01060141000B6F01D06F0B 0A040102000B valid
-active_segment_of_expressions_without_a_table 010401600000 03020100 0909010441000B01D2000B 0A040102000B invalid
-active_segment_of_expressions 010401600000 03020100 040401700001 0909010441000B01D2000B 0A040102000B valid
-active_segment_at_an_i64 010401600000 03020100 040401700001 0907010042000B0100 0A040102000B invalid
-active_segment_at_nothing 010401600000 03020100 040401700001 090501000B0100 0A040102000B invalid
-active_segment_at_two_values 010401600000 03020100 040401700001 09090100410041000B0100 0A040102000B invalid
-active_segment_at_what_is_not_constant 010401600000 03020100 040401700001 090801004100450B0100 0A040102000B invalid
-active_segment_at_a_mutable_import 010401600000 020801016D0169037F01 03020100 040401700001 0907010023000B0100 0A040102000B invalid
-active_segment_at_an_immutable_import 010401600000 020801016D0169037F00 03020100 040401700001 0907010023000B0100 0A040102000B valid
-active_segment_at_an_import_of_i64 010401600000 020801016D0169037E00 03020100 040401700001 0907010023000B0100 0A040102000B invalid
-active_segment_at_a_global_of_the_module 010401600000 03020100 040401700001 0606017F0041000B 0907010023000B0100 0A040102000B invalid
-active_segment_of_an_imported_table 010401600000 020901016D016901700001 03020100 0907010041000B0100 0A040102000B valid
-passive_segment_of_a_function_behind_the_last 010401600000 020701016D01690000 03020100 09050101000102 0A040102000B invalid
-passive_segment_of_the_last_function 010401600000 020701016D01690000 03020100 09050101000101 0A040102000B valid
-active_segment_of_a_table_behind_the_last 010401600000 020901016D016901700001 03020100 040401700001 090901020241000B000100 0A040102000B invalid
-active_segment_of_the_last_table 010401600000 020901016D016901700001 03020100 040401700001 090901020141000B000100 0A040102000B valid
-active_data_without_a_memory 0B07010041000B0161 invalid
-active_data_of_a_memory 0503010001 0B07010041000B0161 valid
-active_data_of_memory_1 0503010001 0B0801020141000B0161 invalid
-active_data_of_memory_0 0503010001 0B0801020041000B0161 valid
-active_data_at_an_i64 0503010001 0B07010042000B0161 invalid
-active_data_at_nothing 0503010001 0B0501000B0161 invalid
-active_data_at_two_values 0503010001 0B090100410041000B0161 invalid
-active_data_at_what_is_not_constant 0503010001 0B0801004100450B0161 invalid
-active_data_at_a_mutable_import 020801016D0169037F01 0503010001 0B07010023000B0161 invalid
-active_data_at_an_immutable_import 020801016D0169037F00 0503010001 0B07010023000B0161 valid
-active_data_at_a_global_of_the_module 0503010001 0606017F0041000B 0B07010023000B0161 invalid
-active_data_of_an_imported_memory 020801016D0169020001 0B07010041000B0161 valid
-passive_data_without_a_memory 0B0401010161 valid
-export_of_a_missing_function 010401600000 03020100 07050101610001 0A040102000B invalid
-export_of_a_function 010401600000 03020100 07050101610000 0A040102000B valid
-export_behind_the_last_function 010401600000 020701016D01690000 03020100 07050101610002 0A040102000B invalid
-export_of_the_last_function 010401600000 020701016D01690000 03020100 07050101610001 0A040102000B valid
-export_of_a_missing_table 040401700001 07050101610101 invalid
-export_of_a_table 040401700001 07050101610100 valid
-export_of_a_missing_memory 0503010001 07050101610201 invalid
-export_of_a_memory 0503010001 07050101610200 valid
-export_of_a_missing_global 0606017F0041000B 07050101610301 invalid
-export_of_a_global 0606017F0041000B 07050101610300 valid
-export_of_a_function_of_none 010401600000 07050101610000 invalid
-export_of_an_imported_function 010401600000 020701016D01690000 07050101610000 valid
-export_of_a_table_of_none 010401600000 07050101610100 invalid
-export_of_an_imported_table 010401600000 020901016D016901700001 07050101610100 valid
-export_of_a_memory_of_none 010401600000 07050101610200 invalid
-export_of_an_imported_memory 010401600000 020801016D0169020001 07050101610200 valid
-export_of_a_global_of_none 010401600000 07050101610300 invalid
-export_of_an_imported_global 010401600000 020801016D0169037F00 07050101610300 valid
-exports_of_a_function_and_a_memory_under_one_name 010401600000 03020100 0503010001 0709020161000001610200 0A040102000B invalid
-exports_of_a_function_and_a_memory_under_two_names 010401600000 03020100 0503010001 0709020161000001620200 0A040102000B valid
-third_export_named_like_the_first 010401600000 03020100 070D03016100000162000001610000 0A040102000B invalid
-third_export_of_another_name 010401600000 03020100 070D03016100000162000001630000 0A040102000B valid
-two_exports_of_the_empty_name 010401600000 03020100 070702000000000000 0A040102000B invalid
-exports_of_the_empty_name_and_of_another 010401600000 03020100 07080200000001610000 0A040102000B valid
-export_named_like_the_beginning_of_another 010401600000 03020100 070A02026162000001610000 0A040102000B valid
-two_imports_of_one_name 010401600000 020D02016D01690000016D01690000 valid";
+module_without_sections |  | valid
+function_of_a_missing_type | (type (func)) (func (type 1)) | invalid
+function_of_a_type | (func) | valid
+function_without_types | (func (type 0)) | invalid
+import_of_a_missing_type | (type (func)) (import \"m\" \"i\" (func (type 1))) | invalid
+import_of_a_type | (type (func)) (import \"m\" \"i\" (func (type 0))) | valid
+start_with_a_parameter | (func (param i32)) (start 0) | invalid
+start_with_a_result | (func (result i32) i32.const 0) (start 0) | invalid
+start_of_nothing | (func) (start 0) | valid
+start_of_a_missing_function | (func) (start 1) | invalid
+start_without_functions | (type (func)) (start 0) | invalid
+start_of_an_import_with_a_parameter | (type (func)) (type (func (param i32))) (import \"m\" \"i\" (func (type 1))) (func (type 0)) (start 0) | invalid
+start_of_a_function_behind_an_import | (type (func)) (type (func (param i32))) (import \"m\" \"i\" (func (type 1))) (func (type 0)) (start 1) | valid
+start_of_an_import | (type (func)) (import \"m\" \"i\" (func (type 0))) (start 0) | valid
+funcref_table_of_minimum_above_maximum | (table 2 1 funcref) | invalid
+funcref_table_of_minimum_at_maximum | (table 1 1 funcref) | valid
+externref_table_of_minimum_above_maximum | (table 2 1 externref) | invalid
+externref_table_of_minimum_at_maximum | (table 1 1 externref) | valid
+imported_table_of_minimum_above_maximum | (import \"m\" \"i\" (table 2 1 funcref)) | invalid
+imported_table_of_minimum_at_maximum | (import \"m\" \"i\" (table 1 1 funcref)) | valid
+second_table_of_minimum_above_maximum | (table 1 funcref) (table 1 0 funcref) | invalid
+second_table_of_minimum_at_maximum | (table 1 funcref) (table 1 1 funcref) | valid
+memory_of_minimum_above_maximum | (memory 2 1) | invalid
+memory_of_minimum_at_maximum | (memory 1 1) | valid
+imported_memory_of_minimum_above_maximum | (import \"m\" \"i\" (memory 2 1)) | invalid
+imported_memory_of_minimum_at_maximum | (import \"m\" \"i\" (memory 1 1)) | valid
+memory_of_minimum_65537 | (memory 65537) | invalid
+memory_of_minimum_65536 | (memory 65536) | valid
+memory_of_maximum_65537 | (memory 0 65537) | invalid
+memory_of_maximum_65536 | (memory 0 65536) | valid
+imported_memory_of_minimum_65537 | (import \"m\" \"i\" (memory 65537)) | invalid
+imported_memory_of_minimum_65536 | (import \"m\" \"i\" (memory 65536)) | valid
+imported_memory_of_maximum_65537 | (import \"m\" \"i\" (memory 0 65537)) | invalid
+imported_memory_of_maximum_65536 | (import \"m\" \"i\" (memory 0 65536)) | valid
+two_memories | (memory 1) (memory 1) | invalid
+two_imported_memories | (import \"m\" \"i\" (memory 1)) (import \"m\" \"i\" (memory 1)) | invalid
+imported_memory_and_a_memory | (import \"m\" \"i\" (memory 1)) (memory 1) | invalid
+one_memory | (memory 1) | valid
+one_imported_memory | (import \"m\" \"i\" (memory 1)) | valid
+two_tables | (table 1 funcref) (table 1 externref) | valid
+global_of_another_type | (global i32 i64.const 0) | invalid
+global_of_its_type | (global i64 i64.const 0) | valid
+i64_global_of_another_type | (global (mut i64) i32.const 0) | invalid
+i64_global_of_its_type | (global (mut i64) i64.const 0) | valid
+global_that_is_not_constant | (global i32 i32.const 0 i32.eqz) | invalid
+global_with_nop | (global i32 i32.const 0 nop) | invalid
+global_of_unreachable | (global i32 unreachable) | invalid
+global_with_a_block | (global i32 block (result i32) i32.const 0 end) | invalid
+global_that_is_constant | (global i32 i32.const 0) | valid
+global_of_a_sum | (global i32 i32.const 0 i32.const 0 i32.add) | invalid
+global_of_two_values | (global i32 i32.const 0 i32.const 0) | invalid
+global_of_no_value | (global i32) | invalid
+global_of_one_value | (global i32 i32.const 0) | valid
+global_that_names_a_mutable_import | (import \"m\" \"i\" (global (mut i32))) (global i32 global.get 0) | invalid
+global_that_names_an_immutable_import | (import \"m\" \"i\" (global i32)) (global i32 global.get 0) | valid
+global_that_names_an_import_of_another_type | (import \"m\" \"i\" (global i64)) (global i32 global.get 0) | invalid
+global_that_names_a_missing_global | (import \"m\" \"i\" (global i32)) (global i32 global.get 1) | invalid
+global_that_names_a_global_of_the_module | (global i32 i32.const 0) (global i32 global.get 0) | invalid
+global_beside_a_global_of_the_module | (global i32 i32.const 0) (global i32 i32.const 0) | valid
+global_that_names_itself | (global i32 global.get 0) | invalid
+global_of_a_missing_function | (func) (global funcref ref.func 1) | invalid
+global_of_a_function | (func) (global funcref ref.func 0) | valid
+funcref_global_of_an_external | (global funcref ref.null extern) | invalid
+funcref_global_of_a_null_function | (global funcref ref.null func) | valid
+externref_global_of_a_null_external | (global externref ref.null extern) | valid
+externref_segment_of_a_function | (func) (elem externref (item ref.func 0)) | invalid
+funcref_segment_of_a_function | (func) (elem funcref (item ref.func 0)) | valid
+funcref_segment_of_an_external | (func) (elem funcref (item ref.null extern)) | invalid
+externref_segment_of_an_external | (func) (elem externref (item ref.null extern)) | valid
+segment_of_an_i32 | (func) (elem funcref (item i32.const 0)) | invalid
+segment_of_no_value | (func) (elem funcref (item )) | invalid
+segment_of_two_values | (func) (elem funcref (item ref.null func ref.null func)) | invalid
+segment_with_nop | (func) (elem funcref (item ref.null func nop)) | invalid
+segment_of_one_value | (func) (elem funcref (item ref.null func)) | valid
+segment_with_an_external_behind_a_function | (func) (elem funcref (item ref.func 0) (item ref.null extern)) | invalid
+segment_with_a_function_behind_a_function | (func) (elem funcref (item ref.func 0) (item ref.null func)) | valid
+declarative_segment_of_an_external | (func) (elem declare funcref (item ref.null extern)) | invalid
+declarative_segment_of_a_null_function | (func) (elem declare funcref (item ref.null func)) | valid
+segment_that_names_a_mutable_import | (import \"m\" \"i\" (global (mut externref))) (func) (elem externref (item global.get 0)) | invalid
+segment_that_names_an_immutable_import | (import \"m\" \"i\" (global externref)) (func) (elem externref (item global.get 0)) | valid
+passive_segment_of_a_missing_function | (func) (elem func 1) | invalid
+passive_segment_of_a_function | (func) (elem func 0) | valid
+declarative_segment_of_a_missing_function | (func) (elem declare func 1) | invalid
+declarative_segment_of_a_function | (func) (elem declare func 0) | valid
+passive_segment_with_a_missing_function_behind | (func) (elem func 0 1) | invalid
+passive_segment_with_a_function_behind | (func) (elem func 0 0) | valid
+passive_segment_expression_of_a_missing_function | (func) (elem funcref (item ref.func 1)) | invalid
+active_segment_of_a_missing_function | (func) (table 1 funcref) (elem (offset i32.const 0) func 1) | invalid
+active_segment_of_a_function | (func) (table 1 funcref) (elem (offset i32.const 0) func 0) | valid
+active_segment_without_a_table | (func) (elem (offset i32.const 0) func 0) | invalid
+active_segment_of_a_missing_table | (func) (table 1 funcref) (elem (table 1) (offset i32.const 0) func 0) | invalid
+active_segment_of_functions_in_externref | (func) (table 1 externref) (elem (offset i32.const 0) func 0) | invalid
+active_segment_of_externals_in_funcref | (func) (table 1 funcref) (elem (table 0) (offset i32.const 0) externref (item ref.null extern)) | invalid
+active_segment_of_externals_in_externref | (func) (table 1 externref) (elem (table 0) (offset i32.const 0) externref (item ref.null extern)) | valid
+active_segment_of_the_first_of_two_tables | (func) (table 1 funcref) (table 1 externref) (elem (table 0) (offset i32.const 0) externref (item ref.null extern)) | invalid
+active_segment_of_the_second_of_two_tables | (func) (table 1 funcref) (table 1 externref) (elem (table 1) (offset i32.const 0) externref (item ref.null extern)) | valid
+active_segment_of_expressions_without_a_table | (func) (elem (offset i32.const 0) funcref (item ref.func 0)) | invalid
+active_segment_of_expressions | (func) (table 1 funcref) (elem (offset i32.const 0) funcref (item ref.func 0)) | valid
+active_segment_at_an_i64 | (func) (table 1 funcref) (elem (offset i64.const 0) func 0) | invalid
+active_segment_at_nothing | (func) (table 1 funcref) (elem (offset ) func 0) | invalid
+active_segment_at_two_values | (func) (table 1 funcref) (elem (offset i32.const 0 i32.const 0) func 0) | invalid
+active_segment_at_what_is_not_constant | (func) (table 1 funcref) (elem (offset i32.const 0 i32.eqz) func 0) | invalid
+active_segment_at_a_mutable_import | (import \"m\" \"i\" (global (mut i32))) (func) (table 1 funcref) (elem (offset global.get 0) func 0) | invalid
+active_segment_at_an_immutable_import | (import \"m\" \"i\" (global i32)) (func) (table 1 funcref) (elem (offset global.get 0) func 0) | valid
+active_segment_at_an_import_of_i64 | (import \"m\" \"i\" (global i64)) (func) (table 1 funcref) (elem (offset global.get 0) func 0) | invalid
+active_segment_at_a_global_of_the_module | (func) (table 1 funcref) (global i32 i32.const 0) (elem (offset global.get 0) func 0) | invalid
+active_segment_of_an_imported_table | (import \"m\" \"i\" (table 1 funcref)) (func) (elem (offset i32.const 0) func 0) | valid
+passive_segment_of_a_function_behind_the_last | (type (func)) (import \"m\" \"i\" (func (type 0))) (func (type 0)) (elem func 2) | invalid
+passive_segment_of_the_last_function | (type (func)) (import \"m\" \"i\" (func (type 0))) (func (type 0)) (elem func 1) | valid
+active_segment_of_a_table_behind_the_last | (import \"m\" \"i\" (table 1 funcref)) (func) (table 1 funcref) (elem (table 2) (offset i32.const 0) func 0) | invalid
+active_segment_of_the_last_table | (import \"m\" \"i\" (table 1 funcref)) (func) (table 1 funcref) (elem (table 1) (offset i32.const 0) func 0) | valid
+active_data_without_a_memory | (data (offset i32.const 0) \"\\61\") | invalid
+active_data_of_a_memory | (memory 1) (data (offset i32.const 0) \"\\61\") | valid
+active_data_of_memory_1 | (memory 1) (data (memory 1) (offset i32.const 0) \"\\61\") | invalid
+active_data_at_an_i64 | (memory 1) (data (offset i64.const 0) \"\\61\") | invalid
+active_data_at_nothing | (memory 1) (data (offset ) \"\\61\") | invalid
+active_data_at_two_values | (memory 1) (data (offset i32.const 0 i32.const 0) \"\\61\") | invalid
+active_data_at_what_is_not_constant | (memory 1) (data (offset i32.const 0 i32.eqz) \"\\61\") | invalid
+active_data_at_a_mutable_import | (import \"m\" \"i\" (global (mut i32))) (memory 1) (data (offset global.get 0) \"\\61\") | invalid
+active_data_at_an_immutable_import | (import \"m\" \"i\" (global i32)) (memory 1) (data (offset global.get 0) \"\\61\") | valid
+active_data_at_a_global_of_the_module | (memory 1) (global i32 i32.const 0) (data (offset global.get 0) \"\\61\") | invalid
+active_data_of_an_imported_memory | (import \"m\" \"i\" (memory 1)) (data (offset i32.const 0) \"\\61\") | valid
+export_of_a_missing_function | (func) (export \"a\" (func 1)) | invalid
+export_of_a_function | (func) (export \"a\" (func 0)) | valid
+export_behind_the_last_function | (type (func)) (import \"m\" \"i\" (func (type 0))) (func (type 0)) (export \"a\" (func 2)) | invalid
+export_of_the_last_function | (type (func)) (import \"m\" \"i\" (func (type 0))) (func (type 0)) (export \"a\" (func 1)) | valid
+export_of_a_missing_table | (table 1 funcref) (export \"a\" (table 1)) | invalid
+export_of_a_table | (table 1 funcref) (export \"a\" (table 0)) | valid
+export_of_a_missing_memory | (memory 1) (export \"a\" (memory 1)) | invalid
+export_of_a_memory | (memory 1) (export \"a\" (memory 0)) | valid
+export_of_a_missing_global | (global i32 i32.const 0) (export \"a\" (global 1)) | invalid
+export_of_a_global | (global i32 i32.const 0) (export \"a\" (global 0)) | valid
+export_of_a_function_of_none | (type (func)) (export \"a\" (func 0)) | invalid
+export_of_an_imported_function | (type (func)) (import \"m\" \"i\" (func (type 0))) (export \"a\" (func 0)) | valid
+export_of_a_table_of_none | (type (func)) (export \"a\" (table 0)) | invalid
+export_of_an_imported_table | (type (func)) (import \"m\" \"i\" (table 1 funcref)) (export \"a\" (table 0)) | valid
+export_of_a_memory_of_none | (type (func)) (export \"a\" (memory 0)) | invalid
+export_of_an_imported_memory | (type (func)) (import \"m\" \"i\" (memory 1)) (export \"a\" (memory 0)) | valid
+export_of_a_global_of_none | (type (func)) (export \"a\" (global 0)) | invalid
+export_of_an_imported_global | (type (func)) (import \"m\" \"i\" (global i32)) (export \"a\" (global 0)) | valid
+exports_of_a_function_and_a_memory_under_one_name | (func) (memory 1) (export \"a\" (func 0)) (export \"a\" (memory 0)) | invalid
+exports_of_a_function_and_a_memory_under_two_names | (func) (memory 1) (export \"a\" (func 0)) (export \"b\" (memory 0)) | valid
+third_export_named_like_the_first | (func) (export \"a\" (func 0)) (export \"b\" (func 0)) (export \"a\" (func 0)) | invalid
+third_export_of_another_name | (func) (export \"a\" (func 0)) (export \"b\" (func 0)) (export \"c\" (func 0)) | valid
+two_exports_of_the_empty_name | (func) (export \"\" (func 0)) (export \"\" (func 0)) | invalid
+exports_of_the_empty_name_and_of_another | (func) (export \"\" (func 0)) (export \"a\" (func 0)) | valid
+export_named_like_the_beginning_of_another | (func) (export \"ab\" (func 0)) (export \"a\" (func 0)) | valid
+two_imports_of_one_name | (type (func)) (import \"m\" \"i\" (func (type 0))) (import \"m\" \"i\" (func (type 0))) | valid";
 
 #[test]
 fn checks_the_parts_of_modules(rt: HostRuntime) {
-    check_rows(&rt, rt.alloc(), ROWS, 151);
+    check_rows(&rt, rt.alloc(), ROWS, 148);
 }

@@ -3,74 +3,74 @@
 use crate::answers::check_rows;
 
 const ROWS: &str = "\
-i32.const_gives_an_i32 010401600000 03020100 0A080106004100451A0B valid
-i32.const_gives_no_i64 010401600000 03020100 0A080106004100501A0B invalid
-i32.eqz_of_an_i64 010401600000 03020100 0A080106004200451A0B invalid
-i32.eqz_gives_no_i64 010401600000 03020100 0A09010700410045501A0B invalid
-i32.eqz_of_an_i32_gives_an_i32 010401600000 03020100 0A09010700410045451A0B valid
-i32.eqz_of_nothing 010401600000 03020100 0A06010400451A0B invalid
-i32.eqz_of_a_reference 010401600000 03020100 0A08010600D070451A0B invalid
-i32.lt_u_of_an_i64_and_an_i32 010401600000 03020100 0A0A01080042004100491A0B invalid
-i32.lt_u_of_an_i32_and_an_i64 010401600000 03020100 0A0A01080041004200491A0B invalid
-i32.lt_u_of_one_operand 010401600000 03020100 0A080106004100491A0B invalid
-i32.lt_u_gives_no_i64 010401600000 03020100 0A0B0109004100410049501A0B invalid
-i32.lt_u_of_two_i32_gives_an_i32 010401600000 03020100 0A0B0109004100410049451A0B valid
-i32.add_of_an_i64_and_an_i32 010401600000 03020100 0A0A010800420041006A1A0B invalid
-i32.add_of_an_i32_and_an_i64 010401600000 03020100 0A0A010800410042006A1A0B invalid
-i32.add_of_one_operand 010401600000 03020100 0A0801060041006A1A0B invalid
-i32.add_gives_no_i64 010401600000 03020100 0A0B010900410041006A501A0B invalid
-i32.add_of_two_i32_gives_an_i32 010401600000 03020100 0A0B010900410041006A451A0B valid
-i32.clz_of_an_i64 010401600000 03020100 0A080106004200671A0B invalid
-i32.clz_gives_no_i64 010401600000 03020100 0A09010700410067501A0B invalid
-i32.clz_of_an_i32_gives_an_i32 010401600000 03020100 0A09010700410067451A0B valid
-i32.extend8_s_of_an_i64 010401600000 03020100 0A080106004200C01A0B invalid
-i32.extend8_s_gives_no_i64 010401600000 03020100 0A090107004100C0501A0B invalid
-i32.extend8_s_of_an_i32_gives_an_i32 010401600000 03020100 0A090107004100C0451A0B valid
-i32.extend16_s_of_an_i64 010401600000 03020100 0A080106004200C11A0B invalid
-i32.extend16_s_gives_no_i64 010401600000 03020100 0A090107004100C1501A0B invalid
-i32.extend16_s_of_an_i32_gives_an_i32 010401600000 03020100 0A090107004100C1451A0B valid
-i64.const_gives_an_i64 010401600000 03020100 0A080106004200501A0B valid
-i64.const_gives_no_i32 010401600000 03020100 0A080106004200451A0B invalid
-i64.eqz_of_an_i32 010401600000 03020100 0A080106004100501A0B invalid
-i64.eqz_gives_no_i64 010401600000 03020100 0A09010700420050501A0B invalid
-i64.eqz_of_an_i64_gives_an_i32 010401600000 03020100 0A09010700420050451A0B valid
-i64.eqz_of_nothing 010401600000 03020100 0A06010400501A0B invalid
-i64.eqz_of_a_reference 010401600000 03020100 0A08010600D070501A0B invalid
-i64.lt_u_of_an_i32_and_an_i64 010401600000 03020100 0A0A01080041004200541A0B invalid
-i64.lt_u_of_an_i64_and_an_i32 010401600000 03020100 0A0A01080042004100541A0B invalid
-i64.lt_u_of_one_operand 010401600000 03020100 0A080106004200541A0B invalid
-i64.lt_u_gives_no_i64 010401600000 03020100 0A0B0109004200420054501A0B invalid
-i64.lt_u_of_two_i64_gives_an_i32 010401600000 03020100 0A0B0109004200420054451A0B valid
-i64.add_of_an_i32_and_an_i64 010401600000 03020100 0A0A010800410042007C1A0B invalid
-i64.add_of_an_i64_and_an_i32 010401600000 03020100 0A0A010800420041007C1A0B invalid
-i64.add_of_one_operand 010401600000 03020100 0A0801060042007C1A0B invalid
-i64.add_gives_no_i32 010401600000 03020100 0A0B010900420042007C451A0B invalid
-i64.add_of_two_i64_gives_an_i64 010401600000 03020100 0A0B010900420042007C501A0B valid
-i64.clz_of_an_i32 010401600000 03020100 0A080106004100791A0B invalid
-i64.clz_gives_no_i32 010401600000 03020100 0A09010700420079451A0B invalid
-i64.clz_of_an_i64_gives_an_i64 010401600000 03020100 0A09010700420079501A0B valid
-i64.extend8_s_of_an_i32 010401600000 03020100 0A080106004100C21A0B invalid
-i64.extend8_s_gives_no_i32 010401600000 03020100 0A090107004200C2451A0B invalid
-i64.extend8_s_of_an_i64_gives_an_i64 010401600000 03020100 0A090107004200C2501A0B valid
-i64.extend16_s_of_an_i32 010401600000 03020100 0A080106004100C31A0B invalid
-i64.extend16_s_gives_no_i32 010401600000 03020100 0A090107004200C3451A0B invalid
-i64.extend16_s_of_an_i64_gives_an_i64 010401600000 03020100 0A090107004200C3501A0B valid
-i64.extend32_s_of_an_i32 010401600000 03020100 0A080106004100C41A0B invalid
-i64.extend32_s_gives_no_i32 010401600000 03020100 0A090107004200C4451A0B invalid
-i64.extend32_s_of_an_i64_gives_an_i64 010401600000 03020100 0A090107004200C4501A0B valid
-i32.wrap_i64_of_an_i32 010401600000 03020100 0A080106004100A71A0B invalid
-i32.wrap_i64_gives_no_i64 010401600000 03020100 0A090107004200A7501A0B invalid
-i32.wrap_i64_of_an_i64_gives_an_i32 010401600000 03020100 0A090107004200A7451A0B valid
-i64.extend_i32_s_of_an_i64 010401600000 03020100 0A080106004200AC1A0B invalid
-i64.extend_i32_s_gives_no_i32 010401600000 03020100 0A090107004100AC451A0B invalid
-i64.extend_i32_s_of_an_i32_gives_an_i64 010401600000 03020100 0A090107004100AC501A0B valid
-i64.extend_i32_u_of_an_i64 010401600000 03020100 0A080106004200AD1A0B invalid
-i64.extend_i32_u_gives_no_i32 010401600000 03020100 0A090107004100AD451A0B invalid
-i64.extend_i32_u_of_an_i32_gives_an_i64 010401600000 03020100 0A090107004100AD501A0B valid
-each_i32_comparison 010401600000 03020100 0A40013E0041014102461A41014102471A41014102481A41014102491A410141024A1A410141024B1A410141024C1A410141024D1A410141024E1A410141024F1A0B valid
-each_i32_operator 010401600000 03020100 0A37013500410167686941026A41026B41026C41026D41026E41026F4102704102714102724102734102744102754102764102774102781A0B valid
-each_i64_comparison 010401600000 03020100 0A40013E0042014202511A42014202521A42014202531A42014202541A42014202551A42014202561A42014202571A42014202581A42014202591A420142025A1A0B valid
-each_i64_operator 010401600000 03020100 0A370135004201797A7B42027C42027D42027E42027F42028042028142028242028342028442028542028642028742028842028942028A1A0B valid";
+i32.const_gives_an_i32 | (func i32.const 0 i32.eqz drop) | valid
+i32.const_gives_no_i64 | (func i32.const 0 i64.eqz drop) | invalid
+i32.eqz_of_an_i64 | (func i64.const 0 i32.eqz drop) | invalid
+i32.eqz_gives_no_i64 | (func i32.const 0 i32.eqz i64.eqz drop) | invalid
+i32.eqz_of_an_i32_gives_an_i32 | (func i32.const 0 i32.eqz i32.eqz drop) | valid
+i32.eqz_of_nothing | (func i32.eqz drop) | invalid
+i32.eqz_of_a_reference | (func ref.null func i32.eqz drop) | invalid
+i32.lt_u_of_an_i64_and_an_i32 | (func i64.const 0 i32.const 0 i32.lt_u drop) | invalid
+i32.lt_u_of_an_i32_and_an_i64 | (func i32.const 0 i64.const 0 i32.lt_u drop) | invalid
+i32.lt_u_of_one_operand | (func i32.const 0 i32.lt_u drop) | invalid
+i32.lt_u_gives_no_i64 | (func i32.const 0 i32.const 0 i32.lt_u i64.eqz drop) | invalid
+i32.lt_u_of_two_i32_gives_an_i32 | (func i32.const 0 i32.const 0 i32.lt_u i32.eqz drop) | valid
+i32.add_of_an_i64_and_an_i32 | (func i64.const 0 i32.const 0 i32.add drop) | invalid
+i32.add_of_an_i32_and_an_i64 | (func i32.const 0 i64.const 0 i32.add drop) | invalid
+i32.add_of_one_operand | (func i32.const 0 i32.add drop) | invalid
+i32.add_gives_no_i64 | (func i32.const 0 i32.const 0 i32.add i64.eqz drop) | invalid
+i32.add_of_two_i32_gives_an_i32 | (func i32.const 0 i32.const 0 i32.add i32.eqz drop) | valid
+i32.clz_of_an_i64 | (func i64.const 0 i32.clz drop) | invalid
+i32.clz_gives_no_i64 | (func i32.const 0 i32.clz i64.eqz drop) | invalid
+i32.clz_of_an_i32_gives_an_i32 | (func i32.const 0 i32.clz i32.eqz drop) | valid
+i32.extend8_s_of_an_i64 | (func i64.const 0 i32.extend8_s drop) | invalid
+i32.extend8_s_gives_no_i64 | (func i32.const 0 i32.extend8_s i64.eqz drop) | invalid
+i32.extend8_s_of_an_i32_gives_an_i32 | (func i32.const 0 i32.extend8_s i32.eqz drop) | valid
+i32.extend16_s_of_an_i64 | (func i64.const 0 i32.extend16_s drop) | invalid
+i32.extend16_s_gives_no_i64 | (func i32.const 0 i32.extend16_s i64.eqz drop) | invalid
+i32.extend16_s_of_an_i32_gives_an_i32 | (func i32.const 0 i32.extend16_s i32.eqz drop) | valid
+i64.const_gives_an_i64 | (func i64.const 0 i64.eqz drop) | valid
+i64.const_gives_no_i32 | (func i64.const 0 i32.eqz drop) | invalid
+i64.eqz_of_an_i32 | (func i32.const 0 i64.eqz drop) | invalid
+i64.eqz_gives_no_i64 | (func i64.const 0 i64.eqz i64.eqz drop) | invalid
+i64.eqz_of_an_i64_gives_an_i32 | (func i64.const 0 i64.eqz i32.eqz drop) | valid
+i64.eqz_of_nothing | (func i64.eqz drop) | invalid
+i64.eqz_of_a_reference | (func ref.null func i64.eqz drop) | invalid
+i64.lt_u_of_an_i32_and_an_i64 | (func i32.const 0 i64.const 0 i64.lt_u drop) | invalid
+i64.lt_u_of_an_i64_and_an_i32 | (func i64.const 0 i32.const 0 i64.lt_u drop) | invalid
+i64.lt_u_of_one_operand | (func i64.const 0 i64.lt_u drop) | invalid
+i64.lt_u_gives_no_i64 | (func i64.const 0 i64.const 0 i64.lt_u i64.eqz drop) | invalid
+i64.lt_u_of_two_i64_gives_an_i32 | (func i64.const 0 i64.const 0 i64.lt_u i32.eqz drop) | valid
+i64.add_of_an_i32_and_an_i64 | (func i32.const 0 i64.const 0 i64.add drop) | invalid
+i64.add_of_an_i64_and_an_i32 | (func i64.const 0 i32.const 0 i64.add drop) | invalid
+i64.add_of_one_operand | (func i64.const 0 i64.add drop) | invalid
+i64.add_gives_no_i32 | (func i64.const 0 i64.const 0 i64.add i32.eqz drop) | invalid
+i64.add_of_two_i64_gives_an_i64 | (func i64.const 0 i64.const 0 i64.add i64.eqz drop) | valid
+i64.clz_of_an_i32 | (func i32.const 0 i64.clz drop) | invalid
+i64.clz_gives_no_i32 | (func i64.const 0 i64.clz i32.eqz drop) | invalid
+i64.clz_of_an_i64_gives_an_i64 | (func i64.const 0 i64.clz i64.eqz drop) | valid
+i64.extend8_s_of_an_i32 | (func i32.const 0 i64.extend8_s drop) | invalid
+i64.extend8_s_gives_no_i32 | (func i64.const 0 i64.extend8_s i32.eqz drop) | invalid
+i64.extend8_s_of_an_i64_gives_an_i64 | (func i64.const 0 i64.extend8_s i64.eqz drop) | valid
+i64.extend16_s_of_an_i32 | (func i32.const 0 i64.extend16_s drop) | invalid
+i64.extend16_s_gives_no_i32 | (func i64.const 0 i64.extend16_s i32.eqz drop) | invalid
+i64.extend16_s_of_an_i64_gives_an_i64 | (func i64.const 0 i64.extend16_s i64.eqz drop) | valid
+i64.extend32_s_of_an_i32 | (func i32.const 0 i64.extend32_s drop) | invalid
+i64.extend32_s_gives_no_i32 | (func i64.const 0 i64.extend32_s i32.eqz drop) | invalid
+i64.extend32_s_of_an_i64_gives_an_i64 | (func i64.const 0 i64.extend32_s i64.eqz drop) | valid
+i32.wrap_i64_of_an_i32 | (func i32.const 0 i32.wrap_i64 drop) | invalid
+i32.wrap_i64_gives_no_i64 | (func i64.const 0 i32.wrap_i64 i64.eqz drop) | invalid
+i32.wrap_i64_of_an_i64_gives_an_i32 | (func i64.const 0 i32.wrap_i64 i32.eqz drop) | valid
+i64.extend_i32_s_of_an_i64 | (func i64.const 0 i64.extend_i32_s drop) | invalid
+i64.extend_i32_s_gives_no_i32 | (func i32.const 0 i64.extend_i32_s i32.eqz drop) | invalid
+i64.extend_i32_s_of_an_i32_gives_an_i64 | (func i32.const 0 i64.extend_i32_s i64.eqz drop) | valid
+i64.extend_i32_u_of_an_i64 | (func i64.const 0 i64.extend_i32_u drop) | invalid
+i64.extend_i32_u_gives_no_i32 | (func i32.const 0 i64.extend_i32_u i32.eqz drop) | invalid
+i64.extend_i32_u_of_an_i32_gives_an_i64 | (func i32.const 0 i64.extend_i32_u i64.eqz drop) | valid
+each_i32_comparison | (func i32.const 1 i32.const 2 i32.eq drop i32.const 1 i32.const 2 i32.ne drop i32.const 1 i32.const 2 i32.lt_s drop i32.const 1 i32.const 2 i32.lt_u drop i32.const 1 i32.const 2 i32.gt_s drop i32.const 1 i32.const 2 i32.gt_u drop i32.const 1 i32.const 2 i32.le_s drop i32.const 1 i32.const 2 i32.le_u drop i32.const 1 i32.const 2 i32.ge_s drop i32.const 1 i32.const 2 i32.ge_u drop) | valid
+each_i32_operator | (func i32.const 1 i32.clz i32.ctz i32.popcnt i32.const 2 i32.add i32.const 2 i32.sub i32.const 2 i32.mul i32.const 2 i32.div_s i32.const 2 i32.div_u i32.const 2 i32.rem_s i32.const 2 i32.rem_u i32.const 2 i32.and i32.const 2 i32.or i32.const 2 i32.xor i32.const 2 i32.shl i32.const 2 i32.shr_s i32.const 2 i32.shr_u i32.const 2 i32.rotl i32.const 2 i32.rotr drop) | valid
+each_i64_comparison | (func i64.const 1 i64.const 2 i64.eq drop i64.const 1 i64.const 2 i64.ne drop i64.const 1 i64.const 2 i64.lt_s drop i64.const 1 i64.const 2 i64.lt_u drop i64.const 1 i64.const 2 i64.gt_s drop i64.const 1 i64.const 2 i64.gt_u drop i64.const 1 i64.const 2 i64.le_s drop i64.const 1 i64.const 2 i64.le_u drop i64.const 1 i64.const 2 i64.ge_s drop i64.const 1 i64.const 2 i64.ge_u drop) | valid
+each_i64_operator | (func i64.const 1 i64.clz i64.ctz i64.popcnt i64.const 2 i64.add i64.const 2 i64.sub i64.const 2 i64.mul i64.const 2 i64.div_s i64.const 2 i64.div_u i64.const 2 i64.rem_s i64.const 2 i64.rem_u i64.const 2 i64.and i64.const 2 i64.or i64.const 2 i64.xor i64.const 2 i64.shl i64.const 2 i64.shr_s i64.const 2 i64.shr_u i64.const 2 i64.rotl i64.const 2 i64.rotr drop) | valid";
 
 #[test]
 fn checks_numeric_instructions(rt: HostRuntime) {

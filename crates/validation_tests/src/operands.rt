@@ -3,85 +3,85 @@
 use crate::answers::check_rows;
 
 const ROWS: &str = "\
-drop_of_nothing 010401600000 03020100 0A050103001A0B invalid
-drop_of_an_i32 010401600000 03020100 0A0701050041001A0B valid
-drop_of_a_reference 010401600000 03020100 0A07010500D06F1A0B valid
-select_of_an_i32_and_an_i64 010401600000 03020100 0A0C010A004100420041001B1A0B invalid
-select_of_an_i64_and_an_i32 010401600000 03020100 0A0C010A004200410041001B1A0B invalid
-select_by_an_i64 010401600000 03020100 0A0C010A004100410042001B1A0B invalid
-select_of_one_operand 010401600000 03020100 0A0A010800410041001B1A0B invalid
-select_of_two_i32_gives_no_i64 010401600000 03020100 0A0D010B004100410041001B501A0B invalid
-select_of_two_i32 010401600000 03020100 0A0C010A004100410041001B1A0B valid
-select_of_two_i64 010401600000 03020100 0A0D010B004200420041001B501A0B valid
-select_of_functions_without_types 010401600000 03020100 0A0C010A00D070D07041001B1A0B invalid
-select_of_functions_with_a_type 010401600000 03020100 0A0E010C00D070D07041001C01701A0B valid
-select_with_no_types 010401600000 03020100 0A0D010B004100410041001C001A0B invalid
-select_with_two_types 010401600000 03020100 0A0F010D004100410041001C027F7F1A0B invalid
-select_with_another_type 010401600000 03020100 0A0E010C004100410041001C017E1A0B invalid
-select_with_its_type 010401600000 03020100 0A0E010C004100410041001C017F1A0B valid
-select_with_a_type_by_an_i64 010401600000 03020100 0A0E010C004100410042001C017F1A0B invalid
-select_with_a_type_of_an_i64_and_an_i32 010401600000 03020100 0A0E010C004200410041001C017F1A0B invalid
-select_with_a_type_of_an_i32_and_an_i64 010401600000 03020100 0A0E010C004100420041001C017F1A0B invalid
-select_of_externref_of_a_function 010401600000 03020100 0A0E010C00D06FD07041001C016F1A0B invalid
-select_with_a_type_gives_no_other 010401600000 03020100 0A0F010D004100410041001C017F501A0B invalid
-local.get_of_a_missing_local 010401600000 03020100 0A0701050020001A0B invalid
-local.get_of_a_local 010401600000 03020100 0A09010701017F20001A0B valid
-local.get_of_an_i64_for_i32.eqz 010401600000 03020100 0A0A010801017E2000451A0B invalid
-local.get_of_an_i32_for_i32.eqz 010401600000 03020100 0A0A010801017F2000451A0B valid
-local.set_of_a_missing_local 010401600000 03020100 0A08010600410021000B invalid
-local.set_of_a_local 010401600000 03020100 0A0A010801017F410021000B valid
-local.set_of_an_i64_local 010401600000 03020100 0A0A010801017E410021000B invalid
-local.set_of_nothing 010401600000 03020100 0A08010601017F21000B invalid
-local.tee_of_a_missing_local 010401600000 03020100 0A09010700410022001A0B invalid
-local.tee_of_a_local 010401600000 03020100 0A0B010901017F410022001A0B valid
-local.tee_of_an_i64_local 010401600000 03020100 0A0B010901017E410022001A0B invalid
-local.tee_gives_no_i64 010401600000 03020100 0A0C010A01017F41002200501A0B invalid
-local.tee_gives_an_i32 010401600000 03020100 0A0C010A01017F41002200451A0B valid
-local.tee_of_nothing 010401600000 03020100 0A09010701017F22001A0B invalid
-locals_stand_behind_parameters 01050160017F00 03020100 0A0E010C01017E2000451A2001501A0B valid
-locals_stand_before_parameters 01050160017F00 03020100 0A0E010C01017E2001451A2000501A0B invalid
-local.get_behind_the_last_local 01050160017F00 03020100 0A09010701017E20021A0B invalid
-local.get_of_the_last_local 01050160017F00 03020100 0A09010701017E20011A0B valid
-local.get_of_the_second_group_for_i32.eqz 010401600000 03020100 0A0C010A02017F017E2001451A0B invalid
-local.get_of_the_second_group_for_i64.eqz 010401600000 03020100 0A0C010A02017F017E2001501A0B valid
-externref_local_set_to_a_function 010401600000 03020100 0A0A010801016FD07021000B invalid
-funcref_local_set_to_a_function 010401600000 03020100 0A0A0108010170D07021000B valid
-global.get_of_a_missing_global 010401600000 03020100 0A0701050023001A0B invalid
-global.get_of_a_global 010401600000 03020100 0606017F0041000B 0A0701050023001A0B valid
-global.get_behind_the_last_global 010401600000 03020100 0606017F0041000B 0A0701050023011A0B invalid
-global.get_of_an_i64_for_i32.eqz 010401600000 03020100 0606017E0042000B 0A080106002300451A0B invalid
-global.get_of_an_i32_for_i32.eqz 010401600000 03020100 0606017F0041000B 0A080106002300451A0B valid
-global.set_of_a_missing_global 010401600000 03020100 0A08010600410024000B invalid
-global.set_of_a_global 010401600000 03020100 0606017F0141000B 0A08010600410024000B valid
-global.set_of_an_i64_global 010401600000 03020100 0606017E0142000B 0A08010600410024000B invalid
-global.set_of_an_immutable_global 010401600000 03020100 0606017F0041000B 0A08010600410024000B invalid
-global.set_of_nothing 010401600000 03020100 0606017F0141000B 0A0601040024000B invalid
-global.set_of_an_imported_immutable_global 010401600000 020801016D0169037F00 03020100 0A08010600410024000B invalid
-global.set_of_an_imported_global 010401600000 020801016D0169037F01 03020100 0A08010600410024000B valid
-imported_globals_come_last 010401600000 020801016D0169037E00 03020100 0606017F0141000B 0A08010600410024000B invalid
-imported_globals_come_first 010401600000 020801016D0169037E00 03020100 0606017F0141000B 0A08010600410024010B valid
-ref.is_null_of_an_i32 010401600000 03020100 0A080106004100D11A0B invalid
-ref.is_null_of_an_i64 010401600000 03020100 0A080106004200D11A0B invalid
-ref.is_null_of_nothing 010401600000 03020100 0A06010400D11A0B invalid
-ref.is_null_of_a_function 010401600000 03020100 0A08010600D070D11A0B valid
-ref.is_null_of_an_external 010401600000 03020100 0A08010600D06FD11A0B valid
-ref.is_null_gives_no_i64 010401600000 03020100 0A09010700D070D1501A0B invalid
-ref.is_null_gives_an_i32 010401600000 03020100 0A09010700D070D1451A0B valid
-ref.func_of_a_missing_function 010401600000 03020100 09050103000100 0A07010500D2011A0B invalid
-ref.func_of_the_function_itself 010401600000 03020100 09050103000100 0A07010500D2001A0B valid
-ref.func_gives_no_i32 010401600000 03020100 09050103000100 0A08010600D200451A0B invalid
-ref.func_gives_a_reference 010401600000 03020100 09050103000100 0A08010600D200D11A0B valid
-ref.func_of_a_function_named_by_the_start 010401600000 03020100 080100 0A07010500D2001A0B invalid
-ref.func_of_a_function_named_by_an_export 010401600000 03020100 07050101610000 0A07010500D2001A0B valid
-ref.func_of_a_function_named_by_a_call 010401600000 03020100 0A09010700D2001A10000B invalid
-ref.func_of_a_function_named_by_a_global 010401600000 03020100 0606017000D2000B 0A07010500D2001A0B valid
-ref.func_where_another_function_is_named 010401600000 0303020000 09050103000101 0A0A020500D2001A0B02000B invalid
-ref.func_where_this_function_of_two_is_named 010401600000 0303020000 09050103000100 0A0A020500D2001A0B02000B valid
-ref.func_of_a_function_named_by_a_passive_segment 010401600000 03020100 09050101000100 0A07010500D2001A0B valid
-ref.func_of_a_function_named_by_an_expression_of_a_segment 010401600000 03020100 090701077001D2000B 0A07010500D2001A0B valid
-ref.func_where_the_import_is_named 010401600000 020701016D01690000 03020100 09050103000100 0A07010500D2011A0B invalid
-ref.func_where_the_function_behind_the_import_is_named 010401600000 020701016D01690000 03020100 09050103000101 0A07010500D2011A0B valid
-ref.func_of_a_function_named_by_an_active_segment 010401600000 03020100 040401700001 0907010041000B0100 0A07010500D2001A0B valid";
+drop_of_nothing | (func drop) | invalid
+drop_of_an_i32 | (func i32.const 0 drop) | valid
+drop_of_a_reference | (func ref.null extern drop) | valid
+select_of_an_i32_and_an_i64 | (func i32.const 0 i64.const 0 i32.const 0 select drop) | invalid
+select_of_an_i64_and_an_i32 | (func i64.const 0 i32.const 0 i32.const 0 select drop) | invalid
+select_by_an_i64 | (func i32.const 0 i32.const 0 i64.const 0 select drop) | invalid
+select_of_one_operand | (func i32.const 0 i32.const 0 select drop) | invalid
+select_of_two_i32_gives_no_i64 | (func i32.const 0 i32.const 0 i32.const 0 select i64.eqz drop) | invalid
+select_of_two_i32 | (func i32.const 0 i32.const 0 i32.const 0 select drop) | valid
+select_of_two_i64 | (func i64.const 0 i64.const 0 i32.const 0 select i64.eqz drop) | valid
+select_of_functions_without_types | (func ref.null func ref.null func i32.const 0 select drop) | invalid
+select_of_functions_with_a_type | (func ref.null func ref.null func i32.const 0 select (result funcref) drop) | valid
+select_with_no_types | (func i32.const 0 i32.const 0 i32.const 0 select (result) drop) | invalid
+select_with_two_types | (func i32.const 0 i32.const 0 i32.const 0 select (result i32 i32) drop) | invalid
+select_with_another_type | (func i32.const 0 i32.const 0 i32.const 0 select (result i64) drop) | invalid
+select_with_its_type | (func i32.const 0 i32.const 0 i32.const 0 select (result i32) drop) | valid
+select_with_a_type_by_an_i64 | (func i32.const 0 i32.const 0 i64.const 0 select (result i32) drop) | invalid
+select_with_a_type_of_an_i64_and_an_i32 | (func i64.const 0 i32.const 0 i32.const 0 select (result i32) drop) | invalid
+select_with_a_type_of_an_i32_and_an_i64 | (func i32.const 0 i64.const 0 i32.const 0 select (result i32) drop) | invalid
+select_of_externref_of_a_function | (func ref.null extern ref.null func i32.const 0 select (result externref) drop) | invalid
+select_with_a_type_gives_no_other | (func i32.const 0 i32.const 0 i32.const 0 select (result i32) i64.eqz drop) | invalid
+local.get_of_a_missing_local | (func local.get 0 drop) | invalid
+local.get_of_a_local | (func (local i32) local.get 0 drop) | valid
+local.get_of_an_i64_for_i32.eqz | (func (local i64) local.get 0 i32.eqz drop) | invalid
+local.get_of_an_i32_for_i32.eqz | (func (local i32) local.get 0 i32.eqz drop) | valid
+local.set_of_a_missing_local | (func i32.const 0 local.set 0) | invalid
+local.set_of_a_local | (func (local i32) i32.const 0 local.set 0) | valid
+local.set_of_an_i64_local | (func (local i64) i32.const 0 local.set 0) | invalid
+local.set_of_nothing | (func (local i32) local.set 0) | invalid
+local.tee_of_a_missing_local | (func i32.const 0 local.tee 0 drop) | invalid
+local.tee_of_a_local | (func (local i32) i32.const 0 local.tee 0 drop) | valid
+local.tee_of_an_i64_local | (func (local i64) i32.const 0 local.tee 0 drop) | invalid
+local.tee_gives_no_i64 | (func (local i32) i32.const 0 local.tee 0 i64.eqz drop) | invalid
+local.tee_gives_an_i32 | (func (local i32) i32.const 0 local.tee 0 i32.eqz drop) | valid
+local.tee_of_nothing | (func (local i32) local.tee 0 drop) | invalid
+locals_stand_behind_parameters | (func (param i32) (local i64) local.get 0 i32.eqz drop local.get 1 i64.eqz drop) | valid
+locals_stand_before_parameters | (func (param i32) (local i64) local.get 1 i32.eqz drop local.get 0 i64.eqz drop) | invalid
+local.get_behind_the_last_local | (func (param i32) (local i64) local.get 2 drop) | invalid
+local.get_of_the_last_local | (func (param i32) (local i64) local.get 1 drop) | valid
+local.get_of_the_second_group_for_i32.eqz | (func (local i32 i64) local.get 1 i32.eqz drop) | invalid
+local.get_of_the_second_group_for_i64.eqz | (func (local i32 i64) local.get 1 i64.eqz drop) | valid
+externref_local_set_to_a_function | (func (local externref) ref.null func local.set 0) | invalid
+funcref_local_set_to_a_function | (func (local funcref) ref.null func local.set 0) | valid
+global.get_of_a_missing_global | (func global.get 0 drop) | invalid
+global.get_of_a_global | (func global.get 0 drop) (global i32 i32.const 0) | valid
+global.get_behind_the_last_global | (func global.get 1 drop) (global i32 i32.const 0) | invalid
+global.get_of_an_i64_for_i32.eqz | (func global.get 0 i32.eqz drop) (global i64 i64.const 0) | invalid
+global.get_of_an_i32_for_i32.eqz | (func global.get 0 i32.eqz drop) (global i32 i32.const 0) | valid
+global.set_of_a_missing_global | (func i32.const 0 global.set 0) | invalid
+global.set_of_a_global | (func i32.const 0 global.set 0) (global (mut i32) i32.const 0) | valid
+global.set_of_an_i64_global | (func i32.const 0 global.set 0) (global (mut i64) i64.const 0) | invalid
+global.set_of_an_immutable_global | (func i32.const 0 global.set 0) (global i32 i32.const 0) | invalid
+global.set_of_nothing | (func global.set 0) (global (mut i32) i32.const 0) | invalid
+global.set_of_an_imported_immutable_global | (import \"m\" \"i\" (global i32)) (func i32.const 0 global.set 0) | invalid
+global.set_of_an_imported_global | (import \"m\" \"i\" (global (mut i32))) (func i32.const 0 global.set 0) | valid
+imported_globals_come_last | (import \"m\" \"i\" (global i64)) (func i32.const 0 global.set 0) (global (mut i32) i32.const 0) | invalid
+imported_globals_come_first | (import \"m\" \"i\" (global i64)) (func i32.const 0 global.set 1) (global (mut i32) i32.const 0) | valid
+ref.is_null_of_an_i32 | (func i32.const 0 ref.is_null drop) | invalid
+ref.is_null_of_an_i64 | (func i64.const 0 ref.is_null drop) | invalid
+ref.is_null_of_nothing | (func ref.is_null drop) | invalid
+ref.is_null_of_a_function | (func ref.null func ref.is_null drop) | valid
+ref.is_null_of_an_external | (func ref.null extern ref.is_null drop) | valid
+ref.is_null_gives_no_i64 | (func ref.null func ref.is_null i64.eqz drop) | invalid
+ref.is_null_gives_an_i32 | (func ref.null func ref.is_null i32.eqz drop) | valid
+ref.func_of_a_missing_function | (func ref.func 1 drop) (elem declare func 0) | invalid
+ref.func_of_the_function_itself | (func ref.func 0 drop) (elem declare func 0) | valid
+ref.func_gives_no_i32 | (func ref.func 0 i32.eqz drop) (elem declare func 0) | invalid
+ref.func_gives_a_reference | (func ref.func 0 ref.is_null drop) (elem declare func 0) | valid
+ref.func_of_a_function_named_by_the_start | (func ref.func 0 drop) (start 0) | invalid
+ref.func_of_a_function_named_by_an_export | (func ref.func 0 drop) (export \"a\" (func 0)) | valid
+ref.func_of_a_function_named_by_a_call | (func ref.func 0 drop call 0) | invalid
+ref.func_of_a_function_named_by_a_global | (func ref.func 0 drop) (global funcref ref.func 0) | valid
+ref.func_where_another_function_is_named | (func ref.func 0 drop) (func) (elem declare func 1) | invalid
+ref.func_where_this_function_of_two_is_named | (func ref.func 0 drop) (func) (elem declare func 0) | valid
+ref.func_of_a_function_named_by_a_passive_segment | (func ref.func 0 drop) (elem func 0) | valid
+ref.func_of_a_function_named_by_an_expression_of_a_segment | (func ref.func 0 drop) (elem declare funcref (item ref.func 0)) | valid
+ref.func_where_the_import_is_named | (type (func)) (import \"m\" \"i\" (func (type 0))) (func (type 0) ref.func 1 drop) (elem declare func 0) | invalid
+ref.func_where_the_function_behind_the_import_is_named | (type (func)) (import \"m\" \"i\" (func (type 0))) (func (type 0) ref.func 1 drop) (elem declare func 1) | valid
+ref.func_of_a_function_named_by_an_active_segment | (func ref.func 0 drop) (table 1 funcref) (elem (offset i32.const 0) func 0) | valid";
 
 #[test]
 fn checks_reference_parametric_and_variable_instructions(rt: HostRuntime) {

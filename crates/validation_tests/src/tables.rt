@@ -3,67 +3,67 @@
 use crate::answers::check_rows;
 
 const ROWS: &str = "\
-table.get_without_a_table 010401600000 03020100 0A09010700410025001A0B invalid
-table.get_of_a_missing_table 010401600000 03020100 040401700001 0A09010700410025011A0B invalid
-table.get_at_an_i64 010401600000 03020100 040401700001 0A09010700420025001A0B invalid
-table.get_at_nothing 010401600000 03020100 040401700001 0A0701050025001A0B invalid
-table.get_gives_no_i32 010401600000 03020100 040401700001 0A0A01080041002500451A0B invalid
-table.get_gives_a_reference 010401600000 03020100 040401700001 0A0A01080041002500D11A0B valid
-table.get_at_an_i32 010401600000 03020100 040401700001 0A09010700410025001A0B valid
-table.get_of_externref_gives_no_function 010401600000 03020100 0404016F0001 0A0C010A0101704100250021000B invalid
-table.get_of_externref_gives_an_external 010401600000 03020100 0404016F0001 0A0C010A01016F4100250021000B valid
-table.set_without_a_table 010401600000 03020100 0A0A0108004100D07026000B invalid
-table.set_of_a_missing_table 010401600000 03020100 040401700001 0A0A0108004100D07026010B invalid
-table.set_at_an_i64 010401600000 03020100 040401700001 0A0A0108004200D07026000B invalid
-table.set_to_an_external 010401600000 03020100 040401700001 0A0A0108004100D06F26000B invalid
-table.set_to_an_i32 010401600000 03020100 040401700001 0A0A0108004100410026000B invalid
-table.set_of_operands_in_the_other_order 010401600000 03020100 040401700001 0A0A010800D070410026000B invalid
-table.set_to_a_function 010401600000 03020100 040401700001 0A0A0108004100D07026000B valid
-table.set_to_an_external_of_externref 010401600000 03020100 0404016F0001 0A0A0108004100D06F26000B valid
-table.size_without_a_table 010401600000 03020100 0A08010600FC10001A0B invalid
-table.size_of_a_missing_table 010401600000 03020100 040401700001 0A08010600FC10011A0B invalid
-table.size_gives_no_i64 010401600000 03020100 040401700001 0A09010700FC1000501A0B invalid
-table.size_gives_an_i32 010401600000 03020100 040401700001 0A09010700FC1000451A0B valid
-table.size_of_a_table 010401600000 03020100 040401700001 0A08010600FC10001A0B valid
-table.grow_without_a_table 010401600000 03020100 0A0C010A00D0704100FC0F001A0B invalid
-table.grow_of_a_missing_table 010401600000 03020100 040401700001 0A0C010A00D0704100FC0F011A0B invalid
-table.grow_by_an_i64 010401600000 03020100 040401700001 0A0C010A00D0704200FC0F001A0B invalid
-table.grow_with_an_external 010401600000 03020100 040401700001 0A0C010A00D06F4100FC0F001A0B invalid
-table.grow_of_operands_in_the_other_order 010401600000 03020100 040401700001 0A0C010A004100D070FC0F001A0B invalid
-table.grow_gives_no_i64 010401600000 03020100 040401700001 0A0D010B00D0704100FC0F00501A0B invalid
-table.grow_gives_an_i32 010401600000 03020100 040401700001 0A0D010B00D0704100FC0F00451A0B valid
-table.grow_by_an_i32 010401600000 03020100 040401700001 0A0C010A00D0704100FC0F001A0B valid
-table.fill_without_a_table 010401600000 03020100 0A0D010B004100D0704100FC11000B invalid
-table.fill_of_a_missing_table 010401600000 03020100 040401700001 0A0D010B004100D0704100FC11010B invalid
-table.fill_at_an_i64 010401600000 03020100 040401700001 0A0D010B004200D0704100FC11000B invalid
-table.fill_with_an_external 010401600000 03020100 040401700001 0A0D010B004100D06F4100FC11000B invalid
-table.fill_of_an_i64_number 010401600000 03020100 040401700001 0A0D010B004100D0704200FC11000B invalid
-table.fill_of_a_table 010401600000 03020100 040401700001 0A0D010B004100D0704100FC11000B valid
-table.copy_without_a_table 010401600000 03020100 0A0E010C00410041004100FC0E00000B invalid
-table.copy_into_a_missing_table 010401600000 03020100 040401700001 0A0E010C00410041004100FC0E01000B invalid
-table.copy_from_a_missing_table 010401600000 03020100 040401700001 0A0E010C00410041004100FC0E00010B invalid
-table.copy_of_a_table 010401600000 03020100 040401700001 0A0E010C00410041004100FC0E00000B valid
-table.copy_into_externref_from_funcref 010401600000 03020100 0407027000016F0001 0A0E010C00410041004100FC0E01000B invalid
-table.copy_into_funcref_from_externref 010401600000 03020100 0407027000016F0001 0A0E010C00410041004100FC0E00010B invalid
-table.copy_into_funcref_from_funcref 010401600000 03020100 040702700001700001 0A0E010C00410041004100FC0E00010B valid
-table.copy_within_externref 010401600000 03020100 0407027000016F0001 0A0E010C00410041004100FC0E01010B valid
-table.copy_into_an_i64 010401600000 03020100 040401700001 0A0E010C00420041004100FC0E00000B invalid
-table.copy_from_an_i64 010401600000 03020100 040401700001 0A0E010C00410042004100FC0E00000B invalid
-table.copy_of_an_i64_number 010401600000 03020100 040401700001 0A0E010C00410041004200FC0E00000B invalid
-table.init_without_a_table 010401600000 03020100 09050101000100 0A0E010C00410041004100FC0C00000B invalid
-table.init_of_a_missing_table 010401600000 03020100 040401700001 09050101000100 0A0E010C00410041004100FC0C00010B invalid
-table.init_without_a_segment 010401600000 03020100 040401700001 0A0E010C00410041004100FC0C00000B invalid
-table.init_of_a_missing_segment 010401600000 03020100 040401700001 09050101000100 0A0E010C00410041004100FC0C01000B invalid
-table.init_of_a_segment 010401600000 03020100 040401700001 09050101000100 0A0E010C00410041004100FC0C00000B valid
-table.init_of_funcref_by_externref 010401600000 03020100 040401700001 090701056F01D06F0B 0A0E010C00410041004100FC0C00000B invalid
-table.init_of_externref_by_funcref 010401600000 03020100 0404016F0001 09050101000100 0A0E010C00410041004100FC0C00000B invalid
-table.init_of_externref_by_externref 010401600000 03020100 0404016F0001 090701056F01D06F0B 0A0E010C00410041004100FC0C00000B valid
-table.init_into_an_i64 010401600000 03020100 040401700001 09050101000100 0A0E010C00420041004100FC0C00000B invalid
-table.init_from_an_i64 010401600000 03020100 040401700001 09050101000100 0A0E010C00410042004100FC0C00000B invalid
-table.init_of_an_i64_number 010401600000 03020100 040401700001 09050101000100 0A0E010C00410041004200FC0C00000B invalid
-elem.drop_without_a_segment 010401600000 03020100 0A07010500FC0D000B invalid
-elem.drop_of_a_missing_segment 010401600000 03020100 09050101000100 0A07010500FC0D010B invalid
-elem.drop_of_a_segment 010401600000 03020100 09050101000100 0A07010500FC0D000B valid";
+table.get_without_a_table | (func i32.const 0 table.get 0 drop) | invalid
+table.get_of_a_missing_table | (func i32.const 0 table.get 1 drop) (table 1 funcref) | invalid
+table.get_at_an_i64 | (func i64.const 0 table.get 0 drop) (table 1 funcref) | invalid
+table.get_at_nothing | (func table.get 0 drop) (table 1 funcref) | invalid
+table.get_gives_no_i32 | (func i32.const 0 table.get 0 i32.eqz drop) (table 1 funcref) | invalid
+table.get_gives_a_reference | (func i32.const 0 table.get 0 ref.is_null drop) (table 1 funcref) | valid
+table.get_at_an_i32 | (func i32.const 0 table.get 0 drop) (table 1 funcref) | valid
+table.get_of_externref_gives_no_function | (func (local funcref) i32.const 0 table.get 0 local.set 0) (table 1 externref) | invalid
+table.get_of_externref_gives_an_external | (func (local externref) i32.const 0 table.get 0 local.set 0) (table 1 externref) | valid
+table.set_without_a_table | (func i32.const 0 ref.null func table.set 0) | invalid
+table.set_of_a_missing_table | (func i32.const 0 ref.null func table.set 1) (table 1 funcref) | invalid
+table.set_at_an_i64 | (func i64.const 0 ref.null func table.set 0) (table 1 funcref) | invalid
+table.set_to_an_external | (func i32.const 0 ref.null extern table.set 0) (table 1 funcref) | invalid
+table.set_to_an_i32 | (func i32.const 0 i32.const 0 table.set 0) (table 1 funcref) | invalid
+table.set_of_operands_in_the_other_order | (func ref.null func i32.const 0 table.set 0) (table 1 funcref) | invalid
+table.set_to_a_function | (func i32.const 0 ref.null func table.set 0) (table 1 funcref) | valid
+table.set_to_an_external_of_externref | (func i32.const 0 ref.null extern table.set 0) (table 1 externref) | valid
+table.size_without_a_table | (func table.size 0 drop) | invalid
+table.size_of_a_missing_table | (func table.size 1 drop) (table 1 funcref) | invalid
+table.size_gives_no_i64 | (func table.size 0 i64.eqz drop) (table 1 funcref) | invalid
+table.size_gives_an_i32 | (func table.size 0 i32.eqz drop) (table 1 funcref) | valid
+table.size_of_a_table | (func table.size 0 drop) (table 1 funcref) | valid
+table.grow_without_a_table | (func ref.null func i32.const 0 table.grow 0 drop) | invalid
+table.grow_of_a_missing_table | (func ref.null func i32.const 0 table.grow 1 drop) (table 1 funcref) | invalid
+table.grow_by_an_i64 | (func ref.null func i64.const 0 table.grow 0 drop) (table 1 funcref) | invalid
+table.grow_with_an_external | (func ref.null extern i32.const 0 table.grow 0 drop) (table 1 funcref) | invalid
+table.grow_of_operands_in_the_other_order | (func i32.const 0 ref.null func table.grow 0 drop) (table 1 funcref) | invalid
+table.grow_gives_no_i64 | (func ref.null func i32.const 0 table.grow 0 i64.eqz drop) (table 1 funcref) | invalid
+table.grow_gives_an_i32 | (func ref.null func i32.const 0 table.grow 0 i32.eqz drop) (table 1 funcref) | valid
+table.grow_by_an_i32 | (func ref.null func i32.const 0 table.grow 0 drop) (table 1 funcref) | valid
+table.fill_without_a_table | (func i32.const 0 ref.null func i32.const 0 table.fill 0) | invalid
+table.fill_of_a_missing_table | (func i32.const 0 ref.null func i32.const 0 table.fill 1) (table 1 funcref) | invalid
+table.fill_at_an_i64 | (func i64.const 0 ref.null func i32.const 0 table.fill 0) (table 1 funcref) | invalid
+table.fill_with_an_external | (func i32.const 0 ref.null extern i32.const 0 table.fill 0) (table 1 funcref) | invalid
+table.fill_of_an_i64_number | (func i32.const 0 ref.null func i64.const 0 table.fill 0) (table 1 funcref) | invalid
+table.fill_of_a_table | (func i32.const 0 ref.null func i32.const 0 table.fill 0) (table 1 funcref) | valid
+table.copy_without_a_table | (func i32.const 0 i32.const 0 i32.const 0 table.copy 0 0) | invalid
+table.copy_into_a_missing_table | (func i32.const 0 i32.const 0 i32.const 0 table.copy 1 0) (table 1 funcref) | invalid
+table.copy_from_a_missing_table | (func i32.const 0 i32.const 0 i32.const 0 table.copy 0 1) (table 1 funcref) | invalid
+table.copy_of_a_table | (func i32.const 0 i32.const 0 i32.const 0 table.copy 0 0) (table 1 funcref) | valid
+table.copy_into_externref_from_funcref | (func i32.const 0 i32.const 0 i32.const 0 table.copy 1 0) (table 1 funcref) (table 1 externref) | invalid
+table.copy_into_funcref_from_externref | (func i32.const 0 i32.const 0 i32.const 0 table.copy 0 1) (table 1 funcref) (table 1 externref) | invalid
+table.copy_into_funcref_from_funcref | (func i32.const 0 i32.const 0 i32.const 0 table.copy 0 1) (table 1 funcref) (table 1 funcref) | valid
+table.copy_within_externref | (func i32.const 0 i32.const 0 i32.const 0 table.copy 1 1) (table 1 funcref) (table 1 externref) | valid
+table.copy_into_an_i64 | (func i64.const 0 i32.const 0 i32.const 0 table.copy 0 0) (table 1 funcref) | invalid
+table.copy_from_an_i64 | (func i32.const 0 i64.const 0 i32.const 0 table.copy 0 0) (table 1 funcref) | invalid
+table.copy_of_an_i64_number | (func i32.const 0 i32.const 0 i64.const 0 table.copy 0 0) (table 1 funcref) | invalid
+table.init_without_a_table | (func i32.const 0 i32.const 0 i32.const 0 table.init 0 0) (elem func 0) | invalid
+table.init_of_a_missing_table | (func i32.const 0 i32.const 0 i32.const 0 table.init 1 0) (table 1 funcref) (elem func 0) | invalid
+table.init_without_a_segment | (func i32.const 0 i32.const 0 i32.const 0 table.init 0 0) (table 1 funcref) | invalid
+table.init_of_a_missing_segment | (func i32.const 0 i32.const 0 i32.const 0 table.init 0 1) (table 1 funcref) (elem func 0) | invalid
+table.init_of_a_segment | (func i32.const 0 i32.const 0 i32.const 0 table.init 0 0) (table 1 funcref) (elem func 0) | valid
+table.init_of_funcref_by_externref | (func i32.const 0 i32.const 0 i32.const 0 table.init 0 0) (table 1 funcref) (elem externref (item ref.null extern)) | invalid
+table.init_of_externref_by_funcref | (func i32.const 0 i32.const 0 i32.const 0 table.init 0 0) (table 1 externref) (elem func 0) | invalid
+table.init_of_externref_by_externref | (func i32.const 0 i32.const 0 i32.const 0 table.init 0 0) (table 1 externref) (elem externref (item ref.null extern)) | valid
+table.init_into_an_i64 | (func i64.const 0 i32.const 0 i32.const 0 table.init 0 0) (table 1 funcref) (elem func 0) | invalid
+table.init_from_an_i64 | (func i32.const 0 i64.const 0 i32.const 0 table.init 0 0) (table 1 funcref) (elem func 0) | invalid
+table.init_of_an_i64_number | (func i32.const 0 i32.const 0 i64.const 0 table.init 0 0) (table 1 funcref) (elem func 0) | invalid
+elem.drop_without_a_segment | (func elem.drop 0) | invalid
+elem.drop_of_a_missing_segment | (func elem.drop 1) (elem func 0) | invalid
+elem.drop_of_a_segment | (func elem.drop 0) (elem func 0) | valid";
 
 #[test]
 fn checks_table_instructions(rt: HostRuntime) {

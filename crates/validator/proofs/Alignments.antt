@@ -1,10 +1,10 @@
 -- Powers of 2 are ordered as their exponents are.
 use Rattle.std.proofs.Common.{◌≡◌, ◌<◌, ◌≤◌, ◌^◌, Bool, true, false, ℕ, refl, arith}
-use Rattle.std.specs.Prelude.{IsTrue, ◌↔◌}
 use Rattle.std.proofs.Math.Dec.{leb}
+use Rattle.std.proofs.Math.Pow.{pow_mono}
 use Rattle.std.proofs.lemmas.Bool.{leb-true, leb-false}
 use Rattle.std.proofs.lemmas.Nat.{pow_below}
-use Rattle.std.proofs.Math.Pow.{pow_mono}
+use Rattle.std.specs.Prelude.{IsTrue, ◌↔◌}
 
 pub aligned : (a b : ℕ) → IsTrue (leb a b) ↔ (2 ^ a ≤ 2 ^ b)
 aligned a b = (λ small. pow_mono (leb-true a b small), go (leb a b) refl)

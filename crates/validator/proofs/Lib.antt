@@ -1,22 +1,12 @@
-mod Alignments
-mod Alone
-mod Applying
-mod Beginning
-mod Bodies
-mod Choosing
-mod Covering
-mod Declaring
-mod Each
-mod Ending
-mod Going
-mod Indexing
-mod Knowing
-mod Labels
-mod Leading
-mod Marking
-mod Names
-mod Opening
-mod Refusing
-mod Ruling
-mod Taking
-mod WholeBodies
+pub mod Alignments
+pub mod ExportNames
+pub mod FunctionBodies
+pub mod IndexSpaces
+pub mod Labels
+pub mod ListLoops
+pub mod OperandStack
+pub mod Pops
+pub mod References
+pub mod Steps
+pub mod completeness
+pub mod soundness

@@ -1,23 +1,31 @@
--- What is taken from the operands of a level.
-use Rattle.std.specs.Prelude.{◌≡◌, ℕ, ◌≤◌, Bool, true, false, List, [], ◌++◌, length, replicate, ◌⊎◌}
+-- What is taken from the operands of a control frame.
+use Rattle.std.specs.Prelude.{◌≡◌, ℕ, Bool, true, List, [], ◌∷◌, ◌++◌, replicate, ◌⊎◌, length, ◌≤◌, false}
+use Rattle.core_types.specs.declared.types.OperandType.TheVariants.{Known, Unknown}
 use Rattle.core_types.specs.declared.types.OperandType.{OperandType}
-use Rattle.core_types.specs.declared.types.OperandType.TheVariants.{Unknown}
-use Rattle.meaning.specs.Typing.{AllFit}
+use Rattle.meaning.specs.validation.Instructions.{AllFit, Fits, IsNumeric}
+use Rattle.validator.specs.declared.control_frames.ControlFrame.{ControlFrame}
+use Rattle.validator.specs.declared.control_frames.Stacks.{Stacks}
+use Rattle.core_types.specs.declared.types.RefType.{RefType}
+use Rattle.meaning.specs.validation.Types.{reference_type}
 
--- The operands are taken from the top of the level's own, and the rest is left. Where what follows can't be reached, unknown
--- ones are taken once there are no others.
+-- The operands are taken from the top of the frame's own, and the rest is left. If the frame is
+-- unreachable, unknown ones are taken once there are no others.
 abbrev pub TakenFrom : Bool → List OperandType → List OperandType → List OperandType → Type 0
-TakenFrom unreachable own taken rest = (own ≡ rest ++ taken) ⊎ ((unreachable ≡ true) × (rest ≡ []) × ((n : ℕ) × (taken ≡ replicate n Unknown ++ own)))
+TakenFrom unreachable own taken rest =
+    (own ≡ rest ++ taken)
+    ⊎ ((unreachable ≡ true) × (rest ≡ []) × ((n : ℕ) × (taken ≡ replicate n Unknown ++ own)))
 
 -- The same in the whole stack, of which what lies under the height is left alone.
 pub record Takes (unreachable : Bool) (height : ℕ) (old taken new : List OperandType) : Type 0 where
-  pub at : (under own : List OperandType) → old ≡ under ++ own → length under ≡ height → (rest : List OperandType) × (new ≡ under ++ rest) × TakenFrom unreachable own taken rest
+  pub at : (under own : List OperandType) → old ≡ under ++ own → length under ≡ height
+      → (rest : List OperandType) × (new ≡ under ++ rest) × TakenFrom unreachable own taken rest
 
--- The level has no operand, nor can it be given one.
+-- The frame has no operand, and is reachable.
 abbrev pub IsDry : Bool → ℕ → List OperandType → Type 0
 IsDry unreachable height old = (unreachable ≡ false) × (length old ≤ height)
 
--- The operands of a typing are those of the level where these are known, over others where nothing can be reached.
+-- The operands of a typing are those of the frame where these are known, over others if the frame
+-- is unreachable.
 pub record Covers (unreachable : Bool) (own theirs : List OperandType) : Type 0 where
   pub others : List OperandType
   pub top : List OperandType
@@ -28,8 +36,52 @@ pub record Covers (unreachable : Bool) (own theirs : List OperandType) : Type 0 
 -- No typing has operands on top that fit those that are wanted.
 pub record Refuses (unreachable : Bool) (height : ℕ) (old wanted : List OperandType) : Type 0 where
   pub at : (under own : List OperandType) → old ≡ under ++ own → length under ≡ height
-      → (theirs below top : List OperandType) → Covers unreachable own theirs → theirs ≡ below ++ top → AllFit top wanted → ⊥
+      → (theirs below top : List OperandType) → Covers unreachable own theirs
+      → theirs ≡ below ++ top → AllFit top wanted → ⊥
 
--- No typing has so many operands.
-pub record RefusesCount (unreachable : Bool) (height : ℕ) (old : List OperandType) (count : ℕ) : Type 0 where
-  pub at : (wanted : List OperandType) → length wanted ≡ count → Refuses unreachable height old wanted
+-- No typing has this number of operands.
+pub record RefusesCount (unreachable : Bool) (height : ℕ) (old : List OperandType) (count : ℕ)
+    : Type 0 where
+  pub at : (wanted : List OperandType) → length wanted ≡ count
+      → Refuses unreachable height old wanted
+
+-- ---- pops of a control frame
+
+-- These operands are taken from the frame's own.
+abbrev pub TakesOff : ControlFrame → List OperandType → List OperandType → List OperandType → Type 0
+TakesOff frame old taken new = Takes frame.unreachable frame.height old taken new
+
+-- No typing has this number of operands.
+abbrev pub RefusesCountOf : ControlFrame → List OperandType → ℕ → Type 0
+RefusesCountOf frame old count = RefusesCount frame.unreachable frame.height old count
+
+-- The answer of a pop: operands are taken that fit those wanted, or no typing has such operands.
+abbrev pub Pops : ControlFrame → List OperandType → List OperandType → List OperandType → Bool
+    → Type 0
+Pops frame old wanted new true =
+    (given : List OperandType) × TakesOff frame old given new × AllFit given wanted
+Pops frame old wanted new false = Refuses frame.unreachable frame.height old wanted
+
+-- The same, of one operand.
+abbrev pub PopsOne : ControlFrame → List OperandType → OperandType → List OperandType → Bool
+    → Type 0
+PopsOne frame old wanted new true =
+    (t : OperandType) × TakesOff frame old (t ∷ []) new × Fits t wanted
+PopsOne frame old wanted new false = Refuses frame.unreachable frame.height old (wanted ∷ [])
+
+-- The same from the stacks, whose frames stay.
+abbrev pub PopsFrom : Stacks → List OperandType → Stacks → Bool → Type 0
+PopsFrom old wanted new answer =
+    Pops old.innermost old.operands.items wanted new.operands.items answer
+
+pub record SameFrames (old new : Stacks) : Type 0 where
+  pub innermost : new.innermost ≡ old.innermost
+  pub outer : new.outer ≡ old.outer
+
+-- The operand fits this reference type.
+abbrev pub FitsReference : OperandType → RefType → Type 0
+FitsReference t wanted = Fits t (Known (reference_type wanted))
+
+-- Two operands fit one numeric type, or the unknown type.
+abbrev pub AreBothNumeric : OperandType → OperandType → OperandType → Type 0
+AreBothNumeric first second t = IsNumeric t × Fits first t × Fits second t

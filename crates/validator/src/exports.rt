@@ -1,15 +1,15 @@
-ghost use Rattle.std.specs.Prelude.{◌↔◌, All, IfOk, IsTrue};
+ghost use Rattle.std.specs.Prelude.{All, IfOk, IsTrue, ◌↔◌};
 ghost use Rattle.core_types.specs.declared.module.Export.{Export as Exported};
-ghost use Rattle.meaning.specs.Validity.{NamesDiffer};
-ghost use Rattle.validator.specs.Parts.{ExistsIn};
+ghost use Rattle.meaning.specs.validation.Modules.{NamesDiffer};
+ghost use Rattle.validator.specs.ModuleParts.{ExistsIn};
 
-use crate::scope::Spaces;
+use crate::context::IndexSpaces;
 use core_types::{Export, ExportDesc};
 use indexmap::IndexSet;
 use std::alloc::{AllocError, Global};
 
 // Whether what is exported exists (Validation, Exports).
-fn exists(spaces: &Spaces, desc: ExportDesc) -> bool
+fn exists(spaces: &IndexSpaces, desc: ExportDesc) -> bool
     ensures { IsTrue result ↔ ExistsIn spaces.now desc }
 {
     match desc {
@@ -21,7 +21,7 @@ fn exists(spaces: &Spaces, desc: ExportDesc) -> bool
 }
 
 // Whether all that is exported exists.
-pub fn all_exist(spaces: &Spaces, exports: &[Export]) -> bool
+pub fn all_exist(spaces: &IndexSpaces, exports: &[Export]) -> bool
     ensures { IsTrue result ↔ All (λ (e : Exported). ExistsIn spaces.now e.desc) exports.now }
 {
     exports.iter().all(|export| exists(spaces, export.desc))

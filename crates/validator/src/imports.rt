@@ -1,11 +1,13 @@
-ghost use Rattle.std.specs.Prelude.{◌↔◌, All, IsTrue};
+ghost use Rattle.std.specs.Prelude.{All, IsTrue, ◌↔◌};
 ghost use Rattle.core_types.specs.declared.module.Import.{Import as Imported};
-ghost use Rattle.validator.specs.Declarations.{IsValidImport};
+ghost use Rattle.validator.specs.Modules.{IsValidImport};
 
-use crate::limits::{are_ordered, is_valid_memory};
+use crate::memories::is_valid_memory;
+use crate::types::are_ordered;
 use core_types::{Import, ImportDesc};
 
-// Whether the type of an import is valid, where the module has so many function types (Validation, Imports).
+// Whether the type of an import is valid, in a module with this number of types (Validation,
+// Imports).
 fn is_valid_import(types: usize, desc: ImportDesc) -> bool
     ensures { IsTrue result ↔ IsValidImport types desc }
 {

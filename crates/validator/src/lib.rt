@@ -1,29 +1,25 @@
 //! The validator: checks modules in one pass over their flat operations.
 #![tactic(auto)]
 
-mod blocks;
-mod body;
-mod call_rules;
-mod choices;
 mod constants;
+mod context;
+mod control_frames;
+mod data_segments;
+mod elements;
+mod errors;
 mod exports;
-mod fault;
 mod functions;
+mod globals;
 mod imports;
-mod levels;
-mod limits;
-mod lookups;
-mod marks;
-mod memory_rules;
+mod instructions;
+mod memories;
 mod modules;
 mod operands;
-mod rules;
-mod scope;
-mod segments;
-mod signatures;
-mod spaces;
-mod steps;
+mod start;
+mod tables;
+mod types;
 mod valid_module;
 
+pub use errors::{Place, ValidateError};
 pub use modules::validate;
-pub use valid_module::{Place, ValidModule, ValidateError};
+pub use valid_module::ValidModule;

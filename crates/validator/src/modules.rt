@@ -1,21 +1,26 @@
-ghost use Rattle.std.specs.Prelude.{◌≡◌, ◌⊎◌, false, IfErr, IfOk, IsTrue, OnErr, OnOk};
-ghost use Rattle.meaning.specs.Validity.{IsValid};
-ghost use Rattle.validator.specs.declared.valid_module.Place.TheVariants.{Section};
-ghost use Rattle.validator.specs.declared.valid_module.ValidateError.TheVariants.{Invalid, OutOfMemory};
-ghost use Rattle.validator.specs.Constants.{IsConstantScope};
-ghost use Rattle.validator.specs.Marks.{HasMarks};
-ghost use Rattle.validator.specs.Rules.{HasValidDeclarations, HasValidParts};
-ghost use Rattle.validator.specs.Scopes.{AreSpaces};
+ghost use Rattle.std.specs.Prelude.{IfErr, IfOk, IsTrue, OnErr, OnOk, false, ◌≡◌, ◌⊎◌};
+ghost use Rattle.meaning.specs.validation.Modules.{IsValid};
+ghost use Rattle.validator.specs.Constants.{IsConstantContext};
+ghost use Rattle.validator.specs.IndexSpaces.{AreIndexSpaces};
+ghost use Rattle.validator.specs.Modules.{HasValidDeclarations, HasValidParts};
+ghost use Rattle.validator.specs.References.{HasMarks};
+ghost use Rattle.validator.specs.declared.errors.Place.TheVariants.{Section};
+ghost use Rattle.validator.specs.declared.errors.ValidateError.TheVariants.{Invalid, OutOfMemory};
 
-use crate::constants::{ConstantScope, are_valid_globals};
+use crate::constants::ConstantContext;
+use crate::context::IndexSpaces;
+use crate::context::index_spaces::index_spaces;
+use crate::data_segments::are_valid_datas;
+use crate::elements::are_valid_elements;
+use crate::errors::{Place, ValidateError};
 use crate::exports::{all_exist, names_differ};
-use crate::functions::{are_typed, is_valid_start, validate_functions};
+use crate::functions::{are_typed, validate_functions};
+use crate::globals::are_valid_globals;
 use crate::imports::are_valid_imports;
-use crate::limits::{are_valid_memories, are_valid_tables, is_at_most_one};
-use crate::scope::Spaces;
-use crate::segments::{are_valid_datas, are_valid_elements};
-use crate::spaces::module_spaces;
-use crate::valid_module::{Place, ValidModule, ValidateError};
+use crate::memories::{are_valid_memories, is_at_most_one};
+use crate::start::is_valid_start;
+use crate::tables::are_valid_tables;
+use crate::valid_module::ValidModule;
 use core_types::Module;
 use std::alloc::Global;
 
@@ -32,72 +37,79 @@ fn require(holds: bool, id: u8) -> Result<(), ValidateError>
 }
 
 // Checks what a module imports and declares, each by itself.
-fn validate_declarations(given: &Module) -> Result<(), ValidateError>
-    ensures valid { OnOk result (HasValidDeclarations given.now) }
-    ensures invalid { OnErr result (¬ HasValidDeclarations given.now) }
+fn validate_declarations(decoded: &Module) -> Result<(), ValidateError>
+    ensures valid { OnOk result (HasValidDeclarations decoded.now) }
+    ensures invalid { OnErr result (¬ HasValidDeclarations decoded.now) }
 {
-    let types = given.types.len();
-    require(are_valid_imports(types, given.imports.as_slice()), 2)?;
-    require(are_typed(types, given.funcs.as_slice()), 3)?;
-    require(are_valid_tables(given.tables.as_slice()), 4)?;
-    require(are_valid_memories(given.memories.as_slice()), 5)
+    let types = decoded.types.len();
+    require(are_valid_imports(types, decoded.imports.as_slice()), 2)?;
+    require(are_typed(types, decoded.funcs.as_slice()), 3)?;
+    require(are_valid_tables(decoded.tables.as_slice()), 4)?;
+    require(are_valid_memories(decoded.memories.as_slice()), 5)
 }
 
 // What the constant expressions of a module are typed in.
-fn constant_scope<'a>(given: &Module, spaces: &'a Spaces) -> ConstantScope<'a>
-    requires { AreSpaces given.now spaces.now }
-    ensures { IsConstantScope given.now spaces.now result }
+fn constant_context<'a>(decoded: &Module, spaces: &'a IndexSpaces) -> ConstantContext<'a>
+    requires { AreIndexSpaces decoded.now spaces.now }
+    ensures { IsConstantContext decoded.now spaces.now result }
 {
-    let imported = spaces.globals.len() - given.globals.len();
-    ConstantScope {
+    let imported = spaces.globals.len() - decoded.globals.len();
+    ConstantContext {
         globals: &spaces.globals[..imported],
         declared: &spaces.declared,
     }
 }
 
 // Checks the parts of a module outside of its functions, by its index spaces.
-fn validate_parts(alloc: Global, given: &Module, spaces: &Spaces) -> Result<(), ValidateError>
-    requires spaces { AreSpaces given.now spaces.now }
-    requires marks { HasMarks given.now spaces.now }
-    requires declarations { HasValidDeclarations given.now }
-    ensures valid { OnOk result (HasValidParts given.now) }
-    ensures invalid { IfErr result (λ error. (error ≡ OutOfMemory) ⊎ (¬ HasValidParts given.now)) }
+fn validate_parts(
+    alloc: Global,
+    decoded: &Module,
+    spaces: &IndexSpaces,
+) -> Result<(), ValidateError>
+    requires spaces { AreIndexSpaces decoded.now spaces.now }
+    requires marks { HasMarks decoded.now spaces.now }
+    requires declarations { HasValidDeclarations decoded.now }
+    ensures valid { OnOk result (HasValidParts decoded.now) }
+    ensures invalid { IfErr result (λ error. (error ≡ OutOfMemory) ⊎ (¬ HasValidParts decoded.now)) }
 {
-    let exports = given.exports.as_slice();
-    let scope = constant_scope(given, spaces);
+    let exports = decoded.exports.as_slice();
+    let context = constant_context(decoded, spaces);
     require(is_at_most_one(&spaces.memories), 5)?;
-    require(are_valid_globals(&scope, given.globals.as_slice()), 6)?;
+    require(are_valid_globals(&context, decoded.globals.as_slice()), 6)?;
     require(all_exist(spaces, exports), 7)?;
     require(names_differ(alloc, exports)?, 7)?;
     require(
-        is_valid_start(given.types.as_slice(), spaces, given.start),
+        is_valid_start(decoded.types.as_slice(), spaces, decoded.start),
         8,
     )?;
     require(
-        are_valid_elements(spaces, &scope, given.elements.as_slice()),
+        are_valid_elements(spaces, &context, decoded.elements.as_slice()),
         9,
     )?;
-    require(are_valid_datas(spaces, &scope, given.datas.as_slice()), 11)
+    require(
+        are_valid_datas(spaces, &context, decoded.datas.as_slice()),
+        11,
+    )
 }
 
 // Checks a module by each rule.
-fn validate_module(alloc: Global, given: &Module) -> Result<(), ValidateError>
-    ensures valid { OnOk result (IsValid given.now) }
-    ensures invalid { IfErr result (λ error. (error ≡ OutOfMemory) ⊎ (¬ IsValid given.now)) }
+fn validate_module(alloc: Global, decoded: &Module) -> Result<(), ValidateError>
+    ensures valid { OnOk result (IsValid decoded.now) }
+    ensures invalid { IfErr result (λ error. (error ≡ OutOfMemory) ⊎ (¬ IsValid decoded.now)) }
 {
-    validate_declarations(given)?;
-    let spaces = module_spaces(alloc, given)?;
-    validate_parts(alloc, given, &spaces)?;
-    validate_functions(alloc, given, &spaces)
+    validate_declarations(decoded)?;
+    let spaces = index_spaces(alloc, decoded)?;
+    validate_parts(alloc, decoded, &spaces)?;
+    validate_functions(alloc, decoded, &spaces)
 }
 
-/// Checks a module in one pass over its operations, without recursion. Invalid says where no typing accepts it; this and
-/// want of memory drop the module (Validation, Modules).
-pub fn validate(alloc: Global, given: Module) -> Result<ValidModule, ValidateError>
-    ensures kept { IfOk result (λ valid. valid ≡ given) }
-    ensures valid { OnOk result (IsValid given) }
-    ensures invalid { IfErr result (λ error. (error ≡ OutOfMemory) ⊎ (¬ IsValid given)) }
+/// Checks a module in one pass over its operations, without recursion. Invalid says where no typing
+/// accepts it. Invalid and out of memory drop the module (Validation, Modules).
+pub fn validate(alloc: Global, decoded: Module) -> Result<ValidModule, ValidateError>
+    ensures kept { IfOk result (λ valid. valid ≡ decoded) }
+    ensures valid { OnOk result (IsValid decoded) }
+    ensures invalid { IfErr result (λ error. (error ≡ OutOfMemory) ⊎ (¬ IsValid decoded)) }
 {
-    validate_module(alloc, &given)?;
-    Ok(ValidModule::new(given))
+    validate_module(alloc, &decoded)?;
+    Ok(ValidModule::new(decoded))
 }

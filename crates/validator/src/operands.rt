@@ -1,16 +1,14 @@
-ghost use Rattle.std.specs.Prelude.{◌≡◌, ◌++◌, ◌∷◌, [], ◌↔◌, List, IfErr, IfNone, IfOk, IfSome, IsTrue, OnOk, length};
-ghost use Rattle.std.specs.Bool.{OnTrue, OnFalse};
-ghost use Rattle.core_types.specs.declared.types.OperandType.{OperandType as Operand};
-ghost use Rattle.meaning.specs.Typing.{AllFit, Fits, known};
-ghost use Rattle.validator.specs.Operands.{IsDry, Refuses, RefusesCount, Takes};
-ghost use Rattle.validator.specs.Possible.{OnInvalid};
+ghost use Rattle.std.specs.Prelude.{IfErr, IfNone, IfOk, IfSome, IsTrue, OnOk, [], length, ◌++◌, ◌↔◌, ◌∷◌, ◌≡◌};
+ghost use Rattle.meaning.specs.validation.Instructions.{AllFit, Fits, known};
+ghost use Rattle.validator.specs.Errors.{OnInvalid};
+ghost use Rattle.validator.specs.Operands.{IsDry, Pops, PopsOne, RefusesCountOf, TakesOff};
 
-use crate::fault::Fault;
-use crate::levels::Level;
+use crate::control_frames::ControlFrame;
+use crate::errors::Fault;
 use core_types::{OperandType, ValType};
 use std::alloc::{AllocError, Global};
 
-// Whether an operand may stand where a type is wanted.
+// Whether an operand fits the type that is wanted.
 pub fn fits(given: OperandType, wanted: OperandType) -> bool
     ensures { IsTrue result ↔ Fits given wanted }
 {
@@ -20,37 +18,43 @@ pub fn fits(given: OperandType, wanted: OperandType) -> bool
     }
 }
 
-// Takes the topmost operand of the level off, an unknown one where it has none and can't be reached.
-pub fn pop(operands: &mut Vec<OperandType>, level: &Level<'_>) -> Option<OperandType>
-    ensures some { IfSome result (λ t. Takes level.now.unreachable level.now.height operands.old.items (t ∷ []) operands.new.items) }
-    ensures none { IfNone result (IsDry level.now.unreachable level.now.height operands.old.items) }
+// Pops the topmost operand of the frame, or an unknown one where it has none and is unreachable.
+pub fn pop(operands: &mut Vec<OperandType>, frame: &ControlFrame<'_>) -> Option<OperandType>
+    ensures some { IfSome result (λ t. TakesOff frame.now operands.old.items (t ∷ []) operands.new.items) }
+    ensures none { IfNone result (IsDry frame.now.unreachable frame.now.height operands.old.items) }
 {
-    if operands.len() <= level.height {
-        return level.unreachable.then_some(OperandType::Unknown);
+    if operands.len() <= frame.height {
+        return frame.unreachable.then_some(OperandType::Unknown);
     }
     operands.pop()
 }
 
 // Takes the topmost operand off, where it fits.
-pub fn pop_fitting(operands: &mut Vec<OperandType>, level: &Level<'_>, wanted: OperandType) -> bool
-    ensures took { OnTrue result ((t : Operand) × Takes level.now.unreachable level.now.height operands.old.items (t ∷ []) operands.new.items × Fits t wanted) }
-    ensures refused { OnFalse result (Refuses level.now.unreachable level.now.height operands.old.items (wanted ∷ [])) }
+pub fn pop_fitting(
+    operands: &mut Vec<OperandType>,
+    frame: &ControlFrame<'_>,
+    wanted: OperandType,
+) -> bool
+    ensures { PopsOne frame.now operands.old.items wanted operands.new.items result }
 {
-    match pop(operands, level) {
+    match pop(operands, frame) {
         Some(given) => fits(given, wanted),
         None => false,
     }
 }
 
 // Takes operands off that fit the types, the last one first.
-pub fn pop_types(operands: &mut Vec<OperandType>, level: &Level<'_>, wanted: &[ValType]) -> bool
-    ensures took { OnTrue result ((given : List Operand) × Takes level.now.unreachable level.now.height operands.old.items given operands.new.items × AllFit given (known wanted.now)) }
-    ensures refused { OnFalse result (Refuses level.now.unreachable level.now.height operands.old.items (known wanted.now)) }
+pub fn pop_types(
+    operands: &mut Vec<OperandType>,
+    frame: &ControlFrame<'_>,
+    wanted: &[ValType],
+) -> bool
+    ensures { Pops frame.now operands.old.items (known wanted.now) operands.new.items result }
 {
     let mut left = wanted.len();
     while left > 0 {
         left -= 1;
-        if !pop_fitting(operands, level, OperandType::Known(wanted[left])) {
+        if !pop_fitting(operands, frame, OperandType::Known(wanted[left])) {
             return false;
         }
     }
@@ -67,20 +71,20 @@ pub fn push_types(operands: &mut Vec<OperandType>, types: &[ValType]) -> Result<
     Ok(())
 }
 
-// Takes so many operands off, and answers them in their order.
+// Pops a number of operands, and answers them in their order.
 pub fn take_operands(
     alloc: Global,
     operands: &mut Vec<OperandType>,
-    level: &Level<'_>,
+    frame: &ControlFrame<'_>,
     count: usize,
 ) -> Result<Vec<OperandType>, Fault>
-    ensures took { IfOk result (λ given. Takes level.now.unreachable level.now.height operands.old.items given.items operands.new.items) }
+    ensures took { IfOk result (λ given. TakesOff frame.now operands.old.items given.items operands.new.items) }
     ensures count { IfOk result (λ given. length given.items ≡ count) }
-    ensures refused { IfErr result (OnInvalid (RefusesCount level.now.unreachable level.now.height operands.old.items count)) }
+    ensures refused { IfErr result (OnInvalid (RefusesCountOf frame.now operands.old.items count)) }
 {
     let mut given = Vec::new(alloc);
     while given.len() < count {
-        let Some(operand) = pop(operands, level) else {
+        let Some(operand) = pop(operands, frame) else {
             return Err(Fault::Invalid);
         };
         given.push(operand)?;
@@ -89,7 +93,7 @@ pub fn take_operands(
     Ok(given)
 }
 
-// Whether operands may stand where the types are wanted.
+// Whether operands fit the types that are wanted.
 pub fn all_fit(given: &[OperandType], wanted: &[ValType]) -> bool
     ensures { IsTrue result ↔ AllFit given.now (known wanted.now) }
 {

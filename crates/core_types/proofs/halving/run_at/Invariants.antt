@@ -6,8 +6,8 @@ abbrev pub invariant-loop-low : goal.invariant-loop-low
 invariant-loop-low l = record {
   ordered : l.low ≤ l.high;
   within : l.high ≤ length l.runs;
-  begins : start_of 0 l.runs l.low ≤ l.place;
-  ends : IfSome (slice_get l.runs l.high) (λ run. l.place < run.end);
+  begins : start_of 0 l.runs l.low ≤ l.index;
+  ends : IfSome (slice_get l.runs l.high) (λ run. l.index < run.end);
 }
 
 abbrev pub decreases-loop-low : goal.decreases-loop-low

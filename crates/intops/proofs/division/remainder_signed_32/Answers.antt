@@ -1,5 +1,5 @@
 use Rattle.std.proofs.Common.{rules, w32}
-use Rattle.intops.proofs.Dividing.{remainder_from}
+use Rattle.intops.proofs.Quotients.{remainder_from}
 use Rattle.intops.proofs.division.remainder_signed_32.Goals as goal
 
 pub returns-else-b-eq0 : goal.returns-else-b-eq0

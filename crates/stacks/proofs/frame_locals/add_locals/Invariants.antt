@@ -1,6 +1,6 @@
 use Rattle.std.proofs.Common.{◌≡◌, ◌++◌, map, take}
-use Rattle.meaning.specs.Reduction.{default_of}
+use Rattle.meaning.specs.execution.Instructions.{default_of}
 use Rattle.stacks.proofs.frame_locals.add_locals.Given as goal
 
-abbrev pub invariant-loop-place : goal.invariant-loop-place
-invariant-loop-place l = l.values.items ≡ l.fn.values.items ++ (l.args ++ map default_of (take l.place l.types))
+abbrev pub invariant-loop-index : goal.invariant-loop-index
+invariant-loop-index l = l.values.items ≡ l.fn.values.items ++ (l.args ++ map default_of (take l.index l.types))

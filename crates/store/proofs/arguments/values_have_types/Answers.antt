@@ -1,6 +1,6 @@
 use Rattle.std.proofs.Common.{arith, refl}
-use Rattle.store.specs.Stored.{store_of}
-use Rattle.store.proofs.Accepting.{ValuesHaveTypes-at, ValuesHaveTypes-next, length-typed}
+use Rattle.store.specs.Contents.{store_of}
+use Rattle.store.proofs.lemmas.Arguments.{ValuesHaveTypes-at, ValuesHaveTypes-next, length-typed}
 use Rattle.store.proofs.arguments.values_have_types.Goals as goal
 
 pub loop-i-preserved : goal.loop-i-preserved

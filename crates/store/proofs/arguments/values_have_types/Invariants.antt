@@ -1,6 +1,6 @@
 use Rattle.std.proofs.Common.{take}
-use Rattle.meaning.specs.Soundness.{ValuesHaveTypes}
-use Rattle.store.specs.Stored.{store_of}
+use Rattle.meaning.specs.soundness.Values.{ValuesHaveTypes}
+use Rattle.store.specs.Contents.{store_of}
 use Rattle.store.proofs.arguments.values_have_types.Given as goal
 
 abbrev pub invariant-loop-i : goal.invariant-loop-i

@@ -1,4 +1,4 @@
-use Rattle.store.proofs.Entering.{HasAdded-next}
+use Rattle.store.proofs.lemmas.Entries.{HasAdded-next}
 use Rattle.store.proofs.entries.push_entries.Goals as goal
 
 pub loop-index-preserved : goal.loop-index-preserved

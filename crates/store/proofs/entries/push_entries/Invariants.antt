@@ -1,5 +1,5 @@
 use Rattle.std.proofs.Common.{take}
-use Rattle.store.specs.Stored.{HasAdded}
+use Rattle.store.specs.Contents.{HasAdded}
 use Rattle.store.proofs.entries.push_entries.Given as goal
 
 abbrev pub invariant-loop-index : goal.invariant-loop-index

@@ -1,4 +1,4 @@
-use Rattle.validator.proofs.Names.{names_next, not_differ}
+use Rattle.validator.proofs.ExportNames.{names_next, not_differ}
 use Rattle.validator.proofs.exports.names_differ.Goals as goal
 
 pub loop-export-preserved : goal.loop-export-preserved

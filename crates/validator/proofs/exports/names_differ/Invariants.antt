@@ -1,5 +1,5 @@
 use Rattle.std.proofs.Common.{◌≡◌, map, take}
-use Rattle.meaning.specs.Validity.{NamesDiffer}
+use Rattle.meaning.specs.validation.Modules.{NamesDiffer}
 use Rattle.validator.proofs.exports.names_differ.Given as goal
 
 abbrev pub invariant-loop-export : goal.invariant-loop-export

@@ -1,8 +1,8 @@
 use Rattle.std.proofs.Common.{inl, inr}
 use Rattle.std.proofs.lemmas.Result.{on_ok_weaker, IfErr-weaker}
-use Rattle.validator.proofs.Declaring.{module_valid}
-use Rattle.validator.proofs.Knowing.{declarations_valid}
-use Rattle.validator.proofs.Refusing.{with_any_error}
+use Rattle.validator.proofs.completeness.Declarations.{declarations_valid}
+use Rattle.validator.proofs.completeness.ModuleParts.{with_any_error}
+use Rattle.validator.proofs.soundness.Declarations.{module_valid}
 use Rattle.validator.proofs.modules.validate_module.Goals as goal
 
 pub returns-clause-valid : goal.returns-clause-valid

@@ -1,8 +1,8 @@
 use Rattle.std.proofs.Common.{◌≡◌, ◌<◌, true, false, length, arith, refl, ◌∙◌}
 use Rattle.std.proofs.lemmas.List.{length-map}
 use Rattle.core_types.specs.declared.types.OperandType.TheVariants.{Known}
-use Rattle.validator.proofs.Covering.{AllFit-length}
-use Rattle.validator.proofs.Taking.{AllFit-at, AllFit-up}
+use Rattle.validator.proofs.OperandStack.{AllFit-at, AllFit-up}
+use Rattle.validator.proofs.completeness.Covers.{AllFit-length}
 use Rattle.validator.proofs.operands.all_fit.Goals as goal
 
 pub loop-i-preserved : goal.loop-i-preserved

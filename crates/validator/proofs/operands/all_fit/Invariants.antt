@@ -1,5 +1,5 @@
 use Rattle.std.proofs.Common.{take}
-use Rattle.meaning.specs.Typing.{AllFit, known}
+use Rattle.meaning.specs.validation.Instructions.{AllFit, known}
 use Rattle.validator.proofs.operands.all_fit.Given as goal
 
 abbrev pub invariant-loop-i : goal.invariant-loop-i

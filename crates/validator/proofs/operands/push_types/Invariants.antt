@@ -1,5 +1,5 @@
 use Rattle.std.proofs.Common.{◌≡◌, ◌++◌, take}
-use Rattle.meaning.specs.Typing.{known}
+use Rattle.meaning.specs.validation.Instructions.{known}
 use Rattle.validator.proofs.operands.push_types.Given as goal
 
 abbrev pub invariant-loop-ty : goal.invariant-loop-ty

@@ -1,7 +1,7 @@
 use Rattle.std.proofs.Common.{arith, reverse}
 use Rattle.std.proofs.lemmas.List.{length-reverse}
-use Rattle.validator.proofs.Covering.{Refuses-short}
-use Rattle.validator.proofs.Taking.{Takes-reverse}
+use Rattle.validator.proofs.OperandStack.{Takes-reverse}
+use Rattle.validator.proofs.completeness.Covers.{Refuses-short}
 use Rattle.validator.proofs.operands.take_operands.Goals as goal
 
 pub loop-operands-preserved : goal.loop-operands-preserved

@@ -1,11 +1,12 @@
 use Rattle.std.proofs.Common.{rules, w64, FitsSigned}
 use Rattle.std.proofs.lemmas.Int.{to_z-of_z}
-use Rattle.binary.proofs.NumberReaders.{signed_reader}
-use Rattle.binary.proofs.Readers.{read_none, read_some}
+use Rattle.binary.proofs.exactness.Integers.{signed_reader}
+use Rattle.binary.proofs.exactness.Readers.{read_none, read_some}
 use Rattle.binary.proofs.reader.Reader.s33.Goals as goal
 
 pub returns-in_default-clause-gives : goal.returns-in_default-clause-gives
-returns-in_default-clause-gives c = rw (← c.self.view_is) (read_none _ (signed_reader 33) c.in_default.ensures.none)
+returns-in_default-clause-gives c =
+    rw (← c.self.view_is) (read_none _ (signed_reader 33) c.in_default.ensures.none)
 
 pub returns-clause-gives : goal.returns-clause-gives
 returns-clause-gives c =

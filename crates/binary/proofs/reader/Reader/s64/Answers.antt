@@ -1,7 +1,7 @@
 use Rattle.std.proofs.Common.{rules, w64, FitsSigned}
 use Rattle.std.proofs.lemmas.Int.{to_z-of_z}
-use Rattle.binary.proofs.NumberReaders.{signed_reader}
-use Rattle.binary.proofs.Readers.{read_none, read_some}
+use Rattle.binary.proofs.exactness.Integers.{signed_reader}
+use Rattle.binary.proofs.exactness.Readers.{read_none, read_some}
 use Rattle.binary.proofs.reader.Reader.s64.Goals as goal
 
 pub returns-in_default : goal.returns-in_default

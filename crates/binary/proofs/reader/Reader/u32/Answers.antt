@@ -1,5 +1,5 @@
-use Rattle.binary.proofs.NumberReaders.{unsigned_reader}
-use Rattle.binary.proofs.Readers.{read_none, read_some}
+use Rattle.binary.proofs.exactness.Integers.{unsigned_reader}
+use Rattle.binary.proofs.exactness.Readers.{read_none, read_some}
 use Rattle.binary.proofs.reader.Reader.u32.Goals as goal
 
 pub returns-in_default : goal.returns-in_default

@@ -1,5 +1,5 @@
 use Rattle.std.proofs.Common.{arith}
-use Rattle.stacks.proofs.Viewing.{dropped}
+use Rattle.stacks.proofs.Views.{dropped}
 use Rattle.stacks.proofs.operands.Operands.drop_top.Goals as goal
 
 pub returns : goal.returns

@@ -1,6 +1,6 @@
 use Rattle.std.proofs.Common.{reverse, sym, ap, ◌∙◌, ◌++◌, append-nil}
 use Rattle.std.proofs.lemmas.List.{reverse-reverse}
-use Rattle.stacks.proofs.Viewing.{whole}
+use Rattle.stacks.proofs.Views.{whole}
 use Rattle.stacks.proofs.operands.Operands.into_items.Goals as goal
 
 pub returns : goal.returns

@@ -1,5 +1,5 @@
 use Rattle.std.proofs.Common.{ap, ◌∙◌, ◌+◌, take, arith}
-use Rattle.stacks.proofs.Viewing.{landed}
+use Rattle.stacks.proofs.Views.{landed}
 use Rattle.stacks.proofs.operands.Operands.land.Goals as goal
 
 pub returns : goal.returns

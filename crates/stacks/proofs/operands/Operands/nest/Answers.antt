@@ -1,5 +1,5 @@
 use Rattle.std.proofs.Common.{arith}
-use Rattle.stacks.proofs.Viewing.{nested}
+use Rattle.stacks.proofs.Views.{nested}
 use Rattle.stacks.proofs.operands.Operands.nest.Goals as goal
 
 pub returns : goal.returns

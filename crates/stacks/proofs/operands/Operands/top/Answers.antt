@@ -1,6 +1,6 @@
 use Rattle.std.proofs.Common.{◌∙◌, ◌-◌, arith}
 use Rattle.std.proofs.lemmas.List.{take_rest}
-use Rattle.stacks.proofs.Viewing.{top-is}
+use Rattle.stacks.proofs.Views.{top-is}
 use Rattle.stacks.proofs.operands.Operands.top.Goals as goal
 
 pub returns : goal.returns

@@ -1,4 +1,4 @@
-use Rattle.stacks.proofs.Viewing.{unnested}
+use Rattle.stacks.proofs.Views.{unnested}
 use Rattle.stacks.proofs.operands.Operands.unnest.Goals as goal
 
 pub returns : goal.returns

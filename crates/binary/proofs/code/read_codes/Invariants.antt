@@ -1,7 +1,0 @@
-use Rattle.std.proofs.Common.{◌≡◌, [], drop}
-use Rattle.binary.specs.EntryReading.{codes_at}
-use Rattle.binary.proofs.code.read_codes.Given as goal
-
--- what is left to read goes on to what the whole reading gives
-abbrev pub invariant-loop-ty : goal.invariant-loop-ty
-invariant-loop-ty l = codes_at (drop l.ty-index l.types) l.funcs.items l.reader ≡ codes_at l.types [] l.fn.reader

@@ -1,0 +1,11 @@
+-- The reading functions are sound and complete: what they read is spelled so, and what is spelled so is read.
+pub mod Readers
+pub mod Choices
+pub mod Integers
+pub mod Values
+pub mod Types
+pub mod instructions
+pub mod Nesting
+pub mod Expressions
+pub mod sections
+pub mod Modules

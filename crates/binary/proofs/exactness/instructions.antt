@@ -1,0 +1,9 @@
+pub mod Opcodes
+pub mod Control
+pub mod Reference
+pub mod Parametric
+pub mod Variable
+pub mod Table
+pub mod Memory
+pub mod Numeric
+pub mod Operations

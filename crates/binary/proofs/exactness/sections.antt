@@ -1,0 +1,9 @@
+pub mod Custom
+pub mod Imports
+pub mod Globals
+pub mod Exports
+pub mod Segments
+pub mod Elements
+pub mod Code
+pub mod DataSegments
+pub mod Order

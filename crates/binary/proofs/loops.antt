@@ -1,0 +1,5 @@
+-- Each loop reads what the reading function reads.
+pub mod Values
+pub mod Code
+pub mod Custom
+pub mod Expressions

@@ -1,0 +1,68 @@
+-- Reading an expression, as a loop does.
+use Rattle.std.proofs.Common.{List, [], arith, length, refl, suc, sym, zero, ℕ, ◌++◌, ◌<◌, ◌∙◌, ◌∷◌, ◌≡◌, ◌≤◌}
+use Rattle.std.specs.Prelude.{None, Some}
+use Rattle.std.proofs.lemmas.List.{nil_from_length}
+use Rattle.core_types.specs.declared.op.Op.{Op}
+use Rattle.binary.specs.Errors.{OnRefused}
+use Rattle.binary.specs.Expressions.{expression_at, next_bodies, ops_at}
+use Rattle.binary.specs.Instructions.{op_at}
+use Rattle.binary.specs.declared.errors.DecodeError.{DecodeError}
+use Rattle.binary.specs.declared.expressions.Next.TheVariants.{Ended, Misplaced, Onward}
+use Rattle.binary.specs.declared.expressions.OpenBody.{OpenBody}
+use Rattle.binary.proofs.Refusals.{OnRefused-map}
+
+-- An expression is being read: the remaining steps suffice, and go on to the whole of it.
+pub record IsReadingExpression (whole rest : List ℕ) (open_bodies : List OpenBody) (ops : List Op) : Type 0 where
+  pub steps : ℕ
+  pub enough : length rest ≤ steps
+  pub so_far : ops_at steps open_bodies ops rest ≡ expression_at whole
+
+pub expression_begins : (whole : List ℕ) → IsReadingExpression whole whole [] []
+unfolding expression_at
+expression_begins whole = record { steps = length whole; enough = omega arith; so_far = refl }
+
+module _ (whole bytes : List ℕ) (open_bodies : List OpenBody) (ops : List Op) (inside : IsReadingExpression whole bytes open_bodies ops) where
+  module _ (op : Op) (after : List ℕ) (shorter : length after < length bytes) (read_is : op_at bytes ≡ Some (op, after)) (new : List OpenBody) where
+    pub expression_continues : next_bodies open_bodies op ≡ (Onward, new)
+        → IsReadingExpression whole after new (ops ++ op ∷ [])
+    unfolding ops_at
+    expression_continues passed = step inside.steps inside.enough inside.so_far
+      where
+        step : (steps : ℕ) → length bytes ≤ steps → ops_at steps open_bodies ops bytes ≡ expression_at whole
+            → IsReadingExpression whole after new (ops ++ op ∷ [])
+        step zero enough so_far = absurd (omega arith)
+        step (suc steps) enough so_far =
+            let turn : ops_at (suc steps) open_bodies ops bytes ≡ ops_at steps new (ops ++ op ∷ []) after =
+            rw (read_is, passed) refl in
+            record { steps = steps; enough = omega arith; so_far = sym turn ∙ so_far }
+
+    pub expression_ends : next_bodies open_bodies op ≡ (Ended, new) → expression_at whole ≡ Some (ops, after)
+    unfolding ops_at
+    expression_ends passed = sym inside.so_far ∙ step inside.steps inside.enough
+      where
+        step : (steps : ℕ) → length bytes ≤ steps → ops_at steps open_bodies ops bytes ≡ Some (ops, after)
+        step zero enough = absurd (omega arith)
+        step (suc steps) enough = rw (read_is, passed) refl
+
+    pub expression_misplaced : next_bodies open_bodies op ≡ (Misplaced, new) → expression_at whole ≡ None
+    unfolding ops_at
+    expression_misplaced passed = sym inside.so_far ∙ step inside.steps
+      where
+        step : (steps : ℕ) → ops_at steps open_bodies ops bytes ≡ None
+        step zero = refl
+        step (suc steps) = rw (read_is, passed) refl
+
+  none_inside : (steps : ℕ) → op_at bytes ≡ None → ops_at steps open_bodies ops bytes ≡ None
+  unfolding ops_at
+  none_inside zero none = refl
+  none_inside (suc steps) none = rw none refl
+
+  pub expression_fails : (error : DecodeError) → OnRefused error (op_at bytes ≡ None)
+      → OnRefused error (expression_at whole ≡ None)
+  expression_fails error refused =
+      OnRefused-map error (op_at bytes ≡ None) (expression_at whole ≡ None)
+      (λ none. sym inside.so_far ∙ none_inside inside.steps none) refused
+
+  pub expression_stops : length bytes ≡ 0 → expression_at whole ≡ None
+  unfolding op_at
+  expression_stops empty = sym inside.so_far ∙ none_inside inside.steps (rw (nil_from_length bytes empty) refl)

@@ -1,7 +1,0 @@
-use Rattle.std.proofs.Common.{◌≡◌, ◌-◌, []}
-use Rattle.binary.specs.Reading.{each_at}
-use Rattle.binary.proofs.vector.read_each.Given as goal
-
--- what is left to read goes on to what the whole reading gives
-abbrev pub invariant-loop : goal.invariant-loop
-invariant-loop g l = each_at g.T.Readable.reads (l.count - l.counter) l.values.items l.reader ≡ each_at g.T.Readable.reads l.count [] l.fn.reader

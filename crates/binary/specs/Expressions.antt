@@ -1,0 +1,39 @@
+-- Reading expressions.
+use Rattle.std.specs.Prelude.{List, None, Option, Some, [], length, suc, zero, ℕ, ◌++◌, ◌∷◌}
+use Rattle.core_types.specs.declared.op.Op.{Op}
+use Rattle.core_types.specs.declared.op.Op.TheVariants.{Block, Else, End, If, Loop, Plain}
+use Rattle.binary.specs.Conventions.{Reading, ◌>>=◌}
+use Rattle.binary.specs.Instructions.{op_at}
+use Rattle.binary.specs.declared.expressions.Next.{Next}
+use Rattle.binary.specs.declared.expressions.Next.TheVariants.{Ended, Misplaced, Onward}
+use Rattle.binary.specs.declared.expressions.OpenBody.{OpenBody}
+use Rattle.binary.specs.declared.expressions.OpenBody.TheVariants.{InBlock, InIf}
+
+-- What an operation does to the expression and to its open bodies, the innermost first.
+abbrev pub next_bodies : List OpenBody → Op → Next × List OpenBody
+next_bodies bodies (Plain op) = (Onward, bodies)
+next_bodies bodies (Block type) = (Onward, InBlock ∷ bodies)
+next_bodies bodies (Loop type) = (Onward, InBlock ∷ bodies)
+next_bodies bodies (If type) = (Onward, InIf ∷ bodies)
+next_bodies [] Else = (Misplaced, [])
+next_bodies (InBlock ∷ bodies) Else = (Misplaced, InBlock ∷ bodies)
+next_bodies (InIf ∷ bodies) Else = (Onward, InBlock ∷ bodies)
+next_bodies [] End = (Ended, [])
+next_bodies (body ∷ bodies) End = (Onward, bodies)
+
+-- The value of the answer to what is next.
+abbrev pub on_next : {V : Type 0} → Next → Option V → Option V → Option V
+on_next Onward onward ended = onward
+on_next Ended onward ended = ended
+on_next Misplaced onward ended = None
+
+-- The operations down to the end of the outermost body, in a number of steps at most, behind those that were read before.
+unfoldable pub ops_at : ℕ → List OpenBody → List Op → Reading (List Op)
+ops_at zero bodies ops bytes = None
+ops_at (suc steps) bodies ops bytes = do
+  op ← op_at bytes
+  on_next (next_bodies bodies op.0).0 (ops_at steps (next_bodies bodies op.0).1 (ops ++ op.0 ∷ []) op.1) (Some (ops, op.1))
+
+-- An expression: each operation takes a byte at least.
+unfoldable pub expression_at : Reading (List Op)
+expression_at bytes = ops_at (length bytes) [] [] bytes

@@ -1,0 +1,60 @@
+ghost use Rattle.std.specs.Prelude.{◌≡◌};
+
+use std::alloc::{AllocError, AllocFailed};
+use thiserror::Error;
+
+/// Why bytes were not decoded. A number is the offset in the whole input at which reading failed.
+#[derive(Debug, Drop, Error)]
+pub enum DecodeError {
+    /// The bytes spell no module.
+    #[error("malformed module at byte {0}")]
+    Malformed(usize),
+    /// The bytes go on with a part of the format that is not read.
+    #[error("unsupported feature at byte {0}")]
+    Unsupported(usize),
+    /// The module exceeds one of the decoder's limits.
+    #[error("module exceeds a limit")]
+    Limit,
+    /// There is no memory left for the module.
+    #[error("out of memory")]
+    OutOfMemory,
+}
+
+impl DecodeError {
+    ghost use Rattle.std.specs.Prelude.{◌≡◌};
+    ghost use Rattle.binary.specs.Errors.{number_of};
+
+    /// The number of the refusal: 1, 2 or 3, and 13 for out of memory.
+    pub fn number(&self) -> u8
+        ensures { result ≡ number_of self.now }
+    {
+        match self {
+            DecodeError::Malformed(_) => 1,
+            DecodeError::Unsupported(_) => 2,
+            DecodeError::Limit => 3,
+            DecodeError::OutOfMemory => 13,
+        }
+    }
+}
+
+impl From<AllocError> for DecodeError {
+    ghost use Rattle.std.specs.Prelude.{◌≡◌};
+    ghost use Rattle.binary.specs.declared.errors.DecodeError.TheVariants.{OutOfMemory};
+
+    ghost from_gives = { λ _ error. error ≡ OutOfMemory };
+
+    fn from(_error: AllocError) -> DecodeError {
+        DecodeError::OutOfMemory
+    }
+}
+
+impl<T: Drop> From<AllocFailed<T>> for DecodeError {
+    ghost use Rattle.std.specs.Prelude.{◌≡◌};
+    ghost use Rattle.binary.specs.declared.errors.DecodeError.TheVariants.{OutOfMemory};
+
+    ghost from_gives = { λ _ error. error ≡ OutOfMemory };
+
+    fn from(_error: AllocFailed<T>) -> DecodeError {
+        DecodeError::OutOfMemory
+    }
+}

@@ -1,0 +1,24 @@
+//! Parametric instructions without an immediate (Binary Format, Parametric Instructions).
+
+ghost use Rattle.binary.specs.Conventions.{Gives};
+ghost use Rattle.binary.specs.Instructions.{parametric_at};
+
+use crate::errors::DecodeError;
+use crate::reader::Reader;
+use core_types::ParametricOp;
+
+// A parametric instruction behind its opcode, which is at the offset.
+#[tactic(auto, unfolding(crate::specs::Instructions::parametric_at))]
+pub fn read_parametric(
+    reader: &mut Reader<'_>,
+    code: u8,
+    offset: usize,
+) -> Result<ParametricOp, DecodeError>
+    ensures { Gives result reader.new (parametric_at code reader.old) }
+{
+    match code {
+        0x1A => Ok(ParametricOp::DropOperand),
+        0x1B => Ok(ParametricOp::Select),
+        _ => Err(DecodeError::Unsupported(offset)),
+    }
+}

@@ -1,0 +1,27 @@
+//! Variable instructions (Binary Format, Variable Instructions).
+
+ghost use Rattle.binary.specs.Conventions.{Gives};
+ghost use Rattle.binary.specs.Instructions.{variable_at};
+
+use crate::errors::DecodeError;
+use crate::reader::Reader;
+use core_types::VariableOp;
+
+// A variable instruction behind its opcode, which is at the offset.
+#[tactic(auto, unfolding(crate::specs::Instructions::variable_at))]
+pub fn read_variable(
+    reader: &mut Reader<'_>,
+    code: u8,
+    offset: usize,
+) -> Result<VariableOp, DecodeError>
+    ensures { Gives result reader.new (variable_at code reader.old) }
+{
+    match code {
+        0x20 => Ok(VariableOp::LocalGet(reader.u32()?)),
+        0x21 => Ok(VariableOp::LocalSet(reader.u32()?)),
+        0x22 => Ok(VariableOp::LocalTee(reader.u32()?)),
+        0x23 => Ok(VariableOp::GlobalGet(reader.u32()?)),
+        0x24 => Ok(VariableOp::GlobalSet(reader.u32()?)),
+        _ => Err(DecodeError::Unsupported(offset)),
+    }
+}

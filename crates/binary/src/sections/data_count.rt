@@ -1,0 +1,32 @@
+//! The data count (Binary Format, Data Count Section).
+
+ghost use Rattle.std.specs.Prelude.{◌≡◌, ◌↔◌, false, All, IsTrue};
+ghost use Rattle.core_types.specs.declared.op.Op.{Op as Operation};
+ghost use Rattle.meaning.specs.binary.Modules.{IsDataCount, names_data};
+
+use core_types::{Func, MemoryOp, Module, Op, PlainOp};
+
+// Whether the data count is the number of data segments. Where it is absent, no code may name a data segment.
+pub fn fits_count(count: Option<u32>, decoded: &Module) -> bool
+    ensures { IsTrue result ↔ IsDataCount decoded.now count }
+{
+    match count {
+        Some(count) => count as usize == decoded.datas.len(),
+        None => decoded.funcs.as_slice().iter().all(names_no_data),
+    }
+}
+
+fn names_no_data(f: &Func) -> bool
+    ensures { IsTrue result ↔ All (λ (op : Operation). names_data op ≡ false) f.now.body }
+{
+    f.body.as_slice().iter().all(is_no_data)
+}
+
+fn is_no_data(op: &Op) -> bool
+    ensures { IsTrue result ↔ (names_data op.now ≡ false) }
+{
+    !matches!(
+        op,
+        Op::Plain(PlainOp::Memory(MemoryOp::Init(_) | MemoryOp::DataDrop(_)))
+    )
+}

@@ -1,0 +1,177 @@
+//! The command line.
+
+ghost use Rattle.std.specs.Prelude.{◌≡◌, IfSome, MatchOption, None, Some};
+ghost use Rattle.command_line.specs.Depths.{IsDepth, IsNoDepth};
+
+use crate::digits::number;
+use clap::error::ErrorKind;
+use clap::{Arg, ArgAction, ArgMatches, Command, Error};
+use std::alloc::{AllocError, Global};
+
+/// The fuel of a call where the words name none.
+pub const DEFAULT_FUEL: u64 = 1_000_000_000;
+
+/// How many frames a call may have open at once where the words name no number.
+pub const DEFAULT_DEPTH: u32 = 1024;
+
+/// The largest number of open frames that the words may name.
+pub const LARGEST_DEPTH: u32 = 65_535;
+
+/// The call that the words ask for.
+#[derive(Drop)]
+pub struct CallOrder<'a> {
+    pub file: &'a str,
+    pub export: &'a str,
+    pub args: Vec<&'a str>,
+    pub fuel: u64,
+    pub depth: u32,
+}
+
+/// What the words ask for.
+#[derive(Drop)]
+pub enum Order<'a> {
+    /// A call of an exported function.
+    Call(CallOrder<'a>),
+    /// A check of the module in the file at this path.
+    Check(&'a str),
+}
+
+/// Why the words ask for nothing.
+#[derive(Clone, Copy)]
+pub enum WordsFault {
+    /// They are not of the form that the program reads.
+    Usage,
+    /// There was no memory for them.
+    Memory,
+}
+
+impl From<AllocError> for WordsFault {
+    fn from(_error: AllocError) -> WordsFault {
+        WordsFault::Memory
+    }
+}
+
+impl From<Error> for WordsFault {
+    fn from(error: Error) -> WordsFault {
+        if error.kind() == ErrorKind::OutOfMemory {
+            WordsFault::Memory
+        } else {
+            WordsFault::Usage
+        }
+    }
+}
+
+// A command that knows of no help and no version.
+fn plain_command<'a>(alloc: Global, name: &'a str) -> Command<'a> {
+    Command::new(alloc, name)
+        .disable_help_flag(true)
+        .disable_version_flag(true)
+        .disable_help_subcommand(true)
+}
+
+// A word that has to be there.
+fn required<'a>(alloc: Global, name: &'a str) -> Arg<'a> {
+    Arg::new(alloc, name).required(true).action(ArgAction::Set)
+}
+
+// Any number of words.
+fn repeated<'a>(alloc: Global, name: &'a str) -> Arg<'a> {
+    Arg::new(alloc, name)
+        .num_args(0..)
+        .action(ArgAction::Append)
+}
+
+// A word after `--` and its name, or none.
+fn option<'a>(alloc: Global, name: &'a str) -> Arg<'a> {
+    Arg::new(alloc, name).long(name).action(ArgAction::Set)
+}
+
+fn call_command<'a>(alloc: Global) -> Result<Command<'a>, AllocError> {
+    plain_command(alloc, "call")
+        .arg(required(alloc, "file"))?
+        .arg(required(alloc, "export"))?
+        .arg(repeated(alloc, "args"))?
+        .arg(option(alloc, "fuel"))?
+        .arg(option(alloc, "depth"))
+}
+
+fn check_command<'a>(alloc: Global) -> Result<Command<'a>, AllocError> {
+    plain_command(alloc, "check").arg(required(alloc, "file"))
+}
+
+fn program_command<'a>(alloc: Global) -> Result<Command<'a>, AllocError> {
+    plain_command(alloc, "wasmrun")
+        .subcommand_required(true)
+        .no_binary_name(true)
+        .subcommand(call_command(alloc)?)?
+        .subcommand(check_command(alloc)?)
+}
+
+// The word under a name.
+fn word_of<'a>(matches: &ArgMatches<'a>, name: &str) -> Result<&'a str, WordsFault> {
+    match matches.get_str(name) {
+        Some(word) => Ok(word),
+        None => Err(WordsFault::Usage),
+    }
+}
+
+// All words under a name.
+fn words_of<'a>(
+    alloc: Global,
+    matches: &ArgMatches<'a>,
+    name: &str,
+) -> Result<Vec<&'a str>, WordsFault> {
+    match matches.get_strs(name) {
+        Some(words) => Ok(Vec::from_slice(alloc, words)?),
+        None => Ok(Vec::new(alloc)),
+    }
+}
+
+// The number of an option, if it is there.
+fn option_of(matches: &ArgMatches<'_>, name: &str) -> Result<Option<u64>, WordsFault> {
+    match matches.get_str(name) {
+        None => Ok(None),
+        Some(word) => match number(word) {
+            Some(value) => Ok(Some(value)),
+            None => Err(WordsFault::Usage),
+        },
+    }
+}
+
+// The number of open frames that an option's number allows, if it is one.
+fn depth_of(given: Option<u64>) -> Option<u32>
+    ensures default { given ≡ None → result ≡ Some 1024 }
+    ensures named { IfSome given (λ n. MatchOption result (IsNoDepth n) (λ depth. (depth ≡ n) × IsDepth n)) }
+{
+    match given {
+        None => Some(DEFAULT_DEPTH),
+        Some(depth) if depth == 0 || depth > LARGEST_DEPTH as u64 => None,
+        Some(depth) => Some(depth as u32),
+    }
+}
+
+fn call_order_of<'a>(alloc: Global, matches: &ArgMatches<'a>) -> Result<CallOrder<'a>, WordsFault> {
+    let fuel = option_of(matches, "fuel")?;
+    let Some(depth) = depth_of(option_of(matches, "depth")?) else {
+        return Err(WordsFault::Usage);
+    };
+    Ok(CallOrder {
+        file: word_of(matches, "file")?,
+        export: word_of(matches, "export")?,
+        args: words_of(alloc, matches, "args")?,
+        fuel: fuel.unwrap_or(DEFAULT_FUEL),
+        depth,
+    })
+}
+
+/// What the words after the program's name ask for.
+pub fn read_words<'a>(alloc: Global, words: &'a [String]) -> Result<Order<'a>, WordsFault> {
+    let matches = program_command(alloc)?.try_get_matches_from(words)?;
+    if let Some(found) = matches.subcommand_matches("call") {
+        return Ok(Order::Call(call_order_of(alloc, found)?));
+    }
+    match matches.subcommand_matches("check") {
+        Some(found) => Ok(Order::Check(word_of(found, "file")?)),
+        None => Err(WordsFault::Usage),
+    }
+}

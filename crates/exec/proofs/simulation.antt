@@ -1,0 +1,16 @@
+-- That the machine simulates the reduction: by control form, and what they share.
+pub mod Blocks
+pub mod Branches
+pub mod Calls
+pub mod Conditions
+pub mod Configurations
+pub mod Contexts
+pub mod Controls
+pub mod Effects
+pub mod Ends
+pub mod Fuel
+pub mod Instructions
+pub mod Labels
+pub mod Positions
+pub mod Returns
+pub mod Runs

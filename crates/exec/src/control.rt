@@ -1,0 +1,5 @@
+//! Control instructions, by form.
+
+pub mod blocks;
+pub mod branches;
+pub mod calls;

@@ -1,0 +1,7 @@
+-- Execution.
+pub mod Store
+pub mod Numerics
+pub mod Configurations
+pub mod Instructions
+pub mod Runs
+pub mod Rows

@@ -1,0 +1,286 @@
+-- The reduction (Execution, Instructions), by cases on the leftmost redex, with the cost of each step, which is this
+-- project's own.
+use Rattle.std.specs.Prelude.{ℕ, zero, suc, List, [], ◌∷◌, ◌++◌, length, take, drop, reverse, map, get_or, Option, Some, None, Result, Ok, Err, slice_get, slice_set, nat_le, nat_lt, if◌then◌else◌}
+use Rattle.core_types.specs.declared.types.FuncType.{FuncType}
+use Rattle.core_types.specs.declared.types.ValType.{ValType}
+use Rattle.core_types.specs.declared.types.ValType.TheVariants as ty
+use Rattle.core_types.specs.declared.op.BlockType.{BlockType}
+use Rattle.core_types.specs.declared.op.BranchTable.{BranchTable}
+use Rattle.core_types.specs.declared.op.ControlOp.TheVariants.{Unreachable, Nop, Br, BrIf, Return, Call}
+use Rattle.core_types.specs.declared.op.Conversion.TheVariants.{I32WrapI64, I64ExtendI32S, I64ExtendI32U, I64Extend32S}
+use Rattle.core_types.specs.declared.op.Width.TheVariants.{W32, W64}
+use Rattle.core_types.specs.declared.op.NumericOp.{NumericOp}
+use Rattle.core_types.specs.declared.op.NumericOp.TheVariants.{Eqz, Compare, Unary, Binary, Convert}
+use Rattle.core_types.specs.declared.op.ParametricOp.{ParametricOp}
+use Rattle.core_types.specs.declared.op.ParametricOp.TheVariants.{DropOperand, Select}
+use Rattle.core_types.specs.declared.op.VariableOp.{VariableOp}
+use Rattle.core_types.specs.declared.op.VariableOp.TheVariants.{LocalGet, LocalSet, LocalTee}
+use Rattle.core_types.specs.declared.op.PlainOp.{PlainOp}
+use Rattle.core_types.specs.declared.op.PlainOp.TheVariants.{BrTable, Control, I32Const, I64Const, Numeric, Parametric, SelectTyped, Variable}
+use Rattle.core_types.specs.declared.outcome.Val.{Val}
+use Rattle.core_types.specs.declared.outcome.Val.TheVariants.{I32, I64, FuncRef, ExternRef}
+use Rattle.core_types.specs.declared.outcome.Trap.{Trap}
+use Rattle.core_types.specs.declared.outcome.Trap.TheVariants.{Unreachable as UnreachableTrap}
+use Rattle.meaning.specs.structure.Bodies.{Kind, BlockKind, LoopKind, IfKind, Body, Empty, Then, Nested, IfElse}
+use Rattle.meaning.specs.execution.Configurations.{Frame, Continuation, Onward, Again, continue_with, Configuration, Running, InLabel, InFrame, Invoking}
+use Rattle.meaning.specs.execution.Numerics.{binary_operator, comparison_operator, conversion_operator, eqz_operator, unary_operator}
+use Rattle.meaning.specs.execution.Store.{FunctionInstance, Store, instance_of}
+use Rattle.meaning.specs.validation.Types.{block_type, label_types}
+
+-- The cost of a step that executes an instruction. Leaving a label or a frame, and an entry from outside, cost 0.
+abbrev pub instruction_cost : ℕ
+instruction_cost = 1
+
+-- What an instruction without control does: a new store, locals and values; a trap; or nothing, as operands are missing, or as
+-- it is not defined yet.
+pub data Effect : Type 0 where
+  Done : (store : Store) (locals values : List Val) → Effect
+  Fails : (trap : Trap) → Effect
+  Lacks : Effect
+
+-- ---- instructions without control
+
+-- local.get: the value of a local (Variable Instructions).
+abbrev pub get_local : Store → Frame → Option Val → List Val → Effect
+get_local store frame None values = Lacks
+get_local store frame (Some v) values = Done store frame.locals (v ∷ values)
+
+-- local.set and local.tee: the local gets the value; local.tee leaves it on the stack, too.
+abbrev pub set_local : Store → Frame → ℕ → Val → List Val → Effect
+set_local store frame x v values =
+    if nat_lt x (length frame.locals)
+    then Done store (slice_set frame.locals x v) values
+    else Lacks
+
+-- An instruction on a local or a global (Variable Instructions).
+abbrev pub variable_effect : Store → Frame → VariableOp → List Val → Effect
+variable_effect store frame (LocalGet x) values = get_local store frame (slice_get frame.locals x) values
+variable_effect store frame (LocalSet x) (v ∷ values) = set_local store frame x v values
+variable_effect store frame (LocalTee x) (v ∷ values) = set_local store frame x v (v ∷ values)
+variable_effect store frame op values = Lacks
+
+-- An operator's integer on top of the values, or its trap.
+abbrev pub push_result : Store → Frame → (ℕ → Val) → Result ℕ Trap → List Val → Effect
+push_result store frame integer (Ok n) values = Done store frame.locals (integer n ∷ values)
+push_result store frame integer (Err trap) values = Fails trap
+
+-- t.testop, t.relop, t.unop, t.binop and the conversions, the first operand below the second (Numeric Instructions).
+abbrev pub numeric_effect : Store → Frame → NumericOp → List Val → Effect
+numeric_effect store frame (Eqz W32) (I32 a ∷ values) = Done store frame.locals (I32 (eqz_operator a) ∷ values)
+numeric_effect store frame (Eqz W64) (I64 a ∷ values) = Done store frame.locals (I32 (eqz_operator a) ∷ values)
+numeric_effect store frame (Compare W32 op) (I32 b ∷ (I32 a ∷ values)) =
+    Done store frame.locals (I32 (comparison_operator 32 op a b) ∷ values)
+numeric_effect store frame (Compare W64 op) (I64 b ∷ (I64 a ∷ values)) =
+    Done store frame.locals (I32 (comparison_operator 64 op a b) ∷ values)
+numeric_effect store frame (Unary W32 op) (I32 a ∷ values) =
+    Done store frame.locals (I32 (unary_operator 32 op a) ∷ values)
+numeric_effect store frame (Unary W64 op) (I64 a ∷ values) =
+    Done store frame.locals (I64 (unary_operator 64 op a) ∷ values)
+numeric_effect store frame (Binary W32 op) (I32 b ∷ (I32 a ∷ values)) =
+    push_result store frame I32 (binary_operator 32 op a b) values
+numeric_effect store frame (Binary W64 op) (I64 b ∷ (I64 a ∷ values)) =
+    push_result store frame I64 (binary_operator 64 op a b) values
+numeric_effect store frame (Convert I32WrapI64) (I64 a ∷ values) =
+    Done store frame.locals (I32 (conversion_operator I32WrapI64 a) ∷ values)
+numeric_effect store frame (Convert I64ExtendI32S) (I32 a ∷ values) =
+    Done store frame.locals (I64 (conversion_operator I64ExtendI32S a) ∷ values)
+numeric_effect store frame (Convert I64ExtendI32U) (I32 a ∷ values) =
+    Done store frame.locals (I64 (conversion_operator I64ExtendI32U a) ∷ values)
+numeric_effect store frame (Convert I64Extend32S) (I64 a ∷ values) =
+    Done store frame.locals (I64 (conversion_operator I64Extend32S a) ∷ values)
+numeric_effect store frame op values = Lacks
+
+-- select: the first of two values where the i32 over them is not zero, and else the second (Parametric Instructions).
+abbrev pub select_operand : Store → Frame → List Val → Effect
+select_operand store frame (I32 zero ∷ (b ∷ (a ∷ values))) = Done store frame.locals (b ∷ values)
+select_operand store frame (I32 (suc n) ∷ (b ∷ (a ∷ values))) = Done store frame.locals (a ∷ values)
+select_operand store frame values = Lacks
+
+abbrev pub parametric_effect : Store → Frame → ParametricOp → List Val → Effect
+parametric_effect store frame DropOperand (v ∷ values) = Done store frame.locals values
+parametric_effect store frame Select values = select_operand store frame values
+parametric_effect store frame op values = Lacks
+
+abbrev pub effect : Store → Frame → PlainOp → List Val → Effect
+effect store frame (Control Unreachable) values = Fails UnreachableTrap
+effect store frame (Control Nop) values = Done store frame.locals values
+effect store frame (Variable op) values = variable_effect store frame op values
+effect store frame (Numeric op) values = numeric_effect store frame op values
+effect store frame (Parametric op) values = parametric_effect store frame op values
+effect store frame (SelectTyped types) values = select_operand store frame values
+effect store frame (I32Const n) values = Done store frame.locals (I32 n ∷ values)
+effect store frame (I64Const n) values = Done store frame.locals (I64 n ∷ values)
+effect store frame op values = Lacks
+
+-- What a configuration does next.
+pub data Next : Type 0 where
+  -- a step
+  Goes : (cost : ℕ) (store : Store) (frame : Frame) (configuration : Configuration) → Next
+  -- a step that opens a frame
+  Opens : (cost : ℕ) (store : Store) (configuration : Configuration) → Next
+  -- a step to a trap
+  Traps : (cost : ℕ) (trap : Trap) → Next
+  -- a branch to the label of this number, counted from here outward, with the values over which it is
+  Branches : (label : ℕ) (values : List Val) → Next
+  -- a return with the values over which it is
+  Returns : (values : List Val) → Next
+  -- values alone are left
+  Over : (values : List Val) → Next
+  -- no case applies
+  NotReady : Next
+
+-- The frame with other locals.
+abbrev pub with_locals : Frame → List Val → Frame
+with_locals frame locals = record { instance = frame.instance; locals = locals }
+
+abbrev pub continue_after : Frame → Effect → Body → Next
+continue_after frame (Done store locals values) rest =
+    Goes instruction_cost store (with_locals frame locals) (Running values rest)
+continue_after frame (Fails trap) rest = Traps instruction_cost trap
+continue_after frame Lacks rest = NotReady
+
+-- The value that a local has at first: zero or null.
+abbrev pub default_of : ValType → Val
+default_of ty.I32 = I32 0
+default_of ty.I64 = I64 0
+default_of ty.FuncRef = FuncRef None
+default_of ty.ExternRef = ExternRef None
+
+-- The frame of a call, whose arguments are the topmost values, the last one on top (Calls, Invocation).
+abbrev pub frame_of : FunctionInstance → List Val → Frame
+frame_of f values = record { instance = f.instance; locals = reverse (take (length f.ty.params) values) ++ map default_of f.code.locals }
+
+-- The inside of a fresh frame: a label around the body.
+abbrev pub function_body : FunctionInstance → Configuration
+function_body f = InLabel [] (length f.ty.results) Onward (Running [] f.code.body) Empty
+
+abbrev pub enter_function : ℕ → Store → FunctionInstance → List Val → Body → Next
+enter_function cost store f values rest =
+    if nat_le (length f.ty.params) (length values)
+    then Opens cost store (InFrame (drop (length f.ty.params) values) (length f.ty.results) (frame_of f values) (function_body f) rest)
+    else NotReady
+
+abbrev pub call_function : ℕ → Store → Option FunctionInstance → List Val → Body → Next
+call_function cost store None values rest = NotReady
+call_function cost store (Some f) values rest = enter_function cost store f values rest
+
+-- ---- control
+
+-- The address of the function that the frame's instance has under an index.
+abbrev pub function_address : Store → Frame → ℕ → Option ℕ
+function_address store frame x = slice_get (instance_of store frame.instance).functions x
+
+abbrev pub call_address : Store → Option ℕ → List Val → Body → Next
+call_address store None values rest = NotReady
+call_address store (Some address) values rest =
+    call_function instruction_cost store (slice_get store.functions address) values rest
+
+-- br_if: a branch where the i32 is not zero.
+abbrev pub branch_if : Store → Frame → ℕ → List Val → Body → Next
+branch_if store frame label (I32 zero ∷ values) rest = Goes instruction_cost store frame (Running values rest)
+branch_if store frame label (I32 (suc n) ∷ values) rest = Branches label values
+branch_if store frame label values rest = NotReady
+
+-- br_table: a branch to the label that the i32 counts, or to the default one.
+abbrev pub branch_by_table : BranchTable → List Val → Next
+branch_by_table table (I32 n ∷ values) = Branches (get_or table.labels n table.default) values
+branch_by_table table values = NotReady
+
+-- An instruction without a body.
+abbrev pub step_instruction : Store → Frame → PlainOp → List Val → Body → Next
+step_instruction store frame (Control (Br label)) values rest = Branches label values
+step_instruction store frame (Control (BrIf label)) values rest = branch_if store frame label values rest
+step_instruction store frame (BrTable table) values rest = branch_by_table table values
+step_instruction store frame (Control Return) values rest = Returns values
+step_instruction store frame (Control (Call x)) values rest =
+    call_address store (function_address store frame x) values rest
+step_instruction store frame op values rest = continue_after frame (effect store frame op values) rest
+
+-- The type of a block, by the types of the frame's instance.
+abbrev pub type_of_block : Store → Frame → BlockType → Option FuncType
+type_of_block store frame type = block_type (instance_of store frame.instance).types type
+
+abbrev pub continuation_of : Kind → BlockType → Body → Continuation
+continuation_of BlockKind type inside = Onward
+continuation_of LoopKind type inside = Again type inside
+continuation_of IfKind type inside = Onward
+
+-- A label with the topmost values and a body inside.
+abbrev pub enter_label : Store → Frame → Kind → BlockType → Option FuncType → Body → List Val → Body → Next
+enter_label store frame kind type None inside values rest = NotReady
+enter_label store frame kind type (Some t) inside values rest =
+    if nat_le (length t.params) (length values)
+    then Goes instruction_cost store frame (InLabel (drop (length t.params) values) (length (label_types kind t)) (continuation_of kind type inside) (Running (take (length t.params) values) inside) rest)
+    else NotReady
+
+-- if: the first body where the i32 is not zero, and else the second.
+abbrev pub choose_body : Store → Frame → BlockType → Body → Body → List Val → Body → Next
+choose_body store frame type inside other (I32 zero ∷ values) rest =
+    enter_label store frame IfKind type (type_of_block store frame type) other values rest
+choose_body store frame type inside other (I32 (suc n) ∷ values) rest =
+    enter_label store frame IfKind type (type_of_block store frame type) inside values rest
+choose_body store frame type inside other values rest = NotReady
+
+-- Instructions behind their values.
+abbrev pub step_sequence : Store → Frame → List Val → Body → Next
+step_sequence store frame values Empty = Over values
+step_sequence store frame values (Then op rest) = step_instruction store frame op values rest
+step_sequence store frame values (Nested BlockKind type inside rest) =
+    enter_label store frame BlockKind type (type_of_block store frame type) inside values rest
+step_sequence store frame values (Nested LoopKind type inside rest) =
+    enter_label store frame LoopKind type (type_of_block store frame type) inside values rest
+step_sequence store frame values (Nested IfKind type inside rest) =
+    choose_body store frame type inside Empty values rest
+step_sequence store frame values (IfElse type inside other rest) =
+    choose_body store frame type inside other values rest
+
+-- A branch keeps the topmost of its values, which with the continuation take the place of the label.
+abbrev pub branch_to_label : Store → Frame → List Val → ℕ → Continuation → Body → List Val → Next
+branch_to_label store frame values arity continuation rest kept =
+    if nat_le arity (length kept)
+    then Goes instruction_cost store frame (Running (take arity kept ++ values) (continue_with continuation rest))
+    else NotReady
+
+-- A label around what its inside does. Around values alone it becomes the values (Exiting).
+abbrev pub step_in_label : Store → Frame → List Val → ℕ → Continuation → Body → Next → Next
+step_in_label store frame values arity continuation rest (Goes cost store' frame' inside) =
+    Goes cost store' frame' (InLabel values arity continuation inside rest)
+step_in_label store frame values arity continuation rest (Opens cost store' inside) =
+    Opens cost store' (InLabel values arity continuation inside rest)
+step_in_label store frame values arity continuation rest (Traps cost trap) = Traps cost trap
+step_in_label store frame values arity continuation rest (Branches zero kept) =
+    branch_to_label store frame values arity continuation rest kept
+step_in_label store frame values arity continuation rest (Branches (suc label) kept) = Branches label kept
+step_in_label store frame values arity continuation rest (Returns kept) = Returns kept
+step_in_label store frame values arity continuation rest (Over results) =
+    Goes 0 store frame (Running (results ++ values) rest)
+step_in_label store frame values arity continuation rest NotReady = NotReady
+
+-- A return keeps the topmost of its values, which take the place of the frame.
+abbrev pub return_from_frame : Store → Frame → List Val → ℕ → Body → List Val → Next
+return_from_frame store outer values arity rest kept =
+    if nat_le arity (length kept)
+    then Goes instruction_cost store outer (Running (take arity kept ++ values) rest)
+    else NotReady
+
+-- A frame around what its inside does in it. Around values alone it becomes the values (Returning from a function).
+abbrev pub step_in_frame : Store → Frame → List Val → ℕ → Frame → Body → Next → Next
+step_in_frame store outer values arity own rest (Goes cost store' own' inside) =
+    Goes cost store' outer (InFrame values arity own' inside rest)
+step_in_frame store outer values arity own rest (Opens cost store' inside) =
+    Opens cost store' (InFrame values arity own inside rest)
+step_in_frame store outer values arity own rest (Traps cost trap) = Traps cost trap
+step_in_frame store outer values arity own rest (Branches label kept) = NotReady
+step_in_frame store outer values arity own rest (Returns kept) = return_from_frame store outer values arity rest kept
+step_in_frame store outer values arity own rest (Over results) = Goes 0 store outer (Running (results ++ values) rest)
+step_in_frame store outer values arity own rest NotReady = NotReady
+
+-- What a configuration does next, within this frame. An entry from outside costs nothing.
+abbrev pub next : Store → Frame → Configuration → Next
+next store frame (Running values rest) = step_sequence store frame values rest
+next store frame (InLabel values arity continuation inside rest) =
+    step_in_label store frame values arity continuation rest (next store frame inside)
+next store frame (InFrame values arity own inside rest) =
+    step_in_frame store frame values arity own rest (next store own inside)
+next store frame (Invoking arguments address) =
+    call_function 0 store (slice_get store.functions address) arguments Empty

@@ -1,0 +1,66 @@
+-- Worked rows of runs: calls of small functions, with the fuel before and after.
+use Rattle.std.specs.Prelude.{ℕ, List, [], ◌∷◌}
+use Rattle.core_types.specs.declared.types.ValType.{ValType}
+use Rattle.core_types.specs.declared.types.ValType.TheVariants as ty
+use Rattle.core_types.specs.declared.op.BlockType.TheVariants as block
+use Rattle.core_types.specs.declared.op.ControlOp.TheVariants.{Br, Call}
+use Rattle.core_types.specs.declared.op.PlainOp.{PlainOp}
+use Rattle.core_types.specs.declared.op.PlainOp.TheVariants.{Control, I32Const, Numeric, Variable}
+use Rattle.core_types.specs.declared.op.VariableOp.TheVariants.{LocalGet}
+use Rattle.core_types.specs.declared.op.NumericOp.TheVariants.{Binary}
+use Rattle.core_types.specs.declared.op.Width.TheVariants.{W32}
+use Rattle.core_types.specs.declared.op.BinaryOp.TheVariants.{Add}
+use Rattle.core_types.specs.declared.outcome.Val.{Val}
+use Rattle.core_types.specs.declared.outcome.Val.TheVariants.{I32}
+use Rattle.meaning.specs.structure.Bodies.{Body, Empty, Then, Nested, IfElse, BlockKind, LoopKind}
+use Rattle.meaning.specs.validation.Types.{function_type}
+use Rattle.meaning.specs.execution.Configurations.{Invoking}
+use Rattle.meaning.specs.execution.Runs.{Ending, Run}
+use Rattle.meaning.specs.execution.Store.{FunctionInstance, Store}
+
+-- A function of the first instance, without locals of its own.
+abbrev pub function : List ValType → List ValType → Body → FunctionInstance
+function params results body = record { ty = function_type params results; instance = 0; code = record { locals = []; body = body } }
+
+-- The functions of one instance.
+abbrev pub instance_of_two : FunctionInstance → FunctionInstance → Store
+instance_of_two f g = record { functions = f ∷ g ∷ []; instances = record { types = []; functions = 0 ∷ 1 ∷ []; exports = [] } ∷ [] }
+
+-- The instruction that gets a local.
+abbrev pub local : ℕ → PlainOp
+local x = Variable (LocalGet x)
+
+-- The function that does nothing.
+abbrev pub nothing : FunctionInstance
+nothing = function [] [] Empty
+
+-- A call of the first function, with the arguments from the top, from this fuel to this ending with that fuel left.
+abbrev pub Calls : (bound : ℕ) → FunctionInstance → List Val → (fuel : ℕ) → Ending → (left : ℕ) → Type 0
+Calls bound f arguments fuel ending left =
+    Run bound (instance_of_two f nothing) fuel (Invoking arguments 0) ending (instance_of_two f nothing) left
+
+-- It adds its two arguments.
+abbrev pub adder : FunctionInstance
+adder =
+    function (ty.I32 ∷ ty.I32 ∷ []) (ty.I32 ∷ []) (Then (local 0) (Then (local 1) (Then (Numeric (Binary W32 Add)) Empty)))
+
+-- A loop that branches to itself.
+abbrev pub endless : FunctionInstance
+endless = function [] [] (Nested LoopKind block.Empty (Then (Control (Br 0)) Empty) Empty)
+
+-- A block of one result, out of which a branch goes over three values.
+abbrev pub last_of_three : FunctionInstance
+last_of_three = function [] (ty.I32 ∷ []) (Nested BlockKind (block.Value ty.I32) (Then (I32Const 7) (Then (I32Const 8) (Then (I32Const 9) (Then (Control (Br 0)) Empty)))) Empty)
+
+-- Two results.
+abbrev pub one_and_two : FunctionInstance
+one_and_two = function [] (ty.I32 ∷ ty.I32 ∷ []) (Then (I32Const 1) (Then (I32Const 2) Empty))
+
+-- 7 where the argument is not zero, and else 8.
+abbrev pub seven_or_eight : FunctionInstance
+seven_or_eight =
+    function (ty.I32 ∷ []) (ty.I32 ∷ []) (Then (local 0) (IfElse (block.Value ty.I32) (Then (I32Const 7) Empty) (Then (I32Const 8) Empty) Empty))
+
+-- A call of the function that does nothing.
+abbrev pub caller : FunctionInstance
+caller = function [] [] (Then (Control (Call 1)) Empty)

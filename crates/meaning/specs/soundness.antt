@@ -1,0 +1,2 @@
+-- Appendix, Soundness.
+pub mod Values

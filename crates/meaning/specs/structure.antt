@@ -1,0 +1,2 @@
+-- Structure.
+pub mod Bodies

@@ -1,0 +1,39 @@
+-- Types (Validation, Types): block types, limits and memory types, and the types that the definitions share.
+use Rattle.std.specs.Prelude.{◌≤◌, ◌^◌, List, [], ◌∷◌, Option, Some, None, slice_get}
+use Rattle.core_types.specs.declared.op.BlockType.{BlockType}
+use Rattle.core_types.specs.declared.op.BlockType.TheVariants as block
+use Rattle.core_types.specs.declared.types.FuncType.{FuncType}
+use Rattle.core_types.specs.declared.types.Limits.{Limits}
+use Rattle.core_types.specs.declared.types.RefType.{RefType}
+use Rattle.core_types.specs.declared.types.RefType.TheVariants as ref
+use Rattle.core_types.specs.declared.types.ValType.{ValType}
+use Rattle.core_types.specs.declared.types.ValType.TheVariants.{FuncRef, ExternRef}
+use Rattle.meaning.specs.structure.Bodies.{Kind, BlockKind, LoopKind, IfKind}
+
+-- From the parameters to the results.
+abbrev pub function_type : List ValType → List ValType → FuncType
+function_type params results = record { params = params; results = results }
+
+abbrev pub reference_type : RefType → ValType
+reference_type ref.FuncRef = FuncRef
+reference_type ref.ExternRef = ExternRef
+
+-- The type of a block (Block Types): no parameters and at most one result, or a type of the module.
+abbrev pub block_type : List FuncType → BlockType → Option FuncType
+block_type types block.Empty = Some (function_type [] [])
+block_type types (block.Value t) = Some (function_type [] (t ∷ []))
+block_type types (block.Index x) = slice_get types x
+
+-- What a branch to the label of an instruction with a body carries: the results, and the parameters for a loop.
+abbrev pub label_types : Kind → FuncType → List ValType
+label_types BlockKind type = type.results
+label_types LoopKind type = type.params
+label_types IfKind type = type.results
+
+-- The maximum, if there is one, is at least the minimum (Limits).
+abbrev pub AreOrdered : Limits → Type 0
+AreOrdered limits = elim limits.max [ None ↦ Unit {0} | Some max ↦ limits.min ≤ max ]
+
+-- At most 65,536 pages (Memory Types).
+abbrev pub AreFewPages : Limits → Type 0
+AreFewPages limits = (limits.min ≤ 2 ^ 16) × elim limits.max [ None ↦ Unit {0} | Some max ↦ max ≤ 2 ^ 16 ]

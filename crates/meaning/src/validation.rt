@@ -1,0 +1,22 @@
+//! Laws and worked rows of typing.
+
+ghost use Rattle.std.specs.Prelude.{[], List};
+ghost use Rattle.core_types.specs.declared.types.OperandType.{OperandType};
+ghost use Rattle.meaning.specs.structure.Bodies.{Body, joined};
+ghost use Rattle.meaning.specs.validation.Context.{Context};
+ghost use Rattle.meaning.specs.validation.Rows.{sum_of_a_long, sum_of_any};
+ghost use Rattle.meaning.specs.validation.Instructions.{AllFit, HasType};
+
+/// Law: a body leads from each stack that fits one from which it leads, to each that is fitted by one to which it leads; and
+/// one body behind another leads as far as the two.
+pub fn typing_composes()
+    ensures before { (context : Context) (b : Body) (before given after : List OperandType) → AllFit given before → HasType context b before after → HasType context b given after }
+    ensures after { (context : Context) (b : Body) (before after wanted : List OperandType) → HasType context b before after → AllFit after wanted → HasType context b before wanted }
+    ensures joined { (context : Context) (a b : Body) (before between after : List OperandType) → HasType context a before between → HasType context b between after → HasType context (joined a b) before after }
+{}
+
+/// Worked rows of typing: after `unreachable` a sum finds its operands, but not where an i64 was put on since.
+pub fn operands_after_unreachable()
+    ensures any { (context : Context) → HasType context sum_of_any ([]) ([]) }
+    ensures kept { (context : Context) → HasType context sum_of_a_long ([]) ([]) → ⊥ }
+{}

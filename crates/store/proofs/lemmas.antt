@@ -1,0 +1,7 @@
+-- What the proofs of the calls rest on.
+pub mod Arguments
+pub mod BodyEnds
+pub mod Entries
+pub mod Instantiation
+pub mod Lookups
+pub mod Positions

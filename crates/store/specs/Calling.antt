@@ -1,9 +1,0 @@
--- What a call from outside asks for.
-use Rattle.std.specs.Prelude.{◌≡◌, ℕ, List, Some, slice_get}
-use Rattle.core_types.specs.declared.outcome.Val.{Val}
-use Rattle.meaning.specs.Store.{FunctionInstance, Store}
-use Rattle.meaning.specs.Soundness.{ValuesHaveTypes}
-
--- The arguments have the parameter types of the function at the address, if there is one.
-abbrev pub TakesArguments : Store → ℕ → List Val → Type 0
-TakesArguments store address args = (f : FunctionInstance) → slice_get store.functions address ≡ Some f → ValuesHaveTypes store args f.ty.params

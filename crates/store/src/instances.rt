@@ -1,0 +1,175 @@
+ghost use Rattle.std.specs.Prelude.{◌≡◌, ◌↔◌, [], ◌∷◌, ◌++◌, length, slice_get, option_copied, IsTrue, IfOk, IfSome, OnOk, OnErr, MatchOption, Some, None};
+ghost use Rattle.meaning.specs.structure.Bodies.{rests};
+ghost use Rattle.meaning.specs.execution.Store.{instance_of};
+ghost use Rattle.store.specs.Ends.{HasEnds};
+ghost use Rattle.store.specs.Contents.{Contents, contents_of, store_of, code_at, with_module, function_of, HasRoom};
+
+use crate::entries::push_entries;
+use core_types::{Func, FuncType};
+use std::alloc::{AllocError, Global};
+use std::marker::Model;
+use validator::ValidModule;
+
+/// A function of the store: the number of its instance, its index in the instance's module, and for each position of its code
+/// the position at which the body ends in which it stands.
+#[derive(Drop)]
+pub struct FunctionInstance {
+    pub instance: u32,
+    pub index: u32,
+    pub ends: Vec<usize>,
+}
+
+/// An instance of a module without imports, whose functions stand in the store from the address `first` on.
+#[derive(Drop)]
+pub struct Instance {
+    pub module: ValidModule,
+    pub first: u32,
+}
+
+/// A function of the store, for reading: its type, its code, the positions at which the bodies of its code end, and the number
+/// of its instance.
+#[derive(Clone, Copy)]
+pub struct Callee<'a> {
+    pub ty: &'a FuncType,
+    pub func: &'a Func,
+    pub ends: &'a [usize],
+    pub instance: u32,
+}
+
+/// Functions and module instances by address (Execution, Runtime Structure, Store).
+#[derive(Drop)]
+pub struct Store {
+    functions: Vec<FunctionInstance>,
+    instances: Vec<Instance>,
+}
+
+impl Model for Store {
+    ghost use Rattle.store.specs.Contents.{Contents, contents_of, IsSound};
+
+    ghost Value = { Contents };
+
+    ghost view = { λ s. contents_of s.functions.items s.instances.items };
+
+    ghost invariant = { λ s. IsSound s.instances.items s.functions.items };
+}
+
+// Adds an instance. Where memory runs out, the list is as before.
+fn push_instance(instances: &mut Vec<Instance>, instance: Instance) -> Result<(), AllocError>
+    ensures pushed { OnOk result (instances.new.items ≡ instances.old.items ++ instance ∷ []) }
+    ensures unchanged { OnErr result (instances.new.items ≡ instances.old.items) }
+{
+    instances.push(instance)?;
+    Ok(())
+}
+
+// The item at an index, if there is one.
+fn item<T>(items: &[T], index: u32) -> Option<&T>
+    ensures { option_copied result ≡ slice_get items.now index }
+{
+    items.get(index as usize)
+}
+
+impl Store {
+    /// A store with nothing in it. Takes no memory.
+    pub fn new(alloc: Global) -> Store
+        ensures { result ≡ contents_of ([]) ([]) }
+    {
+        Store {
+            functions: Vec::new(alloc),
+            instances: Vec::new(alloc),
+        }
+    }
+
+    /// The instance of a number, if there is one.
+    pub fn instance(&self, number: u32) -> Option<&Instance>
+        ensures { option_copied result ≡ slice_get self.now.instances number }
+    {
+        item(&self.instances, number)
+    }
+
+    /// The type that an instance has under an index, if there is one (Execution, Runtime Structure, Module Instances).
+    pub fn type_at(&self, instance: u32, x: u32) -> Option<&FuncType>
+        ensures { option_copied result ≡ slice_get (instance_of (store_of self.now) instance).types x }
+    {
+        let found = item(&self.instances, instance)?;
+        let instance_module = found.module.module();
+        item(instance_module.types.as_slice(), x)
+    }
+
+    /// The address of the function that an instance has under an index, if there is one (Execution, Runtime Structure, Module
+    /// Instances).
+    pub fn function_address(&self, instance: u32, x: u32) -> Option<u32>
+        ensures { result ≡ slice_get (instance_of (store_of self.now) instance).functions x }
+    {
+        let found = item(&self.instances, instance)?;
+        let instance_module = found.module.module();
+        if (x as usize) < instance_module.funcs.len() {
+            Some(found.first + x)
+        } else {
+            None
+        }
+    }
+
+    /// The function at an address, if there is one.
+    pub fn function(&self, address: u32) -> Option<Callee<'_>>
+        ensures found { MatchOption result (slice_get (store_of self.now).functions address ≡ None) (λ callee. slice_get (store_of self.now).functions address ≡ Some (function_of callee.ty.now callee.instance callee.func.now)) }
+        ensures code { IfSome result (λ callee. callee.func.now.body ≡ code_at self.now address) }
+        ensures ends { IfSome result (λ callee. HasEnds callee.func.now.body callee.ends.now) }
+        ensures whole { IfSome result (λ callee. (rests callee.func.now.body).around ≡ []) }
+    {
+        let entry = item(&self.functions, address)?;
+        let instance = item(&self.instances, entry.instance)?;
+        let instance_module = instance.module.module();
+        let func = item(instance_module.funcs.as_slice(), entry.index)?;
+        let ty = item(instance_module.types.as_slice(), func.ty)?;
+        Some(Callee {
+            ty,
+            func,
+            ends: &entry.ends,
+            instance: entry.instance,
+        })
+    }
+
+    /// Whether the functions of a module without imports and an instance of it still get addresses of 32 bits.
+    pub fn has_room_for(&self, validated: &ValidModule) -> bool
+        ensures { IsTrue result ↔ HasRoom self.now validated.now }
+    {
+        let used = self.functions.len();
+        used < 1 << 32
+            && validated.module().funcs.len() < (1 << 32) - used
+            && self.instances.len() < (1 << 32) - 1
+    }
+
+    /// Adds the functions of a module without imports and an instance of it, and answers the instance's number. Where memory
+    /// runs out, the store is as before.
+    pub fn append_module(
+        &mut self,
+        alloc: Global,
+        validated: ValidModule,
+    ) -> Result<u32, AllocError>
+        requires { HasRoom self.old validated }
+        ensures number { IfOk result (λ number. number ≡ length self.old.instances) }
+        ensures appended { OnOk result (store_of self.new ≡ with_module (store_of self.old) validated) }
+        ensures unchanged { OnErr result (self.new ≡ self.old) }
+    {
+        let number = self.instances.len() as u32;
+        let first = self.functions.len();
+        push_entries(
+            alloc,
+            &mut self.functions,
+            number,
+            validated.module().funcs.as_slice(),
+        )?;
+        let instance = Instance {
+            module: validated,
+            first: first as u32,
+        };
+        match push_instance(&mut self.instances, instance) {
+            Ok(()) => Ok(number),
+            Err(error) => {
+                self.functions.truncate(first);
+                Err(error)
+            }
+        }
+    }
+}

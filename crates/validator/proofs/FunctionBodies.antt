@@ -1,0 +1,60 @@
+-- A body that is typed in its context has the type of its function, and one that is not has not.
+use Rattle.std.proofs.Common.{◌≡◌, ◌<◌, [], List, ◌++◌, ap, arith, length, map, refl, subst, sym, ◌∙◌}
+use Rattle.std.proofs.lemmas.List.{length-map}
+use Rattle.std.proofs.lemmas.Option.{slice_get_within}
+use Rattle.std.specs.Prelude.{None, Some, slice_get}
+use Rattle.core_types.specs.declared.module.Func.{Func}
+use Rattle.core_types.specs.declared.module.Module.{Module}
+use Rattle.core_types.specs.declared.op.Op.{Op}
+use Rattle.core_types.specs.declared.types.FuncType.{FuncType}
+use Rattle.core_types.specs.declared.types.ValType.{ValType}
+use Rattle.meaning.specs.validation.Context.{Context}
+use Rattle.meaning.specs.validation.Instructions.{HasType, known}
+use Rattle.meaning.specs.validation.Modules.{body_context, function_indices, module_context, IsValidFunction, type_at}
+use Rattle.validator.specs.declared.context.BodyContext.{BodyContext}
+use Rattle.validator.specs.declared.context.IndexSpaces.{IndexSpaces}
+use Rattle.validator.specs.Completeness.{IsUntyped}
+use Rattle.validator.specs.Contexts.{Describes}
+use Rattle.validator.specs.IndexSpaces.{AreIndexSpaces}
+use Rattle.validator.specs.References.{HasMarks}
+use Rattle.validator.specs.Soundness.{IsTyped}
+
+-- What the function is typed in, before the label of its body.
+abbrev outside : Module → FuncType → List ValType → Context
+outside m ty locals = record (module_context m) { locals = ty.params ++ locals; results = ty.results }
+
+module _ (m : Module) (s : IndexSpaces) (spaces : AreIndexSpaces m s) (marks : HasMarks m s) (f : Func) (ty : FuncType) (lent : BodyContext)
+    (decoded_is : lent.decoded.now ≡ m) (spaces_is : lent.spaces.now ≡ s) (params_are : lent.params.now ≡ ty.params)
+    (locals_are : lent.locals.now ≡ f.locals) (results_are : lent.results.now ≡ ty.results) where
+  describes : Describes lent (outside m ty f.locals)
+  describes = record {
+    types = rw decoded_is refl;
+    functions = rw (decoded_is, spaces_is, spaces.functions) refl;
+    tables = rw (spaces_is, spaces.tables) refl;
+    memories = rw (spaces_is, spaces.memories) refl;
+    globals = rw (spaces_is, spaces.globals) refl;
+    elements = rw decoded_is refl;
+    datas = rw decoded_is refl;
+    locals = rw (params_are, locals_are) refl;
+    labels = refl;
+    results = rw results_are refl;
+    references = λ x set. spaces.declared x (rw spaces_is at set);
+    marks = λ x type found named.
+        let inside = slice_get_within (map (type_at m.types) (function_indices m)) x type found in
+        let there : x < length s.functions.items = omega (arith, inside, length-map (function_indices m) (type_at m.types), ap length spaces.functions) in
+        rw spaces_is (marks.set x there named);
+  }
+
+  pub function_valid : slice_get m.types f.ty ≡ Some ty → (ops : List Op) → ops ≡ f.body → IsTyped lent ops → IsValidFunction m f
+  function_valid has_type ops body_is typed =
+      let r = typed.in_context (outside m ty f.locals) describes in
+      record { ty = ty; has_type = has_type; body = r.0; written = sym body_is ∙ r.1; typed = r.2 }
+
+  pub function_invalid : slice_get m.types f.ty ≡ Some ty → (ops : List Op) → ops ≡ f.body → IsUntyped lent ops → ¬ IsValidFunction m f
+  function_invalid has_type ops body_is untyped = λ valid.
+      let both : Some valid.ty ≡ Some ty = sym valid.has_type ∙ has_type in
+      let same : valid.ty ≡ ty = cc in
+      untyped.in_context (outside m ty f.locals) describes valid.body (body_is ∙ valid.written) (subst (λ (t : FuncType). HasType (body_context m t f.locals) valid.body [] (known t.results)) same valid.typed)
+
+pub untyped_function : (m : Module) (f : Func) → slice_get m.types f.ty ≡ None → ¬ IsValidFunction m f
+untyped_function m f none = λ valid. let both : None ≡ Some valid.ty = sym none ∙ valid.has_type in absurd cc

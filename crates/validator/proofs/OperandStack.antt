@@ -1,0 +1,80 @@
+-- Laws of what is taken from a frame's operands.
+use Rattle.std.proofs.Common.{◌≡◌, ℕ, zero, suc, ◌+◌, ◌<◌, Bool, List, [], ◌∷◌, ◌++◌, length, take, drop, reverse, get_or, replicate, refl, sym, ap, ◌∙◌, inl, inr, append_assoc, arith}
+use Rattle.std.proofs.lemmas.List.{append-nil, drop_more, map-append, replicate-append-replicate, reverse-append, take_more}
+use Rattle.std.specs.Prelude.{Option, Some, None, IfSome, option_to_list}
+use Rattle.core_types.specs.declared.types.OperandType.TheVariants.{Known, Unknown}
+use Rattle.core_types.specs.declared.types.OperandType.{OperandType}
+use Rattle.core_types.specs.declared.types.ValType.{ValType}
+use Rattle.meaning.proofs.lemmas.Typing.{AllFit-joined}
+use Rattle.meaning.specs.validation.Instructions.{AllFit, Fits, known}
+use Rattle.validator.specs.Operands.{TakenFrom, Takes}
+
+nil_parts : (xs ys : List OperandType) → [] ≡ xs ++ ys → (xs ≡ []) × (ys ≡ [])
+nil_parts [] ys e = (refl, sym e)
+nil_parts (x ∷ xs) ys e = absurd cc
+
+-- The last of two lists that are joined is the last of the second one, if it has one.
+last_of : (under own new : List OperandType) (t : OperandType) → new ++ t ∷ [] ≡ under ++ own → length under < length (new ++ t ∷ []) → (rest : List OperandType) × (new ≡ under ++ rest) × (own ≡ rest ++ t ∷ [])
+last_of [] own new t e less = (new, refl, sym e)
+last_of (u ∷ under) own [] t e less = absurd (omega arith)
+last_of (u ∷ under) own (n ∷ new) t e less =
+    let tails : new ++ t ∷ [] ≡ under ++ own = cc in
+    let same : n ≡ u = cc in
+    let (rest, parts, last) = last_of under own new t tails (omega arith) in
+    (rest, ap (λ (x : OperandType). x ∷ new) same ∙ ap (λ (z : List OperandType). u ∷ z) parts, last)
+
+-- The topmost operand is taken off.
+pub Takes-top : (unreachable : Bool) (height : ℕ) (old new : List OperandType) (t : OperandType) → old ≡ new ++ t ∷ [] → height < length old → Takes unreachable height old (t ∷ []) new
+Takes-top unreachable height old new t e high = record {
+  at = λ under own parts long.
+      let (rest, left, taken) = last_of under own new t (sym e ∙ parts) (omega (arith, ap length e)) in
+      (rest, left, inl taken);
+}
+
+pub Takes-nothing : (unreachable : Bool) (height : ℕ) (old : List OperandType) → Takes unreachable height old [] old
+Takes-nothing unreachable height old = record { at = λ under own parts long. (own, parts, inl (sym (append-nil own))) }
+
+-- More are taken, from below those that were.
+TakenFrom-under : (unreachable : Bool) (own given rest new more : List OperandType) → TakenFrom unreachable own given rest → TakenFrom unreachable rest more new → TakenFrom unreachable own (more ++ given) new
+TakenFrom-under unreachable own given rest new more (inl parts) (inl last) = inl (parts ∙ ap (λ (z : List OperandType). z ++ given) last ∙ append_assoc new more given)
+TakenFrom-under unreachable own given rest new more (inl parts) (inr (dead, nothing, (n, last))) =
+    inr (dead, nothing, (n, ap (λ (z : List OperandType). z ++ given) last ∙ append_assoc (replicate n Unknown) rest given ∙ ap (λ (z : List OperandType). replicate n Unknown ++ z) (sym parts)))
+TakenFrom-under unreachable own given rest new more (inr (dead, nothing, (n, parts))) (inl last) =
+    let both = nil_parts new more (sym nothing ∙ last) in
+    inr (dead, both.0, (n, ap (λ (z : List OperandType). z ++ given) both.1 ∙ parts))
+TakenFrom-under unreachable own given rest new more (inr (dead, nothing, (n, parts))) (inr (again, left, (k, last))) =
+    let some : more ≡ replicate k Unknown = last ∙ ap (λ (z : List OperandType). replicate k Unknown ++ z) nothing ∙ append-nil (replicate k Unknown) in
+    inr (dead, left, (k + n, ap (λ (z : List OperandType). z ++ given) some ∙ ap (λ (z : List OperandType). replicate k Unknown ++ z) parts ∙ sym (append_assoc (replicate k Unknown) (replicate n Unknown) own) ∙ ap (λ (z : List OperandType). z ++ own) (replicate-append-replicate k n Unknown)))
+
+pub Takes-under : (unreachable : Bool) (height : ℕ) (old given mid more new : List OperandType) → Takes unreachable height old given mid → Takes unreachable height mid more new → Takes unreachable height old (more ++ given) new
+Takes-under unreachable height old given mid more new first second = record {
+  at = λ under own parts long.
+      let (rest, left, taken) = first.at under own parts long in
+      let (last, below, others) = second.at under rest left long in
+      (last, below, TakenFrom-under unreachable own given rest last more taken others);
+}
+
+-- The same, of a list of those taken that grows at its end, from the topmost on.
+pub Takes-reverse : (unreachable : Bool) (height : ℕ) (old given mid new : List OperandType) (t : OperandType) → Takes unreachable height old (reverse given) mid → Takes unreachable height mid (t ∷ []) new → Takes unreachable height old (reverse (given ++ t ∷ [])) new
+Takes-reverse unreachable height old given mid new t first second = rw (reverse-append given (t ∷ [])) (Takes-under unreachable height old (reverse given) mid (t ∷ []) new first second)
+
+-- One more of the types wanted, from the last to the first.
+pub AllFit-down : (wanted : List ValType) (left : ℕ) (given : List OperandType) (t : OperandType) (d : ValType) → left < length wanted → Fits t (Known (get_or wanted left d)) → AllFit given (known (drop (left + 1) wanted)) → AllFit (t ∷ given) (known (drop left wanted))
+AllFit-down wanted left given t d less one more = rw (drop_more wanted left d less) (one, more)
+
+-- One more index of two lists at which the operand fits.
+pub AllFit-up : (given : List OperandType) (wanted : List ValType) (i : ℕ) (d : OperandType) (e : ValType) → i < length given → i < length wanted → AllFit (take i given) (known (take i wanted)) → Fits (get_or given i d) (Known (get_or wanted i e)) → AllFit (take (i + 1) given) (known (take (i + 1) wanted))
+AllFit-up given wanted i d e less below before one =
+    rw (take_more given i d less, take_more wanted i e below, map-append Known (take i wanted) (get_or wanted i e ∷ [])) (AllFit-joined (take i given) (known (take i wanted)) (get_or given i d ∷ []) (Known (get_or wanted i e) ∷ []) before (one, tt))
+
+-- At each index of two such lists the operand fits.
+pub AllFit-at : (given : List OperandType) (wanted : List ValType) (i : ℕ) (d : OperandType) (e : ValType) → i < length given → AllFit given (known wanted) → Fits (get_or given i d) (Known (get_or wanted i e))
+AllFit-at [] wanted i d e less fits = absurd (omega arith)
+AllFit-at (t ∷ given) [] i d e less fits = absurd fits
+AllFit-at (t ∷ given) (w ∷ wanted) zero d e less fits = fits.0
+AllFit-at (t ∷ given) (w ∷ wanted) (suc i) d e less fits = AllFit-at given wanted i d e (omega arith) fits.1
+
+-- The same, of what a pop answered.
+pub Takes-popped : (unreachable : Bool) (height : ℕ) (old new : List OperandType) (answer : Option OperandType) → old ≡ new ++ option_to_list answer → height < length old → IfSome answer (λ t. Takes unreachable height old (t ∷ []) new)
+Takes-popped unreachable height old new None e high = tt
+Takes-popped unreachable height old new (Some t) e high = Takes-top unreachable height old new t e high

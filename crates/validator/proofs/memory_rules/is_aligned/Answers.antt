@@ -1,5 +1,0 @@
-use Rattle.validator.proofs.Alignments.{aligned}
-use Rattle.validator.proofs.memory_rules.is_aligned.Goals as goal
-
-pub returns : goal.returns
-returns c = aligned c.args.align c.args.exponent

@@ -1,0 +1,54 @@
+-- What the context of the code lends, and the contexts that it describes.
+use Rattle.std.specs.Prelude.{List, Option, Some, [], length, map, option_map, slice_get, true, ℕ, ◌++◌, ◌≡◌}
+use Rattle.core_types.specs.declared.module.ElementSegment.{ElementSegment}
+use Rattle.core_types.specs.declared.types.FuncType.{FuncType}
+use Rattle.core_types.specs.declared.types.ValType.{ValType}
+use Rattle.meaning.specs.structure.Bodies.{Body}
+use Rattle.meaning.specs.validation.Context.{Context, with_label}
+use Rattle.meaning.specs.validation.Instructions.{HasType, IsNamed, known}
+use Rattle.meaning.specs.validation.Modules.{type_at}
+use Rattle.validator.specs.declared.context.BodyContext.{BodyContext}
+use Rattle.core_types.specs.declared.types.RefType.{RefType}
+use Rattle.core_types.specs.declared.types.TableType.{TableType}
+
+-- The types of the functions, imports first.
+abbrev pub function_types : BodyContext → List FuncType
+function_types lent = map (type_at lent.decoded.now.types) lent.spaces.now.functions.items
+
+-- The types of the locals, parameters first.
+abbrev pub local_types : BodyContext → List ValType
+local_types lent = lent.params.now ++ lent.locals.now
+
+-- The element type of a table, and of an element segment, by its index.
+abbrev pub table_element_at : BodyContext → ℕ → Option RefType
+table_element_at lent x =
+    option_map (λ (t : TableType). t.element) (slice_get lent.spaces.now.tables.items x)
+
+abbrev pub segment_type_at : BodyContext → ℕ → Option RefType
+segment_type_at lent x =
+    option_map (λ (e : ElementSegment). e.ty) (slice_get lent.decoded.now.elements x)
+
+-- The function may be named by ref.func.
+abbrev pub IsMarked : BodyContext → ℕ → Type 0
+IsMarked lent x = slice_get lent.spaces.now.declared.items x ≡ Some true
+
+-- The context has what the code's context lends, and no labels. ref.func may name the functions that
+-- are marked.
+pub record Describes (lent : BodyContext) (context : Context) : Type 0 where
+  pub types : context.types ≡ lent.decoded.now.types
+  pub functions : context.functions ≡ function_types lent
+  pub tables : context.tables ≡ lent.spaces.now.tables.items
+  pub memories : context.memories ≡ lent.spaces.now.memories.items
+  pub globals : context.globals ≡ lent.spaces.now.globals.items
+  pub elements : context.elements ≡ map (λ (e : ElementSegment). e.ty) lent.decoded.now.elements
+  pub datas : context.datas ≡ length lent.decoded.now.datas
+  pub locals : context.locals ≡ local_types lent
+  pub labels : context.labels ≡ []
+  pub results : context.results ≡ lent.results.now
+  pub references : (x : ℕ) → IsMarked lent x → IsNamed x context.references
+  pub marks : (x : ℕ) (f : FuncType) → slice_get context.functions x ≡ Some f
+      → IsNamed x context.references → IsMarked lent x
+
+-- The body is that of a function in this context: it leads from no operands to the results.
+abbrev pub IsBodyOf : Context → Body → Type 0
+IsBodyOf context body = HasType (with_label context context.results) body [] (known context.results)

@@ -1,0 +1,21 @@
+-- Which functions are marked as references of the module: named outside of bodies and the start.
+use Rattle.std.specs.Prelude.{Bool, List, Some, [], false, length, replicate, slice_get, slice_set, true, ℕ, ◌<◌, ◌∷◌, ◌≡◌}
+use Rattle.core_types.specs.declared.module.Module.{Module}
+use Rattle.meaning.specs.validation.Instructions.{IsNamed}
+use Rattle.meaning.specs.validation.Modules.{named_functions}
+use Rattle.validator.specs.declared.context.IndexSpaces.{IndexSpaces}
+
+-- The marks after those of these functions are set, as far as they are there.
+abbrev pub set_marks : List Bool → List ℕ → List Bool
+set_marks marks [] = marks
+set_marks marks (x ∷ xs) = set_marks (slice_set marks x true) xs
+
+-- The marks of a module with this number of functions.
+abbrev pub marks_of : Module → ℕ → List Bool
+marks_of m count = set_marks (replicate count false) (named_functions m)
+
+-- Each function has a mark, which is set if it is named.
+pub record HasMarks (m : Module) (s : IndexSpaces) : Type 0 where
+  pub one_for_each : length s.declared.items ≡ length s.functions.items
+  pub set : (x : ℕ) → x < length s.functions.items → IsNamed x (named_functions m)
+      → slice_get s.declared.items x ≡ Some true

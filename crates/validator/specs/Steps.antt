@@ -1,0 +1,97 @@
+-- What one step does to the stacks.
+use Rattle.std.specs.Prelude.{◌≡◌, List, [], ◌∷◌, ◌++◌, Option, Result, IfErr, OnOk, length, map}
+use Rattle.core_types.specs.declared.op.BlockType.{BlockType}
+use Rattle.core_types.specs.declared.op.Op.{Op}
+use Rattle.core_types.specs.declared.op.Op.TheVariants.{Plain}
+use Rattle.core_types.specs.declared.op.PlainOp.{PlainOp}
+use Rattle.core_types.specs.declared.types.FuncType.{FuncType}
+use Rattle.core_types.specs.declared.types.OperandType.{OperandType}
+use Rattle.meaning.specs.validation.Context.{Context}
+use Rattle.meaning.specs.validation.Instructions.{AllFit, known}
+use Rattle.validator.specs.declared.context.BodyContext.{BodyContext}
+use Rattle.validator.specs.declared.control_frames.FrameKind.{FrameKind}
+use Rattle.validator.specs.declared.control_frames.Stacks.{Stacks}
+use Rattle.validator.specs.declared.errors.Fault.{Fault}
+use Rattle.validator.specs.declared.types.InstructionType.{InstructionType}
+use Rattle.validator.specs.Completeness.{TypesRest}
+use Rattle.validator.specs.Contexts.{Describes}
+use Rattle.validator.specs.ControlFrames.{IsMark, control_stack, label_of}
+use Rattle.validator.specs.Errors.{OnInvalid}
+use Rattle.validator.specs.InstructionTypes.{HasTypeOf, IsTypeOf}
+use Rattle.validator.specs.Operands.{Covers, Refuses, Takes}
+use Rattle.validator.specs.Soundness.{TypesRead}
+
+-- No typing has operands for an instruction of this type.
+abbrev pub RefusesType : Stacks → FuncType → Type 0
+RefusesType old t =
+    Refuses old.innermost.unreachable old.innermost.height old.operands.items (known t.params)
+
+-- What was read in the innermost frame is whole: its end types can be taken, and none is left.
+pub record Closes (old : Stacks) (new : List OperandType) : Type 0 where
+  pub given : List OperandType
+  pub takes : Takes old.innermost.unreachable old.innermost.height old.operands.items given new
+  pub fits : AllFit given (known old.innermost.end_types.now)
+  pub dry : length new ≡ old.innermost.height
+
+-- No typing has the end types of the innermost frame alone.
+pub record NeverCloses (old : Stacks) : Type 0 where
+  pub at : (under own theirs : List OperandType) → old.operands.items ≡ under ++ own
+      → length under ≡ old.innermost.height → Covers old.innermost.unreachable own theirs
+      → AllFit theirs (known old.innermost.end_types.now) → ⊥
+
+-- The answer when the results of the innermost frame are taken.
+abbrev pub Finishes : Stacks → List OperandType → Result (Unit {0}) Fault → Type 0
+Finishes old new result = OnOk result (Closes old new) × IfErr result (OnInvalid (NeverCloses old))
+
+-- What the stacks said of what was read holds with the operation.
+pub record KeepsRead (lent : BodyContext) (old new : Stacks) (o : Op) : Type 0 where
+  pub keeps : (context : Context) → Describes lent context → (read : List Op)
+      → TypesRead context old read → TypesRead context new (read ++ o ∷ [])
+
+-- Whatever was possible with the operation next is possible after it.
+pub record KeepsRest (lent : BodyContext) (old new : Stacks) (o : Op) : Type 0 where
+  pub on : (context : Context) → Describes lent context → (ops : List Op)
+      → TypesRest context old (o ∷ ops) → TypesRest context new ops
+
+-- The step reads the operation: it keeps what was read typed, and what is possible.
+pub record StepsTo (lent : BodyContext) (old new : Stacks) (o : Op) : Type 0 where
+  pub sound : KeepsRead lent old new o
+  pub complete : KeepsRest lent old new o
+
+-- Nothing is possible with the operation next.
+pub record CannotBeNext (lent : BodyContext) (old : Stacks) (o : Op) : Type 0 where
+  pub at : (context : Context) → Describes lent context → (ops : List Op)
+      → TypesRest context old (o ∷ ops) → ⊥
+
+-- The answer of a step over the operation, in this context.
+abbrev pub Steps : BodyContext → Stacks → Stacks → Op → Result (Unit {0}) Fault → Type 0
+Steps lent old new o result =
+    OnOk result (StepsTo lent old new o)
+    × IfErr result (OnInvalid (CannotBeNext lent old o))
+
+-- The same in any context.
+abbrev pub StepsAnywhere : Stacks → Stacks → Op → Result (Unit {0}) Fault → Type 0
+StepsAnywhere old new o result = (lent : BodyContext) → Steps lent old new o result
+
+-- The same over an instruction without a body.
+abbrev pub StepsOver : Stacks → Stacks → PlainOp → Result (Unit {0}) Fault → Type 0
+StepsOver old new o result = StepsAnywhere old new (Plain o) result
+
+-- The same for each operation that begins a body of this kind and block type.
+abbrev pub StepsInto : BodyContext → Stacks → Stacks → FrameKind → BlockType
+    → Result (Unit {0}) Fault → Type 0
+StepsInto lent old new kind type result =
+    (o : Op) → IsMark kind type o → Steps lent old new o result
+
+-- The answer of a step over any instruction that has this type, where the stacks are.
+abbrev pub StepsByType : Stacks → Stacks → FuncType → Result (Unit {0}) Fault → Type 0
+StepsByType old new t result =
+    (lent : BodyContext) (o : PlainOp) → IsTypeOf lent (map label_of (control_stack old)) o t
+    → Steps lent old new (Plain o) result
+
+-- The same for any instruction whose type was looked up.
+abbrev pub StepsByFound : Stacks → Stacks → Option InstructionType → Result (Unit {0}) Fault
+    → Type 0
+StepsByFound old new found result =
+    (lent : BodyContext) (o : PlainOp) → HasTypeOf lent o found
+    → Steps lent old new (Plain o) result

@@ -1,0 +1,81 @@
+ghost use Rattle.std.specs.Prelude.{All, IsTrue, ◌<◌, ◌↔◌};
+ghost use Rattle.validator.specs.ModuleParts.{AreItemsIn, IsElementIn, IsElementModeIn};
+
+use crate::constants::{ConstantContext, is_constant};
+use crate::context::IndexSpaces;
+use crate::types::reference_type;
+use core_types::{ElementItems, ElementMode, ElementSegment, RefType, ValType};
+
+// Whether the references of a segment are of its type, each a function that is there or a constant.
+#[tactic(auto, unfolding(crate::specs::ModuleParts::AreItemsIn))]
+fn are_valid_items(
+    spaces: &IndexSpaces,
+    context: &ConstantContext<'_>,
+    ty: RefType,
+    items: &ElementItems,
+) -> bool
+    ensures { IsTrue result ↔ AreItemsIn spaces.now context.now ty items.now }
+{
+    match items {
+        ElementItems::Functions(indices) => {
+            ty == RefType::FuncRef && are_below(spaces.functions.len(), indices.as_slice())
+        }
+        ElementItems::Expressions(expressions) => expressions.as_slice().iter().all(
+            |ops| is_constant(context, ops.as_slice(), reference_type(ty)),
+        ),
+    }
+}
+
+// Whether each index is below the count.
+fn are_below(count: usize, indices: &[u32]) -> bool
+    ensures { IsTrue result ↔ All (λ x. x < count) indices.now }
+{
+    indices.iter().all(|index| (*index as usize) < count)
+}
+
+// Whether a segment of references of this type goes nowhere, or into a table of the type, at a
+// constant offset.
+#[tactic(auto, unfolding(crate::specs::ModuleParts::IsElementModeIn))]
+fn is_valid_element_mode(
+    spaces: &IndexSpaces,
+    context: &ConstantContext<'_>,
+    ty: RefType,
+    mode: &ElementMode,
+) -> bool
+    ensures { IsTrue result ↔ IsElementModeIn spaces.now context.now ty mode.now }
+{
+    match mode {
+        ElementMode::Passive | ElementMode::Declarative => true,
+        ElementMode::Active { table, offset } => match spaces.tables.get(*table as usize) {
+            Some(found) => {
+                found.element == ty && is_constant(context, offset.as_slice(), ValType::I32)
+            }
+            None => false,
+        },
+    }
+}
+
+// Whether an element segment is valid (Validation, Element Segments).
+fn is_valid_element(
+    spaces: &IndexSpaces,
+    context: &ConstantContext<'_>,
+    element: &ElementSegment,
+) -> bool
+    ensures { IsTrue result ↔ IsElementIn spaces.now context.now element.now }
+{
+    are_valid_items(spaces, context, element.ty, &element.items)
+        && is_valid_element_mode(spaces, context, element.ty, &element.mode)
+}
+
+// Whether each element segment is valid.
+pub fn are_valid_elements(
+    spaces: &IndexSpaces,
+    context: &ConstantContext<'_>,
+    elements: &[ElementSegment],
+) -> bool
+    ensures { IsTrue result ↔ All (IsElementIn spaces.now context.now) elements.now }
+{
+    elements
+        .iter()
+        .all(|element| is_valid_element(spaces, context, element))
+}

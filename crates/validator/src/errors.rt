@@ -1,0 +1,83 @@
+ghost use Rattle.std.specs.Prelude.{◌≡◌};
+ghost use Rattle.validator.specs.declared.errors.Fault.TheVariants as faults;
+ghost use Rattle.validator.specs.declared.errors.ValidateError.TheVariants.{OutOfMemory};
+
+use std::alloc::{AllocError, AllocFailed};
+use std::fmt;
+use thiserror::Error;
+
+/// Where a module is invalid.
+#[derive(Clone, Copy, PartialEq, Eq, Debug)]
+pub enum Place {
+    /// In the function of this index among the module's own.
+    Func(usize),
+    /// In the section of this id.
+    Section(u8),
+}
+
+impl fmt::Display for Place {
+    fn fmt<W: fmt::Write>(&self, f: &mut fmt::Formatter<W>) -> fmt::Result {
+        match self {
+            Place::Func(index) => write!(f, "function {index}"),
+            Place::Section(id) => write!(f, "section {id}"),
+        }
+    }
+}
+
+/// Why a module was not validated.
+#[derive(Debug, Drop, Error)]
+pub enum ValidateError {
+    /// No typing accepts the module.
+    #[error("invalid module: {0}")]
+    Invalid(Place),
+    /// Out of memory.
+    #[error("out of memory")]
+    OutOfMemory,
+}
+
+impl ValidateError {
+    ghost use Rattle.validator.specs.Errors.{validate_number};
+
+    /// The number of the refusal.
+    pub fn number(&self) -> u8
+        ensures { result ≡ validate_number self.now }
+    {
+        match self {
+            ValidateError::Invalid(_) => 4,
+            ValidateError::OutOfMemory => 13,
+        }
+    }
+}
+
+impl From<AllocError> for ValidateError {
+    ghost from_gives = { λ _ error. error ≡ OutOfMemory };
+
+    fn from(_error: AllocError) -> ValidateError {
+        ValidateError::OutOfMemory
+    }
+}
+
+/// Why a part of a module is refused.
+#[derive(Clone, Copy)]
+pub enum Fault {
+    /// No typing accepts it.
+    Invalid,
+    /// Out of memory.
+    OutOfMemory,
+}
+
+impl From<AllocError> for Fault {
+    ghost from_gives = { λ _ fault. fault ≡ faults.OutOfMemory };
+
+    fn from(_error: AllocError) -> Fault {
+        Fault::OutOfMemory
+    }
+}
+
+impl<T: Drop> From<AllocFailed<T>> for Fault {
+    ghost from_gives = { λ _ fault. fault ≡ faults.OutOfMemory };
+
+    fn from(_error: AllocFailed<T>) -> Fault {
+        Fault::OutOfMemory
+    }
+}

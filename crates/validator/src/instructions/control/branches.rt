@@ -1,0 +1,93 @@
+ghost use Rattle.std.specs.Bool.{OnFalse, OnTrue};
+ghost use Rattle.std.specs.Prelude.{All};
+ghost use Rattle.core_types.specs.declared.op.ControlOp.TheVariants as control;
+ghost use Rattle.core_types.specs.declared.op.PlainOp.TheVariants as plain;
+ghost use Rattle.validator.specs.ControlFrames.{FitsLabelAt};
+ghost use Rattle.validator.specs.Steps.{StepsOver};
+
+use crate::control_frames::{ControlFrame, Stacks, find_label, set_unreachable};
+use crate::errors::Fault;
+use crate::instructions::apply;
+use crate::operands::{all_fit, pop_fitting, pop_types, take_operands};
+use crate::types::takes_i32_gives;
+use core_types::{BranchTable, OperandType, ValType};
+use std::alloc::Global;
+
+// A branch.
+pub fn step_br(stacks: &mut Stacks<'_>, index: u32) -> Result<(), Fault>
+    ensures { StepsOver stacks.old stacks.new (plain.Control (control.Br index)) result }
+{
+    let Some(types) = find_label(&stacks.innermost, &stacks.outer, index) else {
+        return Err(Fault::Invalid);
+    };
+    if !pop_types(&mut stacks.operands, &stacks.innermost, types) {
+        return Err(Fault::Invalid);
+    }
+    set_unreachable(stacks);
+    Ok(())
+}
+
+// A conditional branch.
+pub fn step_br_if(stacks: &mut Stacks<'_>, index: u32) -> Result<(), Fault>
+    ensures { StepsOver stacks.old stacks.new (plain.Control (control.BrIf index)) result }
+{
+    let Some(types) = find_label(&stacks.innermost, &stacks.outer, index) else {
+        return Err(Fault::Invalid);
+    };
+    apply(stacks, &takes_i32_gives(types, types))
+}
+
+// Whether operands may be carried to each of the labels.
+fn fit_labels<'a>(
+    given: &[OperandType],
+    innermost: &ControlFrame<'a>,
+    outer: &[ControlFrame<'a>],
+    numbers: &[u32],
+) -> bool
+    ensures fit { OnTrue result (All (FitsLabelAt innermost.now outer.now given.now) numbers.now) }
+    ensures refused { OnFalse result (¬ All (FitsLabelAt innermost.now outer.now given.now) numbers.now) }
+{
+    for index in numbers {
+        let Some(types) = find_label(innermost, outer, *index) else {
+            return false;
+        };
+        if !all_fit(given, types) {
+            return false;
+        }
+    }
+    true
+}
+
+// A branch to one of several labels.
+pub fn step_br_table(
+    alloc: Global,
+    stacks: &mut Stacks<'_>,
+    table: &BranchTable,
+) -> Result<(), Fault>
+    ensures { StepsOver stacks.old stacks.new (plain.BrTable table.now) result }
+{
+    if !pop_fitting(
+        &mut stacks.operands,
+        &stacks.innermost,
+        OperandType::Known(ValType::I32),
+    ) {
+        return Err(Fault::Invalid);
+    }
+    let Some(types) = find_label(&stacks.innermost, &stacks.outer, table.default) else {
+        return Err(Fault::Invalid);
+    };
+    let given = take_operands(alloc, &mut stacks.operands, &stacks.innermost, types.len())?;
+    if !all_fit(&given, types) {
+        return Err(Fault::Invalid);
+    }
+    if !fit_labels(
+        &given,
+        &stacks.innermost,
+        &stacks.outer,
+        table.labels.as_slice(),
+    ) {
+        return Err(Fault::Invalid);
+    }
+    set_unreachable(stacks);
+    Ok(())
+}

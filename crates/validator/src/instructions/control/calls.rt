@@ -1,0 +1,49 @@
+ghost use Rattle.core_types.specs.declared.op.ControlOp.TheVariants as control;
+ghost use Rattle.core_types.specs.declared.op.Op.TheVariants as flat;
+ghost use Rattle.core_types.specs.declared.op.PlainOp.TheVariants as plain;
+ghost use Rattle.validator.specs.InstructionTypes.{HasTypeOf};
+ghost use Rattle.validator.specs.Steps.{Steps};
+
+use crate::context::{BodyContext, function_type, item, table_element};
+use crate::control_frames::{Stacks, set_unreachable};
+use crate::errors::Fault;
+use crate::operands::pop_types;
+use crate::types::{InstructionType, takes_gives, takes_i32_gives};
+use core_types::RefType;
+
+// The type of `call`.
+pub fn type_of_call<'a>(context: &BodyContext<'a>, index: u32) -> Option<InstructionType<'a>>
+    ensures { HasTypeOf context.now (plain.Control (control.Call index)) result }
+{
+    let ty = function_type(context, index)?;
+    Some(takes_gives(ty.params, ty.results))
+}
+
+// The type of `call_indirect`, through a table of functions.
+pub fn type_of_call_indirect<'a>(
+    context: &BodyContext<'a>,
+    ty: u32,
+    table: u32,
+) -> Option<InstructionType<'a>>
+    ensures { HasTypeOf context.now (plain.Control (control.CallIndirect ty table)) result }
+{
+    let called = item(context.decoded.types.as_slice(), ty)?;
+    match table_element(context, table)? {
+        RefType::FuncRef => Some(takes_i32_gives(
+            called.params.as_slice(),
+            called.results.as_slice(),
+        )),
+        RefType::ExternRef => None,
+    }
+}
+
+// A return.
+pub fn step_return(context: &BodyContext<'_>, stacks: &mut Stacks<'_>) -> Result<(), Fault>
+    ensures { Steps context.now stacks.old stacks.new (flat.Plain (plain.Control control.Return)) result }
+{
+    if !pop_types(&mut stacks.operands, &stacks.innermost, context.results) {
+        return Err(Fault::Invalid);
+    }
+    set_unreachable(stacks);
+    Ok(())
+}

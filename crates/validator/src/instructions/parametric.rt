@@ -1,0 +1,90 @@
+ghost use Rattle.std.specs.Prelude.{IfNone, IfSome, ◌≡◌};
+ghost use Rattle.core_types.specs.declared.op.ParametricOp.TheVariants as parametric;
+ghost use Rattle.core_types.specs.declared.op.PlainOp.TheVariants as plain;
+ghost use Rattle.core_types.specs.declared.types.OperandType.{OperandType as Operand};
+ghost use Rattle.meaning.specs.validation.Instructions.{Fits, IsNumeric};
+ghost use Rattle.validator.specs.InstructionTypes.{HasTypeOf};
+ghost use Rattle.validator.specs.Steps.{StepsOver};
+ghost use Rattle.validator.specs.declared.context.BodyContext.{BodyContext as Lent};
+ghost use Rattle.validator.specs.Operands.{AreBothNumeric};
+
+use crate::control_frames::Stacks;
+use crate::errors::Fault;
+use crate::operands::{pop, pop_fitting};
+use crate::types::{InstructionType, once, takes_i32_gives, twice};
+use core_types::{OperandType, ValType};
+
+// The operand type of numbers of a type, if numbers have it.
+fn numeric_operand(ty: ValType) -> Option<OperandType>
+    ensures some { IfSome result (λ t. (t ≡ OperandType.Known ty) × IsNumeric t) }
+    ensures none { IfNone result (IsNumeric (OperandType.Known ty) → ⊥) }
+{
+    match ty {
+        ValType::I32 | ValType::I64 => Some(OperandType::Known(ty)),
+        ValType::FuncRef | ValType::ExternRef => None,
+    }
+}
+
+// What a select of two operands gives.
+pub fn joint(first: OperandType, second: OperandType) -> Option<OperandType>
+    ensures some { IfSome result (AreBothNumeric first second) }
+    ensures least { IfSome result (λ t. (u : Operand) → AreBothNumeric first second u → Fits t u) }
+    ensures none { IfNone result ((u : Operand) → AreBothNumeric first second u → ⊥) }
+{
+    match (first, second) {
+        (OperandType::Unknown, OperandType::Unknown) => Some(OperandType::Unknown),
+        (OperandType::Unknown, OperandType::Known(ty)) => numeric_operand(ty),
+        (OperandType::Known(ty), OperandType::Unknown) => numeric_operand(ty),
+        (OperandType::Known(ty), OperandType::Known(other)) => {
+            if ty == other {
+                numeric_operand(ty)
+            } else {
+                None
+            }
+        }
+    }
+}
+
+// A drop.
+pub fn step_drop(stacks: &mut Stacks<'_>) -> Result<(), Fault>
+    ensures { StepsOver stacks.old stacks.new (plain.Parametric parametric.DropOperand) result }
+{
+    match pop(&mut stacks.operands, &stacks.innermost) {
+        Some(_) => Ok(()),
+        None => Err(Fault::Invalid),
+    }
+}
+
+// A select without types.
+pub fn step_select(stacks: &mut Stacks<'_>) -> Result<(), Fault>
+    ensures { StepsOver stacks.old stacks.new (plain.Parametric parametric.Select) result }
+{
+    if !pop_fitting(
+        &mut stacks.operands,
+        &stacks.innermost,
+        OperandType::Known(ValType::I32),
+    ) {
+        return Err(Fault::Invalid);
+    }
+    let Some(second) = pop(&mut stacks.operands, &stacks.innermost) else {
+        return Err(Fault::Invalid);
+    };
+    let Some(first) = pop(&mut stacks.operands, &stacks.innermost) else {
+        return Err(Fault::Invalid);
+    };
+    let Some(chosen) = joint(first, second) else {
+        return Err(Fault::Invalid);
+    };
+    stacks.operands.push(chosen)?;
+    Ok(())
+}
+
+// A select with types, of which there is one.
+pub fn type_of_select(types: &[ValType]) -> Option<InstructionType<'static>>
+    ensures { (lent : Lent) → HasTypeOf lent (plain.SelectTyped types.now) result }
+{
+    if types.len() != 1 {
+        return None;
+    }
+    Some(takes_i32_gives(twice(types[0]), once(types[0])))
+}
