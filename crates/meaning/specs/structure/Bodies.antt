@@ -39,7 +39,7 @@ joined (Then op rest) b = Then op (joined rest b)
 joined (Nested kind type inner rest) b = Nested kind type inner (joined rest b)
 joined (IfElse type inner other rest) b = IfElse type inner other (joined rest b)
 
--- What is left of a body at a place of flat code, and the else body behind it if it goes down to an else.
+-- What is left of a body at a position in flat code, and the else body behind it if it goes down to an else.
 pub record Part : Type 0 where
   pub body : Body
   pub other : Option Body
@@ -47,7 +47,7 @@ pub record Part : Type 0 where
 abbrev pub nothing_left : Part
 nothing_left = record { body = Empty; other = None }
 
--- What is left of the body at a place of flat code, and of each body around it, from the inside out.
+-- What is left of the body at a position in flat code, and of each body around it, from the inside out.
 pub record Rests : Type 0 where
   pub here : Part
   pub around : List Part
@@ -65,7 +65,7 @@ abbrev pub if_with : BlockType → Body → Option Body → Body → Body
 if_with type inner None rest = Nested IfKind type inner rest
 if_with type inner (Some other) rest = IfElse type inner other rest
 
--- A place before an instruction with a body, whose inside is here and whose rest is the first of those around it.
+-- A position before an instruction with a body, whose inside is here and whose rest is the first of those around it.
 abbrev pub enclosed : (Part → Body → Body) → Rests → Rests
 enclosed instruction rests = record {
   here = record { body = instruction rests.here (first_part rests.around).body; other = (first_part rests.around).other };
@@ -82,6 +82,6 @@ rests (If type ∷ ops) = enclosed (λ inside rest. if_with type inside.body ins
 rests (Else ∷ ops) = record { here = record { body = Empty; other = Some (rests ops).here.body }; around = (rests ops).around }
 rests (End ∷ ops) = record { here = nothing_left; around = (rests ops).here ∷ (rests ops).around }
 
--- What is left of the body at a place of flat code: down to its end, its else, or the last operation.
+-- What is left of the body at a position in flat code: down to its end, its else, or the last operation.
 abbrev pub body_of : List Op → Body
 body_of ops = (rests ops).here.body
