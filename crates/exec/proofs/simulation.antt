@@ -4,7 +4,6 @@ pub mod Branches
 pub mod Calls
 pub mod Conditions
 pub mod Configurations
-pub mod Contexts
 pub mod Controls
 pub mod Effects
 pub mod Ends

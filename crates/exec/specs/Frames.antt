@@ -7,13 +7,22 @@ use Rattle.meaning.specs.execution.Instructions.{default_of}
 use Rattle.exec.specs.declared.machine.Caller.{Caller}
 use Rattle.exec.specs.declared.machine.Control.{Control}
 use Rattle.exec.specs.declared.machine.Control.TheVariants.{InLabel, InFrame, FromOutside}
+use Rattle.exec.specs.declared.machine.FunctionCode.{FunctionCode}
 use Rattle.exec.specs.declared.machine.Machine.{Machine}
+use Rattle.meaning.specs.structure.Bodies.{rests}
 use Rattle.stacks.specs.Stacked.{operand_stack, local_stack}
+use Rattle.store.specs.Ends.{HasEnds}
+
+-- This is the code of a function in an instance, with the positions at which its bodies end.
+pub record IsCodeOf (code : FunctionCode) (f : Func) (instance : ℕ) : Type 0 where
+  pub body : code.body.now ≡ f.body
+  pub ends : HasEnds code.body.now code.ends.now
+  pub instance_is : code.instance ≡ instance
+  pub alone : (rests f.body).around ≡ []
 
 -- The machine goes on in this caller, with the caller's locals.
 pub record ReturnsTo (c : Caller) (old new : Machine) : Type 0 where
-  pub function : new.function ≡ c.function
-  pub instance : new.instance ≡ c.instance
+  pub code : new.code ≡ c.code
   pub position : new.position ≡ c.position
   pub outer : new.outer ≡ c.outer
   pub operands : new.operands ≡ old.operands
@@ -21,15 +30,17 @@ pub record ReturnsTo (c : Caller) (old new : Machine) : Type 0 where
   pub locals : (lower own : List Val) → old.locals.below ≡ lower ++ own → length lower ≡ c.locals
       → new.locals ≡ local_stack own lower
 
--- The machine at the start of a function, whose frame is this control, with its number of results and operations.
-abbrev pub enter : Control → ℕ → ℕ → ℕ → ℕ → Machine → Machine
-enter control address instance results operations m = record {
-  function = address;
-  instance = instance;
+-- The machine at the start of a function's code, whose frame is this control, with its number of results.
+abbrev pub enter : Control → FunctionCode → (results : ℕ) → Machine → Machine
+enter control code results m = record {
+  code = code;
   position = 0;
   operands = m.operands;
   locals = m.locals;
-  controls = InLabel (record { arity = results; base = length m.operands.below; outside = length m.operands.below; target = operations }) ∷ (control ∷ m.controls);
+  controls =
+      InLabel
+      (record { arity = results; base = length m.operands.below; outside = length m.operands.below; target = length code.body.now }) ∷
+      (control ∷ m.controls);
   outer = suc (length m.controls);
 }
 
@@ -39,28 +50,27 @@ caller_of t m = record {
   arity = length t.results;
   base = length (drop (length t.params) m.operands.own ++ m.operands.below);
   outside = length m.operands.below;
-  function = m.function;
-  instance = m.instance;
+  code = m.code;
   position = m.position + 1;
   locals = length m.locals.below;
   outer = m.outer;
 }
 
 -- The machine in a frame of this function, with the topmost operands as arguments.
-abbrev pub enter_callee : FuncType → Func → ℕ → ℕ → Machine → Machine
-enter_callee t f instance address m =
-    enter (InFrame (caller_of t m)) address instance (length t.results) (length f.body) (record m {
+abbrev pub enter_callee : FuncType → Func → FunctionCode → Machine → Machine
+enter_callee t f code m =
+    enter (InFrame (caller_of t m)) code (length t.results) (record m {
       operands = operand_stack [] (drop (length t.params) m.operands.own ++ m.operands.below);
       locals =
-          local_stack (reverse (take (length t.params) m.operands.own) ++ map default_of f.locals) (m.locals.below ++ m.locals.own);
+          local_stack (reverse (take (length t.params) m.operands.own) ++ map default_of f.locals)
+          (m.locals.below ++ m.locals.own);
     })
 
 -- The machine at the start of a call of this function from outside.
-abbrev pub enter_from_outside : FuncType → Func → ℕ → ℕ → List Val → Machine
-enter_from_outside t f instance address args =
-    enter (FromOutside (length t.results)) address instance (length t.results) (length f.body) (record {
-      function = address;
-      instance = instance;
+abbrev pub enter_from_outside : FuncType → Func → FunctionCode → List Val → Machine
+enter_from_outside t f code args =
+    enter (FromOutside (length t.results)) code (length t.results) (record {
+      code = code;
       position = 0;
       operands = operand_stack [] [];
       locals = local_stack (args ++ map default_of f.locals) [];

@@ -1,4 +1,3 @@
-pub mod Contexts
 pub mod Positions
 pub mod Representation
 pub mod Frames

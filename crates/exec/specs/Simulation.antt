@@ -1,22 +1,24 @@
 -- What a turn of the machine does.
-use Rattle.std.specs.Prelude.{◌≡◌, ℕ, ◌+◌, ◌*◌, [], length, reverse, Option, Some}
+use Rattle.std.specs.Prelude.{◌≡◌, ℕ, ◌+◌, ◌*◌, List, [], length, Option, Some}
 use Rattle.core_types.specs.declared.outcome.Exhaustion.{Exhaustion}
 use Rattle.core_types.specs.declared.outcome.Exhaustion.TheVariants as exhausted
-use Rattle.meaning.specs.execution.Configurations.{Configuration}
+use Rattle.meaning.specs.execution.Configurations.{Configuration, Running, no_frame}
 use Rattle.meaning.specs.execution.Instructions.{Next, continuation_of, enter_label, next}
-use Rattle.meaning.specs.execution.Runs.{Run, IsStep, Ending, WithValues, WithTrap, OutOfFuel, OutOfDepth, OutOfMemory, GotStuck}
+use Rattle.meaning.specs.execution.Store.{Store}
+use Rattle.meaning.specs.execution.Runs.{IsEnd, IsStep, NoHosts, Run, State, Steps, Ending, WithValues, WithTrap, OutOfFuel, OutOfDepth, OutOfMemory, GotStuck}
+use Rattle.exec.specs.declared.host_table.HostTable.{HostTable}
 use Rattle.exec.specs.declared.machine.Machine.{Machine}
 use Rattle.exec.specs.declared.machine.Outcome.{Outcome}
 use Rattle.exec.specs.declared.machine.Outcome.TheVariants.{Values, Trap, Exhausted, Stuck}
 use Rattle.exec.specs.declared.machine.Step.{Step}
 use Rattle.exec.specs.declared.machine.Step.TheVariants as steps
 use Rattle.exec.specs.Representation.{Represents, RepresentsAt, frame_of, redex_of, rests_of}
-use Rattle.store.specs.Contents.{Contents, code_at, store_of}
+use Rattle.store.specs.Contents.{Contents, store_of}
 use Rattle.exec.specs.Positions.{continue_at, rests_at}
 use Rattle.exec.specs.declared.control.blocks.Arity.{Arity}
 use Rattle.core_types.specs.declared.op.BlockType.{BlockType}
 use Rattle.core_types.specs.declared.types.FuncType.{FuncType}
-use Rattle.meaning.specs.structure.Bodies.{Kind, first_part, other_parts}
+use Rattle.meaning.specs.structure.Bodies.{Empty, Kind, first_part, other_parts}
 use Rattle.fuel.specs.Metering.{Metered}
 
 abbrev pub exhausted_ending : Exhaustion → Ending
@@ -30,62 +32,87 @@ ending_of (Trap trap) = WithTrap trap
 ending_of (Exhausted what) = exhausted_ending what
 ending_of Stuck = GotStuck
 
+-- What a run may change beside the fuel: the store and the host functions, of which there are none yet.
+pub record World : Type 0 where
+  pub store : Store
+  pub hosts : List ⊥
+
+-- The world of a store, without host functions.
+abbrev pub world_of : Contents → World
+world_of s = record { store = store_of s; hosts = [] }
+
+-- The functions and the instances of the store are those of the code.
+pub record HasCode (s : Contents) (w : World) : Type 0 where
+  pub functions : w.store.functions ≡ (store_of s).functions
+  pub instances : w.store.instances ≡ (store_of s).instances
+
+-- The state of a run with this fuel left.
+abbrev pub state : World → (fuel : ℕ) → State ⊥
+state w fuel = record { store = w.store; hosts = w.hosts; fuel = fuel }
+
+-- The state of a run of this machine's parts.
+abbrev pub state_of : Contents → HostTable → Metered → State ⊥
+state_of s hosts meter = state (world_of s) meter.left
+
+-- One step, outside of all frames.
+abbrev pub MovesTo : (bound : ℕ) → World → (fuel : ℕ) → Configuration → World → (left : ℕ) → Configuration
+    → Type 0
+MovesTo bound w fuel old w' left new = IsStep NoHosts bound no_frame (state w fuel) old (state w' left) new
+
+-- Steps in a row.
+abbrev pub LeadsTo : (bound : ℕ) → World → (fuel : ℕ) → Configuration → World → (left : ℕ) → Configuration
+    → Type 0
+LeadsTo bound w fuel old w' left new = Steps NoHosts bound no_frame (state w fuel) old (state w' left) new
+
+-- The end of a run.
+abbrev pub EndsWith : (bound : ℕ) → World → (fuel : ℕ) → Configuration → Ending → World → (left : ℕ) → Type 0
+EndsWith bound w fuel old ending w' left =
+    IsEnd NoHosts bound no_frame (state w fuel) old ending (state w' left)
+
+-- A whole run.
+abbrev pub RunsTo : (bound : ℕ) → World → (fuel : ℕ) → Configuration → Ending → World → (left : ℕ) → Type 0
+RunsTo bound w fuel old ending w' left = Run NoHosts bound no_frame (state w fuel) old ending (state w' left)
+
+-- ---- what a turn of the machine is
+
 -- One step, and the machine represents what comes of it.
-pub record StepsTo (s : Contents) (old : Configuration) (meter : Metered) (new : Machine) (meter' : Metered) : Type 0 where
+pub record StepsTo (w : World) (old : Configuration) (meter : Metered) (w' : World) (new : Machine) (meter' : Metered) : Type 0 where
   pub whole : Configuration
-  pub step : IsStep meter.bound (store_of s) meter.left old (store_of s) meter'.left whole
-  pub stands : Represents s new meter'.frames whole
+  pub step : MovesTo meter.bound w meter.left old w' meter'.left whole
+  pub represents : Represents new meter'.frames whole
 
-abbrev pub RunEnds : Contents → Configuration → Metered → Ending → Metered → Type 0
-RunEnds s old meter ending meter' = Run meter.bound (store_of s) meter.left old ending (store_of s) meter'.left
+-- What a turn is from a configuration: a step, after the last of which the operands are the results; or the end of a run.
+abbrev pub IsStepOrEnd : Step → World → Configuration → Metered → World → Machine → Metered → Type 0
+IsStepOrEnd steps.Goes w old meter w' new meter' = StepsTo w old meter w' new meter'
+IsStepOrEnd steps.Crosses w old meter w' new meter' = StepsTo w old meter w' new meter'
+IsStepOrEnd steps.Over w old meter w' new meter' =
+    (new.operands.below ≡ []) × MovesTo meter.bound w meter.left old w' meter'.left
+    (Running new.operands.own Empty)
+IsStepOrEnd (steps.Traps trap) w old meter w' new meter' =
+    EndsWith meter.bound w meter.left old (WithTrap trap) w' meter'.left
+IsStepOrEnd (steps.Lacks what) w old meter w' new meter' =
+    EndsWith meter.bound w meter.left old (exhausted_ending what) w' meter'.left
+IsStepOrEnd steps.Stuck w old meter w' new meter' =
+    EndsWith meter.bound w meter.left old GotStuck w' meter'.left
 
--- What a turn is from a configuration: a step, or the end of a run.
-abbrev pub IsStepOrEnd : Contents → Step → Configuration → Metered → Machine → Metered → Type 0
-IsStepOrEnd s steps.Goes old meter new meter' = StepsTo s old meter new meter'
-IsStepOrEnd s steps.Crosses old meter new meter' = StepsTo s old meter new meter'
-IsStepOrEnd s steps.Over old meter new meter' =
-    (new.operands.below ≡ []) × RunEnds s old meter (WithValues (reverse new.operands.own)) meter'
-IsStepOrEnd s (steps.Traps trap) old meter new meter' = RunEnds s old meter (WithTrap trap) meter'
-IsStepOrEnd s (steps.Lacks what) old meter new meter' = RunEnds s old meter (exhausted_ending what) meter'
-IsStepOrEnd s steps.Stuck old meter new meter' = RunEnds s old meter GotStuck meter'
+-- From each configuration that the machine represents with this redex.
+abbrev pub SimulatesAt : Configuration → World → Machine → Metered → Step → World → Machine → Metered → Type 0
+SimulatesAt redex w old meter t w' new meter' =
+    (whole : Configuration) → RepresentsAt old meter.frames redex whole → IsStepOrEnd t w whole meter w' new meter'
 
--- From each configuration for which the machine stands with this redex.
-abbrev pub SimulatesAt : Contents → Configuration → Machine → Metered → Step → Machine → Metered → Type 0
-SimulatesAt s redex old meter t new meter' =
-    (whole : Configuration) → RepresentsAt s old meter.frames redex whole → IsStepOrEnd s t whole meter new meter'
-
--- From each configuration for which the machine stands.
-abbrev pub Simulates : Contents → Machine → Metered → Step → Machine → Metered → Type 0
-Simulates s old meter t new meter' = SimulatesAt s (redex_of s old) old meter t new meter'
-
--- Steps of a bounded run, or none, lead from the one to the other: what comes of the second comes of the first.
-abbrev pub Reaches : Contents → Configuration → Metered → Configuration → Metered → Type 0
-Reaches s old meter new meter' = (ending : Ending) (left : ℕ) → Run meter.bound (store_of s) meter'.left new ending (store_of s) left → Run meter.bound (store_of s) meter.left old ending (store_of s) left
-
--- Steps of a bounded run, after which the machine represents what comes of them, or a run to its end.
-abbrev pub ReachesOrEnds : Contents → Step → Configuration → Metered → Machine → Metered → Type 0
-ReachesOrEnds s steps.Goes old meter new meter' =
-    (whole : Configuration) × Reaches s old meter whole meter' × Represents s new meter'.frames whole
-ReachesOrEnds s steps.Crosses old meter new meter' =
-    (whole : Configuration) × Reaches s old meter whole meter' × Represents s new meter'.frames whole
-ReachesOrEnds s steps.Over old meter new meter' = IsStepOrEnd s steps.Over old meter new meter'
-ReachesOrEnds s (steps.Traps trap) old meter new meter' = IsStepOrEnd s (steps.Traps trap) old meter new meter'
-ReachesOrEnds s (steps.Lacks what) old meter new meter' = IsStepOrEnd s (steps.Lacks what) old meter new meter'
-ReachesOrEnds s steps.Stuck old meter new meter' = IsStepOrEnd s steps.Stuck old meter new meter'
-
-abbrev pub SimulatesRun : Contents → Machine → Metered → Step → Machine → Metered → Type 0
-SimulatesRun s old meter t new meter' =
-    (whole : Configuration) → Represents s old meter.frames whole → ReachesOrEnds s t whole meter new meter'
+-- From each configuration that the machine represents.
+abbrev pub Simulates : World → Machine → Metered → Step → World → Machine → Metered → Type 0
+Simulates w old meter t w' new meter' = SimulatesAt (redex_of old) w old meter t w' new meter'
 
 -- What the redex does next, in the machine's frame.
-abbrev pub next_in : Contents → Machine → Configuration → Next
-next_in s m redex = next (store_of s) (frame_of m) redex
+abbrev pub next_in : World → Machine → Configuration → Next
+next_in w m redex = next w.store (frame_of m) redex
 
--- The redex enters a label of this kind and type: at the place is its inside, and at the target a branch goes on.
-pub record IsEntry (s : Contents) (m : Machine) (redex : Configuration) (kind : Kind) (type : BlockType) (t : FuncType) (target position : ℕ) : Type 0 where
-  pub next_is : next_in s m redex ≡ enter_label (store_of s) (frame_of m) kind type (Some t) (rests_at (code_at s m.function) position).here.body m.operands.own (first_part (rests_at (code_at s m.function) position).around).body
-  pub around : (rests_of s m).around ≡ other_parts (rests_at (code_at s m.function) position).around
-  pub target_is : rests_at (code_at s m.function) target ≡ continue_at (continuation_of kind type (rests_at (code_at s m.function) position).here.body) (rests_at (code_at s m.function) position).around
+-- The redex enters a label of this kind and type: at the position is its inside, and at the target a branch goes on.
+pub record IsEntry (w : World) (m : Machine) (redex : Configuration) (kind : Kind) (type : BlockType) (t : FuncType) (target position : ℕ) : Type 0 where
+  pub next_is : next_in w m redex ≡ enter_label w.store (frame_of m) kind type (Some t) (rests_at (m.code.body.now) position).here.body m.operands.own (first_part (rests_at (m.code.body.now) position).around).body
+  pub around : (rests_of m).around ≡ other_parts (rests_at (m.code.body.now) position).around
+  pub target_is : rests_at (m.code.body.now) target ≡ continue_at (continuation_of kind type (rests_at (m.code.body.now) position).here.body) (rests_at (m.code.body.now) position).around
 
 -- The type has this many parameters and results.
 pub record HasArity (type : Option FuncType) (arity : Arity) : Type 0 where

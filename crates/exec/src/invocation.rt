@@ -1,65 +1,36 @@
 ghost use Rattle.std.specs.Prelude.{◌≡◌, ◌<◌, Some, reverse, IfOk};
-ghost use Rattle.meaning.specs.execution.Configurations.{Invoking, Configuration};
-ghost use Rattle.meaning.specs.execution.Runs.{Run};
+ghost use Rattle.meaning.specs.execution.Configurations.{Invoking, Configuration, no_frame};
+ghost use Rattle.meaning.specs.execution.Runs.{NoHosts, Run};
 ghost use Rattle.store.specs.Arguments.{TakesArguments};
-ghost use Rattle.store.specs.Ends.{HasEnds};
-ghost use Rattle.store.specs.Contents.{code_at, store_of};
+ghost use Rattle.store.specs.Contents.{store_of};
 ghost use Rattle.exec.specs.Frames.{enter_from_outside};
 ghost use Rattle.exec.specs.Representation.{RepresentsSome, Represents};
-ghost use Rattle.exec.specs.Simulation.{IfGoes, SimulatesRun, ending_of, measure};
+ghost use Rattle.exec.specs.Simulation.{HasCode, RunsTo, World, ending_of, state_of};
 
-use crate::control::calls::enter_function;
+use crate::control::calls::{code_of, enter_function};
 use crate::host_table::HostTable;
 use crate::instructions::step;
-use crate::machine::{Control, Machine, Outcome, Step};
-use core_types::{Exhaustion, Op, Stack, Val};
+use crate::machine::{Control, FunctionCode, Machine, Outcome, Step};
+use core_types::{Exhaustion, Stack, Val};
 use fuel::Meter;
 use stacks::{FrameLocals, Operands};
 use std::alloc::{AllocError, Global};
 use store::{Callee, Store};
 
-// Runs a machine until it leaves the function.
-fn run_function(
-    store: &Store,
-    code: &[Op],
-    ends: &[usize],
-    machine: &mut Machine,
-    meter: &mut Meter,
-) -> Step
-    requires sound { RepresentsSome store.now machine.old meter.old.frames }
-    requires code { code.now ≡ code_at store.now machine.old.function }
-    requires ends { HasEnds code.now ends.now }
-    ensures simulates { SimulatesRun store.now machine.old meter.old result machine.new meter.new }
-    ensures falls { IfGoes result (measure machine.new meter.new < measure machine.old meter.old) }
-    ensures bound { meter.new.bound ≡ meter.old.bound }
-{
-    loop {
-        match step(store, code, ends, machine, meter) {
-            Step::Goes => {}
-            other => return other,
-        }
-    }
-}
-
 // Runs a machine to the end of its call.
-fn run(store: &Store, machine: Machine, meter: &mut Meter) -> Outcome
-    requires sound { RepresentsSome store.now machine meter.old.frames }
-    ensures run { (whole : Configuration) → Represents store.now machine meter.old.frames whole → Run meter.old.bound (store_of store.now) meter.old.left whole (ending_of result) (store_of store.now) meter.new.left }
+fn run<'a>(store: &'a Store, machine: Machine<'a>, meter: &mut Meter) -> Outcome
+    requires sound { RepresentsSome machine meter.old.frames }
+    ensures run { (w : World) (whole : Configuration) → HasCode store.now w
+        → Represents machine.entry meter.old.frames whole
+        → RunsTo meter.old.bound w meter.old.left whole (ending_of result) w meter.new.left }
     ensures bound { meter.new.bound ≡ meter.old.bound }
 {
     let mut machine = machine;
+    let mut code = machine.code;
     loop {
-        let Some(here) = store.function(machine.function) else {
-            unreachable!()
-        };
-        match run_function(
-            store,
-            here.func.body.as_slice(),
-            here.ends,
-            &mut machine,
-            meter,
-        ) {
-            Step::Goes | Step::Crosses => {}
+        match step(store, code.body, code.ends, &mut machine, meter) {
+            Step::Goes => {}
+            Step::Crosses => code = machine.code,
             Step::Over => return Outcome::Values(machine.operands.into_items()),
             Step::Traps(trap) => return Outcome::Trap(trap),
             Step::Lacks(what) => return Outcome::Exhausted(what),
@@ -69,17 +40,17 @@ fn run(store: &Store, machine: Machine, meter: &mut Meter) -> Outcome
 }
 
 // A machine at the start of a call from outside.
-fn open_machine(
+fn open_machine<'a>(
     alloc: Global,
-    callee: &Callee<'_>,
-    address: u32,
+    callee: &Callee<'a>,
+    code: FunctionCode<'a>,
     args: &[Val],
-) -> Result<Machine, AllocError>
-    ensures { IfOk result (λ machine. machine ≡ enter_from_outside callee.now.ty.now callee.now.func.now callee.now.instance address args.now) }
+) -> Result<Machine<'a>, AllocError>
+    ensures { IfOk result (λ machine. machine ≡ enter_from_outside callee.now.ty.now callee.now.func.now code.entry args.now) }
 {
+    let results = callee.ty.results.len();
     let mut machine = Machine {
-        function: address,
-        instance: callee.instance,
+        code,
         position: 0,
         operands: Operands::new(alloc),
         locals: FrameLocals::new(alloc),
@@ -87,16 +58,15 @@ fn open_machine(
         outer: 0,
     };
     machine.locals.enter(args, &callee.func.locals)?;
-    let frame = Control::FromOutside(callee.ty.results.len());
-    enter_function(frame, callee, address, &mut machine)?;
+    enter_function(Control::FromOutside(results), code, results, &mut machine)?;
     Ok(machine)
 }
 
 /// Calls the function at an address from outside, and runs it to its end within the fuel that is left and the depth bound.
 ///
-/// The caller owes arguments of the function's parameter types (`accepts` is the test) and a meter without an open frame; at
-/// the end no frame is open. A refused step charges nothing. `Stuck` is answered only where the run came to a configuration
-/// that is neither an end nor ready, among them an address without a function (Execution, Modules, Invocation).
+/// The caller owes a function at the address, arguments of its parameter types (`accepts` is the test of both) and a meter without
+/// an open frame; at the end no frame is open. A refused step charges nothing. `Stuck` is answered only where the run came to a
+/// configuration that is neither an end nor ready (Execution, Modules, Invocation).
 pub fn invoke(
     alloc: Global,
     store: &mut Store,
@@ -107,18 +77,19 @@ pub fn invoke(
 ) -> Outcome
     requires arguments { TakesArguments (store_of store.old) address args.now }
     requires closed { meter.old.frames ≡ 0 }
-    ensures run { Run meter.old.bound (store_of store.old) meter.old.left (Invoking (reverse args.now) address) (ending_of result) (store_of store.new) meter.new.left }
+    ensures run { Run NoHosts meter.old.bound no_frame (state_of store.old hosts.old meter.old) (Invoking (reverse args.now) address) (ending_of result) (state_of store.new hosts.new meter.new) }
     ensures bound { meter.new.bound ≡ meter.old.bound }
     ensures closed { meter.new.frames ≡ 0 }
 {
     let _ = hosts;
     let Some(callee) = store.function(address) else {
-        return Outcome::Stuck;
+        unreachable!()
     };
     if !meter.enter() {
         return Outcome::Exhausted(Exhaustion::Depth);
     }
-    let outcome = match open_machine(alloc, &callee, address, args) {
+    let code = code_of(&callee);
+    let outcome = match open_machine(alloc, &callee, code, args) {
         Ok(machine) => run(store, machine, meter),
         Err(_) => Outcome::Exhausted(Exhaustion::Memory),
     };

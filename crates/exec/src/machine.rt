@@ -1,4 +1,4 @@
-use core_types::{Exhaustion, Items, Stack, Trap, Val};
+use core_types::{Exhaustion, Items, Op, Stack, Trap, Val};
 use stacks::{FrameLocals, Operands};
 
 /// How a call from outside ended.
@@ -24,16 +24,22 @@ pub struct Label {
     pub target: usize,
 }
 
-/// A frame from within code: how many results it gives, the heights of the operands inside of it and outside of it, and where
-/// its caller goes on: the function and its instance, the position, the base of the locals, and how many controls there are up to
-/// the caller's frame.
+/// The code of a function in an instance: its body, and the positions at which its bodies end.
 #[derive(Clone, Copy)]
-pub struct Caller {
+pub struct FunctionCode<'a> {
+    pub body: &'a [Op],
+    pub ends: &'a [usize],
+    pub instance: u32,
+}
+
+/// A frame from within code: how many results it gives, the heights of the operands inside of it and outside of it, and where
+/// its caller goes on: the code, the position, the base of the locals, and how many controls there are up to the caller's frame.
+#[derive(Clone, Copy)]
+pub struct Caller<'a> {
     pub arity: usize,
     pub base: usize,
     pub outside: usize,
-    pub function: u32,
-    pub instance: u32,
+    pub code: FunctionCode<'a>,
     pub position: usize,
     pub locals: usize,
     pub outer: usize,
@@ -41,25 +47,24 @@ pub struct Caller {
 
 /// What is open around the instructions that run.
 #[derive(Clone, Copy)]
-pub enum Control {
+pub enum Control<'a> {
     /// A label.
     InLabel(Label),
     /// The frame of a call from within code.
-    InFrame(Caller),
+    InFrame(Caller<'a>),
     /// The frame of the call from outside, with the number of its results.
     FromOutside(usize),
 }
 
-/// The state of a run: the function that runs, its instance and the position in its code, the operands, the locals, what is open
-/// around, and how many controls there are up to the frame.
+/// The state of a run: the code that runs and the position in it, the operands, the locals, what is open around, and how many
+/// controls there are up to the frame.
 #[derive(Drop)]
-pub struct Machine {
-    pub function: u32,
-    pub instance: u32,
+pub struct Machine<'a> {
+    pub code: FunctionCode<'a>,
     pub position: usize,
     pub operands: Operands,
     pub locals: FrameLocals,
-    pub controls: Stack<Control>,
+    pub controls: Stack<Control<'a>>,
     pub outer: usize,
 }
 

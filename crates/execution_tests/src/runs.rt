@@ -185,7 +185,7 @@ fn calls_so(
     if !accepts(store, address, args) {
         return false;
     }
-    let mut hosts = HostTable::new();
+    let mut hosts = HostTable::new(alloc);
     let mut meter = Meter::new(fuel, depth);
     let outcome = invoke(alloc, store, &mut hosts, &mut meter, address, args);
     ends_so(alloc, &outcome, ends) && meter.left() == left

@@ -1,6 +1,6 @@
 //! Functions, types and instances by address, the ends of bodies, and the arguments that a function takes.
 
-use crate::modules::{append, store_with};
+use crate::modules::{append, loaded_module, store_with};
 use core_types::{BlockType, Op, PlainOp, Val, ValType};
 use std::alloc::{AllocError, Global};
 use store::{Callee, Store, accepts, ends_of};
@@ -84,16 +84,22 @@ fn keeps_the_ends_of_bodies(rt: HostRuntime) {
 // Whether the instance at a number has the function at that address, which takes no arguments.
 fn is_kept(store: &Store, address: u32) -> bool {
     store.function(address).map(|callee| callee.instance) == Some(address)
-        && store.instance(address).map(|instance| instance.first) == Some(address)
+        && store
+            .instance(address)
+            .map(|instance| instance.functions.as_slice())
+            == Some([address].as_slice())
         && accepts(store, address, &[])
 }
 
-// Whether a module that is put into a store three times has an instance and a function of its own each time.
+// Whether one loaded module that is put into a store three times has an instance and a function of its own each time.
 fn keeps_modules(alloc: Global) -> bool {
     let mut store = Store::new(alloc);
     let mut all = true;
+    let Some(loaded) = loaded_module(alloc, "(func (result i32) i32.const 7)") else {
+        return false;
+    };
     for number in 0..3u32 {
-        all &= append(alloc, &mut store, "(func (result i32) i32.const 7)") == Some(number);
+        all &= append(alloc, &mut store, &loaded) == Some(number);
     }
     for address in 0..3u32 {
         all &= is_kept(&store, address);

@@ -1,3 +1,6 @@
+pub mod Contexts
 pub mod Formulas
+pub mod Layers
+pub mod OperatorRanges
 pub mod Runs
 pub mod Typing

@@ -3,5 +3,6 @@ pub mod Store
 pub mod Numerics
 pub mod Configurations
 pub mod Instructions
+pub mod Layers
 pub mod Runs
 pub mod Rows

@@ -2,5 +2,6 @@
 pub mod Types
 pub mod Context
 pub mod Instructions
+pub mod ContextExtension
 pub mod Modules
 pub mod Rows

@@ -1,11 +1,11 @@
 //! Laws and worked rows of runs.
 
-ghost use Rattle.std.specs.Prelude.{◌≡◌, ◌∷◌, [], ℕ, ◌⊎◌};
+ghost use Rattle.std.specs.Prelude.{◌≡◌, ◌∷◌, [], ℕ, ◌⊎◌, Some, None};
 ghost use Rattle.core_types.specs.declared.outcome.Val.TheVariants.{I32};
-ghost use Rattle.meaning.specs.execution.Rows.{Calls, adder, caller, endless, last_of_three, one_and_two, seven_or_eight};
-ghost use Rattle.meaning.specs.execution.Configurations.{Configuration};
-ghost use Rattle.meaning.specs.execution.Runs.{Ending, OutOfDepth, OutOfFuel, OutOfMemory, Run, WithValues};
-ghost use Rattle.meaning.specs.execution.Store.{Store};
+ghost use Rattle.core_types.specs.declared.outcome.Trap.TheVariants.{Host};
+ghost use Rattle.meaning.specs.execution.Rows.{Calls, CountsCalls, TrapsAtOneAndTwo, adder, caller, counting, endless, last_of_three, one_and_two, seven_or_eight, trapping};
+ghost use Rattle.meaning.specs.execution.Configurations.{Configuration, Frame, Invoking, no_frame};
+ghost use Rattle.meaning.specs.execution.Runs.{Ending, NoHosts, OutOfDepth, OutOfFuel, OutOfMemory, Run, State, Steps, WithTrap, WithValues};
 
 /// Worked rows of runs: a function that adds its two arguments, called with 1 and 2 with fuel 10, 3 and 2, and with no depth.
 pub fn adding_one_and_two_costs_three()
@@ -27,7 +27,26 @@ pub fn control_keeps_its_order()
     ensures fuel_first { Calls 1 caller ([]) 0 OutOfFuel 0 }
 {}
 
-/// Law: two bounded runs from one start end alike, with one store and one fuel left, unless one of them ends out of memory.
+/// Worked rows of runs: a host function that counts its calls is called twice from code, which costs 1 each, and once from
+/// outside, which costs nothing; from code it is lent the memory of the caller's instance, from outside none; and one that traps
+/// is called with 1 and 2.
+pub fn hosts_answer_calls()
+    ensures from_code { Run (CountsCalls (Some 6)) 1 no_frame (counting 0 10) (Invoking ([]) 0) (WithValues (I32 1 ∷ I32 2 ∷ [])) (counting 2 8) }
+    ensures from_outside { Run (CountsCalls None) 0 no_frame (counting 4 0) (Invoking ([]) 1) (WithValues (I32 5 ∷ [])) (counting 5 0) }
+    ensures trap { Run TrapsAtOneAndTwo 1 no_frame (trapping 10) (Invoking ([]) 0) (WithTrap (Host 4)) (trapping 7) }
+{}
+
+/// Law: without host functions two bounded runs from one start end alike, in one state, unless one of them ends out of memory.
 pub fn runs_agree()
-    ensures { (bound : ℕ) (store s t : Store) (fuel l k : ℕ) (configuration : Configuration) (e f : Ending) → Run bound store fuel configuration e s l → Run bound store fuel configuration f t k → (e ≡ OutOfMemory) ⊎ ((f ≡ OutOfMemory) ⊎ ((e ≡ f) × (s ≡ t) × (l ≡ k))) }
+    ensures { (bound : ℕ) (outside : Frame) (at s t : State ⊥) (configuration : Configuration) (e f : Ending)
+        → Run NoHosts bound outside at configuration e s → Run NoHosts bound outside at configuration f t
+        → (e ≡ OutOfMemory) ⊎ ((f ≡ OutOfMemory) ⊎ ((e ≡ f) × (s ≡ t))) }
+{}
+
+/// Law: a run behind steps is a run from before them.
+pub fn steps_lead_to_runs()
+    ensures { (bound : ℕ) (outside : Frame) (old between last : State ⊥) (first second : Configuration) (ending : Ending)
+        → Steps NoHosts bound outside old first between second
+        → Run NoHosts bound outside between second ending last
+        → Run NoHosts bound outside old first ending last }
 {}

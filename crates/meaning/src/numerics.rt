@@ -2,8 +2,13 @@
 
 ghost use Rattle.std.specs.Prelude.{◌≡◌, ℕ, suc, ◌+◌, ◌-◌, ◌*◌, ◌%◌, ◌^◌, ◌<◌, ◌≤◌, min, max, pos, neg_ℤ, ◌≤ℤ◌, ◌<ℤ◌, IfOk};
 ghost use Rattle.std.specs.Int.{bit_at};
+ghost use Rattle.core_types.specs.declared.op.BinaryOp.{BinaryOp};
 ghost use Rattle.core_types.specs.declared.op.BinaryOp.TheVariants.{And, Or, Rotl, Rotr, Xor};
-ghost use Rattle.meaning.specs.execution.Numerics.{binary_operator, digits, integer, signed, sum_of_bits, twos};
+ghost use Rattle.core_types.specs.declared.op.Comparison.{Comparison};
+ghost use Rattle.core_types.specs.declared.op.Conversion.{Conversion};
+ghost use Rattle.core_types.specs.declared.op.Conversion.TheVariants.{I32WrapI64};
+ghost use Rattle.core_types.specs.declared.op.UnaryOp.{UnaryOp};
+ghost use Rattle.meaning.specs.execution.Numerics.{binary_operator, comparison_operator, conversion_operator, digits, eqz_operator, integer, signed, sum_of_bits, twos, unary_operator};
 
 /// Law: an integer represents one signed number, between the least and the greatest of its width.
 pub fn integers_stand_for_signed_numbers()
@@ -34,4 +39,16 @@ pub fn logic_goes_bit_by_bit()
 pub fn rotations_move_each_bit()
     ensures left { (bits a b i : ℕ) → a < 2 ^ bits → i < bits → IfOk (binary_operator bits Rotl a b) (λ n. bit_at n ((i + b) % bits) ≡ bit_at a i) }
     ensures right { (bits a b i : ℕ) → a < 2 ^ bits → i < bits → IfOk (binary_operator bits Rotr a b) (λ n. bit_at n i ≡ bit_at a ((i + b) % bits)) }
+{}
+
+/// Law: an operator on integers of a width gives one of the width, or a trap. A test or a comparison
+/// gives 0 or 1. A conversion gives an integer of the width that it leads to.
+pub fn results_have_their_width()
+    ensures binary { (bits : ℕ) (op : BinaryOp) (a b : ℕ) → 0 < bits → a < 2 ^ bits → b < 2 ^ bits
+        → IfOk (binary_operator bits op a b) (λ n. n < 2 ^ bits) }
+    ensures unary { (bits : ℕ) (op : UnaryOp) (a : ℕ) → unary_operator bits op a < 2 ^ bits }
+    ensures eqz { (a : ℕ) → eqz_operator a ≤ 1 }
+    ensures comparison { (bits : ℕ) (op : Comparison) (a b : ℕ) → comparison_operator bits op a b ≤ 1 }
+    ensures wrap { (a : ℕ) → conversion_operator I32WrapI64 a < 2 ^ 32 }
+    ensures conversion { (op : Conversion) (a : ℕ) → a < 2 ^ 64 → conversion_operator op a < 2 ^ 64 }
 {}

@@ -1,9 +1,10 @@
 //! Laws and worked rows of typing.
 
-ghost use Rattle.std.specs.Prelude.{[], List};
+ghost use Rattle.std.specs.Prelude.{[], ◌++◌, List};
 ghost use Rattle.core_types.specs.declared.types.OperandType.{OperandType};
 ghost use Rattle.meaning.specs.structure.Bodies.{Body, joined};
 ghost use Rattle.meaning.specs.validation.Context.{Context};
+ghost use Rattle.meaning.specs.validation.ContextExtension.{Carries};
 ghost use Rattle.meaning.specs.validation.Rows.{sum_of_a_long, sum_of_any};
 ghost use Rattle.meaning.specs.validation.Instructions.{AllFit, HasType};
 
@@ -13,6 +14,18 @@ pub fn typing_composes()
     ensures before { (context : Context) (b : Body) (before given after : List OperandType) → AllFit given before → HasType context b before after → HasType context b given after }
     ensures after { (context : Context) (b : Body) (before after wanted : List OperandType) → HasType context b before after → AllFit after wanted → HasType context b before wanted }
     ensures joined { (context : Context) (a b : Body) (before between after : List OperandType) → HasType context a before between → HasType context b between after → HasType context (joined a b) before after }
+{}
+
+/// Law: what lies below the operands of a body stays below its results.
+pub fn operands_below_stay()
+    ensures { (context : Context) (b : Body) (under before after : List OperandType)
+        → HasType context b before after → HasType context b (under ++ before) (under ++ after) }
+{}
+
+/// Law: what is typed in a context is typed in each that has all that typing asks of the first.
+pub fn typing_carries_over()
+    ensures { (a b : Context) → Carries a b → (body : Body) (before after : List OperandType)
+        → HasType a body before after → HasType b body before after }
 {}
 
 /// Worked rows of typing: after `unreachable` a sum finds its operands, but not where an i64 was put on since.

@@ -6,8 +6,9 @@ use core_types::{Export, ExportDesc, Val, ValType};
 use exec::{HostTable, Outcome, invoke};
 use fuel::Meter;
 use std::alloc::{AllocError, Global};
-use store::{Store, accepts};
-use validator::{ValidModule, ValidateError, validate};
+use std::rc::Rc;
+use store::{LoadedModule, Store, accepts};
+use validator::{ValidateError, validate};
 
 /// Why the engine does not do what it is asked for.
 #[derive(Clone, Copy)]
@@ -115,7 +116,7 @@ impl Engine {
         Engine {
             alloc,
             store: Store::new(alloc),
-            hosts: HostTable::new(),
+            hosts: HostTable::new(alloc),
             fuel,
             depth,
         }
@@ -127,33 +128,37 @@ impl Engine {
     }
 
     /// The module that bytes spell, if it is valid and all of it is run.
-    pub fn load(&self, bytes: &[u8]) -> Result<ValidModule, Refusal> {
+    pub fn load(&self, bytes: &[u8]) -> Result<Rc<LoadedModule>, Refusal> {
         let given = decode(self.alloc, bytes)?;
         if !is_run(&given) {
             return Err(Refusal::Unsupported);
         }
-        let module = validate(self.alloc, given)?;
-        Ok(module)
+        let validated = validate(self.alloc, given)?;
+        let loaded = LoadedModule::new(self.alloc, validated)?;
+        match Rc::new(self.alloc, loaded) {
+            Ok(shared) => Ok(shared),
+            Err(_) => Err(Refusal::OutOfMemory),
+        }
     }
 
-    /// Puts a module without imports into the store, and answers the number of its instance.
-    pub fn link(&mut self, module: ValidModule) -> Result<u32, Refusal> {
-        if !self.store.has_room_for(&module) {
+    /// Puts an instance of a module without imports into the store, and answers its number. A module may be linked many times.
+    pub fn link(&mut self, loaded: &Rc<LoadedModule>) -> Result<u32, Refusal> {
+        if !self.store.has_room_for(loaded.as_ref().module()) {
             return Err(Refusal::Limit);
         }
-        let number = self.store.append_module(self.alloc, module)?;
+        let number = self.store.append_module(self.alloc, loaded.clone()?)?;
         Ok(number)
     }
 
     /// The address of the function that an instance of a module without imports exports under a name.
     pub fn exported_function(&self, instance: u32, name: &str) -> Result<u32, Refusal> {
-        let Some(instance) = self.store.instance(instance) else {
+        let Some(found) = self.store.instance(instance) else {
             return Err(Refusal::UnknownExport);
         };
-        let exports = instance.module.module().exports.as_slice();
+        let exports = found.loaded.as_ref().module().exports.as_slice();
         match export_under(exports, name) {
             None => Err(Refusal::UnknownExport),
-            Some(ExportDesc::Func(index)) => match instance.first.checked_add(index) {
+            Some(ExportDesc::Func(index)) => match self.store.function_address(instance, index) {
                 Some(address) => Ok(address),
                 None => Err(Refusal::UnknownExport),
             },

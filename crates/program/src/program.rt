@@ -10,7 +10,8 @@ use command_line::{CallOrder, Order, WordsFault, read_words};
 use exec::Outcome;
 use std::alloc::Global;
 use std::io::{self, Write};
-use validator::ValidModule;
+use std::rc::Rc;
+use store::LoadedModule;
 
 /// How a call ended.
 #[derive(Drop)]
@@ -79,7 +80,7 @@ fn load_file<'a, F: Files>(
     engine: &Engine,
     files: &mut F,
     path: &'a str,
-) -> Result<ValidModule, Fault<'a>> {
+) -> Result<Rc<LoadedModule>, Fault<'a>> {
     let bytes = read_file(files, path)?;
     Ok(engine.load(bytes.as_slice())?)
 }
@@ -91,8 +92,8 @@ fn call<'a, F: Files>(
     files: &mut F,
 ) -> Result<CallEnd, Fault<'a>> {
     let mut engine = Engine::new(alloc, order.fuel, order.depth);
-    let module = load_file(&engine, files, order.file)?;
-    let instance = engine.link(module)?;
+    let loaded = load_file(&engine, files, order.file)?;
+    let instance = engine.link(&loaded)?;
     let address = engine.exported_function(instance, order.export)?;
     let args = read_args(alloc, engine.parameters(address), order.args.as_slice())?;
     match engine.call(address, args.as_slice()) {

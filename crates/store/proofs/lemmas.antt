@@ -3,5 +3,6 @@ pub mod Arguments
 pub mod BodyEnds
 pub mod Entries
 pub mod Instantiation
+pub mod LoadedModules
 pub mod Lookups
 pub mod Positions

@@ -1,3 +1,4 @@
 pub mod Arguments
 pub mod Ends
+pub mod LoadedModules
 pub mod Contents

@@ -1,4 +1,4 @@
-ghost use Rattle.std.specs.Prelude.{◌↔◌, IsSome, IsTrue, slice_get};
+ghost use Rattle.std.specs.Prelude.{◌↔◌, IsTrue};
 ghost use Rattle.meaning.specs.soundness.Values.{ValueHasType, ValuesHaveTypes};
 ghost use Rattle.store.specs.Arguments.{TakesArguments};
 ghost use Rattle.store.specs.Contents.{store_of};
@@ -40,7 +40,7 @@ fn values_have_types(store: &Store, values: &[Val], types: &[ValType]) -> bool
 /// Whether there is a function at an address and it takes these arguments, as many as its parameters and each of its type: the
 /// test for what `invoke` asks of its caller (Execution, Modules, Invocation).
 pub fn accepts(store: &Store, address: u32, args: &[Val]) -> bool
-    ensures { IsTrue result ↔ (IsSome (slice_get (store_of store.now).functions address) × TakesArguments (store_of store.now) address args.now) }
+    ensures { IsTrue result ↔ TakesArguments (store_of store.now) address args.now }
 {
     match store.function(address) {
         Some(callee) => values_have_types(store, args, callee.ty.params.as_slice()),

@@ -2,28 +2,28 @@ ghost use Rattle.std.specs.Prelude.{◌≡◌, ◌↔◌, [], ◌∷◌, ◌++�
 ghost use Rattle.meaning.specs.structure.Bodies.{rests};
 ghost use Rattle.meaning.specs.execution.Store.{instance_of};
 ghost use Rattle.store.specs.Ends.{HasEnds};
-ghost use Rattle.store.specs.Contents.{Contents, contents_of, store_of, code_at, with_module, function_of, HasRoom};
+ghost use Rattle.store.specs.Contents.{Contents, contents_of, store_of, with_module, function_of, HasRoom};
 
-use crate::entries::push_entries;
-use core_types::{Func, FuncType};
+use crate::entries::{consecutive_addresses, push_entries};
+use crate::loaded_modules::LoadedModule;
+use crate::lookups::item;
+use core_types::{Func, FuncType, Module};
 use std::alloc::{AllocError, Global};
 use std::marker::Model;
-use validator::ValidModule;
+use std::rc::Rc;
 
-/// A function of the store: the number of its instance, its index in the instance's module, and for each position of its code
-/// the position at which the body ends in which it stands.
-#[derive(Drop)]
+/// A function of the store: the number of its instance, and its index in the instance's module.
+#[derive(Clone, Copy)]
 pub struct FunctionInstance {
     pub instance: u32,
     pub index: u32,
-    pub ends: Vec<usize>,
 }
 
-/// An instance of a module without imports, whose functions stand in the store from the address `first` on.
+/// An instance of a module: the module, which it shares with other instances of it, and the addresses of its functions by index.
 #[derive(Drop)]
 pub struct Instance {
-    pub module: ValidModule,
-    pub first: u32,
+    pub loaded: Rc<LoadedModule>,
+    pub functions: Vec<u32>,
 }
 
 /// A function of the store, for reading: its type, its code, the positions at which the bodies of its code end, and the number
@@ -44,13 +44,13 @@ pub struct Store {
 }
 
 impl Model for Store {
-    ghost use Rattle.store.specs.Contents.{Contents, contents_of, IsSound};
+    ghost use Rattle.store.specs.Contents.{Contents, contents_of, AllFound};
 
     ghost Value = { Contents };
 
     ghost view = { λ s. contents_of s.functions.items s.instances.items };
 
-    ghost invariant = { λ s. IsSound s.instances.items s.functions.items };
+    ghost invariant = { λ s. AllFound s.instances.items s.functions.items };
 }
 
 // Adds an instance. Where memory runs out, the list is as before.
@@ -60,13 +60,6 @@ fn push_instance(instances: &mut Vec<Instance>, instance: Instance) -> Result<()
 {
     instances.push(instance)?;
     Ok(())
-}
-
-// The item at an index, if there is one.
-fn item<T>(items: &[T], index: u32) -> Option<&T>
-    ensures { option_copied result ≡ slice_get items.now index }
-{
-    items.get(index as usize)
 }
 
 impl Store {
@@ -89,54 +82,45 @@ impl Store {
 
     /// The type that an instance has under an index, if there is one (Execution, Runtime Structure, Module Instances).
     pub fn type_at(&self, instance: u32, x: u32) -> Option<&FuncType>
-        ensures { option_copied result ≡ slice_get (instance_of (store_of self.now) instance).types x }
+        ensures { option_copied result ≡ slice_get (instance_of (store_of self.now) (Some instance)).types x }
     {
         let found = item(&self.instances, instance)?;
-        let instance_module = found.module.module();
-        item(instance_module.types.as_slice(), x)
+        item(found.loaded.as_ref().module().types.as_slice(), x)
     }
 
     /// The address of the function that an instance has under an index, if there is one (Execution, Runtime Structure, Module
     /// Instances).
     pub fn function_address(&self, instance: u32, x: u32) -> Option<u32>
-        ensures { result ≡ slice_get (instance_of (store_of self.now) instance).functions x }
+        ensures { result ≡ slice_get (instance_of (store_of self.now) (Some instance)).functions x }
     {
         let found = item(&self.instances, instance)?;
-        let instance_module = found.module.module();
-        if (x as usize) < instance_module.funcs.len() {
-            Some(found.first + x)
-        } else {
-            None
-        }
+        found.functions.get(x as usize).copied()
     }
 
     /// The function at an address, if there is one.
     pub fn function(&self, address: u32) -> Option<Callee<'_>>
         ensures found { MatchOption result (slice_get (store_of self.now).functions address ≡ None) (λ callee. slice_get (store_of self.now).functions address ≡ Some (function_of callee.ty.now callee.instance callee.func.now)) }
-        ensures code { IfSome result (λ callee. callee.func.now.body ≡ code_at self.now address) }
         ensures ends { IfSome result (λ callee. HasEnds callee.func.now.body callee.ends.now) }
         ensures whole { IfSome result (λ callee. (rests callee.func.now.body).around ≡ []) }
     {
         let entry = item(&self.functions, address)?;
         let instance = item(&self.instances, entry.instance)?;
-        let instance_module = instance.module.module();
-        let func = item(instance_module.funcs.as_slice(), entry.index)?;
-        let ty = item(instance_module.types.as_slice(), func.ty)?;
+        let found = instance.loaded.as_ref().function(entry.index)?;
         Some(Callee {
-            ty,
-            func,
-            ends: &entry.ends,
+            ty: found.ty,
+            func: found.func,
+            ends: found.ends,
             instance: entry.instance,
         })
     }
 
     /// Whether the functions of a module without imports and an instance of it still get addresses of 32 bits.
-    pub fn has_room_for(&self, validated: &ValidModule) -> bool
-        ensures { IsTrue result ↔ HasRoom self.now validated.now }
+    pub fn has_room_for(&self, wanted: &Module) -> bool
+        ensures { IsTrue result ↔ HasRoom self.now wanted.now }
     {
         let used = self.functions.len();
         used < 1 << 32
-            && validated.module().funcs.len() < (1 << 32) - used
+            && wanted.funcs.len() < (1 << 32) - used
             && self.instances.len() < (1 << 32) - 1
     }
 
@@ -145,24 +129,21 @@ impl Store {
     pub fn append_module(
         &mut self,
         alloc: Global,
-        validated: ValidModule,
+        loaded: Rc<LoadedModule>,
     ) -> Result<u32, AllocError>
-        requires { HasRoom self.old validated }
+        requires { HasRoom self.old loaded.value }
         ensures number { IfOk result (λ number. number ≡ length self.old.instances) }
-        ensures appended { OnOk result (store_of self.new ≡ with_module (store_of self.old) validated) }
+        ensures appended { OnOk result (store_of self.new ≡ with_module (store_of self.old) loaded.value) }
         ensures unchanged { OnErr result (self.new ≡ self.old) }
     {
         let number = self.instances.len() as u32;
         let first = self.functions.len();
-        push_entries(
-            alloc,
-            &mut self.functions,
-            number,
-            validated.module().funcs.as_slice(),
-        )?;
+        let count = loaded.as_ref().module().funcs.len() as u32;
+        let addresses = consecutive_addresses(alloc, first as u32, count)?;
+        push_entries(&mut self.functions, number, count)?;
         let instance = Instance {
-            module: validated,
-            first: first as u32,
+            loaded,
+            functions: addresses,
         };
         match push_instance(&mut self.instances, instance) {
             Ok(()) => Ok(number),

@@ -14,14 +14,14 @@ use Rattle.meaning.specs.validation.Modules.{body_context, function_indices, mod
 use Rattle.validator.specs.declared.context.BodyContext.{BodyContext}
 use Rattle.validator.specs.declared.context.IndexSpaces.{IndexSpaces}
 use Rattle.validator.specs.Completeness.{IsUntyped}
-use Rattle.validator.specs.Contexts.{Describes}
+use Rattle.validator.specs.Contexts.{Describes, IsBodyOf}
 use Rattle.validator.specs.IndexSpaces.{AreIndexSpaces}
 use Rattle.validator.specs.References.{HasMarks}
 use Rattle.validator.specs.Soundness.{IsTyped}
 
 -- What the function is typed in, before the label of its body.
 abbrev outside : Module → FuncType → List ValType → Context
-outside m ty locals = record (module_context m) { locals = ty.params ++ locals; results = ty.results }
+outside m ty locals = record (module_context m) { locals = ty.params ++ locals; results = Some ty.results }
 
 module _ (m : Module) (s : IndexSpaces) (spaces : AreIndexSpaces m s) (marks : HasMarks m s) (f : Func) (ty : FuncType) (lent : BodyContext)
     (decoded_is : lent.decoded.now ≡ m) (spaces_is : lent.spaces.now ≡ s) (params_are : lent.params.now ≡ ty.params)
@@ -47,14 +47,15 @@ module _ (m : Module) (s : IndexSpaces) (spaces : AreIndexSpaces m s) (marks : H
 
   pub function_valid : slice_get m.types f.ty ≡ Some ty → (ops : List Op) → ops ≡ f.body → IsTyped lent ops → IsValidFunction m f
   function_valid has_type ops body_is typed =
-      let r = typed.in_context (outside m ty f.locals) describes in
-      record { ty = ty; has_type = has_type; body = r.0; written = sym body_is ∙ r.1; typed = r.2 }
+      let (body, written, leads) = typed.in_context (outside m ty f.locals) describes in
+      record { ty = ty; has_type = has_type; body = body; written = sym body_is ∙ written; typed = subst (λ (results : List ValType). IsBodyOf (outside m ty f.locals) results body) results_are leads }
 
   pub function_invalid : slice_get m.types f.ty ≡ Some ty → (ops : List Op) → ops ≡ f.body → IsUntyped lent ops → ¬ IsValidFunction m f
   function_invalid has_type ops body_is untyped = λ valid.
       let both : Some valid.ty ≡ Some ty = sym valid.has_type ∙ has_type in
       let same : valid.ty ≡ ty = cc in
-      untyped.in_context (outside m ty f.locals) describes valid.body (body_is ∙ valid.written) (subst (λ (t : FuncType). HasType (body_context m t f.locals) valid.body [] (known t.results)) same valid.typed)
+      untyped.in_context (outside m ty f.locals) describes valid.body (body_is ∙ valid.written)
+      (rw results_are (subst (λ (t : FuncType). HasType (body_context m t f.locals) valid.body [] (known t.results)) same valid.typed))
 
 pub untyped_function : (m : Module) (f : Func) → slice_get m.types f.ty ≡ None → ¬ IsValidFunction m f
 untyped_function m f none = λ valid. let both : None ≡ Some valid.ty = sym none ∙ valid.has_type in absurd cc

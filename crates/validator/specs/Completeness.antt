@@ -68,10 +68,10 @@ TypesRest context s ops =
 pub record IsRestTyped (s : BodyContext) (ops : List Op) (stacks : Stacks) (rest : List Op)
     : Type 0 where
   pub in_context : (context : Context) → Describes s context → (body : Body) → ops ≡ writing body
-      → IsBodyOf context body → TypesRest context stacks rest
+      → IsBodyOf context s.results.now body → TypesRest context stacks rest
 
 -- In no context that is described are the operations the writing of a body that gives the results
 -- from nothing.
 pub record IsUntyped (s : BodyContext) (ops : List Op) : Type 0 where
   pub in_context : (context : Context) → Describes s context → (body : Body) → ops ≡ writing body
-      → IsBodyOf context body → ⊥
+      → IsBodyOf context s.results.now body → ⊥

@@ -1,5 +1,5 @@
 -- Constant expressions, in the terms of the context that is lent to them.
-use Rattle.std.specs.Prelude.{◌≡◌, true, Some, slice_get, List, [], ◌∷◌}
+use Rattle.std.specs.Prelude.{◌≡◌, ◌^◌, ◌<◌, true, Some, slice_get, List, [], ◌∷◌}
 use Rattle.core_types.specs.declared.module.Module.{Module}
 use Rattle.core_types.specs.declared.op.Op.TheVariants.{Plain}
 use Rattle.core_types.specs.declared.op.Op.{Op}
@@ -36,8 +36,8 @@ pub record IsConstantContext (m : Module) (s : IndexSpaces) (context : ConstantC
 
 -- The instruction is constant and gives a value of this type.
 unfoldable pub GivesConstant : ConstantContext → PlainOp → ValType → Type 0
-GivesConstant context (I32Const n) t = t ≡ I32
-GivesConstant context (I64Const n) t = t ≡ I64
+GivesConstant context (I32Const n) t = (n < 2 ^ 32) × (t ≡ I32)
+GivesConstant context (I64Const n) t = (n < 2 ^ 64) × (t ≡ I64)
 GivesConstant context (Reference op) t = GivesReference context op t
 GivesConstant context (Variable op) t = GivesGlobal context op t
 GivesConstant context op t = ⊥

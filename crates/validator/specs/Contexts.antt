@@ -44,11 +44,12 @@ pub record Describes (lent : BodyContext) (context : Context) : Type 0 where
   pub datas : context.datas ≡ length lent.decoded.now.datas
   pub locals : context.locals ≡ local_types lent
   pub labels : context.labels ≡ []
-  pub results : context.results ≡ lent.results.now
+  pub results : context.results ≡ Some lent.results.now
   pub references : (x : ℕ) → IsMarked lent x → IsNamed x context.references
   pub marks : (x : ℕ) (f : FuncType) → slice_get context.functions x ≡ Some f
       → IsNamed x context.references → IsMarked lent x
 
--- The body is that of a function in this context: it leads from no operands to the results.
-abbrev pub IsBodyOf : Context → Body → Type 0
-IsBodyOf context body = HasType (with_label context context.results) body [] (known context.results)
+-- The body is that of a function with these results, in this context: it leads from no operands to
+-- the results.
+abbrev pub IsBodyOf : Context → List ValType → Body → Type 0
+IsBodyOf context results body = HasType (with_label context results) body [] (known results)

@@ -58,7 +58,7 @@ FrameStart context Else s outer before =
 -- The frames around a frame, from the inside out; the outermost is the function's.
 abbrev pub AroundRead : Context → ControlFrame → List ControlFrame → List OperandType → List Op → Type 0
 AroundRead context l [] under before =
-    (l.kind ≡ Function) × (l.start_types.now ≡ []) × (l.end_types.now ≡ context.results)
+    (l.kind ≡ Function) × (l.start_types.now ≡ []) × (context.results ≡ Some l.end_types.now)
     × (under ≡ []) × (before ≡ [])
 AroundRead context l (m ∷ ms) under before =
     (outer : List Op) × FrameStart (inside context (l ∷ m ∷ ms)) l.kind (signature_of l) outer before
@@ -88,4 +88,4 @@ pub record IsReadTyped (s : BodyContext) (stacks : Stacks) (read : List Op) : Ty
 -- results from nothing.
 pub record IsTyped (s : BodyContext) (ops : List Op) : Type 0 where
   pub in_context : (context : Context) → Describes s context
-      → (body : Body) × (ops ≡ writing body) × IsBodyOf context body
+      → (body : Body) × (ops ≡ writing body) × IsBodyOf context s.results.now body

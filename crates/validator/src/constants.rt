@@ -44,14 +44,21 @@ fn global_constant(context: &ConstantContext<'_>, op: VariableOp) -> Option<ValT
     }
 }
 
-// The type of the value that a constant instruction gives.
+// The type of the value that a constant instruction gives. The value is read, so that its range is
+// known.
 #[tactic(auto, unfolding(crate::specs::Constants::GivesConstant))]
 fn constant_type(context: &ConstantContext<'_>, op: &PlainOp) -> Option<ValType>
     ensures { (t : Value) → (result ≡ Some t) ↔ GivesConstant context.now op.now t }
 {
     match op {
-        PlainOp::I32Const(_) => Some(ValType::I32),
-        PlainOp::I64Const(_) => Some(ValType::I64),
+        PlainOp::I32Const(value) => {
+            let _value = *value;
+            Some(ValType::I32)
+        }
+        PlainOp::I64Const(value) => {
+            let _value = *value;
+            Some(ValType::I64)
+        }
         PlainOp::Reference(op) => reference_constant(context, *op),
         PlainOp::Variable(op) => global_constant(context, *op),
         _ => None,

@@ -80,7 +80,8 @@ pub fn apply_some(stacks: &mut Stacks<'_>, found: &Option<InstructionType<'_>>) 
     }
 }
 
-// Steps over an instruction without a body.
+// Steps over an instruction without a body. The value of a constant is read, so that its range is
+// known.
 pub fn step_plain(
     alloc: Global,
     context: &BodyContext<'_>,
@@ -102,8 +103,14 @@ pub fn step_plain(
         PlainOp::Table(op) => apply_some(stacks, &type_of_table(context, *op)),
         PlainOp::Memory(op) => apply_some(stacks, &type_of_memory(context, *op)),
         PlainOp::Numeric(op) => apply(stacks, &type_of_numeric(*op)),
-        PlainOp::I32Const(_) => apply(stacks, &takes_gives(&[], once(ValType::I32))),
-        PlainOp::I64Const(_) => apply(stacks, &takes_gives(&[], once(ValType::I64))),
+        PlainOp::I32Const(value) => {
+            let _value = *value;
+            apply(stacks, &takes_gives(&[], once(ValType::I32)))
+        }
+        PlainOp::I64Const(value) => {
+            let _value = *value;
+            apply(stacks, &takes_gives(&[], once(ValType::I64)))
+        }
     }
 }
 

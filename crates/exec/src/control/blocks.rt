@@ -7,13 +7,13 @@ ghost use Rattle.meaning.specs.execution.Configurations.{Configuration};
 ghost use Rattle.meaning.specs.execution.Store.{instance_of};
 ghost use Rattle.meaning.specs.validation.Types.{block_type, label_types};
 ghost use Rattle.store.specs.Ends.{HasEnds};
-ghost use Rattle.store.specs.Contents.{Contents, code_at, store_of};
+ghost use Rattle.store.specs.Contents.{store_of};
 ghost use Rattle.exec.specs.Representation.{IsBefore};
-ghost use Rattle.exec.specs.Simulation.{Simulates, SimulatesAt, IfGoes, IsEntry, HasArity, measure};
+ghost use Rattle.exec.specs.Simulation.{HasCode, Simulates, SimulatesAt, IfGoes, IsEntry, HasArity, World, measure};
 
 use crate::machine::{Control, Label, Machine, Step};
 use crate::positions::{position_behind, position_of_else};
-use core_types::{BlockType, Exhaustion, Op};
+use core_types::{BlockType, Exhaustion};
 use fuel::Meter;
 use plain::pop_i32;
 use store::Store;
@@ -26,8 +26,9 @@ pub struct Arity {
 }
 
 /// How many operands a block of this type takes and gives, by the types of an instance.
+#[inline(always)]
 pub fn arity_of(store: &Store, instance: u32, ty: BlockType) -> Option<Arity>
-    ensures { MatchOption result (block_type (instance_of (store_of store.now) instance).types ty ≡ None) (λ arity. HasArity (block_type (instance_of (store_of store.now) instance).types ty) arity) }
+    ensures { MatchOption result (block_type (instance_of (store_of store.now) (Some instance)).types ty ≡ None) (λ arity. HasArity (block_type (instance_of (store_of store.now) (Some instance)).types ty) arity) }
 {
     match ty {
         BlockType::Empty => Some(Arity {
@@ -50,17 +51,21 @@ pub fn arity_of(store: &Store, instance: u32, ty: BlockType) -> Option<Arity>
 
 /// A label with the topmost `params` operands inside, where code goes on at `position`; a branch to it keeps `arity` operands and
 /// goes on at `target`.
+#[inline(always)]
 pub fn enter_label(
-    machine: &mut Machine,
+    machine: &mut Machine<'_>,
     meter: &mut Meter,
     params: usize,
     arity: usize,
     target: usize,
     position: usize,
 ) -> Step
-    ensures simulates { (s : Contents) (redex : Configuration) (kind : Kind) (type : AnyBlockType) (t : FuncType) → length t.params ≡ params → length (label_types kind t) ≡ arity → IsEntry s machine.old redex kind type t target position → SimulatesAt s redex machine.old meter.old result machine.new meter.new }
+    ensures simulates { (w : World) (redex : Configuration) (kind : Kind) (type : AnyBlockType) (t : FuncType)
+        → length t.params ≡ params → length (label_types kind t) ≡ arity
+        → IsEntry w machine.old redex kind type t target position
+        → SimulatesAt redex w machine.old meter.old result w machine.new meter.new }
     ensures falls { IfGoes result (measure machine.new meter.new < measure machine.old meter.old) }
-    ensures stays { machine.new.function ≡ machine.old.function }
+    ensures stays { machine.new.code ≡ machine.old.code }
     ensures bound { meter.new.bound ≡ meter.old.bound }
 {
     if machine.operands.len() < params {
@@ -88,39 +93,40 @@ pub fn enter_label(
 }
 
 /// A block begins (Execution, Control Instructions).
+#[inline(always)]
 pub fn step_block(
     store: &Store,
-    code: &[Op],
-    ends: &[usize],
     ty: BlockType,
-    machine: &mut Machine,
+    machine: &mut Machine<'_>,
     meter: &mut Meter,
 ) -> Step
-    requires code { code.now ≡ code_at store.now machine.old.function }
-    requires ends { HasEnds code.now ends.now }
-    requires position { machine.old.position < length code.now }
-    ensures simulates { IsBefore store.now machine.old (BlockMark ty) → Simulates store.now machine.old meter.old result machine.new meter.new }
+    requires ends { HasEnds machine.old.code.body.now machine.old.code.ends.now }
+    requires position { machine.old.position < length machine.old.code.body.now }
+    ensures simulates { (w : World) → HasCode store.now w → IsBefore machine.old (BlockMark ty)
+        → Simulates w machine.old meter.old result w machine.new meter.new }
     ensures falls { IfGoes result (measure machine.new meter.new < measure machine.old meter.old) }
-    ensures stays { machine.new.function ≡ machine.old.function }
+    ensures stays { machine.new.code ≡ machine.old.code }
     ensures bound { meter.new.bound ≡ meter.old.bound }
 {
-    let Some(arity) = arity_of(store, machine.instance, ty) else {
+    let Some(arity) = arity_of(store, machine.code.instance, ty) else {
         return Step::Stuck;
     };
     let inside = machine.position + 1;
-    let target = position_behind(code, ends, inside);
+    let target = position_behind(machine.code.body, machine.code.ends, inside);
     enter_label(machine, meter, arity.params, arity.results, target, inside)
 }
 
 /// A loop begins (Execution, Control Instructions); a branch to it goes on where it begins.
-pub fn step_loop(store: &Store, ty: BlockType, machine: &mut Machine, meter: &mut Meter) -> Step
+#[inline(always)]
+pub fn step_loop(store: &Store, ty: BlockType, machine: &mut Machine<'_>, meter: &mut Meter) -> Step
     requires position { machine.old.position + 1 < 2 ^ 64 }
-    ensures simulates { IsBefore store.now machine.old (LoopMark ty) → Simulates store.now machine.old meter.old result machine.new meter.new }
+    ensures simulates { (w : World) → HasCode store.now w → IsBefore machine.old (LoopMark ty)
+        → Simulates w machine.old meter.old result w machine.new meter.new }
     ensures falls { IfGoes result (measure machine.new meter.new < measure machine.old meter.old) }
-    ensures stays { machine.new.function ≡ machine.old.function }
+    ensures stays { machine.new.code ≡ machine.old.code }
     ensures bound { meter.new.bound ≡ meter.old.bound }
 {
-    let Some(arity) = arity_of(store, machine.instance, ty) else {
+    let Some(arity) = arity_of(store, machine.code.instance, ty) else {
         return Step::Stuck;
     };
     let target = machine.position;
@@ -129,34 +135,28 @@ pub fn step_loop(store: &Store, ty: BlockType, machine: &mut Machine, meter: &mu
 }
 
 /// An if begins (Execution, Control Instructions): its first body where the topmost operand is not zero, and else its second.
-pub fn step_if(
-    store: &Store,
-    code: &[Op],
-    ends: &[usize],
-    ty: BlockType,
-    machine: &mut Machine,
-    meter: &mut Meter,
-) -> Step
-    requires code { code.now ≡ code_at store.now machine.old.function }
-    requires ends { HasEnds code.now ends.now }
-    requires position { machine.old.position < length code.now }
-    ensures simulates { IsBefore store.now machine.old (IfMark ty) → Simulates store.now machine.old meter.old result machine.new meter.new }
+#[inline(always)]
+pub fn step_if(store: &Store, ty: BlockType, machine: &mut Machine<'_>, meter: &mut Meter) -> Step
+    requires ends { HasEnds machine.old.code.body.now machine.old.code.ends.now }
+    requires position { machine.old.position < length machine.old.code.body.now }
+    ensures simulates { (w : World) → HasCode store.now w → IsBefore machine.old (IfMark ty)
+        → Simulates w machine.old meter.old result w machine.new meter.new }
     ensures falls { IfGoes result (measure machine.new meter.new < measure machine.old meter.old) }
-    ensures stays { machine.new.function ≡ machine.old.function }
+    ensures stays { machine.new.code ≡ machine.old.code }
     ensures bound { meter.new.bound ≡ meter.old.bound }
 {
     let Some(condition) = pop_i32(&mut machine.operands) else {
         return Step::Stuck;
     };
-    let Some(arity) = arity_of(store, machine.instance, ty) else {
+    let Some(arity) = arity_of(store, machine.code.instance, ty) else {
         return Step::Stuck;
     };
     let inside = machine.position + 1;
-    let target = position_behind(code, ends, inside);
+    let target = position_behind(machine.code.body, machine.code.ends, inside);
     let chosen = if condition != 0 {
         inside
     } else {
-        position_of_else(code, ends, inside)
+        position_of_else(machine.code.body, machine.code.ends, inside)
     };
     enter_label(machine, meter, arity.params, arity.results, target, chosen)
 }

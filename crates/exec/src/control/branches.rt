@@ -4,10 +4,9 @@ ghost use Rattle.core_types.specs.declared.op.Op.TheVariants.{Plain};
 ghost use Rattle.core_types.specs.declared.op.PlainOp.TheVariants.{BrTable, Control as ControlPlain};
 ghost use Rattle.meaning.specs.execution.Configurations.{Configuration};
 ghost use Rattle.meaning.specs.execution.Instructions.{Branches};
-ghost use Rattle.store.specs.Contents.{Contents};
 ghost use Rattle.exec.specs.declared.machine.Control.TheVariants.{InLabel};
 ghost use Rattle.exec.specs.Representation.{IsBefore, IsNoLabel, IsRepresentation};
-ghost use Rattle.exec.specs.Simulation.{Simulates, SimulatesAt, IfGoes, next_in, measure};
+ghost use Rattle.exec.specs.Simulation.{Simulates, SimulatesAt, IfGoes, World, next_in, measure};
 
 use crate::machine::{Control, Label, Machine, Step};
 use core_types::{BranchTable, Exhaustion, Stack};
@@ -15,7 +14,8 @@ use fuel::Meter;
 use plain::pop_i32;
 
 // The label that many controls outward, if one is there.
-fn label_at(controls: &Stack<Control>, position: usize) -> Option<Label>
+#[inline(always)]
+fn label_at(controls: &Stack<Control<'_>>, position: usize) -> Option<Label>
     ensures { MatchOption result (IsNoLabel (slice_get controls.now position)) (λ label. slice_get controls.now position ≡ Some (InLabel label)) }
 {
     match controls.get(position) {
@@ -26,11 +26,14 @@ fn label_at(controls: &Stack<Control>, position: usize) -> Option<Label>
 }
 
 // A branch to a label, counted from the innermost one outward.
-fn branch(label: u32, machine: &mut Machine, meter: &mut Meter) -> Step
+#[inline(always)]
+fn branch(label: u32, machine: &mut Machine<'_>, meter: &mut Meter) -> Step
     requires sound { IsRepresentation machine.old meter.old.frames }
-    ensures simulates { (s : Contents) (redex : Configuration) → next_in s machine.old redex ≡ Branches label machine.old.operands.own → SimulatesAt s redex machine.old meter.old result machine.new meter.new }
+    ensures simulates { (w : World) (redex : Configuration)
+        → next_in w machine.old redex ≡ Branches label machine.old.operands.own
+        → SimulatesAt redex w machine.old meter.old result w machine.new meter.new }
     ensures falls { IfGoes result (measure machine.new meter.new < measure machine.old meter.old) }
-    ensures stays { machine.new.function ≡ machine.old.function }
+    ensures stays { machine.new.code ≡ machine.old.code }
     ensures bound { meter.new.bound ≡ meter.old.bound }
 {
     let number = label as usize;
@@ -53,23 +56,27 @@ fn branch(label: u32, machine: &mut Machine, meter: &mut Meter) -> Step
 }
 
 /// A branch, whatever the operands.
-pub fn step_br(label: u32, machine: &mut Machine, meter: &mut Meter) -> Step
+#[inline(always)]
+pub fn step_br(label: u32, machine: &mut Machine<'_>, meter: &mut Meter) -> Step
     requires sound { IsRepresentation machine.old meter.old.frames }
-    ensures simulates { (s : Contents) → IsBefore s machine.old (Plain (ControlPlain (Br label))) → Simulates s machine.old meter.old result machine.new meter.new }
+    ensures simulates { (w : World) → IsBefore machine.old (Plain (ControlPlain (Br label)))
+        → Simulates w machine.old meter.old result w machine.new meter.new }
     ensures falls { IfGoes result (measure machine.new meter.new < measure machine.old meter.old) }
-    ensures stays { machine.new.function ≡ machine.old.function }
+    ensures stays { machine.new.code ≡ machine.old.code }
     ensures bound { meter.new.bound ≡ meter.old.bound }
 {
     branch(label, machine, meter)
 }
 
 /// A branch if the topmost operand is not zero.
-pub fn step_br_if(label: u32, machine: &mut Machine, meter: &mut Meter) -> Step
+#[inline(always)]
+pub fn step_br_if(label: u32, machine: &mut Machine<'_>, meter: &mut Meter) -> Step
     requires sound { IsRepresentation machine.old meter.old.frames }
     requires position { machine.old.position + 1 < 2 ^ 64 }
-    ensures simulates { (s : Contents) → IsBefore s machine.old (Plain (ControlPlain (BrIf label))) → Simulates s machine.old meter.old result machine.new meter.new }
+    ensures simulates { (w : World) → IsBefore machine.old (Plain (ControlPlain (BrIf label)))
+        → Simulates w machine.old meter.old result w machine.new meter.new }
     ensures falls { IfGoes result (measure machine.new meter.new < measure machine.old meter.old) }
-    ensures stays { machine.new.function ≡ machine.old.function }
+    ensures stays { machine.new.code ≡ machine.old.code }
     ensures bound { meter.new.bound ≡ meter.old.bound }
 {
     let Some(condition) = pop_i32(&mut machine.operands) else {
@@ -86,6 +93,7 @@ pub fn step_br_if(label: u32, machine: &mut Machine, meter: &mut Meter) -> Step
 }
 
 // The label of a number in a branch table.
+#[inline(always)]
 fn label_in(table: &BranchTable, number: u32) -> u32
     ensures { result ≡ get_or table.now.labels number table.now.default }
 {
@@ -96,11 +104,13 @@ fn label_in(table: &BranchTable, number: u32) -> u32
 }
 
 /// A branch to the label that the topmost operand counts, or to the default one.
-pub fn step_br_table(table: &BranchTable, machine: &mut Machine, meter: &mut Meter) -> Step
+#[inline(always)]
+pub fn step_br_table(table: &BranchTable, machine: &mut Machine<'_>, meter: &mut Meter) -> Step
     requires sound { IsRepresentation machine.old meter.old.frames }
-    ensures simulates { (s : Contents) → IsBefore s machine.old (Plain (BrTable table.now)) → Simulates s machine.old meter.old result machine.new meter.new }
+    ensures simulates { (w : World) → IsBefore machine.old (Plain (BrTable table.now))
+        → Simulates w machine.old meter.old result w machine.new meter.new }
     ensures falls { IfGoes result (measure machine.new meter.new < measure machine.old meter.old) }
-    ensures stays { machine.new.function ≡ machine.old.function }
+    ensures stays { machine.new.code ≡ machine.old.code }
     ensures bound { meter.new.bound ≡ meter.old.bound }
 {
     let Some(n) = pop_i32(&mut machine.operands) else {

@@ -1,40 +1,48 @@
-ghost use Rattle.std.specs.Prelude.{◌≡◌, ◌+◌, ◌-◌, ◌<◌, ◌≤◌, ◌^◌, OnOk, length};
+ghost use Rattle.std.specs.Prelude.{◌≡◌, ◌+◌, ◌-◌, ◌<◌, ◌≤◌, ◌^◌, ℕ, [], OnOk, Option, Some, length};
 ghost use Rattle.core_types.specs.declared.op.ControlOp.TheVariants.{Call, Return};
 ghost use Rattle.core_types.specs.declared.op.Op.TheVariants.{Plain};
+ghost use Rattle.core_types.specs.declared.op.PlainOp.{PlainOp as AnyPlainOp};
 ghost use Rattle.core_types.specs.declared.op.PlainOp.TheVariants.{Control as ControlPlain};
-ghost use Rattle.store.specs.Contents.{Contents, code_at};
+ghost use Rattle.meaning.specs.execution.Configurations.{Configuration, depth};
+ghost use Rattle.meaning.specs.execution.Instructions.{call_function};
+ghost use Rattle.store.specs.Contents.{function_of};
+ghost use Rattle.store.specs.Ends.{HasEnds};
+ghost use Rattle.meaning.specs.structure.Bodies.{rests};
 ghost use Rattle.exec.specs.Frames.{ReturnsTo, enter, enter_callee};
 ghost use Rattle.exec.specs.Positions.{after_end, rests_at};
 ghost use Rattle.exec.specs.Representation.{IsAtEnd, IsBefore, IsRepresentation, rests_of};
-ghost use Rattle.exec.specs.Simulation.{Simulates, IfGoes, IfStays, measure};
+ghost use Rattle.exec.specs.Simulation.{HasCode, Simulates, SimulatesAt, IfGoes, IfStays, World, next_in, measure};
 
-use crate::machine::{Caller, Control, Label, Machine, Step};
+use crate::machine::{Caller, Control, FunctionCode, Label, Machine, Step};
 use core_types::Exhaustion;
 use fuel::Meter;
 use std::alloc::AllocError;
 use store::{Callee, Store};
 
 // Goes on in the caller of a frame that is left.
-fn resume(caller: Caller, machine: &mut Machine, meter: &mut Meter)
+#[inline(always)]
+fn resume<'a>(caller: Caller<'a>, machine: &mut Machine<'a>, meter: &mut Meter)
     requires locals { caller.locals ≤ length machine.old.locals.below }
     requires frames { 0 < meter.old.frames }
-    ensures returns_to { ReturnsTo caller machine.old machine.new }
+    ensures returns_to { ReturnsTo caller.entry machine.old machine.new }
     ensures meter { (meter.new.left ≡ meter.old.left) × (meter.new.bound ≡ meter.old.bound) × (meter.new.frames ≡ meter.old.frames - 1) }
 {
     machine.locals.leave(caller.locals);
-    machine.function = caller.function;
-    machine.instance = caller.instance;
+    machine.code = caller.code;
     machine.position = caller.position;
     machine.outer = caller.outer;
     meter.leave();
 }
 
 /// Leaves what is open innermost, which has values alone inside; behind a label code goes on at `next`.
-pub fn leave(next: usize, machine: &mut Machine, meter: &mut Meter) -> Step
+#[inline(always)]
+pub fn leave(next: usize, machine: &mut Machine<'_>, meter: &mut Meter) -> Step
     requires sound { IsRepresentation machine.old meter.old.frames }
-    ensures simulates { (s : Contents) → IsAtEnd s machine.old → rests_at (code_at s machine.old.function) next ≡ after_end (rests_of s machine.old).around → Simulates s machine.old meter.old result machine.new meter.new }
+    ensures simulates { (w : World) → IsAtEnd machine.old
+        → rests_at machine.old.code.body.now next ≡ after_end (rests_of machine.old).around
+        → Simulates w machine.old meter.old result w machine.new meter.new }
     ensures falls { IfGoes result (measure machine.new meter.new < measure machine.old meter.old) }
-    ensures stays { IfStays result (machine.new.function ≡ machine.old.function) }
+    ensures stays { IfStays result (machine.new.code ≡ machine.old.code) }
     ensures bound { meter.new.bound ≡ meter.old.bound }
 {
     match machine.controls.pop() {
@@ -54,11 +62,13 @@ pub fn leave(next: usize, machine: &mut Machine, meter: &mut Meter) -> Step
 }
 
 /// A return from the innermost frame.
-pub fn step_return(machine: &mut Machine, meter: &mut Meter) -> Step
+#[inline(always)]
+pub fn step_return(machine: &mut Machine<'_>, meter: &mut Meter) -> Step
     requires sound { IsRepresentation machine.old meter.old.frames }
-    ensures simulates { (s : Contents) → IsBefore s machine.old (Plain (ControlPlain Return)) → Simulates s machine.old meter.old result machine.new meter.new }
+    ensures simulates { (w : World) → IsBefore machine.old (Plain (ControlPlain Return))
+        → Simulates w machine.old meter.old result w machine.new meter.new }
     ensures falls { IfGoes result (measure machine.new meter.new < measure machine.old meter.old) }
-    ensures stays { IfStays result (machine.new.function ≡ machine.old.function) }
+    ensures stays { IfStays result (machine.new.code ≡ machine.old.code) }
     ensures bound { meter.new.bound ≡ meter.old.bound }
 {
     let labels = machine.controls.len() - machine.outer;
@@ -92,38 +102,56 @@ pub fn step_return(machine: &mut Machine, meter: &mut Meter) -> Step
     }
 }
 
+/// The code of a function that was found.
+#[inline(always)]
+pub fn code_of<'a>(callee: &Callee<'a>) -> FunctionCode<'a>
+    ensures { (result.body.now ≡ callee.now.func.now.body) × (result.ends ≡ callee.now.ends) × (result.instance ≡ callee.now.instance) }
+{
+    FunctionCode {
+        body: callee.func.body.as_slice(),
+        ends: callee.ends,
+        instance: callee.instance,
+    }
+}
+
 /// Puts a function's frame, as this control, and the label of its body around the inside, whose operands and locals stand.
-pub fn enter_function(
-    control: Control,
-    callee: &Callee<'_>,
-    address: u32,
-    machine: &mut Machine,
+#[inline(always)]
+pub fn enter_function<'a>(
+    control: Control<'a>,
+    code: FunctionCode<'a>,
+    results: usize,
+    machine: &mut Machine<'a>,
 ) -> Result<(), AllocError>
-    ensures { OnOk result (machine.new ≡ enter control address callee.now.instance (length callee.now.ty.now.results) (length callee.now.func.now.body) machine.old) }
+    ensures { OnOk result (machine.new ≡ enter control.entry code.entry results machine.old) }
 {
     machine.controls.push(control)?;
     let outer = machine.controls.len();
     let floor = machine.operands.floor();
     machine.controls.push(Control::InLabel(Label {
-        arity: callee.ty.results.len(),
+        arity: results,
         base: floor,
         outside: floor,
-        target: callee.func.body.len(),
+        target: code.body.len(),
     }))?;
-    machine.function = address;
-    machine.instance = callee.instance;
+    machine.code = code;
     machine.position = 0;
     machine.outer = outer;
     Ok(())
 }
 
 // The frame of a call from within code, with the topmost operands as arguments.
-fn open_frame(callee: &Callee<'_>, address: u32, machine: &mut Machine) -> Result<(), AllocError>
+#[inline(always)]
+fn open_frame<'a>(
+    callee: &Callee<'a>,
+    code: FunctionCode<'a>,
+    machine: &mut Machine<'a>,
+) -> Result<(), AllocError>
     requires params { length callee.now.ty.now.params ≤ length machine.old.operands.own }
     requires position { machine.old.position + 1 < 2 ^ 64 }
-    ensures { OnOk result (machine.new ≡ enter_callee callee.now.ty.now callee.now.func.now callee.now.instance address machine.old) }
+    ensures { OnOk result (machine.new ≡ enter_callee callee.now.ty.now callee.now.func.now code.entry machine.old) }
 {
     let params = callee.ty.params.len();
+    let results = callee.ty.results.len();
     let outside = machine.operands.floor();
     let locals = machine.locals.base();
     machine
@@ -132,32 +160,31 @@ fn open_frame(callee: &Callee<'_>, address: u32, machine: &mut Machine) -> Resul
     machine.operands.drop_top(params);
     machine.operands.nest(0);
     let caller = Caller {
-        arity: callee.ty.results.len(),
+        arity: results,
         base: machine.operands.floor(),
         outside,
-        function: machine.function,
-        instance: machine.instance,
+        code: machine.code,
         position: machine.position + 1,
         locals,
         outer: machine.outer,
     };
-    enter_function(Control::InFrame(caller), callee, address, machine)
+    enter_function(Control::InFrame(caller), code, results, machine)
 }
 
-/// A call of the function of an index.
-pub fn step_call(store: &Store, x: u32, machine: &mut Machine, meter: &mut Meter) -> Step
+// A call of a function that was found, with the topmost operands as arguments.
+#[inline(always)]
+fn call<'a>(callee: &Callee<'a>, machine: &mut Machine<'a>, meter: &mut Meter) -> Step
     requires position { machine.old.position + 1 < 2 ^ 64 }
-    ensures simulates { IsBefore store.now machine.old (Plain (ControlPlain (Call x))) → Simulates store.now machine.old meter.old result machine.new meter.new }
+    requires ends { HasEnds callee.now.func.now.body callee.now.ends.now }
+    requires whole { (rests callee.now.func.now.body).around ≡ [] }
+    ensures simulates { (w : World) (redex : Configuration) (op : AnyPlainOp) (lent : Option ℕ)
+        → IsBefore machine.old (Plain op) → depth redex ≡ 0
+        → next_in w machine.old redex ≡ call_function 1 w.store lent (Some (function_of callee.now.ty.now callee.now.instance callee.now.func.now)) machine.old.operands.own (rests_at machine.old.code.body.now (machine.old.position + 1)).here.body
+        → SimulatesAt redex w machine.old meter.old result w machine.new meter.new }
     ensures falls { IfGoes result (measure machine.new meter.new < measure machine.old meter.old) }
-    ensures stays { IfStays result (machine.new.function ≡ machine.old.function) }
+    ensures stays { IfStays result (machine.new.code ≡ machine.old.code) }
     ensures bound { meter.new.bound ≡ meter.old.bound }
 {
-    let Some(address) = store.function_address(machine.instance, x) else {
-        return Step::Stuck;
-    };
-    let Some(callee) = store.function(address) else {
-        return Step::Stuck;
-    };
     if machine.operands.len() < callee.ty.params.len() {
         return Step::Stuck;
     }
@@ -167,11 +194,32 @@ pub fn step_call(store: &Store, x: u32, machine: &mut Machine, meter: &mut Meter
     if !meter.enter() {
         return Step::Lacks(Exhaustion::Depth);
     }
-    match open_frame(&callee, address, machine) {
+    let code = code_of(callee);
+    match open_frame(callee, code, machine) {
         Err(_) => Step::Lacks(Exhaustion::Memory),
         Ok(()) => {
             let _ = meter.try_spend(1);
             Step::Crosses
         }
     }
+}
+
+/// A call of the function of an index.
+#[inline(always)]
+pub fn step_call<'a>(store: &'a Store, x: u32, machine: &mut Machine<'a>, meter: &mut Meter) -> Step
+    requires position { machine.old.position + 1 < 2 ^ 64 }
+    ensures simulates { (w : World) → HasCode store.now w
+        → IsBefore machine.old (Plain (ControlPlain (Call x)))
+        → Simulates w machine.old meter.old result w machine.new meter.new }
+    ensures falls { IfGoes result (measure machine.new meter.new < measure machine.old meter.old) }
+    ensures stays { IfStays result (machine.new.code ≡ machine.old.code) }
+    ensures bound { meter.new.bound ≡ meter.old.bound }
+{
+    let Some(address) = store.function_address(machine.code.instance, x) else {
+        return Step::Stuck;
+    };
+    let Some(callee) = store.function(address) else {
+        return Step::Stuck;
+    };
+    call(&callee, machine, meter)
 }

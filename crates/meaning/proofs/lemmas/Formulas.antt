@@ -140,7 +140,7 @@ right_moves bits j k a i e h l =
     ∙ moved a k j ((i + k) % bits) i small within (sym returns ∙ ap (λ n. ((i + k) % bits + j) % n) whole)
 
 -- a rotation by b places is one by what b leaves modulo the number of bits
-whole_of : (bits b : ℕ) → 0 < bits → bits ≡ (bits - b % bits) + b % bits
+pub whole_of : (bits b : ℕ) → 0 < bits → bits ≡ (bits - b % bits) + b % bits
 whole_of bits b some = omega (arith, mod-lt b some)
 
 pub left_by_bits : (bits a b i : ℕ) → a < 2 ^ bits → i < bits → bit_at (rotated_left bits a (b % bits)) ((i + b) % bits) ≡ bit_at a i

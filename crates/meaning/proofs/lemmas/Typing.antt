@@ -55,6 +55,25 @@ Frames-before operands results before given after fits frame =
       rw frame.after_is left,
     )
 
+-- What lies below the stacks stays.
+Frames-weakening : (under operands results before after : List OperandType) → Frames operands results before after → Frames operands results (under ++ before) (under ++ after)
+Frames-weakening under operands results before after frame = record {
+  below = under ++ frame.below;
+  given = frame.given;
+  before_is = rw (frame.before_is, append_assoc);
+  fits = frame.fits;
+  after_is = rw (frame.after_is, append_assoc);
+}
+
+pub HasType-weakening : (context : Context) (body : Body) (under before after : List OperandType) → HasType context body before after → HasType context body (under ++ before) (under ++ after)
+HasType-weakening context Empty under before after fits = AllFit-joined under under before after (AllFit-same under) fits
+HasType-weakening context (Then op rest) under before after (operands, results, between, rule, frame, last) =
+    (operands, results, under ++ between, rule, Frames-weakening under _ _ before between frame, HasType-weakening context rest under between after last)
+HasType-weakening context (Nested kind type inner rest) under before after (s, between, is, inside, other, frame, last) =
+    (s, under ++ between, is, inside, other, Frames-weakening under _ _ before between frame, HasType-weakening context rest under between after last)
+HasType-weakening context (IfElse type inner other rest) under before after (s, between, is, inside, second, frame, last) =
+    (s, under ++ between, is, inside, second, Frames-weakening under _ _ before between frame, HasType-weakening context rest under between after last)
+
 -- A body that leads to a stack leads to each that it fits.
 pub HasType-after : (context : Context) (body : Body) (before after wanted : List OperandType) → HasType context body before after → AllFit after wanted → HasType context body before wanted
 HasType-after context Empty before after wanted typed fits = AllFit-through before after wanted typed fits

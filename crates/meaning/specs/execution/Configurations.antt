@@ -1,14 +1,18 @@
--- Configurations: nested labels and frames (Execution, Runtime Structure, Administrative Instructions). Values are listed
--- from the top of the stack; the values of a level lie before its leftmost redex, and the rest behind it.
-use Rattle.std.specs.Prelude.{ℕ, suc, List, []}
+-- Configurations: nested labels and frames (Execution, Runtime Structure, Administrative Instructions). Values are listed from
+-- the top of the stack; the values of a configuration lie before its leftmost redex, and the rest behind it.
+use Rattle.std.specs.Prelude.{ℕ, suc, List, [], ◌++◌, reverse, Option, None}
 use Rattle.core_types.specs.declared.outcome.Val.{Val}
 use Rattle.core_types.specs.declared.op.BlockType.{BlockType}
 use Rattle.meaning.specs.structure.Bodies.{Body, LoopKind, Nested}
 
--- The state of a frame: its module instance and its locals.
+-- The state of a frame: the address of its module instance, none outside of all modules, and its locals (Activations and Frames).
 pub record Frame : Type 0 where
-  pub instance : ℕ
+  pub instance : Option ℕ
   pub locals : List Val
+
+-- Outside of a call from outside there is no instance, and there are no locals.
+abbrev pub no_frame : Frame
+no_frame = record { instance = None; locals = [] }
 
 -- What a branch to a label goes on with: what lies behind the label, or the loop, again.
 pub data Continuation : Type 0 where
@@ -20,24 +24,37 @@ abbrev pub continue_with : Continuation → Body → Body
 continue_with Onward rest = rest
 continue_with (Again type inside) rest = Nested LoopKind type inside rest
 
+-- A label (Labels): how many values a branch to it keeps and what it goes on with; the values under it and the instructions
+-- behind it.
+pub record Label : Type 0 where
+  pub arity : ℕ
+  pub continuation : Continuation
+  pub values : List Val
+  pub rest : Body
+
+-- An activation of a function: how many results it gives; the values under it and the instructions behind it.
+pub record Activation : Type 0 where
+  pub arity : ℕ
+  pub values : List Val
+  pub rest : Body
+
 pub data Configuration : Type 0 where
-  -- instructions
   Running : (values : List Val) (rest : Body) → Configuration
-  -- a label: how many values a branch to it keeps, where it leads, and the inside
-  InLabel : (values : List Val) (arity : ℕ) (continuation : Continuation) (inside : Configuration) (rest : Body)
-      → Configuration
-  -- a frame: how many results it gives, its state, and the inside
-  InFrame : (values : List Val) (arity : ℕ) (frame : Frame) (inside : Configuration) (rest : Body) → Configuration
+  InLabel : (label : Label) (inside : Configuration) → Configuration
+  InFrame : (activation : Activation) (frame : Frame) (inside : Configuration) → Configuration
   -- a call of the function at an address, with its arguments
   Invoking : (arguments : List Val) (address : ℕ) → Configuration
 
--- Outside of all frames there are no locals.
-abbrev pub no_frame : Frame
-no_frame = record { instance = 0; locals = [] }
-
--- The depth of a configuration, which is this project's own measure: how many frames are open.
+-- How many frames are open, which is this project's own measure.
 abbrev pub depth : Configuration → ℕ
 depth (Running values rest) = 0
-depth (InLabel values arity continuation inside rest) = depth inside
-depth (InFrame values arity frame inside rest) = suc (depth inside)
+depth (InLabel label inside) = depth inside
+depth (InFrame activation frame inside) = suc (depth inside)
 depth (Invoking arguments address) = 0
+
+-- The results of a host function, put on the innermost values.
+abbrev pub answered : List Val → Configuration → Configuration
+answered results (Running values rest) = Running (reverse results ++ values) rest
+answered results (InLabel label inside) = InLabel label (answered results inside)
+answered results (InFrame activation frame inside) = InFrame activation frame (answered results inside)
+answered results (Invoking arguments address) = Invoking arguments address

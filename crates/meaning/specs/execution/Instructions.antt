@@ -22,9 +22,9 @@ use Rattle.core_types.specs.declared.outcome.Val.TheVariants.{I32, I64, FuncRef,
 use Rattle.core_types.specs.declared.outcome.Trap.{Trap}
 use Rattle.core_types.specs.declared.outcome.Trap.TheVariants.{Unreachable as UnreachableTrap}
 use Rattle.meaning.specs.structure.Bodies.{Kind, BlockKind, LoopKind, IfKind, Body, Empty, Then, Nested, IfElse}
-use Rattle.meaning.specs.execution.Configurations.{Frame, Continuation, Onward, Again, continue_with, Configuration, Running, InLabel, InFrame, Invoking}
+use Rattle.meaning.specs.execution.Configurations.{Frame, Continuation, Onward, Again, continue_with, Label, Activation, Configuration, Running, InLabel, InFrame, Invoking}
 use Rattle.meaning.specs.execution.Numerics.{binary_operator, comparison_operator, conversion_operator, eqz_operator, unary_operator}
-use Rattle.meaning.specs.execution.Store.{FunctionInstance, Store, instance_of}
+use Rattle.meaning.specs.execution.Store.{Code, FunctionInstance, Implementation, InCode, InHost, Store, instance_of, item_at}
 use Rattle.meaning.specs.validation.Types.{block_type, label_types}
 
 -- The cost of a step that executes an instruction. Leaving a label or a frame, and an entry from outside, cost 0.
@@ -114,10 +114,15 @@ effect store frame op values = Lacks
 
 -- What a configuration does next.
 pub data Next : Type 0 where
-  -- a step
+  -- a step that asks for no memory
   Goes : (cost : ℕ) (store : Store) (frame : Frame) (configuration : Configuration) → Next
+  -- a step for which a table or a memory grows
+  Grows : (cost : ℕ) (store : Store) (frame : Frame) (configuration : Configuration) → Next
   -- a step that opens a frame
   Opens : (cost : ℕ) (store : Store) (configuration : Configuration) → Next
+  -- a call of the host function of a number, which is lent the memory at an address, if there is one; the configuration takes
+  -- its results
+  CallsHost : (cost number : ℕ) (lent : Option ℕ) (arguments : List Val) (configuration : Configuration) → Next
   -- a step to a trap
   Traps : (cost : ℕ) (trap : Trap) → Next
   -- a branch to the label of this number, counted from here outward, with the values over which it is
@@ -139,6 +144,8 @@ continue_after frame (Done store locals values) rest =
 continue_after frame (Fails trap) rest = Traps instruction_cost trap
 continue_after frame Lacks rest = NotReady
 
+-- ---- calls
+
 -- The value that a local has at first: zero or null.
 abbrev pub default_of : ValType → Val
 default_of ty.I32 = I32 0
@@ -146,34 +153,55 @@ default_of ty.I64 = I64 0
 default_of ty.FuncRef = FuncRef None
 default_of ty.ExternRef = ExternRef None
 
--- The frame of a call, whose arguments are the topmost values, the last one on top (Calls, Invocation).
-abbrev pub frame_of : FunctionInstance → List Val → Frame
-frame_of f values = record { instance = f.instance; locals = reverse (take (length f.ty.params) values) ++ map default_of f.code.locals }
+-- The topmost values, in the order of the types that they are for: the last one was on top.
+abbrev pub topmost : {T : Type 0} → List T → List Val → List Val
+topmost types values = reverse (take (length types) values)
+
+-- The frame of a call, whose arguments are the topmost values (Invocation of Function Instances).
+abbrev pub frame_of : FuncType → (instance : ℕ) → Code → List Val → Frame
+frame_of t instance code values =
+    record { instance = Some instance; locals = topmost t.params values ++ map default_of code.locals }
 
 -- The inside of a fresh frame: a label around the body.
-abbrev pub function_body : FunctionInstance → Configuration
-function_body f = InLabel [] (length f.ty.results) Onward (Running [] f.code.body) Empty
+abbrev pub function_body : FuncType → Code → Configuration
+function_body t code =
+    InLabel (record { arity = length t.results; continuation = Onward; values = []; rest = Empty })
+    (Running [] code.body)
 
-abbrev pub enter_function : ℕ → Store → FunctionInstance → List Val → Body → Next
-enter_function cost store f values rest =
+-- A frame around a body, above the values that are no arguments.
+abbrev pub enter_function : ℕ → Store → FuncType → (instance : ℕ) → Code → List Val → Body → Next
+enter_function cost store t instance code values rest =
+    Opens cost store
+    (InFrame (record { arity = length t.results; values = drop (length t.params) values; rest = rest }) (frame_of t instance code values) (function_body t code))
+
+-- A call of a host function, whose results take the place of the arguments (Host Functions).
+abbrev pub call_host : ℕ → (number : ℕ) → (lent : Option ℕ) → FuncType → List Val → Body → Next
+call_host cost number lent t values rest =
+    CallsHost cost number lent (topmost t.params values) (Running (drop (length t.params) values) rest)
+
+abbrev pub call_implementation : ℕ → Store → (lent : Option ℕ) → FuncType → Implementation → List Val → Body
+    → Next
+call_implementation cost store lent t (InCode instance code) values rest =
+    enter_function cost store t instance code values rest
+call_implementation cost store lent t (InHost number) values rest = call_host cost number lent t values rest
+
+-- A call of a function, which takes its arguments from the values (Calls).
+abbrev pub call_function : ℕ → Store → (lent : Option ℕ) → Option FunctionInstance → List Val → Body → Next
+call_function cost store lent None values rest = NotReady
+call_function cost store lent (Some f) values rest =
     if nat_le (length f.ty.params) (length values)
-    then Opens cost store (InFrame (drop (length f.ty.params) values) (length f.ty.results) (frame_of f values) (function_body f) rest)
+    then call_implementation cost store lent f.ty f.implementation values rest
     else NotReady
 
-abbrev pub call_function : ℕ → Store → Option FunctionInstance → List Val → Body → Next
-call_function cost store None values rest = NotReady
-call_function cost store (Some f) values rest = enter_function cost store f values rest
+-- The address of the memory that the frame's instance has, if it has one.
+abbrev pub lent_memory : Store → Frame → Option ℕ
+lent_memory store frame = slice_get (instance_of store frame.instance).memories 0
+
+-- The function that the frame's instance has under an index.
+abbrev pub function_at : Store → Frame → ℕ → Option FunctionInstance
+function_at store frame x = item_at store.functions (instance_of store frame.instance).functions x
 
 -- ---- control
-
--- The address of the function that the frame's instance has under an index.
-abbrev pub function_address : Store → Frame → ℕ → Option ℕ
-function_address store frame x = slice_get (instance_of store frame.instance).functions x
-
-abbrev pub call_address : Store → Option ℕ → List Val → Body → Next
-call_address store None values rest = NotReady
-call_address store (Some address) values rest =
-    call_function instruction_cost store (slice_get store.functions address) values rest
 
 -- br_if: a branch where the i32 is not zero.
 abbrev pub branch_if : Store → Frame → ℕ → List Val → Body → Next
@@ -193,7 +221,7 @@ step_instruction store frame (Control (BrIf label)) values rest = branch_if stor
 step_instruction store frame (BrTable table) values rest = branch_by_table table values
 step_instruction store frame (Control Return) values rest = Returns values
 step_instruction store frame (Control (Call x)) values rest =
-    call_address store (function_address store frame x) values rest
+    call_function instruction_cost store (lent_memory store frame) (function_at store frame x) values rest
 step_instruction store frame op values rest = continue_after frame (effect store frame op values) rest
 
 -- The type of a block, by the types of the frame's instance.
@@ -205,12 +233,22 @@ continuation_of BlockKind type inside = Onward
 continuation_of LoopKind type inside = Again type inside
 continuation_of IfKind type inside = Onward
 
+-- The label of a block: it has the topmost values inside, and the others under it.
+abbrev pub label_of : Kind → BlockType → FuncType → Body → List Val → Body → Label
+label_of kind type t inside values rest = record {
+  arity = length (label_types kind t);
+  continuation = continuation_of kind type inside;
+  values = drop (length t.params) values;
+  rest = rest;
+}
+
 -- A label with the topmost values and a body inside.
 abbrev pub enter_label : Store → Frame → Kind → BlockType → Option FuncType → Body → List Val → Body → Next
 enter_label store frame kind type None inside values rest = NotReady
 enter_label store frame kind type (Some t) inside values rest =
     if nat_le (length t.params) (length values)
-    then Goes instruction_cost store frame (InLabel (drop (length t.params) values) (length (label_types kind t)) (continuation_of kind type inside) (Running (take (length t.params) values) inside) rest)
+    then Goes instruction_cost store frame
+    (InLabel (label_of kind type t inside values rest) (Running (take (length t.params) values) inside))
     else NotReady
 
 -- if: the first body where the i32 is not zero, and else the second.
@@ -235,52 +273,60 @@ step_sequence store frame values (IfElse type inside other rest) =
     choose_body store frame type inside other values rest
 
 -- A branch keeps the topmost of its values, which with the continuation take the place of the label.
-abbrev pub branch_to_label : Store → Frame → List Val → ℕ → Continuation → Body → List Val → Next
-branch_to_label store frame values arity continuation rest kept =
-    if nat_le arity (length kept)
-    then Goes instruction_cost store frame (Running (take arity kept ++ values) (continue_with continuation rest))
+abbrev pub branch_to_label : Store → Frame → Label → List Val → Next
+branch_to_label store frame label kept =
+    if nat_le label.arity (length kept)
+    then Goes instruction_cost store frame
+    (Running (take label.arity kept ++ label.values) (continue_with label.continuation label.rest))
     else NotReady
 
 -- A label around what its inside does. Around values alone it becomes the values (Exiting).
-abbrev pub step_in_label : Store → Frame → List Val → ℕ → Continuation → Body → Next → Next
-step_in_label store frame values arity continuation rest (Goes cost store' frame' inside) =
-    Goes cost store' frame' (InLabel values arity continuation inside rest)
-step_in_label store frame values arity continuation rest (Opens cost store' inside) =
-    Opens cost store' (InLabel values arity continuation inside rest)
-step_in_label store frame values arity continuation rest (Traps cost trap) = Traps cost trap
-step_in_label store frame values arity continuation rest (Branches zero kept) =
-    branch_to_label store frame values arity continuation rest kept
-step_in_label store frame values arity continuation rest (Branches (suc label) kept) = Branches label kept
-step_in_label store frame values arity continuation rest (Returns kept) = Returns kept
-step_in_label store frame values arity continuation rest (Over results) =
-    Goes 0 store frame (Running (results ++ values) rest)
-step_in_label store frame values arity continuation rest NotReady = NotReady
+abbrev pub step_in_label : Store → Frame → Label → Next → Next
+step_in_label store frame label (Goes cost store' frame' inside) =
+    Goes cost store' frame' (InLabel label inside)
+step_in_label store frame label (Grows cost store' frame' inside) =
+    Grows cost store' frame' (InLabel label inside)
+step_in_label store frame label (Opens cost store' inside) = Opens cost store' (InLabel label inside)
+step_in_label store frame label (CallsHost cost number lent arguments inside) =
+    CallsHost cost number lent arguments (InLabel label inside)
+step_in_label store frame label (Traps cost trap) = Traps cost trap
+step_in_label store frame label (Branches zero kept) = branch_to_label store frame label kept
+step_in_label store frame label (Branches (suc further) kept) = Branches further kept
+step_in_label store frame label (Returns kept) = Returns kept
+step_in_label store frame label (Over results) =
+    Goes 0 store frame (Running (results ++ label.values) label.rest)
+step_in_label store frame label NotReady = NotReady
 
 -- A return keeps the topmost of its values, which take the place of the frame.
-abbrev pub return_from_frame : Store → Frame → List Val → ℕ → Body → List Val → Next
-return_from_frame store outer values arity rest kept =
-    if nat_le arity (length kept)
-    then Goes instruction_cost store outer (Running (take arity kept ++ values) rest)
+abbrev pub return_from_frame : Store → Frame → Activation → List Val → Next
+return_from_frame store outer activation kept =
+    if nat_le activation.arity (length kept)
+    then Goes instruction_cost store outer
+    (Running (take activation.arity kept ++ activation.values) activation.rest)
     else NotReady
 
 -- A frame around what its inside does in it. Around values alone it becomes the values (Returning from a function).
-abbrev pub step_in_frame : Store → Frame → List Val → ℕ → Frame → Body → Next → Next
-step_in_frame store outer values arity own rest (Goes cost store' own' inside) =
-    Goes cost store' outer (InFrame values arity own' inside rest)
-step_in_frame store outer values arity own rest (Opens cost store' inside) =
-    Opens cost store' (InFrame values arity own inside rest)
-step_in_frame store outer values arity own rest (Traps cost trap) = Traps cost trap
-step_in_frame store outer values arity own rest (Branches label kept) = NotReady
-step_in_frame store outer values arity own rest (Returns kept) = return_from_frame store outer values arity rest kept
-step_in_frame store outer values arity own rest (Over results) = Goes 0 store outer (Running (results ++ values) rest)
-step_in_frame store outer values arity own rest NotReady = NotReady
+abbrev pub step_in_frame : Store → Frame → Activation → Frame → Next → Next
+step_in_frame store outer activation own (Goes cost store' own' inside) =
+    Goes cost store' outer (InFrame activation own' inside)
+step_in_frame store outer activation own (Grows cost store' own' inside) =
+    Grows cost store' outer (InFrame activation own' inside)
+step_in_frame store outer activation own (Opens cost store' inside) =
+    Opens cost store' (InFrame activation own inside)
+step_in_frame store outer activation own (CallsHost cost number lent arguments inside) =
+    CallsHost cost number lent arguments (InFrame activation own inside)
+step_in_frame store outer activation own (Traps cost trap) = Traps cost trap
+step_in_frame store outer activation own (Branches label kept) = NotReady
+step_in_frame store outer activation own (Returns kept) = return_from_frame store outer activation kept
+step_in_frame store outer activation own (Over results) =
+    Goes 0 store outer (Running (results ++ activation.values) activation.rest)
+step_in_frame store outer activation own NotReady = NotReady
 
--- What a configuration does next, within this frame. An entry from outside costs nothing.
+-- What a configuration does next, within this frame. An entry from outside costs nothing, and lends no memory.
 abbrev pub next : Store → Frame → Configuration → Next
 next store frame (Running values rest) = step_sequence store frame values rest
-next store frame (InLabel values arity continuation inside rest) =
-    step_in_label store frame values arity continuation rest (next store frame inside)
-next store frame (InFrame values arity own inside rest) =
-    step_in_frame store frame values arity own rest (next store own inside)
+next store frame (InLabel label inside) = step_in_label store frame label (next store frame inside)
+next store frame (InFrame activation own inside) =
+    step_in_frame store frame activation own (next store own inside)
 next store frame (Invoking arguments address) =
-    call_function 0 store (slice_get store.functions address) arguments Empty
+    call_function 0 store None (slice_get store.functions address) arguments Empty

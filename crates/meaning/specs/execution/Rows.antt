@@ -1,5 +1,5 @@
 -- Worked rows of runs: calls of small functions, with the fuel before and after.
-use Rattle.std.specs.Prelude.{ℕ, List, [], ◌∷◌}
+use Rattle.std.specs.Prelude.{◌≡◌, ℕ, suc, List, [], ◌∷◌, Option}
 use Rattle.core_types.specs.declared.types.ValType.{ValType}
 use Rattle.core_types.specs.declared.types.ValType.TheVariants as ty
 use Rattle.core_types.specs.declared.op.BlockType.TheVariants as block
@@ -14,17 +14,24 @@ use Rattle.core_types.specs.declared.outcome.Val.{Val}
 use Rattle.core_types.specs.declared.outcome.Val.TheVariants.{I32}
 use Rattle.meaning.specs.structure.Bodies.{Body, Empty, Then, Nested, IfElse, BlockKind, LoopKind}
 use Rattle.meaning.specs.validation.Types.{function_type}
-use Rattle.meaning.specs.execution.Configurations.{Invoking}
-use Rattle.meaning.specs.execution.Runs.{Ending, Run}
-use Rattle.meaning.specs.execution.Store.{FunctionInstance, Store}
+use Rattle.meaning.specs.execution.Configurations.{Invoking, no_frame}
+use Rattle.meaning.specs.execution.Runs.{Answer, Results, HostTrap, Ending, NoHosts, Run, State}
+use Rattle.meaning.specs.execution.Store.{FunctionInstance, InCode, InHost, Store}
 
 -- A function of the first instance, without locals of its own.
 abbrev pub function : List ValType → List ValType → Body → FunctionInstance
-function params results body = record { ty = function_type params results; instance = 0; code = record { locals = []; body = body } }
+function params results body =
+    record {
+      ty = function_type params results;
+      implementation = InCode 0 (record { locals = []; body = body });
+    }
 
 -- The functions of one instance.
 abbrev pub instance_of_two : FunctionInstance → FunctionInstance → Store
-instance_of_two f g = record { functions = f ∷ g ∷ []; instances = record { types = []; functions = 0 ∷ 1 ∷ []; exports = [] } ∷ [] }
+instance_of_two f g = record {
+  functions = f ∷ g ∷ [];
+  instances = record { types = []; functions = 0 ∷ 1 ∷ []; memories = []; exports = [] } ∷ [];
+}
 
 -- The instruction that gets a local.
 abbrev pub local : ℕ → PlainOp
@@ -34,15 +41,20 @@ local x = Variable (LocalGet x)
 abbrev pub nothing : FunctionInstance
 nothing = function [] [] Empty
 
+-- The state with this function in the first place, and this fuel.
+abbrev pub state_of : FunctionInstance → (fuel : ℕ) → State ⊥
+state_of f fuel = record { store = instance_of_two f nothing; hosts = []; fuel = fuel }
+
 -- A call of the first function, with the arguments from the top, from this fuel to this ending with that fuel left.
 abbrev pub Calls : (bound : ℕ) → FunctionInstance → List Val → (fuel : ℕ) → Ending → (left : ℕ) → Type 0
 Calls bound f arguments fuel ending left =
-    Run bound (instance_of_two f nothing) fuel (Invoking arguments 0) ending (instance_of_two f nothing) left
+    Run NoHosts bound no_frame (state_of f fuel) (Invoking arguments 0) ending (state_of f left)
 
 -- It adds its two arguments.
 abbrev pub adder : FunctionInstance
 adder =
-    function (ty.I32 ∷ ty.I32 ∷ []) (ty.I32 ∷ []) (Then (local 0) (Then (local 1) (Then (Numeric (Binary W32 Add)) Empty)))
+    function (ty.I32 ∷ ty.I32 ∷ []) (ty.I32 ∷ [])
+    (Then (local 0) (Then (local 1) (Then (Numeric (Binary W32 Add)) Empty)))
 
 -- A loop that branches to itself.
 abbrev pub endless : FunctionInstance
@@ -50,7 +62,9 @@ endless = function [] [] (Nested LoopKind block.Empty (Then (Control (Br 0)) Emp
 
 -- A block of one result, out of which a branch goes over three values.
 abbrev pub last_of_three : FunctionInstance
-last_of_three = function [] (ty.I32 ∷ []) (Nested BlockKind (block.Value ty.I32) (Then (I32Const 7) (Then (I32Const 8) (Then (I32Const 9) (Then (Control (Br 0)) Empty)))) Empty)
+last_of_three =
+    function [] (ty.I32 ∷ [])
+    (Nested BlockKind (block.Value ty.I32) (Then (I32Const 7) (Then (I32Const 8) (Then (I32Const 9) (Then (Control (Br 0)) Empty)))) Empty)
 
 -- Two results.
 abbrev pub one_and_two : FunctionInstance
@@ -59,8 +73,46 @@ one_and_two = function [] (ty.I32 ∷ ty.I32 ∷ []) (Then (I32Const 1) (Then (I
 -- 7 where the argument is not zero, and else 8.
 abbrev pub seven_or_eight : FunctionInstance
 seven_or_eight =
-    function (ty.I32 ∷ []) (ty.I32 ∷ []) (Then (local 0) (IfElse (block.Value ty.I32) (Then (I32Const 7) Empty) (Then (I32Const 8) Empty) Empty))
+    function (ty.I32 ∷ []) (ty.I32 ∷ [])
+    (Then (local 0) (IfElse (block.Value ty.I32) (Then (I32Const 7) Empty) (Then (I32Const 8) Empty) Empty))
 
 -- A call of the function that does nothing.
 abbrev pub caller : FunctionInstance
 caller = function [] [] (Then (Control (Call 1)) Empty)
+
+-- ---- host functions
+
+-- The store of this function and a host function, in an instance that has the memory at address 6.
+abbrev pub store_with_host : FunctionInstance → (host_params host_results : List ValType) → Store
+store_with_host f host_params host_results = record {
+  functions = f ∷ record { ty = function_type host_params host_results; implementation = InHost 0 } ∷ [];
+  instances = record { types = []; functions = 0 ∷ 1 ∷ []; memories = 6 ∷ []; exports = [] } ∷ [];
+}
+
+-- The host function that counts its calls and answers the count, if it is lent this memory.
+abbrev pub CountsCalls : Option ℕ → List ℕ → ℕ → Option ℕ → List Val → Store → Answer → Store → List ℕ → Type 0
+CountsCalls memory hosts number lent arguments store answer store' hosts' =
+    (lent ≡ memory) × (store' ≡ store) × (n : ℕ) × (hosts ≡ n ∷ []) × (answer ≡ Results (I32 (suc n) ∷ [])) ×
+    (hosts' ≡ suc n ∷ [])
+
+-- It calls the host function twice.
+abbrev pub calls_twice : FunctionInstance
+calls_twice = function [] (ty.I32 ∷ ty.I32 ∷ []) (Then (Control (Call 1)) (Then (Control (Call 1)) Empty))
+
+-- The state with this function, the host function that counts, and its count.
+abbrev pub counting : (count fuel : ℕ) → State ℕ
+counting count fuel =
+    record { store = store_with_host calls_twice [] (ty.I32 ∷ []); hosts = count ∷ []; fuel = fuel }
+
+-- The host function that traps if it is called with 1 and 2, in this order.
+abbrev pub TrapsAtOneAndTwo : List ℕ → ℕ → Option ℕ → List Val → Store → Answer → Store → List ℕ → Type 0
+TrapsAtOneAndTwo hosts number lent arguments store answer store' hosts' =
+    (arguments ≡ I32 1 ∷ I32 2 ∷ []) × (answer ≡ HostTrap 4) × (store' ≡ store) × (hosts' ≡ hosts)
+
+-- It calls the host function with 1 and 2.
+abbrev pub calls_with_one_and_two : FunctionInstance
+calls_with_one_and_two = function [] [] (Then (I32Const 1) (Then (I32Const 2) (Then (Control (Call 1)) Empty)))
+
+abbrev pub trapping : (fuel : ℕ) → State ℕ
+trapping fuel =
+    record { store = store_with_host calls_with_one_and_two (ty.I32 ∷ ty.I32 ∷ []) []; hosts = []; fuel = fuel }

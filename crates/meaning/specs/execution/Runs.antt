@@ -1,44 +1,64 @@
--- Bounded runs, which are this project's own: steps within the fuel and the depth bound.
-use Rattle.std.specs.Prelude.{ℕ, ◌≡◌, ◌-◌, ◌<◌, ◌≤◌, List, reverse}
-use Rattle.meaning.specs.execution.Configurations.{Configuration, depth, no_frame}
+-- Bounded runs, which are this project's own: steps within the fuel and the depth bound, in a frame outside of all others, over
+-- any host functions.
+use Rattle.std.specs.Prelude.{◌≡◌, ℕ, ◌-◌, ◌<◌, ◌≤◌, List, Option, reverse}
 use Rattle.core_types.specs.declared.outcome.Val.{Val}
 use Rattle.core_types.specs.declared.outcome.Trap.{Trap}
+use Rattle.core_types.specs.declared.outcome.Trap.TheVariants.{Host}
+use Rattle.meaning.specs.execution.Configurations.{Configuration, Frame, answered, depth}
 use Rattle.meaning.specs.execution.Store.{Store}
-use Rattle.meaning.specs.execution.Instructions.{Next, Goes, Opens, Traps, Branches, Returns, Over, NotReady, next}
-
--- What a configuration does next, outside of all frames.
-abbrev pub next_of : Store → Configuration → Next
-next_of store configuration = next store no_frame configuration
+use Rattle.meaning.specs.execution.Instructions.{Next, Goes, Grows, Opens, CallsHost, Traps, Branches, Returns, Over, NotReady, next}
 
 -- What the next step costs.
 abbrev pub price : Next → ℕ
 price (Goes cost store frame configuration) = cost
+price (Grows cost store frame configuration) = cost
 price (Opens cost store configuration) = cost
+price (CallsHost cost number lent arguments configuration) = cost
 price (Traps cost trap) = cost
 price (Branches label values) = 0
 price (Returns values) = 0
 price (Over values) = 0
 price NotReady = 0
 
--- A step may be done, at this depth.
-abbrev pub IsReady : ℕ → ℕ → Next → Type 0
-IsReady bound deep (Goes cost store frame configuration) = Unit {0}
-IsReady bound deep (Opens cost store configuration) = deep < bound
-IsReady bound deep (Traps cost trap) = Unit {0}
-IsReady bound deep (Branches label values) = ⊥
-IsReady bound deep (Returns values) = ⊥
-IsReady bound deep (Over values) = ⊥
-IsReady bound deep NotReady = ⊥
+-- A case of the reduction applies.
+abbrev pub IsReady : Next → Type 0
+IsReady (Goes cost store frame configuration) = Unit {0}
+IsReady (Grows cost store frame configuration) = Unit {0}
+IsReady (Opens cost store configuration) = Unit {0}
+IsReady (CallsHost cost number lent arguments configuration) = Unit {0}
+IsReady (Traps cost trap) = Unit {0}
+IsReady (Branches label values) = ⊥
+IsReady (Returns values) = ⊥
+IsReady (Over values) = ⊥
+IsReady NotReady = ⊥
+
+-- The step stays within the depth bound, where this many frames are open.
+abbrev pub IsWithinBound : (bound frames : ℕ) → Next → Type 0
+IsWithinBound bound frames (Opens cost store configuration) = frames < bound
+IsWithinBound bound frames other = Unit {0}
 
 -- Neither an end nor ready.
 abbrev pub IsStuck : Next → Type 0
 IsStuck (Goes cost store frame configuration) = ⊥
+IsStuck (Grows cost store frame configuration) = ⊥
 IsStuck (Opens cost store configuration) = ⊥
+IsStuck (CallsHost cost number lent arguments configuration) = ⊥
 IsStuck (Traps cost trap) = ⊥
 IsStuck (Branches label values) = Unit {0}
 IsStuck (Returns values) = Unit {0}
 IsStuck (Over values) = ⊥
 IsStuck NotReady = Unit {0}
+
+-- The state of a run: the store, the host functions, and the fuel that is left.
+pub record State (H : Type 0) : Type 0 where
+  pub store : Store
+  pub hosts : List H
+  pub fuel : ℕ
+
+-- How a host function answers: with results, or with a trap of its own.
+pub data Answer : Type 0 where
+  Results : (values : List Val) → Answer
+  HostTrap : (code : ℕ) → Answer
 
 -- How a run ends.
 pub data Ending : Type 0 where
@@ -50,34 +70,65 @@ pub data Ending : Type 0 where
   -- at a configuration that is neither an end nor ready
   GotStuck : Ending
 
--- One step of a bounded run, from this store, fuel and configuration to those.
-pub data IsStep (bound : ℕ) (store : Store) (fuel : ℕ) (configuration : Configuration) (store' : Store) (left : ℕ) (configuration' : Configuration) : Type 0 where
-  goes : {cost : ℕ} → next_of store configuration ≡ Goes cost store' no_frame configuration' → cost ≤ fuel
-      → left ≡ fuel - cost → IsStep bound store fuel configuration store' left configuration'
-  opens : {cost : ℕ} → next_of store configuration ≡ Opens cost store' configuration' → cost ≤ fuel
-      → left ≡ fuel - cost → depth configuration < bound
-      → IsStep bound store fuel configuration store' left configuration'
+-- HostStep hosts number lent arguments store answer store' hosts': the host function of this number, which is called with these
+-- arguments and lent the memory at an address, if there is one, gives this answer, and leaves this store and these host functions.
+module _ {H : Type 0} (HostStep : List H → ℕ → Option ℕ → List Val → Store → Answer → Store → List H → Type 0) (bound : ℕ) (outside : Frame) where
+  -- One step.
+  pub data IsStep (old : State H) (configuration : Configuration) (new : State H) (configuration' : Configuration) : Type 0 where
+    goes : {cost : ℕ} → next old.store outside configuration ≡ Goes cost new.store outside configuration'
+        → cost ≤ old.fuel → new.fuel ≡ old.fuel - cost → new.hosts ≡ old.hosts
+        → IsStep old configuration new configuration'
+    grows : {cost : ℕ} → next old.store outside configuration ≡ Grows cost new.store outside configuration'
+        → cost ≤ old.fuel → new.fuel ≡ old.fuel - cost → new.hosts ≡ old.hosts
+        → IsStep old configuration new configuration'
+    opens : {cost : ℕ} → next old.store outside configuration ≡ Opens cost new.store configuration'
+        → cost ≤ old.fuel → new.fuel ≡ old.fuel - cost → new.hosts ≡ old.hosts → depth configuration < bound
+        → IsStep old configuration new configuration'
+    calls : {cost number : ℕ} {lent : Option ℕ} {arguments results : List Val} {waiting : Configuration}
+        → next old.store outside configuration ≡ CallsHost cost number lent arguments waiting
+        → cost ≤ old.fuel → new.fuel ≡ old.fuel - cost
+        → HostStep old.hosts number lent arguments old.store (Results results) new.store new.hosts
+        → configuration' ≡ answered results waiting → IsStep old configuration new configuration'
 
--- The end of a bounded run at this store, fuel and configuration, with the fuel left then.
-pub data IsEnd (bound : ℕ) (store : Store) (fuel : ℕ) (configuration : Configuration) (ending : Ending) (left : ℕ) : Type 0 where
-  values_left : {values : List Val} → next_of store configuration ≡ Over values → ending ≡ WithValues (reverse values)
-      → left ≡ fuel → IsEnd bound store fuel configuration ending left
-  trapped : {cost : ℕ} {trap : Trap} → next_of store configuration ≡ Traps cost trap → cost ≤ fuel
-      → ending ≡ WithTrap trap → left ≡ fuel - cost → IsEnd bound store fuel configuration ending left
-  no_fuel : fuel < price (next_of store configuration) → ending ≡ OutOfFuel → left ≡ fuel
-      → IsEnd bound store fuel configuration ending left
-  no_depth : {cost : ℕ} {store' : Store} {configuration' : Configuration}
-      → next_of store configuration ≡ Opens cost store' configuration' → cost ≤ fuel → bound ≤ depth configuration
-      → ending ≡ OutOfDepth → left ≡ fuel → IsEnd bound store fuel configuration ending left
-  no_memory : price (next_of store configuration) ≤ fuel
-      → IsReady bound (depth configuration) (next_of store configuration) → ending ≡ OutOfMemory → left ≡ fuel
-      → IsEnd bound store fuel configuration ending left
-  stuck : IsStuck (next_of store configuration) → ending ≡ GotStuck → left ≡ fuel
-      → IsEnd bound store fuel configuration ending left
+  -- The end of a run at this state and configuration, and the state then.
+  pub data IsEnd (at : State H) (configuration : Configuration) (ending : Ending) (last : State H) : Type 0 where
+    values_left : {values : List Val} → next at.store outside configuration ≡ Over values
+        → ending ≡ WithValues (reverse values) → last ≡ at → IsEnd at configuration ending last
+    trapped : {cost : ℕ} {trap : Trap} → next at.store outside configuration ≡ Traps cost trap
+        → cost ≤ at.fuel → ending ≡ WithTrap trap → last ≡ record at { fuel = at.fuel - cost }
+        → IsEnd at configuration ending last
+    host_trapped : {cost number code : ℕ} {lent : Option ℕ} {arguments : List Val} {waiting : Configuration}
+        → next at.store outside configuration ≡ CallsHost cost number lent arguments waiting
+        → cost ≤ at.fuel → last.fuel ≡ at.fuel - cost
+        → HostStep at.hosts number lent arguments at.store (HostTrap code) last.store last.hosts
+        → ending ≡ WithTrap (Host code) → IsEnd at configuration ending last
+    no_fuel : at.fuel < price (next at.store outside configuration) → ending ≡ OutOfFuel → last ≡ at
+        → IsEnd at configuration ending last
+    no_depth : {cost : ℕ} {store : Store} {configuration' : Configuration}
+        → next at.store outside configuration ≡ Opens cost store configuration' → cost ≤ at.fuel
+        → bound ≤ depth configuration → ending ≡ OutOfDepth → last ≡ at → IsEnd at configuration ending last
+    -- wherever a step would be done
+    no_memory : IsReady (next at.store outside configuration)
+        → IsWithinBound bound (depth configuration) (next at.store outside configuration)
+        → price (next at.store outside configuration) ≤ at.fuel → ending ≡ OutOfMemory → last ≡ at
+        → IsEnd at configuration ending last
+    stuck : IsStuck (next at.store outside configuration) → ending ≡ GotStuck → last ≡ at
+        → IsEnd at configuration ending last
 
--- Within this depth bound, from this store, fuel and configuration to this ending, store and fuel left.
-pub data Run (bound : ℕ) : Store → ℕ → Configuration → Ending → Store → ℕ → Type 0 where
-  end : {store : Store} {fuel left : ℕ} {configuration : Configuration} {ending : Ending}
-      → IsEnd bound store fuel configuration ending left → Run bound store fuel configuration ending store left
-  step : {store store' last : Store} {fuel fuel' left : ℕ} {configuration configuration' : Configuration} {ending : Ending}
-      → IsStep bound store fuel configuration store' fuel' configuration' → Run bound store' fuel' configuration' ending last left → Run bound store fuel configuration ending last left
+  -- From a state and a configuration to an ending and the state then.
+  pub data Run : State H → Configuration → Ending → State H → Type 0 where
+    end : {at last : State H} {configuration : Configuration} {ending : Ending}
+        → IsEnd at configuration ending last → Run at configuration ending last
+    step : {old between last : State H} {configuration configuration' : Configuration} {ending : Ending}
+        → IsStep old configuration between configuration' → Run between configuration' ending last
+        → Run old configuration ending last
+
+  -- Steps in a row, or none.
+  pub data Steps : State H → Configuration → State H → Configuration → Type 0 where
+    none : {at : State H} {configuration : Configuration} → Steps at configuration at configuration
+    one_more : {old between new : State H} {first second third : Configuration}
+        → Steps old first between second → IsStep between second new third → Steps old first new third
+
+-- Without host functions none answers.
+abbrev pub NoHosts : List ⊥ → ℕ → Option ℕ → List Val → Store → Answer → Store → List ⊥ → Type 0
+NoHosts hosts number lent arguments store answer store' hosts' = ⊥

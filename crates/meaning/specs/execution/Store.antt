@@ -1,5 +1,5 @@
 -- The store (Execution, Runtime Structure), as far as it holds functions and module instances.
-use Rattle.std.specs.Prelude.{ℕ, List, [], slice_get, unwrap_or}
+use Rattle.std.specs.Prelude.{ℕ, List, [], Option, Some, None, slice_get, unwrap_or}
 use Rattle.core_types.specs.declared.types.ValType.{ValType}
 use Rattle.core_types.specs.declared.types.FuncType.{FuncType}
 use Rattle.core_types.specs.declared.module.Export.{Export}
@@ -10,26 +10,43 @@ pub record Code : Type 0 where
   pub locals : List ValType
   pub body : Body
 
--- A function instance: its type, the address of its module instance, and its code.
+-- What a function instance runs: code in the module instance at an address, or the host function of a number.
+pub data Implementation : Type 0 where
+  InCode : (instance : ℕ) (code : Code) → Implementation
+  InHost : (number : ℕ) → Implementation
+
+-- A function instance (Function Instances).
 pub record FunctionInstance : Type 0 where
   pub ty : FuncType
-  pub instance : ℕ
-  pub code : Code
+  pub implementation : Implementation
 
--- A module instance: its types, the addresses of its functions, and its exports.
+-- A module instance: its types, the addresses of its functions and memories, and its exports (Module Instances).
 pub record ModuleInstance : Type 0 where
   pub types : List FuncType
   pub functions : List ℕ
+  pub memories : List ℕ
   pub exports : List Export
 
 pub record Store : Type 0 where
   pub functions : List FunctionInstance
   pub instances : List ModuleInstance
 
--- What an address finds that is none.
-abbrev pub no_instance : ModuleInstance
-no_instance = record { types = []; functions = []; exports = [] }
+-- ---- look-ups, which are total
 
--- The module instance at an address.
-abbrev pub instance_of : Store → ℕ → ModuleInstance
-instance_of store address = unwrap_or (slice_get store.instances address) no_instance
+-- What is found where there is no instance.
+abbrev pub no_instance : ModuleInstance
+no_instance = record { types = []; functions = []; memories = []; exports = [] }
+
+-- The module instance at an address; outside of all modules there is none.
+abbrev pub instance_of : Store → Option ℕ → ModuleInstance
+instance_of store None = no_instance
+instance_of store (Some address) = unwrap_or (slice_get store.instances address) no_instance
+
+-- The object at an address, if there is an address.
+abbrev pub item_of : {T : Type 0} → List T → Option ℕ → Option T
+item_of items None = None
+item_of items (Some address) = slice_get items address
+
+-- The object that an instance has under an index: the instance has its address under that index.
+abbrev pub item_at : {T : Type 0} → List T → List ℕ → ℕ → Option T
+item_at items addresses x = item_of items (slice_get addresses x)

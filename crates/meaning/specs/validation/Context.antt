@@ -1,5 +1,5 @@
 -- What a body is typed in (Validation, Conventions, Contexts).
-use Rattle.std.specs.Prelude.{ℕ, List, ◌∷◌}
+use Rattle.std.specs.Prelude.{ℕ, List, ◌∷◌, Option}
 use Rattle.core_types.specs.declared.types.FuncType.{FuncType}
 use Rattle.core_types.specs.declared.types.GlobalType.{GlobalType}
 use Rattle.core_types.specs.declared.types.Limits.{Limits}
@@ -21,8 +21,8 @@ pub record Context : Type 0 where
   pub locals : List ValType
   -- the types that a branch to a label carries, the innermost label first
   pub labels : List (List ValType)
-  -- the results of the function
-  pub results : List ValType
+  -- the results of the function; none outside of functions, where nothing returns
+  pub results : Option (List ValType)
   -- the functions that ref.func may name
   pub references : List ℕ
 

@@ -235,7 +235,8 @@ control_rule context (BrIf label) operands results =
     (types : List ValType) × IsLabel context label types
     × HasFuncType (function_type (types ++ I32 ∷ []) types) operands results
 control_rule context Return operands results =
-    (below : List OperandType) × (operands ≡ below ++ known context.results)
+    (below : List OperandType) × (types : List ValType) × (context.results ≡ Some types)
+    × (operands ≡ below ++ known types)
 control_rule context (Call x) operands results =
     (f : FuncType) × (slice_get context.functions x ≡ Some f)
     × HasFuncType (function_type f.params f.results) operands results
@@ -268,8 +269,10 @@ Rule context (Variable op) operands results = variable_rule context op operands 
 Rule context (Table op) operands results = table_rule context op operands results
 Rule context (Memory op) operands results = memory_rule context op operands results
 Rule context (Numeric op) operands results = HasFuncType (numeric_instruction_type op) operands results
-Rule context (I32Const n) operands results = HasFuncType (function_type [] (I32 ∷ [])) operands results
-Rule context (I64Const n) operands results = HasFuncType (function_type [] (I64 ∷ [])) operands results
+Rule context (I32Const n) operands results =
+    (n < 2 ^ 32) × HasFuncType (function_type [] (I32 ∷ [])) operands results
+Rule context (I64Const n) operands results =
+    (n < 2 ^ 64) × HasFuncType (function_type [] (I64 ∷ [])) operands results
 
 -- An if takes an i32 on top of the block's operands.
 abbrev pub condition_of : Kind → List ValType

@@ -143,14 +143,15 @@ module_context m = record {
   datas = length m.datas;
   locals = [];
   labels = [];
-  results = [];
+  results = None;
   references = named_functions m;
 }
 
 -- Where a function of this type, with these locals besides its parameters, is typed.
 abbrev pub body_context : Module → FuncType → List ValType → Context
 body_context m t locals =
-    with_label (record (module_context m) { locals = t.params ++ locals; results = t.results }) t.results
+    with_label (record (module_context m) { locals = t.params ++ locals; results = Some t.results })
+    t.results
 
 -- Where a constant expression is typed: the globals are the imported ones, which is this project's own rule for all of them.
 abbrev pub constant_context : Module → Context

@@ -3,30 +3,24 @@ use Rattle.std.proofs.Common.{◌≡◌, ℕ, suc, List, [], ◌∷◌, ◌++◌
 use Rattle.std.specs.Prelude.{Option, Some, None, IsSome, unwrap_or, slice_get}
 use Rattle.std.proofs.lemmas.List.{map-append, length-map}
 use Rattle.std.proofs.Math.Seq.{take-append_seam}
-use Rattle.std.proofs.lemmas.List.Elements.{All-append, All-cons, All-nil}
 use Rattle.core_types.specs.declared.module.Func.{Func}
-use Rattle.core_types.specs.declared.op.Op.{Op}
 use Rattle.meaning.specs.validation.Modules.{IsValid, IsValidFunction}
 use Rattle.meaning.specs.execution.Store.{FunctionInstance as Function, Store}
-use Rattle.store.specs.Ends.{HasEnds}
 use Rattle.store.specs.declared.instances.FunctionInstance.{FunctionInstance}
 use Rattle.store.specs.declared.instances.Instance.{Instance}
-use Rattle.store.specs.Contents.{contents_of, IsFound, AllFound, IsSound, HasAddresses, HasAdded, IsEntry, AreEntries, entry_function, entry_code, instance_function, instance_code, flat_code, module_function, typed_function, function_at, functions_of, module_instance, module_instance_of, store_of, with_module, no_function}
+use Rattle.store.specs.Contents.{AllFound, IsFound, consecutive, contents_of, entries_of, entry_function, function_at, functions_of, instance_function, module_function, module_instance, module_instance_of, no_function, store_of, typed_function, with_module}
 use Rattle.store.proofs.lemmas.Positions.{slice_get-front, slice_get-seam, holds-at}
 
 -- An entry that finds its function finds it still when instances are added.
 instance-behind : (instances new : List Instance) (f : FunctionInstance) → IsFound instances f → slice_get (instances ++ new) f.instance ≡ slice_get instances f.instance
-instance-behind instances new f h = go (slice_get instances f.instance) refl h.function
+instance-behind instances new f h = go (slice_get instances f.instance) refl h
   where
     go : (there : Option Instance) → slice_get instances f.instance ≡ there → IsSome (instance_function f there) → slice_get (instances ++ new) f.instance ≡ slice_get instances f.instance
     go None e h = absurd (let none = h in cc)
     go (Some i) e h = slice_get-front instances new f.instance i e ∙ sym e
 
 IsFound-behind : (instances new : List Instance) (f : FunctionInstance) → IsFound instances f → IsFound (instances ++ new) f
-IsFound-behind instances new f h = record {
-  function = subst (λ (there : Option Instance). IsSome (instance_function f there)) (sym (instance-behind instances new f h)) h.function;
-  ends = subst (λ (there : Option Instance). HasEnds (instance_code f there) f.ends.items) (sym (instance-behind instances new f h)) h.ends;
-}
+IsFound-behind instances new f h = subst (λ (there : Option Instance). IsSome (instance_function f there)) (sym (instance-behind instances new f h)) h
 
 AllFound-behind : (instances new : List Instance) (fs : List FunctionInstance) → AllFound instances fs → AllFound (instances ++ new) fs
 AllFound-behind instances new [] h = tt
@@ -44,85 +38,70 @@ AllFound-append instances [] gs h k = k
 AllFound-append instances (f ∷ fs) gs h k = (h.0, AllFound-append instances fs gs h.1 k)
 
 -- Without the added entries the functions are as before.
-pub IsSound-cut : (instances : List Instance) (number : ℕ) (funcs : List Func) (functions after : List FunctionInstance) → IsSound instances functions → HasAdded number funcs functions after → IsSound instances (take (length functions) after)
-IsSound-cut instances number funcs functions after sound more = subst (IsSound instances) (sym (ap (take (length functions)) more.behind ∙ take-append_seam functions more.added)) sound
+pub AllFound-cut : (instances : List Instance) (functions added after : List FunctionInstance) → AllFound instances functions → after ≡ functions ++ added → AllFound instances (take (length functions) after)
+AllFound-cut instances functions added after found behind = subst (AllFound instances) (sym (ap (take (length functions)) behind ∙ take-append_seam functions added)) found
 
-module _ (instances : List Instance) (i : Instance) (valid : IsValid i.module) where
+module _ (instances : List Instance) (i : Instance) (valid : IsValid i.loaded.value) where
   abbrev all : List Instance
   all = instances ++ i ∷ []
 
   abbrev named : Func → Function
-  named func = unwrap_or (typed_function (length instances) (slice_get i.module.types func.ty) func) no_function
+  named func = unwrap_or (typed_function (length instances) (slice_get i.loaded.value.types func.ty) func) no_function
 
-  module _ (k : ℕ) (func : Func) (there : slice_get i.module.funcs k ≡ Some func) (f : FunctionInstance) (entry : IsEntry (length instances) k func f) where
-    in_module : slice_get i.module.funcs f.index ≡ Some func
-    in_module = ap (slice_get i.module.funcs) entry.index_is ∙ there
+  abbrev entry : ℕ → FunctionInstance
+  entry k = record { instance = length instances; index = k }
 
-    in_all : slice_get all f.instance ≡ Some i
-    in_all = ap (slice_get all) entry.instance_is ∙ slice_get-seam instances i []
+  module _ (k : ℕ) (func : Func) (there : slice_get i.loaded.value.funcs k ≡ Some func) where
+    entry_function-new : entry_function all (entry k) ≡ typed_function (length instances) (slice_get i.loaded.value.types func.ty) func
+    entry_function-new = ap (instance_function (entry k)) (slice_get-seam instances i []) ∙ ap (module_function (length instances) i.loaded.value) there
 
-    entry_function-new : entry_function all f ≡ typed_function (length instances) (slice_get i.module.types func.ty) func
-    entry_function-new = ap (instance_function f) in_all ∙ ap (λ (n : ℕ). module_function n i.module (slice_get i.module.funcs f.index)) entry.instance_is ∙ ap (module_function (length instances) i.module) in_module
-
-    entry_code-new : entry_code all f ≡ func.body
-    entry_code-new = ap (instance_code f) in_all ∙ ap flat_code in_module
-
-    IsFound-new : IsFound all f
+    IsFound-new : IsFound all (entry k)
     IsFound-new =
-        let v : IsValidFunction i.module func = holds-at (IsValidFunction i.module) i.module.funcs k func valid.bodies there in
-        record {
-          function = rw (entry_function-new, v.has_type) refl;
-          ends = subst (λ (code : List Op). HasEnds code f.ends.items) (sym entry_code-new) entry.ends;
-        }
+        let v : IsValidFunction i.loaded.value func = holds-at (IsValidFunction i.loaded.value) i.loaded.value.funcs k func valid.bodies there in
+        rw (entry_function-new, v.has_type) refl
 
   -- The entries of the module's functions from a position on.
-  module _ (before : List Func) (func : Func) (funcs : List Func) (whole : i.module.funcs ≡ before ++ func ∷ funcs) where
-    here : slice_get i.module.funcs (length before) ≡ Some func
+  module _ (before : List Func) (func : Func) (funcs : List Func) (whole : i.loaded.value.funcs ≡ before ++ func ∷ funcs) where
+    here : slice_get i.loaded.value.funcs (length before) ≡ Some func
     here = ap (λ (fs : List Func). slice_get fs (length before)) whole ∙ slice_get-seam before func funcs
 
-    onward : i.module.funcs ≡ (before ++ func ∷ []) ++ funcs
+    onward : i.loaded.value.funcs ≡ (before ++ func ∷ []) ++ funcs
     onward = whole ∙ sym (append_assoc before (func ∷ []) funcs)
 
-    entries_onward : (fs : List FunctionInstance) → AreEntries (length instances) (suc (length before)) funcs fs → AreEntries (length instances) (length (before ++ func ∷ [])) funcs fs
-    entries_onward fs h =
-        let next : suc (length before) ≡ length (before ++ func ∷ []) = omega (arith, length-append before (func ∷ [])) in
-        subst (λ (k : ℕ). AreEntries (length instances) k funcs fs) next h
+    next : length (before ++ func ∷ []) ≡ suc (length before)
+    next = omega (arith, length-append before (func ∷ []))
 
-  AllFound-new : (before funcs : List Func) (fs : List FunctionInstance) → i.module.funcs ≡ before ++ funcs → AreEntries (length instances) (length before) funcs fs → AllFound all fs
-  AllFound-new before [] [] whole h = tt
-  AllFound-new before [] (f ∷ fs) whole h = absurd h
-  AllFound-new before (func ∷ funcs) [] whole h = absurd h
-  AllFound-new before (func ∷ funcs) (f ∷ fs) whole h = (IsFound-new (length before) func (here before func funcs whole) f h.0, AllFound-new (before ++ func ∷ []) funcs fs (onward before func funcs whole) (entries_onward before func funcs whole fs h.1))
+  AllFound-new : (before funcs : List Func) → i.loaded.value.funcs ≡ before ++ funcs → AllFound all (entries_of (length instances) (consecutive (length before) (length funcs)))
+  AllFound-new before [] whole = tt
+  AllFound-new before (func ∷ funcs) whole = (IsFound-new (length before) func (here before func funcs whole), rw (next before func funcs whole) at (AllFound-new (before ++ func ∷ []) funcs (onward before func funcs whole)))
 
-  function_at-new : (before funcs : List Func) (fs : List FunctionInstance) → i.module.funcs ≡ before ++ funcs → AreEntries (length instances) (length before) funcs fs → map (function_at all) fs ≡ functions_of (length instances) i.module funcs
-  function_at-new before [] [] whole h = refl
-  function_at-new before [] (f ∷ fs) whole h = absurd h
-  function_at-new before (func ∷ funcs) [] whole h = absurd h
-  function_at-new before (func ∷ funcs) (f ∷ fs) whole h =
-      let first : function_at all f ≡ named func = ap (λ (found : Option Function). unwrap_or found no_function) (entry_function-new (length before) func (here before func funcs whole) f h.0) in
-      let others : map (function_at all) fs ≡ map named funcs = function_at-new (before ++ func ∷ []) funcs fs (onward before func funcs whole) (entries_onward before func funcs whole fs h.1) in
+  function_at-new : (before funcs : List Func) → i.loaded.value.funcs ≡ before ++ funcs → map (function_at all) (entries_of (length instances) (consecutive (length before) (length funcs))) ≡ functions_of (length instances) i.loaded.value funcs
+  function_at-new before [] whole = refl
+  function_at-new before (func ∷ funcs) whole =
+      let first : function_at all (entry (length before)) ≡ named func = ap (λ (found : Option Function). unwrap_or found no_function) (entry_function-new (length before) func (here before func funcs whole)) in
+      let others : map (function_at all) (entries_of (length instances) (consecutive (suc (length before)) (length funcs))) ≡ map named funcs = rw (next before func funcs whole) at (function_at-new (before ++ func ∷ []) funcs (onward before func funcs whole)) in
       cc
 
-  module _ (functions after : List FunctionInstance) (sound : IsSound instances functions) (more : HasAdded (length instances) i.module.funcs functions after) where
-    -- the store with the module, as an instance of this number whose functions begin at this address
-    abbrev made : ℕ → ℕ → Store
-    made number first = record {
-      functions = map (function_at instances) functions ++ functions_of number i.module i.module.funcs;
-      instances = map module_instance_of instances ++ module_instance first i.module ∷ [];
+  module _ (functions after : List FunctionInstance) (found : AllFound instances functions) (behind : after ≡ functions ++ entries_of (length instances) (consecutive 0 (length i.loaded.value.funcs))) where
+    -- the store with the module, as an instance of this number whose functions have these addresses
+    abbrev made : (number : ℕ) → (addresses : List ℕ) → Store
+    made number addresses = record {
+      functions = map (function_at instances) functions ++ functions_of number i.loaded.value i.loaded.value.funcs;
+      instances = map module_instance_of instances ++ module_instance addresses i.loaded.value ∷ [];
     }
 
-    pub IsSound-added : HasAddresses i → IsSound all after
-    IsSound-added within = record {
-      found = subst (AllFound all) (sym more.behind) (AllFound-append all functions more.added (AllFound-behind instances (i ∷ []) functions sound.found) (AllFound-new [] i.module.funcs more.added refl more.entries));
-      addresses = All-append HasAddresses instances (i ∷ []) sound.addresses (All-cons HasAddresses i [] within (All-nil HasAddresses));
-    }
+    abbrev added : List FunctionInstance
+    added = entries_of (length instances) (consecutive 0 (length i.loaded.value.funcs))
+
+    pub AllFound-added : AllFound all after
+    AllFound-added = subst (AllFound all) (sym behind) (AllFound-append all functions added (AllFound-behind instances (i ∷ []) functions found) (AllFound-new [] i.loaded.value.funcs refl))
 
     -- The store is the one before, with the module.
-    pub store_of-added : i.first ≡ length functions → store_of (contents_of after all) ≡ with_module (store_of (contents_of functions instances)) i.module
-    store_of-added first =
-        let old = map-append (function_at all) functions more.added in
-        let before = function_at-behind instances (i ∷ []) functions sound.found in
-        let behind = function_at-new [] i.module.funcs more.added refl more.entries in
+    pub store_of-added : i.functions.items ≡ consecutive (length functions) (length i.loaded.value.funcs) → store_of (contents_of after all) ≡ with_module (store_of (contents_of functions instances)) i.loaded.value
+    store_of-added addresses =
+        let old = map-append (function_at all) functions added in
+        let before = function_at-behind instances (i ∷ []) functions found in
+        let new = function_at-new [] i.loaded.value.funcs refl in
         let others = map-append module_instance_of instances (i ∷ []) in
-        let all_of : store_of (contents_of after all) ≡ made (length instances) i.first = rw (more.behind, old, before, behind, others) refl in
-        all_of ∙ ap (λ (number : ℕ). made number i.first) (sym (length-map instances module_instance_of)) ∙ ap (made (length (map module_instance_of instances))) (first ∙ sym (length-map functions (function_at instances)))
+        let all_of : store_of (contents_of after all) ≡ made (length instances) i.functions.items = rw (behind, old, before, new, others) refl in
+        all_of ∙ ap (λ (number : ℕ). made number i.functions.items) (sym (length-map instances module_instance_of)) ∙ ap (made (length (map module_instance_of instances))) (addresses ∙ ap (λ (first : ℕ). consecutive first (length i.loaded.value.funcs)) (sym (length-map functions (function_at instances))))

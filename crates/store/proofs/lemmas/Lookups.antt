@@ -1,5 +1,5 @@
 -- What is found at an address, and under an index of an instance.
-use Rattle.std.proofs.Common.{◌≡◌, ℕ, zero, suc, ◌+◌, ◌<◌, ◌≤◌, List, [], ◌∷◌, ◌++◌, length, refl, sym, ap, subst, ◌∙◌, append_assoc}
+use Rattle.std.proofs.Common.{◌≡◌, ℕ, zero, suc, List, [], ◌∷◌, ◌++◌, refl, sym, ap, subst, ◌∙◌, append_assoc}
 use Rattle.std.proofs.lemmas.List.{append-nil}
 use Rattle.std.specs.Prelude.{Option, Some, None, IsSome, unwrap_or, option_map, slice_get}
 use Rattle.std.proofs.lemmas.Option.{slice_get-map}
@@ -11,11 +11,10 @@ use Rattle.core_types.specs.declared.op.Op.TheVariants.{Else, End}
 use Rattle.meaning.specs.structure.Bodies.{Body, BlockKind, LoopKind, IfKind, Empty, Then, Nested, IfElse, writing, rests, other_parts}
 use Rattle.meaning.specs.validation.Modules.{IsValid, IsValidFunction}
 use Rattle.meaning.specs.execution.Store.{FunctionInstance as Function, ModuleInstance, instance_of, no_instance}
-use Rattle.store.specs.Ends.{HasEnds}
 use Rattle.store.specs.declared.instances.FunctionInstance.{FunctionInstance}
 use Rattle.store.specs.declared.instances.Instance.{Instance}
-use Rattle.store.specs.Contents.{Contents, IsFound, AllFound, entry_function, instance_function, instance_code, flat_code, module_function, typed_function, function_of, function_at, module_instance_of, store_of, no_function}
-use Rattle.store.proofs.lemmas.Positions.{holds-at, address-inside, address-past}
+use Rattle.store.specs.Contents.{Contents, IsFound, AllFound, entry_function, instance_function, module_function, typed_function, function_of, function_at, module_instance_of, store_of, no_function}
+use Rattle.store.proofs.lemmas.Positions.{holds-at}
 
 -- ---- the bodies around a body's writing
 
@@ -45,6 +44,12 @@ nothing-around m k f valid there =
     let v : IsValidFunction m f = holds-at (IsValidFunction m) m.funcs k f valid.bodies there in
     ap (λ (ops : List Op). (rests ops).around) (v.written ∙ sym (append-nil (writing v.body))) ∙ around-writing v.body []
 
+-- The type of a function is among the module's types.
+pub type-there : (m : Module) (k : ℕ) (f : Func) → IsValid m → slice_get m.funcs k ≡ Some f → slice_get m.types f.ty ≡ None → ⊥
+type-there m k f valid there none =
+    let v : IsValidFunction m f = holds-at (IsValidFunction m) m.funcs k f valid.bodies there in
+    let has_type = v.has_type in absurd (let both = sym none ∙ has_type in cc)
+
 -- ---- the function at an address
 
 -- An entry of the store finds its function.
@@ -54,49 +59,30 @@ found-at instances (g ∷ gs) zero f h e = let same : g ≡ f = cc in subst (IsF
 found-at instances (g ∷ gs) (suc k) f h e = found-at instances gs k f h.1 e
 
 module _ (s : Contents) (found : AllFound s.instances s.functions) (address : ℕ) (entry : FunctionInstance) (there : Some entry ≡ slice_get s.functions address) where
-  is_found : IsFound s.instances entry
-  is_found = found-at s.instances s.functions address entry found (sym there)
-
   function-there : (f : Function) → entry_function s.instances entry ≡ Some f → slice_get (store_of s).functions address ≡ Some f
   function-there f e =
       slice_get-map (function_at s.instances) s.functions address ∙ ap (option_map (function_at s.instances)) (sym there) ∙ ap (λ (o : Option Function). Some (unwrap_or o no_function)) e
 
   never : entry_function s.instances entry ≡ None → ⊥
-  never e = let none : IsSome {T = Function} None = rw e at is_found.function in absurd cc
+  never e = let none : IsSome {T = Function} None = rw e at (found-at s.instances s.functions address entry found (sym there)) in absurd cc
 
   pub instance-never : None ≡ slice_get s.instances entry.instance → ⊥
   instance-never e = never (ap (instance_function entry) (sym e))
 
   module _ (i : Instance) (in_instance : Some i ≡ slice_get s.instances entry.instance) where
-    pub func-never : None ≡ slice_get i.module.funcs entry.index → ⊥
-    func-never e = never (ap (instance_function entry) (sym in_instance) ∙ ap (module_function entry.instance i.module) (sym e))
+    pub func-never : slice_get i.loaded.value.funcs entry.index ≡ None → ⊥
+    func-never e = never (ap (instance_function entry) (sym in_instance) ∙ ap (module_function entry.instance i.loaded.value) e)
 
-    module _ (f : Func) (in_module : Some f ≡ slice_get i.module.funcs entry.index) where
-      pub type-never : None ≡ slice_get i.module.types f.ty → ⊥
-      type-never e = never (ap (instance_function entry) (sym in_instance) ∙ ap (module_function entry.instance i.module) (sym in_module) ∙ ap (λ (o : Option FuncType). typed_function entry.instance o f) (sym e))
+    module _ (f : Func) (in_module : slice_get i.loaded.value.funcs entry.index ≡ Some f) where
+      pub function-found : (t : FuncType) → slice_get i.loaded.value.types f.ty ≡ Some t → slice_get (store_of s).functions address ≡ Some (function_of t entry.instance f)
+      function-found t e = function-there (function_of t entry.instance f) (ap (instance_function entry) (sym in_instance) ∙ ap (module_function entry.instance i.loaded.value) in_module ∙ ap (λ (o : Option FuncType). typed_function entry.instance o f) e)
 
-      pub function-found : (t : FuncType) → Some t ≡ slice_get i.module.types f.ty → slice_get (store_of s).functions address ≡ Some (function_of t entry.instance f)
-      function-found t e = function-there (function_of t entry.instance f) (ap (instance_function entry) (sym in_instance) ∙ ap (module_function entry.instance i.module) (sym in_module) ∙ ap (λ (o : Option FuncType). typed_function entry.instance o f) (sym e))
+-- ---- what an instance has under an index
 
-      pub ends-found : HasEnds f.body entry.ends.items
-      ends-found = subst (λ (code : List Op). HasEnds code entry.ends.items) (ap (instance_code entry) (sym in_instance) ∙ ap flat_code (sym in_module)) is_found.ends
+module _ (s : Contents) (number : ℕ) where
+  pub instance-found : (i : Instance) → Some i ≡ slice_get s.instances number → instance_of (store_of s) (Some number) ≡ module_instance_of i
+  instance-found i there = ap (λ (o : Option ModuleInstance). unwrap_or o no_instance) (slice_get-map module_instance_of s.instances number ∙ ap (option_map module_instance_of) (sym there))
 
--- ---- the function under an index of an instance
-
-module _ (s : Contents) (number : ℕ) (i : Instance) (there : Some i ≡ slice_get s.instances number) where
-  pub instance-found : instance_of (store_of s) number ≡ module_instance_of i
-  instance-found = ap (λ (o : Option ModuleInstance). unwrap_or o no_instance) (slice_get-map module_instance_of s.instances number ∙ ap (option_map module_instance_of) (sym there))
-
-  module _ (x : ℕ) where
-    address-there : slice_get (instance_of (store_of s) number).functions x ≡ slice_get (module_instance_of i).functions x
-    address-there = ap (λ (m : ModuleInstance). slice_get m.functions x) instance-found
-
-    pub address-found : x < length i.module.funcs → Some (i.first + x) ≡ slice_get (instance_of (store_of s) number).functions x
-    address-found lt = sym (address-there ∙ address-inside i.first (length i.module.funcs) x lt)
-
-    pub no-address : length i.module.funcs ≤ x → None ≡ slice_get (instance_of (store_of s) number).functions x
-    no-address le = sym (address-there ∙ address-past i.first (length i.module.funcs) x le)
-
--- No instance has no functions and no types.
-pub no-instance-found : (s : Contents) (number : ℕ) → None ≡ slice_get s.instances number → instance_of (store_of s) number ≡ no_instance
-no-instance-found s number none = ap (λ (o : Option ModuleInstance). unwrap_or o no_instance) (slice_get-map module_instance_of s.instances number ∙ ap (option_map module_instance_of) (sym none))
+  -- No instance has no functions and no types.
+  pub no-instance-found : None ≡ slice_get s.instances number → instance_of (store_of s) (Some number) ≡ no_instance
+  no-instance-found none = ap (λ (o : Option ModuleInstance). unwrap_or o no_instance) (slice_get-map module_instance_of s.instances number ∙ ap (option_map module_instance_of) (sym none))

@@ -34,8 +34,8 @@ adds operands results before after none frames =
 module _ (context : Context) where
   -- A constant instruction takes nothing and gives one value.
   gives_one : (op : PlainOp) (operands results : List OperandType) → IsConstant context (Plain op) → Rule context op operands results → (t : ValType) × (operands ≡ []) × (results ≡ known (t ∷ []))
-  gives_one (I32Const n) operands results constant rule = (I32, rule.0, rule.1)
-  gives_one (I64Const n) operands results constant rule = (I64, rule.0, rule.1)
+  gives_one (I32Const n) operands results constant rule = (I32, rule.1.0, rule.1.1)
+  gives_one (I64Const n) operands results constant rule = (I64, rule.1.0, rule.1.1)
   gives_one (Reference (reference.Null r)) operands results constant rule = (reference_type r, rule.0, rule.1)
   gives_one (Reference reference.IsNull) operands results constant rule = absurd constant
   gives_one (Reference (reference.Func x)) operands results constant rule = (FuncRef, rule.3.0, rule.3.1)

@@ -78,8 +78,8 @@ module _ {m : Module} {s : IndexSpaces} {context : ConstantContext} (spaces : Ar
 
   instruction_given : (op : PlainOp) (t : ValType) → IsConstant (constant_context m) (Plain op) → Rule (constant_context m) op [] (known (t ∷ [])) → GivesConstant context op t
   unfolding GivesConstant
-  instruction_given (I32Const n) t constant rule = let same = rule.1 in cc
-  instruction_given (I64Const n) t constant rule = let same = rule.1 in cc
+  instruction_given (I32Const n) t constant rule = (rule.0, let same = rule.1.1 in cc)
+  instruction_given (I64Const n) t constant rule = (rule.0, let same = rule.1.1 in cc)
   instruction_given (Reference op) t constant rule = reference_given op t constant rule
   instruction_given (Variable op) t constant rule = global_given op t constant rule
   instruction_given (Control op) t constant rule = absurd constant

@@ -13,17 +13,18 @@ use Rattle.validator.specs.declared.control_frames.FrameKind.TheVariants.{Functi
 use Rattle.validator.specs.declared.control_frames.Stacks.{Stacks}
 use Rattle.validator.specs.declared.errors.Fault.{Fault}
 use Rattle.validator.specs.Completeness.{IsTypingOfRest, IsUntyped, IsRestTyped}
+use Rattle.validator.specs.Contexts.{IsBodyOf}
 use Rattle.validator.specs.ControlFrames.{label_by, label_of}
 use Rattle.validator.specs.Errors.{OnInvalid}
 use Rattle.validator.specs.Steps.{CannotBeNext, KeepsRest, NeverCloses}
 use Rattle.validator.proofs.completeness.BlockEnds.{nothing_left}
 use Rattle.validator.proofs.completeness.Instructions.{IsTypingOfRest-parts}
 
-first_possible : {context : Context} {l : ControlFrame} {ops : List Op} (body : Body) → l.kind ≡ Function → l.end_types.now ≡ context.results → context.labels ≡ [] → l.height ≡ 0 → ops ≡ writing body
-    → HasType (with_label context context.results) body [] (known context.results) → IsTypingOfRest context l [] [] ops
-first_possible {context} {l} body kind end_types bare height written typed =
-    let label : context.results ∷ context.labels ≡ label_of l ∷ [] = ap (λ (z : List (List ValType)). context.results ∷ z) bare ∙ ap (λ (t : List ValType). t ∷ []) (sym end_types) ∙ ap (λ k. label_by k l.start_types.now l.end_types.now ∷ []) (sym kind) in
-    let same = subst (λ (z : List ValType). HasType (with_label context context.results) body [] (known z)) (sym end_types) typed in
+first_possible : {context : Context} {l : ControlFrame} {results : List ValType} {ops : List Op} (body : Body) → l.kind ≡ Function → l.end_types.now ≡ results → context.labels ≡ [] → l.height ≡ 0 → ops ≡ writing body
+    → IsBodyOf context results body → IsTypingOfRest context l [] [] ops
+first_possible {context} {l} {results} body kind end_types bare height written typed =
+    let label : results ∷ context.labels ≡ label_of l ∷ [] = ap (λ (z : List (List ValType)). results ∷ z) bare ∙ ap (λ (t : List ValType). t ∷ []) (sym end_types) ∙ ap (λ k. label_by k l.start_types.now l.end_types.now ∷ []) (sym kind) in
+    let same = subst (λ (z : List ValType). HasType (with_label context results) body [] (known z)) (sym end_types) typed in
     record {
       under = [];
       later = [];
@@ -45,7 +46,7 @@ pub first_goes : (s : BodyContext) (ops : List Op) (stacks : Stacks) → stacks.
 first_goes s ops stacks kind end_types height alone nothing = record {
   in_context = λ context is body written typed.
       IsTypingOfRest-parts context stacks.innermost stacks.innermost (reverse stacks.outer.items) [] stacks.operands.items [] ops refl (ap (λ (z : List ControlFrame). reverse z) alone) nothing
-      (first_possible body kind (end_types ∙ sym is.results) is.labels height written typed);
+      (first_possible body kind end_types is.labels height written typed);
 }
 
 -- One operation more.

@@ -81,8 +81,8 @@ module _ {m : Module} {s : IndexSpaces} {context : ConstantContext} (spaces : Ar
 
   instruction_constant : (op : PlainOp) (t : ValType) → GivesConstant context op t → IsConstantExpression (constant_context m) (Plain op ∷ []) t
   unfolding GivesConstant
-  instruction_constant (I32Const n) t h = alone (constant_context m) (I32Const n) t tt (refl, ap (λ (u : ValType). known (u ∷ [])) h)
-  instruction_constant (I64Const n) t h = alone (constant_context m) (I64Const n) t tt (refl, ap (λ (u : ValType). known (u ∷ [])) h)
+  instruction_constant (I32Const n) t h = alone (constant_context m) (I32Const n) t tt (h.0, (refl, ap (λ (u : ValType). known (u ∷ [])) h.1))
+  instruction_constant (I64Const n) t h = alone (constant_context m) (I64Const n) t tt (h.0, (refl, ap (λ (u : ValType). known (u ∷ [])) h.1))
   instruction_constant (Reference op) t h = reference_constant op t h
   instruction_constant (Variable op) t h = global_constant op t h
   instruction_constant (Control op) t h = absurd h

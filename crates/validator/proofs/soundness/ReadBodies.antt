@@ -321,7 +321,7 @@ pub reverse_push : (outer more : List ControlFrame) (l : ControlFrame) → more 
 reverse_push outer more l e = ap (λ (z : List ControlFrame). reverse z) e ∙ reverse-append outer (l ∷ [])
 
 -- A function's frame, before anything is read.
-pub nothing_open : {context : Context} (l : ControlFrame) → l.kind ≡ Function → l.start_types.now ≡ [] → l.end_types.now ≡ context.results → l.height ≡ 0 → l.unreachable ≡ false → IsTypingOfRead context l [] [] [] []
+pub nothing_open : {context : Context} (l : ControlFrame) → l.kind ≡ Function → l.start_types.now ≡ [] → context.results ≡ Some l.end_types.now → l.height ≡ 0 → l.unreachable ≡ false → IsTypingOfRead context l [] [] [] []
 nothing_open l kind start_types end_types height alive = record {
   under = [];
   before = [];

@@ -1,10 +1,11 @@
 -- The first and the last operation of a body: what was read.
 use Rattle.std.proofs.Common.{◌≡◌, ◌++◌, ◌∷◌, [], List, ap, false, refl, reverse, subst, sym, ◌∙◌}
-use Rattle.std.specs.Prelude.{Result, Ok, Err, OnOk}
+use Rattle.std.specs.Prelude.{Result, Ok, Err, OnOk, Some}
 use Rattle.core_types.specs.declared.op.Op.{Op}
 use Rattle.core_types.specs.declared.types.OperandType.{OperandType}
 use Rattle.core_types.specs.declared.types.ValType.{ValType}
 use Rattle.meaning.specs.structure.Bodies.{writing}
+use Rattle.meaning.specs.validation.Context.{with_label}
 use Rattle.meaning.specs.validation.Instructions.{HasType, known}
 use Rattle.validator.specs.declared.context.BodyContext.{BodyContext}
 use Rattle.validator.specs.declared.control_frames.ControlFrame.{ControlFrame}
@@ -20,7 +21,7 @@ use Rattle.validator.proofs.soundness.ReadBodies.{whole_body, nothing_open, took
 -- Before anything is read.
 pub first_read : (s : BodyContext) (stacks : Stacks) → stacks.innermost.kind ≡ Function → stacks.innermost.start_types.now ≡ [] → stacks.innermost.end_types.now ≡ s.results.now → stacks.innermost.height ≡ 0 → stacks.innermost.unreachable ≡ false → stacks.outer.items ≡ [] → stacks.operands.items ≡ [] → IsReadTyped s stacks []
 first_read s stacks kind start_types end_types height alive alone nothing = record {
-  in_context = λ context described. IsTypingOfRead-parts context stacks.innermost stacks.innermost (reverse stacks.outer.items) [] stacks.operands.items [] [] refl (ap (λ (z : List ControlFrame). reverse z) alone) nothing (nothing_open stacks.innermost kind start_types (end_types ∙ sym described.results) height alive);
+  in_context = λ context described. IsTypingOfRead-parts context stacks.innermost stacks.innermost (reverse stacks.outer.items) [] stacks.operands.items [] [] refl (ap (λ (z : List ControlFrame). reverse z) alone) nothing (nothing_open stacks.innermost kind start_types (described.results ∙ ap Some (sym end_types)) height alive);
 }
 
 -- One operation more.
@@ -33,13 +34,14 @@ all_read s stacks left read before alone closes = record {
   in_context = λ context described.
       let opened = subst (λ (z : List ControlFrame). IsTypingOfRead context stacks.innermost (reverse z) stacks.operands.items [] read) alone (before.in_context context described) in
       let whole = took_open (known stacks.innermost.end_types.now) opened closes.takes closes.fits in
-      let (kind, start_types, end_types, under, nothing) = whole.around in
-      let label : label_of stacks.innermost ∷ [] ≡ context.results ∷ context.labels = ap (λ k. label_by k stacks.innermost.start_types.now stacks.innermost.end_types.now ∷ []) kind ∙ ap (λ (t : List ValType). t ∷ []) end_types ∙ ap (λ (z : List (List ValType)). context.results ∷ z) (sym described.labels) in
+      let (kind, start_types, ends, under, nothing) = whole.around in
+      let end_types : stacks.innermost.end_types.now ≡ s.results.now = cc in
+      let label : label_of stacks.innermost ∷ [] ≡ s.results.now ∷ context.labels = ap (λ k. label_by k stacks.innermost.start_types.now stacks.innermost.end_types.now ∷ []) kind ∙ ap (λ (t : List ValType). t ∷ []) end_types ∙ ap (λ (z : List (List ValType)). s.results.now ∷ z) (sym described.labels) in
       let typed = subst (λ (z : List (List ValType)). HasType (record context { labels = z }) whole.here.body (known stacks.innermost.start_types.now) (known stacks.innermost.end_types.now)) label (whole_body whole closes.dry) in (
         whole.here.body,
         whole.here.written ∙ ap (λ (z : List Op). z ++ writing whole.here.body) nothing,
-        subst (λ (z : List ValType). HasType (record context { labels = context.results ∷ context.labels }) whole.here.body [] (known z)) end_types
-            (subst (λ (z : List ValType). HasType (record context { labels = context.results ∷ context.labels }) whole.here.body (known z) (known stacks.innermost.end_types.now)) start_types typed),
+        subst (λ (z : List ValType). HasType (with_label context s.results.now) whole.here.body [] (known z)) end_types
+            (subst (λ (z : List ValType). HasType (with_label context s.results.now) whole.here.body (known z) (known stacks.innermost.end_types.now)) start_types typed),
       );
 }
 

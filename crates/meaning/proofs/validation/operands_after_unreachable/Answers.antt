@@ -45,5 +45,5 @@ returns-clause-kept c = λ context typed.
     let (nothing, long, second, is_long, push, added) = pushed in
     let (operands, results, third, is_sum, sum, dropped) = added in
     let (a, b, given, fit) = two_fit sum.given (rw is_sum.0 at sum.fits) in
-    let stack : push.below ++ Known I64 ∷ [] ≡ sum.below ++ (a ∷ b ∷ []) = sym (push.after_is ∙ ap (λ ts. push.below ++ ts) is_long.1) ∙ sum.before_is ∙ ap (λ ts. sum.below ++ ts) given in
+    let stack : push.below ++ Known I64 ∷ [] ≡ sum.below ++ (a ∷ b ∷ []) = sym (push.after_is ∙ ap (λ ts. push.below ++ ts) is_long.1.1) ∙ sum.before_is ∙ ap (λ ts. sum.below ++ ts) given in
     long_fits (rw (← last_is sum.below a b (Known I64) push.below stack) at fit)

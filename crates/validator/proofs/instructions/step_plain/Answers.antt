@@ -1,4 +1,4 @@
-use Rattle.std.proofs.Common.{[], ◌∷◌, ap, refl, subst, ◌∙◌}
+use Rattle.std.proofs.Common.{[], ◌∷◌, ap, arith, refl, subst, ◌∙◌}
 use Rattle.core_types.specs.declared.op.Op.TheVariants.{Plain}
 use Rattle.core_types.specs.declared.op.PlainOp.TheVariants.{I32Const, I64Const, Memory, Numeric, SelectTyped, Table, Variable}
 use Rattle.core_types.specs.declared.types.ValType.TheVariants.{I32, I64}
@@ -30,9 +30,9 @@ returns-in-Numeric c =
 pub returns-in-I32Const : goal.returns-in-I32Const
 returns-in-I32Const c =
     rw c.in-I32Const.is
-    (fixed_steps c.args.context.now c.args.stacks.now _ c.apply-in-I32Const.result (I32Const c.in-I32Const.field-0) _ (function_type [] (I32 ∷ [])) (c.takes_gives.ensures ∙ ap (function_type []) c.once.ensures) (λ context. (refl, refl)) (λ context operands results rule. rule) c.apply-in-I32Const.ensures)
+    (fixed_steps c.args.context.now c.args.stacks.now _ c.apply-in-I32Const.result (I32Const c.in-I32Const.value) _ (function_type [] (I32 ∷ [])) (c.takes_gives.ensures ∙ ap (function_type []) c.once.ensures) (λ context. (omega arith, (refl, refl))) (λ context operands results rule. rule.1) c.apply-in-I32Const.ensures)
 
 pub returns-in-I64Const : goal.returns-in-I64Const
 returns-in-I64Const c =
     rw c.in-I64Const.is
-    (fixed_steps c.args.context.now c.args.stacks.now _ c.apply-in-I64Const.result (I64Const c.in-I64Const.field-0) _ (function_type [] (I64 ∷ [])) (c.takes_gives-in-I64Const.ensures ∙ ap (function_type []) c.once-in-I64Const.ensures) (λ context. (refl, refl)) (λ context operands results rule. rule) c.apply-in-I64Const.ensures)
+    (fixed_steps c.args.context.now c.args.stacks.now _ c.apply-in-I64Const.result (I64Const c.in-I64Const.value) _ (function_type [] (I64 ∷ [])) (c.takes_gives-in-I64Const.ensures ∙ ap (function_type []) c.once-in-I64Const.ensures) (λ context. (omega arith, (refl, refl))) (λ context operands results rule. rule.1) c.apply-in-I64Const.ensures)
