@@ -13,7 +13,8 @@ use Rattle.exec.specs.declared.machine.Outcome.TheVariants.{Values, Trap, Exhaus
 use Rattle.exec.specs.declared.machine.Step.{Step}
 use Rattle.exec.specs.declared.machine.Step.TheVariants as steps
 use Rattle.exec.specs.Representation.{Represents, RepresentsAt, frame_of, redex_of, rests_of}
-use Rattle.store.specs.Contents.{Contents, store_of}
+use Rattle.store.specs.Contents.{BothParts, Contents, functions_in, instances_in, store_with}
+use Rattle.store.specs.State.{StateContents}
 use Rattle.exec.specs.Positions.{continue_at, rests_at}
 use Rattle.exec.specs.declared.control.blocks.Arity.{Arity}
 use Rattle.core_types.specs.declared.op.BlockType.{BlockType}
@@ -37,22 +38,22 @@ pub record World : Type 0 where
   pub store : Store
   pub hosts : List ⊥
 
--- The world of a store, without host functions.
-abbrev pub world_of : Contents → World
-world_of s = record { store = store_of s; hosts = [] }
+-- The world of both parts of a store, without host functions.
+abbrev pub world_of : Contents → StateContents → World
+world_of code state = record { store = store_with code state; hosts = [] }
 
 -- The functions and the instances of the store are those of the code.
-pub record HasCode (s : Contents) (w : World) : Type 0 where
-  pub functions : w.store.functions ≡ (store_of s).functions
-  pub instances : w.store.instances ≡ (store_of s).instances
+pub record HasCode (code : Contents) (w : World) : Type 0 where
+  pub functions : w.store.functions ≡ functions_in code
+  pub instances : w.store.instances ≡ instances_in code
 
 -- The state of a run with this fuel left.
 abbrev pub state : World → (fuel : ℕ) → State ⊥
 state w fuel = record { store = w.store; hosts = w.hosts; fuel = fuel }
 
 -- The state of a run of this machine's parts.
-abbrev pub state_of : Contents → HostTable → Metered → State ⊥
-state_of s hosts meter = state (world_of s) meter.left
+abbrev pub state_of : BothParts → HostTable → Metered → State ⊥
+state_of s hosts meter = state (world_of s.code s.state) meter.left
 
 -- One step, outside of all frames.
 abbrev pub MovesTo : (bound : ℕ) → World → (fuel : ℕ) → Configuration → World → (left : ℕ) → Configuration

@@ -10,9 +10,11 @@ use core_types::{
     ParametricOp, PlainOp, RefType, ReferenceOp, TableOp, Trap, UnaryOp, Val, ValType, VariableOp,
     Width,
 };
-use plain::{Did, run_plain};
+use fuel::Meter;
+use plain::{Progress, run_plain};
 use stacks::{FrameLocals, Operands};
 use std::alloc::{AllocError, Global};
+use store::Store;
 
 // An instruction, as the rows list it.
 #[derive(Clone, Copy)]
@@ -208,14 +210,28 @@ fn operands_of(alloc: Global, values: &[Val]) -> Result<Operands, AllocError> {
 }
 
 // Whether what an instruction did, and the operands after it, are those that are wanted.
-fn did_so(did: Did, operands: &mut Operands, wanted: Wanted) -> bool {
+fn did_so(did: Progress, operands: &mut Operands, wanted: Wanted) -> bool {
     match wanted {
         Gives(value) => {
-            did == Did::AllDone && operands.pop() == Some(value) && operands.pop() == Some(UNDER)
+            did == Progress::Done && operands.pop() == Some(value) && operands.pop() == Some(UNDER)
         }
-        Traps(trap) => did == Did::Failed(trap),
-        Lacks => did == Did::Lacking,
+        Traps(trap) => did == Progress::Trapped(trap),
+        Lacks => did == Progress::NotReady,
     }
+}
+
+// What an instruction does in a frame with these locals, of an instance without anything, and the fuel that is left of 1.
+fn run_alone(
+    alloc: Global,
+    op: &PlainOp,
+    locals: &mut FrameLocals,
+    operands: &mut Operands,
+) -> (Progress, u64) {
+    let mut store = Store::new(alloc, 0);
+    let mut meter = Meter::new(1, 0);
+    let (code, state) = store.parts_mut();
+    let did = run_plain(op, code, 0, state, locals, operands, &mut meter);
+    (did, meter.left())
 }
 
 // Whether a row's instruction does so in a frame without locals.
@@ -225,8 +241,9 @@ fn agrees(alloc: Global, row: &Row) -> Result<bool, AllocError> {
     for value in row.operands {
         operands.push(*value)?;
     }
-    let did = run_plain(&op, &mut FrameLocals::new(alloc), &mut operands);
-    Ok(did_so(did, &mut operands, row.wanted))
+    let (did, left) = run_alone(alloc, &op, &mut FrameLocals::new(alloc), &mut operands);
+    let paid = (left == 0) == (did != Progress::NotReady);
+    Ok(paid && did_so(did, &mut operands, row.wanted))
 }
 
 #[test]
@@ -287,8 +304,8 @@ fn leaves(
 ) -> Result<bool, AllocError> {
     let op = operation_of(alloc, instruction)?;
     let mut operands = operands_of(alloc, before)?;
-    let did = run_plain(&op, &mut FrameLocals::new(alloc), &mut operands);
-    Ok(did == Did::AllDone && operands.pop() == after[0] && operands.pop() == after[1])
+    let (did, _) = run_alone(alloc, &op, &mut FrameLocals::new(alloc), &mut operands);
+    Ok(did == Progress::Done && operands.pop() == after[0] && operands.pop() == after[1])
 }
 
 #[test]
@@ -306,7 +323,8 @@ fn keeps_below(alloc: Global) -> Result<bool, AllocError> {
     let mut operands = operands_of(alloc, &[Val::I32(1)])?;
     operands.nest(0);
     let drop = PlainOp::Parametric(ParametricOp::DropOperand);
-    Ok(run_plain(&drop, &mut FrameLocals::new(alloc), &mut operands) == Did::Lacking)
+    let (did, _) = run_alone(alloc, &drop, &mut FrameLocals::new(alloc), &mut operands);
+    Ok(did == Progress::NotReady)
 }
 
 #[test]
@@ -333,13 +351,18 @@ static LOCALS: [LocalRow; 4] = [
 ];
 
 // Whether an instruction on a local does so.
-fn runs_on_locals(row: &LocalRow, locals: &mut FrameLocals, operands: &mut Operands) -> bool {
-    let did = run_plain(&PlainOp::Variable(row.op), locals, operands);
+fn runs_on_locals(
+    alloc: Global,
+    row: &LocalRow,
+    locals: &mut FrameLocals,
+    operands: &mut Operands,
+) -> bool {
+    let (did, _) = run_alone(alloc, &PlainOp::Variable(row.op), locals, operands);
     let found = [locals.get(0), locals.get(1)];
     let is_left = operands.len() == row.count
         && operands.len() > 0
         && operands.top(1).first().copied() == Some(row.top);
-    did == Did::AllDone && is_left && found == [Some(row.locals[0]), Some(row.locals[1])]
+    did == Progress::Done && is_left && found == [Some(row.locals[0]), Some(row.locals[1])]
 }
 
 // The first of the rows on locals that does not do so.
@@ -349,7 +372,7 @@ fn first_at_fault(alloc: Global) -> Result<Option<&'static str>, AllocError> {
     let mut operands = operands_of(alloc, &[Val::I64(5), Val::I64(6)])?;
     let mut first = None;
     for row in &LOCALS {
-        if first.is_none() && !runs_on_locals(row, &mut locals, &mut operands) {
+        if first.is_none() && !runs_on_locals(alloc, row, &mut locals, &mut operands) {
             first = Some(row.name);
         }
     }

@@ -1,10 +1,14 @@
-//! Tests of what runs: of `core_types`, `intops`, `fuel`, `stacks`, `plain`, `store` and `exec`.
+//! Tests of what runs: of `core_types`, `intops`, `fuel`, `stacks`, `store`, `bulkops`, `plain` and `exec`.
 #![tactic(auto)]
 
 #[cfg(test)]
 mod collections;
 #[cfg(test)]
 mod instructions;
+#[cfg(test)]
+mod memories;
+#[cfg(test)]
+mod memory_runs;
 #[cfg(test)]
 mod metering;
 #[cfg(test)]

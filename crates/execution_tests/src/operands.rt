@@ -13,6 +13,7 @@ enum Step {
     // The topmost one last.
     Top(&'static [Val]),
     DropTop(usize),
+    Replace(Val),
     Nest(usize),
     Unnest(usize),
     Land {
@@ -22,10 +23,10 @@ enum Step {
     },
 }
 
-use Step::{DropTop, Floor, Land, Len, Nest, Pop, Push, Top, Unnest};
+use Step::{DropTop, Floor, Land, Len, Nest, Pop, Push, Replace, Top, Unnest};
 
 #[rattlefmt::skip]
-static CASES: [(&str, &[Step]); 4] = [
+static CASES: [(&str, &[Step]); 5] = [
     ("operands come back", &[
         Pop(None), Push(Val::I32(1)), Push(Val::I64(2)), Len(2), Floor(0),
         Pop(Some(Val::I64(2))), Pop(Some(Val::I32(1))), Pop(None),
@@ -33,6 +34,10 @@ static CASES: [(&str, &[Step]); 4] = [
     ("the topmost operands", &[
         Push(Val::I32(1)), Push(Val::I32(2)), Push(Val::I32(3)), Top(&[Val::I32(2), Val::I32(3)]), Top(&[]),
         DropTop(1), Len(2), Top(&[Val::I32(1), Val::I32(2)]),
+    ]),
+    ("another operand on top", &[
+        Push(Val::I32(1)), Push(Val::I32(2)), Nest(1), Replace(Val::I64(7)), Len(1), Floor(1), Unnest(0),
+        Pop(Some(Val::I64(7))), Pop(Some(Val::I32(1))), Pop(None),
     ]),
     ("operands under the floor", &[
         Push(Val::I32(1)), Push(Val::I32(2)), Push(Val::I32(3)), Nest(1), Len(1), Floor(2),
@@ -50,6 +55,7 @@ static CASES: [(&str, &[Step]); 4] = [
 fn moves(operands: &mut Operands, step: &Step) -> bool {
     match step {
         DropTop(count) if *count <= operands.len() => operands.drop_top(*count),
+        Replace(value) if operands.len() >= 1 => operands.replace(*value),
         Nest(count) if *count <= operands.len() => operands.nest(*count),
         Unnest(floor) if *floor <= operands.floor() => operands.unnest(*floor),
         Land { count, base, floor }

@@ -113,7 +113,29 @@ i32.const 1 if end, with fuel for it | | 2 | 2 | values | 0 | (func i32.const 1 
 nop return, one fuel short | | 1 | 2 | exhausted fuel | 0 | (func nop return) (func)
 nop return, with fuel for it | | 2 | 2 | values | 0 | (func nop return) (func)
 nop nop call 1, one fuel short | | 2 | 2 | exhausted fuel | 0 | (func nop nop call 1) (func)
-nop nop call 1, with fuel for it | | 3 | 2 | values | 0 | (func nop nop call 1) (func)";
+nop nop call 1, with fuel for it | | 3 | 2 | values | 0 | (func nop nop call 1) (func)
+memory.fill, one fuel short | | 5 | 1 | exhausted fuel | 2 | (memory 1) (func i32.const 0 i32.const 7 i32.const 128 memory.fill)
+memory.fill | | 6 | 1 | values | 0 | (memory 1) (func i32.const 0 i32.const 7 i32.const 128 memory.fill)
+memory.fill past the end | | 10 | 1 | trap out of bounds memory access | 6 | (memory 1) (func i32.const 65535 i32.const 7 i32.const 128 memory.fill)
+memory.fill and i32.load8_u | | 20 | 1 | values i32 7 | 14 | (memory 1) (func (result i32) i32.const 0 i32.const 263 i32.const 1 memory.fill i32.const 0 i32.load8_u)
+i32.load8_u with an offset that does not wrap | | 20 | 1 | trap out of bounds memory access | 18 | (memory 1) (func (result i32) i32.const 1 i32.load8_u offset=4294967295)
+a store and loads | | 20 | 1 | values i32 4294967168 i64 18446744073709551488 | 13 | (memory 1) (func (result i32 i64) i32.const 0 i32.const 65408 i32.store16 i32.const 0 i32.load8_s i32.const 0 i64.load16_s)
+a store past the end | | 20 | 1 | trap out of bounds memory access | 17 | (memory 1) (func i32.const 65533 i32.const 1 i32.store)
+a store of an i64 | | 20 | 1 | values i64 258 | 15 | (memory 1) (func (result i64) i32.const 8 i64.const 258 i64.store offset=8 i32.const 0 i64.load offset=16)
+memory.copy | | 20 | 1 | values i32 50462977 | 11 | (memory 1) (func (result i32) i32.const 0 i32.const 67305985 i32.store i32.const 1 i32.const 0 i32.const 3 memory.copy i32.const 0 i32.load)
+memory.init and data.drop | | 20 | 1 | values i32 2049 | 13 | (memory 1) (data \"\\01\\08\") (func (result i32) i32.const 0 i32.const 0 i32.const 2 memory.init 0 data.drop 0 i32.const 0 i32.load16_u)
+memory.init of a dropped segment | | 20 | 1 | trap out of bounds memory access | 15 | (memory 1) (data \"\\01\\08\") (func data.drop 0 i32.const 0 i32.const 0 i32.const 1 memory.init 0)
+memory.init of nothing of a dropped segment | | 20 | 1 | values | 15 | (memory 1) (data \"\\01\\08\") (func data.drop 0 i32.const 0 i32.const 0 i32.const 0 memory.init 0)
+memory.grow past the maximum | i32 4294967295 | 10000 | 1 | values i32 4294967295 | 9998 | (memory 1 5) (func (param i32) (result i32) local.get 0 memory.grow)
+memory.grow up to the maximum | i32 4 | 9998 | 1 | values i32 1 | 5900 | (memory 1 5) (func (param i32) (result i32) local.get 0 memory.grow)
+memory.grow, one fuel short | i32 4 | 4097 | 1 | exhausted fuel | 4096 | (memory 1 5) (func (param i32) (result i32) local.get 0 memory.grow)
+memory.grow twice and memory.size | | 20000 | 1 | values i32 1 i32 5 i32 5 | 15899 | (memory 1 5) (func (result i32 i32 i32) i32.const 4 memory.grow i32.const 0 memory.grow memory.size)
+memory.grow past the bound on pages | i32 1024 | 10 | 1 | values i32 4294967295 | 8 | (memory 1) (func (param i32) (result i32) local.get 0 memory.grow)
+memory.grow up to the bound on pages | i32 1023 | 1047555 | 1 | values i32 1 | 1 | (memory 1) (func (param i32) (result i32) local.get 0 memory.grow)
+global.get of a constant | | 5 | 1 | values i64 7 | 4 | (global i64 i64.const 7) (func (result i64) global.get 0)
+global.set and global.get | | 9 | 1 | values i32 5 i32 6 | 5 | (global (mut i32) i32.const 5) (func (result i32 i32) global.get 0 i32.const 6 global.set 0 global.get 0)
+global.set, one fuel short | | 1 | 1 | exhausted fuel | 0 | (global (mut i32) i32.const 5) (func i32.const 6 global.set 0)
+global.get without fuel | | 0 | 1 | exhausted fuel | 0 | (global i64 i64.const 7) (func (result i64) global.get 0)";
 
 // The value of a type that a word writes.
 fn value(ty: &str, word: &str) -> Option<Val> {
@@ -143,6 +165,7 @@ fn trap_text(trap: Trap) -> &'static str {
         Trap::Unreachable => "unreachable",
         Trap::DivideByZero => "integer divide by zero",
         Trap::IntegerOverflow => "integer overflow",
+        Trap::MemoryBounds => "out of bounds memory access",
         _ => "another trap",
     }
 }
@@ -174,8 +197,8 @@ fn ends_so(alloc: Global, outcome: &Outcome, text: &str) -> bool {
     }
 }
 
-// Whether a call of the function at an address ends so within fuel and depth, and leaves so much fuel.
-fn calls_so(
+/// Whether a call of the function at an address ends so within fuel and depth, and leaves so much fuel.
+pub fn calls_so(
     alloc: Global,
     store: &mut Store,
     (address, args): (u32, &[Val]),
@@ -234,7 +257,7 @@ fn agrees(alloc: Global, line: &str) -> bool {
 
 #[test]
 fn runs_functions(rt: HostRuntime) {
-    assert!(rt; ROWS.lines().count() == 104);
+    assert!(rt; ROWS.lines().count() == 126);
     for line in ROWS.lines() {
         assert!(rt; agrees(rt.alloc(), line), "{line}");
     }

@@ -1,6 +1,6 @@
 //! Functions, types and instances by address, the ends of bodies, and the arguments that a function takes.
 
-use crate::modules::{append, loaded_module, store_with};
+use crate::modules::{PAGES, append, loaded_module, store_with};
 use core_types::{BlockType, Op, PlainOp, Val, ValType};
 use std::alloc::{AllocError, Global};
 use store::{Callee, Store, accepts, ends_of};
@@ -70,7 +70,8 @@ fn keeps_ends(alloc: Global) -> bool {
     let text = "(func i32.const 0 if block end else end)";
     match store_with(alloc, &[text]) {
         Some(store) => {
-            store.function(0).map(|callee| callee.ends) == Some([6, 6, 4, 3, 4, 5, 6].as_slice())
+            store.code().function(0).map(|callee| callee.ends)
+                == Some([6, 6, 4, 3, 4, 5, 6].as_slice())
         }
         None => false,
     }
@@ -83,17 +84,18 @@ fn keeps_the_ends_of_bodies(rt: HostRuntime) {
 
 // Whether the instance at a number has the function at that address, which takes no arguments.
 fn is_kept(store: &Store, address: u32) -> bool {
-    store.function(address).map(|callee| callee.instance) == Some(address)
-        && store
+    let code = store.code();
+    code.function(address).map(|callee| callee.instance) == Some(address)
+        && code
             .instance(address)
-            .map(|instance| instance.functions.as_slice())
+            .map(|instance| instance.addresses.functions.as_slice())
             == Some([address].as_slice())
         && accepts(store, address, &[])
 }
 
 // Whether one loaded module that is put into a store three times has an instance and a function of its own each time.
 fn keeps_modules(alloc: Global) -> bool {
-    let mut store = Store::new(alloc);
+    let mut store = Store::new(alloc, PAGES);
     let mut all = true;
     let Some(loaded) = loaded_module(alloc, "(func (result i32) i32.const 7)") else {
         return false;
@@ -104,7 +106,7 @@ fn keeps_modules(alloc: Global) -> bool {
     for address in 0..3u32 {
         all &= is_kept(&store, address);
     }
-    all && store.function(3).is_none() && store.instance(3).is_none()
+    all && store.code().function(3).is_none() && store.code().instance(3).is_none()
 }
 
 #[test]
@@ -136,7 +138,7 @@ static ADDRESSES: [(u32, u32, Option<u32>); 8] = [
 // Whether a function has this address, in a store of the three modules.
 fn is_at(alloc: Global, instance: u32, x: u32, address: Option<u32>) -> bool {
     match store_with(alloc, &THREE) {
-        Some(store) => store.function_address(instance, x) == address,
+        Some(store) => store.code().function_address(instance, x) == address,
         None => false,
     }
 }
@@ -167,8 +169,8 @@ fn gives(callee: Callee<'_>, instance: u32, number: u32) -> bool {
 // Whether the function at an address is such a one, in a store of the three modules.
 fn has_function(alloc: Global, address: u32, instance: u32, number: u32) -> bool {
     match store_with(alloc, &THREE) {
-        Some(store) => match store.function(address) {
-            Some(callee) => gives(callee, instance, number) && store.function(4).is_none(),
+        Some(store) => match store.code().function(address) {
+            Some(callee) => gives(callee, instance, number) && store.code().function(4).is_none(),
             None => false,
         },
         None => false,
@@ -199,7 +201,11 @@ static TYPES: [(u32, u32, Option<&[ValType]>); 6] = [
 // Whether the type at an index gives these results, in a store of the three modules.
 fn has_type(alloc: Global, instance: u32, x: u32, results: Option<&[ValType]>) -> bool {
     match store_with(alloc, &THREE) {
-        Some(store) => store.type_at(instance, x).map(|ty| ty.results.as_slice()) == results,
+        Some(store) => store
+            .code()
+            .type_at(instance, x)
+            .map(|ty| ty.results.as_slice())
+            == results,
         None => false,
     }
 }

@@ -1,9 +1,9 @@
 //! Laws and worked rows of runs.
 
-ghost use Rattle.std.specs.Prelude.{◌≡◌, ◌∷◌, [], ℕ, ◌⊎◌, Some, None};
+ghost use Rattle.std.specs.Prelude.{◌≡◌, ◌∷◌, [], ℕ, ◌⊎◌, Some, None, replicate};
 ghost use Rattle.core_types.specs.declared.outcome.Val.TheVariants.{I32};
-ghost use Rattle.core_types.specs.declared.outcome.Trap.TheVariants.{Host};
-ghost use Rattle.meaning.specs.execution.Rows.{Calls, CountsCalls, TrapsAtOneAndTwo, adder, caller, counting, endless, last_of_three, one_and_two, seven_or_eight, trapping};
+ghost use Rattle.core_types.specs.declared.outcome.Trap.TheVariants.{Host, MemoryBounds};
+ghost use Rattle.meaning.specs.execution.Rows.{Calls, CountsCalls, TrapsAtOneAndTwo, adder, caller, copies_and_sets, counting, endless, fills, grows_and_reads, last_of_three, one_and_two, seven_or_eight, trapping, with_bytes_and_global};
 ghost use Rattle.meaning.specs.execution.Configurations.{Configuration, Frame, Invoking, no_frame};
 ghost use Rattle.meaning.specs.execution.Runs.{Ending, NoHosts, OutOfDepth, OutOfFuel, OutOfMemory, Run, State, Steps, WithTrap, WithValues};
 
@@ -34,6 +34,15 @@ pub fn hosts_answer_calls()
     ensures from_code { Run (CountsCalls (Some 6)) 1 no_frame (counting 0 10) (Invoking ([]) 0) (WithValues (I32 1 ∷ I32 2 ∷ [])) (counting 2 8) }
     ensures from_outside { Run (CountsCalls None) 0 no_frame (counting 4 0) (Invoking ([]) 1) (WithValues (I32 5 ∷ [])) (counting 5 0) }
     ensures trap { Run TrapsAtOneAndTwo 1 no_frame (trapping 10) (Invoking ([]) 0) (WithTrap (Host 4)) (trapping 7) }
+{}
+
+/// Worked rows of runs on memories, data segments and globals: a fill of 128 bytes costs 3 and is done or not by the fuel; a byte of a segment is copied and
+/// read, and a global is set; a growth that is not allowed answers -1, and an access past the end traps.
+pub fn memories_change_in_runs()
+    ensures fill { Run NoHosts 1 no_frame (with_bytes_and_global fills (replicate 128 0) 5 6) (Invoking ([]) 0) (WithValues ([])) (with_bytes_and_global fills (replicate 128 7) 5 0) }
+    ensures no_fuel { Run NoHosts 1 no_frame (with_bytes_and_global fills (replicate 128 0) 5 5) (Invoking ([]) 0) OutOfFuel (with_bytes_and_global fills (replicate 128 0) 5 2) }
+    ensures global { Run NoHosts 1 no_frame (with_bytes_and_global copies_and_sets (1 ∷ 2 ∷ []) 5 8) (Invoking ([]) 0) (WithValues (I32 2049 ∷ [])) (with_bytes_and_global copies_and_sets (1 ∷ 8 ∷ []) 2049 0) }
+    ensures trap { Run NoHosts 1 no_frame (with_bytes_and_global grows_and_reads (1 ∷ []) 5 8) (Invoking ([]) 0) (WithTrap MemoryBounds) (with_bytes_and_global grows_and_reads (1 ∷ []) 5 5) }
 {}
 
 /// Law: without host functions two bounded runs from one start end alike, in one state, unless one of them ends out of memory.

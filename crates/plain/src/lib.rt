@@ -1,14 +1,18 @@
-//! Instructions without control, on the operands and the locals of a frame.
+//! Instructions without control, in a frame of an instance: on operands, locals, globals, memories and data segments, within the fuel.
 #![tactic(auto)]
 
 mod control;
 mod did;
 mod instructions;
+mod lookups;
+mod memory;
 mod numeric;
 mod parametric;
+mod payment;
 mod popping;
+mod progress;
 mod variable;
 
-pub use did::Did;
 pub use instructions::run_plain;
 pub use popping::pop_i32;
+pub use progress::Progress;

@@ -1,4 +1,4 @@
-ghost use Rattle.std.specs.Prelude.{◌≡◌, ◌∷◌, slice_get, MatchOption};
+ghost use Rattle.std.specs.Prelude.{◌≡◌, ◌∷◌, drop, slice_get, MatchOption};
 ghost use Rattle.core_types.specs.declared.outcome.Val.TheVariants.{I32, I64};
 ghost use Rattle.plain.specs.Effects.{Pushed, HasNoI32, HasNoI64};
 
@@ -34,6 +34,16 @@ pub fn peek(operands: &Operands) -> Option<Val>
         None
     } else {
         operands.top(1).first().copied()
+    }
+}
+
+// The i32 on top of the operands, which stays.
+pub fn peek_i32(operands: &Operands) -> Option<u32>
+    ensures { MatchOption result (HasNoI32 operands.now.own) (λ n. operands.now.own ≡ I32 n ∷ drop 1 operands.now.own) }
+{
+    match peek(operands) {
+        Some(Val::I32(n)) => Some(n),
+        _ => None,
     }
 }
 

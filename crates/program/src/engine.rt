@@ -1,87 +1,16 @@
 //! The steps of a call: a module is loaded, linked, looked into and run. A check decodes and validates alone.
 
+use crate::linking::{new_objects, run_data_segments};
+use crate::refusals::Refusal;
 use crate::support::is_run;
-use binary::{DecodeError, decode};
+use binary::decode;
 use core_types::{Export, ExportDesc, Val, ValType};
 use exec::{HostTable, Outcome, invoke};
 use fuel::Meter;
-use std::alloc::{AllocError, Global};
+use std::alloc::Global;
 use std::rc::Rc;
 use store::{LoadedModule, Store, accepts};
-use validator::{ValidateError, validate};
-
-/// Why the engine does not do what it is asked for.
-#[derive(Clone, Copy)]
-pub enum Refusal {
-    /// The bytes spell no module.
-    Malformed,
-    /// The bytes use what is left out.
-    Unsupported,
-    /// A limit is passed.
-    Limit,
-    /// No typing accepts the module.
-    Invalid,
-    /// Nothing is exported under the name.
-    UnknownExport,
-    /// What is exported is no function.
-    WrongKind,
-    /// There was no memory.
-    OutOfMemory,
-}
-
-impl Refusal {
-    /// The number of the refusal.
-    pub fn number(self) -> u8 {
-        match self {
-            Refusal::Malformed => 1,
-            Refusal::Unsupported => 2,
-            Refusal::Limit => 3,
-            Refusal::Invalid => 4,
-            Refusal::UnknownExport => 9,
-            Refusal::WrongKind => 10,
-            Refusal::OutOfMemory => 13,
-        }
-    }
-
-    /// The name of the refusal.
-    pub fn name(self) -> &'static str {
-        match self {
-            Refusal::Malformed => "Malformed",
-            Refusal::Unsupported => "Unsupported",
-            Refusal::Limit => "Limit",
-            Refusal::Invalid => "Invalid",
-            Refusal::UnknownExport => "UnknownExport",
-            Refusal::WrongKind => "WrongKind",
-            Refusal::OutOfMemory => "OutOfMemory",
-        }
-    }
-}
-
-impl From<AllocError> for Refusal {
-    fn from(_error: AllocError) -> Refusal {
-        Refusal::OutOfMemory
-    }
-}
-
-impl From<DecodeError> for Refusal {
-    fn from(error: DecodeError) -> Refusal {
-        match error {
-            DecodeError::Malformed(_) => Refusal::Malformed,
-            DecodeError::Unsupported(_) => Refusal::Unsupported,
-            DecodeError::Limit => Refusal::Limit,
-            DecodeError::OutOfMemory => Refusal::OutOfMemory,
-        }
-    }
-}
-
-impl From<ValidateError> for Refusal {
-    fn from(error: ValidateError) -> Refusal {
-        match error {
-            ValidateError::Invalid(_) => Refusal::Invalid,
-            ValidateError::OutOfMemory => Refusal::OutOfMemory,
-        }
-    }
-}
+use validator::validate;
 
 // What is exported under a name.
 fn export_under(exports: &[Export], name: &str) -> Option<ExportDesc> {
@@ -100,6 +29,24 @@ pub fn check(alloc: Global, bytes: &[u8]) -> Result<(), Refusal> {
     Ok(())
 }
 
+/// Why a module is not linked to its end.
+#[derive(Drop)]
+pub enum LinkEnd {
+    /// It is refused, and nothing has changed.
+    Refused(Refusal),
+    /// A trap or an exhaustion ended the link, and what was done stays.
+    Ended(Outcome),
+}
+
+impl From<Refusal> for LinkEnd {
+    fn from(refusal: Refusal) -> LinkEnd {
+        LinkEnd::Refused(refusal)
+    }
+}
+
+// How many pages a memory may have at most.
+const PAGES: u32 = 1_024;
+
 /// A store of linked modules, the fuel for calls into it, and how many frames a call may have open at once.
 #[derive(Drop)]
 pub struct Engine {
@@ -115,7 +62,7 @@ impl Engine {
     pub fn new(alloc: Global, fuel: u64, depth: u32) -> Engine {
         Engine {
             alloc,
-            store: Store::new(alloc),
+            store: Store::new(alloc, PAGES),
             hosts: HostTable::new(alloc),
             fuel,
             depth,
@@ -141,24 +88,47 @@ impl Engine {
         }
     }
 
-    /// Puts an instance of a module without imports into the store, and answers its number. A module may be linked many times.
-    pub fn link(&mut self, loaded: &Rc<LoadedModule>) -> Result<u32, Refusal> {
-        if !self.store.has_room_for(loaded.as_ref().module()) {
+    // Puts an instance of a module without imports into the store, with its objects, and answers its number.
+    fn append(&mut self, loaded: &Rc<LoadedModule>) -> Result<u32, Refusal> {
+        let wanted = loaded.as_ref().module();
+        let first_function = self.store.code().function_count();
+        let pages = self.store.state().pages();
+        let objects = new_objects(self.alloc, wanted, first_function, pages)?;
+        if !self.store.has_room_for(wanted, &objects) {
             return Err(Refusal::Limit);
         }
-        let number = self.store.append_module(self.alloc, loaded.clone()?)?;
-        Ok(number)
+        let shared = loaded.clone()?;
+        Ok(self.store.append_module(self.alloc, shared, objects)?)
+    }
+
+    /// Links a module without imports, and answers the number of its instance: its objects are made, and its active data segments
+    /// are copied into its memory within the fuel. A module may be linked many times.
+    pub fn link(&mut self, loaded: &Rc<LoadedModule>) -> Result<u32, LinkEnd> {
+        let instance = self.append(loaded)?;
+        let mut meter = Meter::new(self.fuel, self.depth);
+        let (code, state) = self.store.parts_mut();
+        let datas = loaded.as_ref().module().datas.as_slice();
+        let ended = run_data_segments(code, state, &mut meter, instance, datas);
+        self.fuel = meter.left();
+        match ended {
+            None => Ok(instance),
+            Some(outcome) => Err(LinkEnd::Ended(outcome)),
+        }
     }
 
     /// The address of the function that an instance of a module without imports exports under a name.
     pub fn exported_function(&self, instance: u32, name: &str) -> Result<u32, Refusal> {
-        let Some(found) = self.store.instance(instance) else {
+        let Some(found) = self.store.code().instance(instance) else {
             return Err(Refusal::UnknownExport);
         };
         let exports = found.loaded.as_ref().module().exports.as_slice();
         match export_under(exports, name) {
             None => Err(Refusal::UnknownExport),
-            Some(ExportDesc::Func(index)) => match self.store.function_address(instance, index) {
+            Some(ExportDesc::Func(index)) => match self
+                .store
+                .code()
+                .function_address(instance, index)
+            {
                 Some(address) => Ok(address),
                 None => Err(Refusal::UnknownExport),
             },
@@ -168,7 +138,7 @@ impl Engine {
 
     /// The types of the parameters of the function at an address, none where there is no function.
     pub fn parameters(&self, address: u32) -> &[ValType] {
-        match self.store.function(address) {
+        match self.store.code().function(address) {
             Some(callee) => callee.ty.params.as_slice(),
             None => &[],
         }

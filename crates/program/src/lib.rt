@@ -4,12 +4,14 @@
 mod args;
 mod engine;
 mod inputs;
+mod linking;
 mod print;
 mod program;
+mod refusals;
 mod support;
 
 pub use args::{ArgsFault, read_args};
-pub use engine::Refusal;
 pub use inputs::{Files, ReadFault, System};
 pub use print::{print_end, print_fault};
 pub use program::{CallEnd, Fault, refuse_words, run};
+pub use refusals::Refusal;

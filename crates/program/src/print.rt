@@ -2,8 +2,8 @@
 
 ghost use Rattle.program.specs.Statuses.{IsStatus};
 
-use crate::engine::Refusal;
 use crate::program::{CallEnd, Fault};
+use crate::refusals::Refusal;
 use core_types::{Exhaustion, Trap, Val};
 use exec::Outcome;
 use std::io::{self, Write};

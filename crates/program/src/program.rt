@@ -3,9 +3,10 @@
 ghost use Rattle.program.specs.Statuses.{IsStatus};
 
 use crate::args::{ArgsFault, read_args};
-use crate::engine::{Engine, Refusal, check};
+use crate::engine::{Engine, LinkEnd, check};
 use crate::inputs::{Files, ReadFault};
 use crate::print::{print_end, print_fault, print_valid};
+use crate::refusals::Refusal;
 use command_line::{CallOrder, Order, WordsFault, read_words};
 use exec::Outcome;
 use std::alloc::Global;
@@ -85,15 +86,13 @@ fn load_file<'a, F: Files>(
     Ok(engine.load(bytes.as_slice())?)
 }
 
-// Calls what the order names.
-fn call<'a, F: Files>(
+// Calls the function of an instance that the order names.
+fn call_in<'a>(
     alloc: Global,
     order: &CallOrder<'a>,
-    files: &mut F,
+    engine: &mut Engine,
+    instance: u32,
 ) -> Result<CallEnd, Fault<'a>> {
-    let mut engine = Engine::new(alloc, order.fuel, order.depth);
-    let loaded = load_file(&engine, files, order.file)?;
-    let instance = engine.link(&loaded)?;
     let address = engine.exported_function(instance, order.export)?;
     let args = read_args(alloc, engine.parameters(address), order.args.as_slice())?;
     match engine.call(address, args.as_slice()) {
@@ -102,6 +101,24 @@ fn call<'a, F: Files>(
             fuel_left: engine.fuel_left(),
         }),
         None => Err(Fault::BadArguments),
+    }
+}
+
+// Links the module that the order names, and calls the function. Where the link does not come to its end, that is the call's end.
+fn call<'a, F: Files>(
+    alloc: Global,
+    order: &CallOrder<'a>,
+    files: &mut F,
+) -> Result<CallEnd, Fault<'a>> {
+    let mut engine = Engine::new(alloc, order.fuel, order.depth);
+    let loaded = load_file(&engine, files, order.file)?;
+    match engine.link(&loaded) {
+        Ok(instance) => call_in(alloc, order, &mut engine, instance),
+        Err(LinkEnd::Refused(refusal)) => Err(Fault::Refused(refusal)),
+        Err(LinkEnd::Ended(outcome)) => Ok(CallEnd {
+            outcome,
+            fuel_left: engine.fuel_left(),
+        }),
     }
 }
 

@@ -1,21 +1,19 @@
-//! Which modules the program runs so far: those of functions alone, over the instructions that the interpreter runs.
+//! Which modules the program runs so far: those without imports, tables and a start function, over the instructions that the
+//! interpreter runs.
 
-use core_types::{ControlOp, Func, Module, Op, PlainOp, VariableOp};
+use core_types::{ControlOp, Func, Module, Op, PlainOp};
 
 /// Whether the module has only sections and instructions that are run.
 pub fn is_run(decoded: &Module) -> bool {
-    has_only_functions(decoded) && decoded.funcs.as_slice().iter().all(is_run_function)
+    has_only_run_sections(decoded) && decoded.funcs.as_slice().iter().all(is_run_function)
 }
 
-// Whether the sections other than those of types, functions, exports and code are empty.
-fn has_only_functions(decoded: &Module) -> bool {
+// Whether the sections that are not linked so far are empty.
+fn has_only_run_sections(decoded: &Module) -> bool {
     decoded.imports.is_empty()
         && decoded.tables.is_empty()
-        && decoded.memories.is_empty()
-        && decoded.globals.is_empty()
         && decoded.start.is_none()
         && decoded.elements.is_empty()
-        && decoded.datas.is_empty()
 }
 
 fn is_run_function(f: &Func) -> bool {
@@ -32,10 +30,10 @@ fn is_run_operation(op: &Op) -> bool {
 fn is_run_plain(op: &PlainOp) -> bool {
     match op {
         PlainOp::Control(op) => is_run_control(*op),
-        PlainOp::Variable(op) => is_run_variable(*op),
         PlainOp::BrTable(_) | PlainOp::Parametric(_) | PlainOp::SelectTyped(_) => true,
+        PlainOp::Variable(_) | PlainOp::Memory(_) => true,
         PlainOp::Numeric(_) | PlainOp::I32Const(_) | PlainOp::I64Const(_) => true,
-        PlainOp::Reference(_) | PlainOp::Table(_) | PlainOp::Memory(_) => false,
+        PlainOp::Reference(_) | PlainOp::Table(_) => false,
     }
 }
 
@@ -45,12 +43,5 @@ fn is_run_control(op: ControlOp) -> bool {
         ControlOp::Br(_) | ControlOp::BrIf(_) => true,
         ControlOp::Return | ControlOp::Call(_) => true,
         ControlOp::CallIndirect { .. } => false,
-    }
-}
-
-fn is_run_variable(op: VariableOp) -> bool {
-    match op {
-        VariableOp::LocalGet(_) | VariableOp::LocalSet(_) | VariableOp::LocalTee(_) => true,
-        VariableOp::GlobalGet(_) | VariableOp::GlobalSet(_) => false,
     }
 }

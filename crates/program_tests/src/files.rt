@@ -12,7 +12,7 @@ struct File {
 }
 
 #[rattlefmt::skip]
-static FILES: [File; 12] = [
+static FILES: [File; 13] = [
     // (func (export "add") (param i32 i32) (result i32) local.get 0 local.get 1 i32.add)
     File {
         path: "m1.wasm",
@@ -41,6 +41,8 @@ static FILES: [File; 12] = [
     },
     // (memory 1)
     File { path: "memory.wasm", bytes: Some("0061736D01000000 0503010001") },
+    // (table 1 funcref)
+    File { path: "table.wasm", bytes: Some("0061736D01000000 040401700001") },
     // The beginning of a module.
     File { path: "short.wasm", bytes: Some("0061736D010000") },
     File { path: "huge.wasm", bytes: None },

@@ -8,11 +8,15 @@ mod calls;
 #[cfg(test)]
 mod checks;
 #[cfg(test)]
+mod compiled;
+#[cfg(test)]
 mod depths;
 #[cfg(test)]
 mod files;
 #[cfg(test)]
 mod lines;
+#[cfg(test)]
+mod memories;
 #[cfg(test)]
 mod outputs;
 #[cfg(test)]

@@ -30,7 +30,7 @@ fn calls_end_with_their_lines(rt: HostRuntime) {
 }
 
 #[rattlefmt::skip]
-static FAULTS: [Row; 17] = [
+static FAULTS: [Row; 18] = [
     Row { words: "call m1.wasm sub 1 2", ending: Ending::Err("refused 9 UnknownExport\n", 2) },
     Row { words: "call m1.wasm sub x", ending: Ending::Err("refused 9 UnknownExport\n", 2) },
     Row { words: "call m1.wasm '' 1 2", ending: Ending::Err("refused 9 UnknownExport\n", 2) },
@@ -45,7 +45,8 @@ static FAULTS: [Row; 17] = [
     Row { words: "call short.wasm add 1 2", ending: Ending::Err("refused 1 Malformed\n", 5) },
     Row { words: "call short.wasm sub x", ending: Ending::Err("refused 1 Malformed\n", 5) },
     Row { words: "call floating.wasm add 1 2", ending: Ending::Err("refused 2 Unsupported\n", 5) },
-    Row { words: "call memory.wasm add 1 2", ending: Ending::Err("refused 2 Unsupported\n", 5) },
+    Row { words: "call table.wasm add 1 2", ending: Ending::Err("refused 2 Unsupported\n", 5) },
+    Row { words: "call memory.wasm add 1 2", ending: Ending::Err("refused 9 UnknownExport\n", 2) },
     Row { words: "call empty_body.wasm add 1 2", ending: Ending::Err("refused 4 Invalid\n", 5) },
     Row { words: "call huge.wasm add 1 2", ending: Ending::Err("refused 13 OutOfMemory\n", 6) },
 ];
@@ -58,10 +59,11 @@ fn faults_end_with_their_lines(rt: HostRuntime) {
 }
 
 #[rattlefmt::skip]
-static CHECKS: [Row; 9] = [
+static CHECKS: [Row; 10] = [
     Row { words: "check m1.wasm", ending: Ending::Out("valid\n", 0) },
     Row { words: "check subtracting.wasm", ending: Ending::Out("valid\n", 0) },
     Row { words: "check memory.wasm", ending: Ending::Out("valid\n", 0) },
+    Row { words: "check table.wasm", ending: Ending::Out("valid\n", 0) },
     Row { words: "check empty_body.wasm", ending: Ending::Err("refused 4 Invalid\n", 5) },
     Row { words: "check floating.wasm", ending: Ending::Err("refused 2 Unsupported\n", 5) },
     Row { words: "check short.wasm", ending: Ending::Err("refused 1 Malformed\n", 5) },

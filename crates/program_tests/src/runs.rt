@@ -62,6 +62,12 @@ pub fn ends_so<F: Files>(
     }
 }
 
+/// Whether a run over these words and files prints a text that begins so, and ends with status 0.
+pub fn begins_so<F: Files>(alloc: Global, words: &[String], files: &mut F, text: &str) -> bool {
+    let got = run_in_memory(alloc, words, files);
+    got.out.as_slice().starts_with(text.as_bytes()) && got.err.is_empty() && got.status == 0
+}
+
 /// Whether a run over these words and the module of these sections, hexadecimal numbers, ends so.
 pub fn ends_so_on(
     alloc: Global,

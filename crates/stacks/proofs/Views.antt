@@ -1,6 +1,6 @@
 -- The operands, kept from the bottom and seen from the top, in two parts.
-use Rattle.std.proofs.Common.{◌≡◌, ℕ, ◌+◌, ◌-◌, ◌≤◌, List, ◌++◌, length, reverse, take, drop, sym, ap, ap₂, ◌∙◌, append_assoc, take-append-drop, take_at, drop_at, take_all, arith}
-use Rattle.std.proofs.lemmas.List.{reverse-append, reverse-reverse, length-reverse, length-append, length-take-le, length-drop, take-append-le, drop-append-le}
+use Rattle.std.proofs.Common.{◌≡◌, ℕ, suc, ◌+◌, ◌-◌, ◌≤◌, List, [], ◌∷◌, ◌++◌, length, slice_set, reverse, take, drop, sym, ap, ap₂, ◌∙◌, append_assoc, take-append-drop, take_at, drop_at, take_all, arith}
+use Rattle.std.proofs.lemmas.List.{reverse-append, reverse-reverse, length-reverse, length-append, length-take-le, length-drop, take-append-le, drop-append-le, drop_all, set_split}
 use Rattle.std.proofs.lemmas.List.Edits.{take-paste}
 use Rattle.std.specs.List.{copy_within}
 use Rattle.std.proofs.Math.Seq.{paste}
@@ -56,6 +56,17 @@ module _ (xs : List Val) (floor : ℕ) (s : OperandStack) (within : floor ≤ le
       from_top-is xs (s.own ++ values) lower outer
       (whole ∙ ap (λ (below : List Val). s.own ++ below) e ∙ sym (append_assoc s.own values lower))
       high
+
+  -- another value in the place of the topmost one
+  pub replaced : (len : ℕ) (v : Val) → len ≡ length xs → 1 ≤ length s.own → from_top floor (slice_set xs (len - 1) v) ≡ operand_stack (v ∷ drop 1 s.own) s.below
+  replaced len v is_len some =
+      let last : len - 1 + 1 ≡ length xs = omega (arith, size) in
+      let split : slice_set xs (len - 1) v ≡ take (len - 1) xs ++ v ∷ drop (suc (len - 1)) xs = set_split xs (len - 1) v (omega arith) in
+      let none : drop (suc (len - 1)) xs ≡ [] = drop_all (suc (len - 1)) xs (omega arith) in
+      let others : reverse (take (len - 1) xs) ≡ drop 1 s.own ++ s.below = sym (drop-reverse xs (len - 1) 1 last) ∙ ap (drop 1) whole ∙ drop-append-le 1 s.own s.below some in
+      from_top-is (slice_set xs (len - 1) v) (v ∷ drop 1 s.own) s.below floor
+      (ap reverse (split ∙ ap (λ (t : List Val). take (len - 1) xs ++ v ∷ t) none) ∙ reverse-append (take (len - 1) xs) (v ∷ []) ∙ ap (λ (t : List Val). v ∷ t) others)
+      height
 
   module _ (n len : ℕ) (few : n ≤ length s.own) (is_len : len ≡ length xs) where
     upper : reverse (drop (len - n) xs) ≡ take n s.own

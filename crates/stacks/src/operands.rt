@@ -70,6 +70,15 @@ impl Operands {
         }
     }
 
+    /// Puts a value in the place of the topmost operand, which the innermost label has. Takes no memory.
+    pub fn replace(&mut self, value: Val)
+        requires { 1 ≤ length self.old.own }
+        ensures { self.new ≡ operand_stack (value ∷ drop 1 self.old.own) (self.old.below) }
+    {
+        let last = self.items.len() - 1;
+        self.items[last] = value;
+    }
+
     /// The topmost `count` operands, the topmost one last.
     pub fn top(&self, count: usize) -> &[Val]
         requires { count ≤ length self.now.own }

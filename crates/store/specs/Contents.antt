@@ -5,8 +5,10 @@ use Rattle.core_types.specs.declared.module.Func.{Func}
 use Rattle.core_types.specs.declared.module.Module.{Module}
 use Rattle.meaning.specs.structure.Bodies.{Empty, body_of}
 use Rattle.meaning.specs.execution.Store.{Code, FunctionInstance as Function, InCode, ModuleInstance, Store}
+use Rattle.store.specs.declared.instances.Addresses.{Addresses}
 use Rattle.store.specs.declared.instances.FunctionInstance.{FunctionInstance}
 use Rattle.store.specs.declared.instances.Instance.{Instance}
+use Rattle.store.specs.State.{ObjectLists, StateContents}
 
 -- The functions and the instances, as they are kept.
 pub record Contents : Type 0 where
@@ -65,38 +67,105 @@ abbrev pub consecutive : (first count : ℕ) → List ℕ
 consecutive first zero = []
 consecutive first (suc count) = first ∷ consecutive (suc first) count
 
--- A module instance that has functions at these addresses. The store holds no memories yet.
-abbrev pub module_instance : (functions : List ℕ) → Module → ModuleInstance
-module_instance functions m =
-    record { types = m.types; functions = functions; memories = []; exports = m.exports }
+-- The addresses of what an instance has, a list a kind.
+pub record AddressLists : Type 0 where
+  pub functions : List ℕ
+  pub memories : List ℕ
+  pub globals : List ℕ
+  pub datas : List ℕ
+
+abbrev pub lists_of : Addresses → AddressLists
+lists_of addresses = record {
+  functions = addresses.functions.items;
+  memories = addresses.memories.items;
+  globals = addresses.globals.items;
+  datas = addresses.datas.items;
+}
+
+-- An instance of a module, with these addresses.
+abbrev pub module_instance : AddressLists → Module → ModuleInstance
+module_instance addresses m = record {
+  types = m.types;
+  functions = addresses.functions;
+  memories = addresses.memories;
+  globals = addresses.globals;
+  datas = addresses.datas;
+  exports = m.exports;
+}
 
 abbrev pub module_instance_of : Instance → ModuleInstance
-module_instance_of i = module_instance i.functions.items i.loaded.value
+module_instance_of i = module_instance (lists_of i.addresses) i.loaded.value
+
+-- The functions and the instances that are kept.
+abbrev pub functions_in : Contents → List Function
+functions_in s = map (function_at s.instances) s.functions
+
+abbrev pub instances_in : Contents → List ModuleInstance
+instances_in s = map module_instance_of s.instances
+
+-- The store of this code, with these objects.
+abbrev pub store_with : Contents → StateContents → Store
+store_with code state = record {
+  functions = functions_in code;
+  instances = instances_in code;
+  memories = state.contents.memories;
+  globals = state.contents.globals;
+  datas = state.contents.datas;
+  pages = state.pages;
+}
+
+-- The store of this code alone.
+abbrev pub code_store : Contents → Store
+code_store code = record {
+  functions = functions_in code;
+  instances = instances_in code;
+  memories = [];
+  globals = [];
+  datas = [];
+  pages = 0;
+}
+
+-- Both parts of what the store holds.
+pub record BothParts : Type 0 where
+  pub code : Contents
+  pub state : StateContents
 
 -- The store that is kept.
-abbrev pub store_of : Contents → Store
-store_of s =
-    record {
-      functions = map (function_at s.instances) s.functions;
-      instances = map module_instance_of s.instances;
-    }
+abbrev pub store_of : BothParts → Store
+store_of s = store_with s.code s.state
 
 -- The functions of a module, in its order.
 abbrev pub functions_of : ℕ → Module → List Func → List Function
 functions_of instance m funcs =
     map (λ (f : Func). unwrap_or (typed_function instance (slice_get m.types f.ty) f) no_function) funcs
 
--- The store with the functions of a module without imports and an instance of it behind those that it has.
-abbrev pub with_module : Store → Module → Store
-with_module store m = record {
+-- The addresses of a module's functions and of these objects, behind those that the store has.
+abbrev pub new_addresses : Store → Module → ObjectLists → AddressLists
+new_addresses store m objects = record {
+  functions = consecutive (length store.functions) (length m.funcs);
+  memories = consecutive (length store.memories) (length objects.memories);
+  globals = consecutive (length store.globals) (length objects.globals);
+  datas = consecutive (length store.datas) (length objects.datas);
+}
+
+-- The store with a module without imports: its functions, these objects, and an instance that has them, behind what there is.
+abbrev pub with_module : Store → Module → ObjectLists → Store
+with_module store m objects = record {
   functions = store.functions ++ functions_of (length store.instances) m m.funcs;
-  instances =
-      store.instances ++ module_instance (consecutive (length store.functions) (length m.funcs)) m ∷ [];
+  instances = store.instances ++ module_instance (new_addresses store m objects) m ∷ [];
+  memories = store.memories ++ objects.memories;
+  globals = store.globals ++ objects.globals;
+  datas = store.datas ++ objects.datas;
+  pages = store.pages;
 }
 
 -- Addresses and instance numbers have 32 bits.
-abbrev pub HasRoom : Contents → Module → Type 0
-HasRoom s m = (length s.functions + length m.funcs < 2 ^ 32) × (length s.instances + 1 < 2 ^ 32)
+pub record HasRoom (s : BothParts) (m : Module) (objects : ObjectLists) : Type 0 where
+  pub functions : length s.code.functions + length m.funcs < 2 ^ 32
+  pub instances : length s.code.instances + 1 < 2 ^ 32
+  pub memories : length s.state.contents.memories + length objects.memories < 2 ^ 32
+  pub globals : length s.state.contents.globals + length objects.globals < 2 ^ 32
+  pub datas : length s.state.contents.datas + length objects.datas < 2 ^ 32
 
 -- The entries of an instance's functions of these indices.
 abbrev pub entries_of : (instance : ℕ) → (indices : List ℕ) → List FunctionInstance

@@ -3,7 +3,7 @@ ghost use Rattle.meaning.specs.soundness.Values.{ValueHasType, ValuesHaveTypes};
 ghost use Rattle.store.specs.Arguments.{TakesArguments};
 ghost use Rattle.store.specs.Contents.{store_of};
 
-use crate::instances::Store;
+use crate::store::Store;
 use core_types::{Val, ValType};
 
 // Whether a value has a type, in this store.
@@ -15,7 +15,7 @@ fn value_has_type(store: &Store, value: Val, ty: ValType) -> bool
         ValType::I64 => matches!(value, Val::I64(_)),
         ValType::FuncRef => match value {
             Val::FuncRef(None) => true,
-            Val::FuncRef(Some(address)) => store.function(address).is_some(),
+            Val::FuncRef(Some(address)) => store.code().function(address).is_some(),
             _ => false,
         },
         ValType::ExternRef => matches!(value, Val::ExternRef(_)),
@@ -42,7 +42,7 @@ fn values_have_types(store: &Store, values: &[Val], types: &[ValType]) -> bool
 pub fn accepts(store: &Store, address: u32, args: &[Val]) -> bool
     ensures { IsTrue result ↔ TakesArguments (store_of store.now) address args.now }
 {
-    match store.function(address) {
+    match store.code().function(address) {
         Some(callee) => values_have_types(store, args, callee.ty.params.as_slice()),
         None => false,
     }

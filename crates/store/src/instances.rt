@@ -1,13 +1,13 @@
-ghost use Rattle.std.specs.Prelude.{◌≡◌, ◌↔◌, [], ◌∷◌, ◌++◌, length, slice_get, option_copied, IsTrue, IfOk, IfSome, OnOk, OnErr, MatchOption, Some, None};
+ghost use Rattle.std.specs.Prelude.{◌≡◌, [], ◌∷◌, ◌++◌, ◌+◌, ◌<◌, ◌^◌, length, slice_get, option_copied, IfSome, OnOk, OnErr, MatchOption, Some, None};
 ghost use Rattle.meaning.specs.structure.Bodies.{rests};
 ghost use Rattle.meaning.specs.execution.Store.{instance_of};
 ghost use Rattle.store.specs.Ends.{HasEnds};
-ghost use Rattle.store.specs.Contents.{Contents, contents_of, store_of, with_module, function_of, HasRoom};
+ghost use Rattle.store.specs.Contents.{code_store, contents_of, functions_in, functions_of, function_of, instances_in, lists_of, module_instance};
 
-use crate::entries::{consecutive_addresses, push_entries};
+use crate::entries::push_entries;
 use crate::loaded_modules::LoadedModule;
 use crate::lookups::item;
-use core_types::{Func, FuncType, Module};
+use core_types::{Func, FuncType};
 use std::alloc::{AllocError, Global};
 use std::marker::Model;
 use std::rc::Rc;
@@ -19,11 +19,20 @@ pub struct FunctionInstance {
     pub index: u32,
 }
 
-/// An instance of a module: the module, which it shares with other instances of it, and the addresses of its functions by index.
+/// The addresses of what an instance has of each kind, by index.
+#[derive(Drop)]
+pub struct Addresses {
+    pub functions: Vec<u32>,
+    pub memories: Vec<u32>,
+    pub globals: Vec<u32>,
+    pub datas: Vec<u32>,
+}
+
+/// An instance of a module: the module, which it shares with other instances of it, and the addresses of what it has.
 #[derive(Drop)]
 pub struct Instance {
     pub loaded: Rc<LoadedModule>,
-    pub functions: Vec<u32>,
+    pub addresses: Addresses,
 }
 
 /// A function of the store, for reading: its type, its code, the positions at which the bodies of its code end, and the number
@@ -36,14 +45,14 @@ pub struct Callee<'a> {
     pub instance: u32,
 }
 
-/// Functions and module instances by address (Execution, Runtime Structure, Store).
+/// What a run does not change of the store: functions and module instances by address (Execution, Runtime Structure, Store).
 #[derive(Drop)]
-pub struct Store {
+pub struct Code {
     functions: Vec<FunctionInstance>,
     instances: Vec<Instance>,
 }
 
-impl Model for Store {
+impl Model for Code {
     ghost use Rattle.store.specs.Contents.{Contents, contents_of, AllFound};
 
     ghost Value = { Contents };
@@ -62,15 +71,29 @@ fn push_instance(instances: &mut Vec<Instance>, instance: Instance) -> Result<()
     Ok(())
 }
 
-impl Store {
-    /// A store with nothing in it. Takes no memory.
-    pub fn new(alloc: Global) -> Store
+impl Code {
+    /// No functions and no instances. Takes no memory.
+    pub fn new(alloc: Global) -> Code
         ensures { result ≡ contents_of ([]) ([]) }
     {
-        Store {
+        Code {
             functions: Vec::new(alloc),
             instances: Vec::new(alloc),
         }
+    }
+
+    /// How many functions there are.
+    pub fn function_count(&self) -> usize
+        ensures { result ≡ length self.now.functions }
+    {
+        self.functions.len()
+    }
+
+    /// How many instances there are.
+    pub fn instance_count(&self) -> usize
+        ensures { result ≡ length self.now.instances }
+    {
+        self.instances.len()
     }
 
     /// The instance of a number, if there is one.
@@ -82,7 +105,8 @@ impl Store {
 
     /// The type that an instance has under an index, if there is one (Execution, Runtime Structure, Module Instances).
     pub fn type_at(&self, instance: u32, x: u32) -> Option<&FuncType>
-        ensures { option_copied result ≡ slice_get (instance_of (store_of self.now) (Some instance)).types x }
+        ensures { option_copied result ≡ slice_get
+            (instance_of (code_store self.now) (Some instance)).types x }
     {
         let found = item(&self.instances, instance)?;
         item(found.loaded.as_ref().module().types.as_slice(), x)
@@ -91,15 +115,43 @@ impl Store {
     /// The address of the function that an instance has under an index, if there is one (Execution, Runtime Structure, Module
     /// Instances).
     pub fn function_address(&self, instance: u32, x: u32) -> Option<u32>
-        ensures { result ≡ slice_get (instance_of (store_of self.now) (Some instance)).functions x }
+        ensures { result ≡ slice_get (instance_of (code_store self.now) (Some instance)).functions
+            x }
     {
         let found = item(&self.instances, instance)?;
-        found.functions.get(x as usize).copied()
+        found.addresses.functions.get(x as usize).copied()
+    }
+
+    /// The address of the memory that an instance has under an index, if there is one.
+    pub fn memory_address(&self, instance: u32, x: u32) -> Option<u32>
+        ensures { result ≡ slice_get (instance_of (code_store self.now) (Some instance)).memories
+            x }
+    {
+        let found = item(&self.instances, instance)?;
+        found.addresses.memories.get(x as usize).copied()
+    }
+
+    /// The address of the global that an instance has under an index, if there is one.
+    pub fn global_address(&self, instance: u32, x: u32) -> Option<u32>
+        ensures { result ≡ slice_get (instance_of (code_store self.now) (Some instance)).globals x }
+    {
+        let found = item(&self.instances, instance)?;
+        found.addresses.globals.get(x as usize).copied()
+    }
+
+    /// The address of the data segment that an instance has under an index, if there is one.
+    pub fn data_address(&self, instance: u32, x: u32) -> Option<u32>
+        ensures { result ≡ slice_get (instance_of (code_store self.now) (Some instance)).datas x }
+    {
+        let found = item(&self.instances, instance)?;
+        found.addresses.datas.get(x as usize).copied()
     }
 
     /// The function at an address, if there is one.
     pub fn function(&self, address: u32) -> Option<Callee<'_>>
-        ensures found { MatchOption result (slice_get (store_of self.now).functions address ≡ None) (λ callee. slice_get (store_of self.now).functions address ≡ Some (function_of callee.ty.now callee.instance callee.func.now)) }
+        ensures found { MatchOption result (slice_get (functions_in self.now) address ≡ None)
+            (λ callee. slice_get (functions_in self.now) address ≡ Some
+            (function_of callee.ty.now callee.instance callee.func.now)) }
         ensures ends { IfSome result (λ callee. HasEnds callee.func.now.body callee.ends.now) }
         ensures whole { IfSome result (λ callee. (rests callee.func.now.body).around ≡ []) }
     {
@@ -114,39 +166,26 @@ impl Store {
         })
     }
 
-    /// Whether the functions of a module without imports and an instance of it still get addresses of 32 bits.
-    pub fn has_room_for(&self, wanted: &Module) -> bool
-        ensures { IsTrue result ↔ HasRoom self.now wanted.now }
-    {
-        let used = self.functions.len();
-        used < 1 << 32
-            && wanted.funcs.len() < (1 << 32) - used
-            && self.instances.len() < (1 << 32) - 1
-    }
-
-    /// Adds the functions of a module without imports and an instance of it, and answers the instance's number. Where memory
-    /// runs out, the store is as before.
-    pub fn append_module(
-        &mut self,
-        alloc: Global,
-        loaded: Rc<LoadedModule>,
-    ) -> Result<u32, AllocError>
-        requires { HasRoom self.old loaded.value }
-        ensures number { IfOk result (λ number. number ≡ length self.old.instances) }
-        ensures appended { OnOk result (store_of self.new ≡ with_module (store_of self.old) loaded.value) }
+    /// Adds the functions of a module without imports and an instance of it with these addresses. Where memory runs out, nothing
+    /// has changed.
+    pub(crate) fn append_instance(&mut self, instance: Instance) -> Result<(), AllocError>
+        requires functions { length self.old.functions + length instance.loaded.value.funcs < 2 ^
+            32 }
+        requires instances { length self.old.instances + 1 < 2 ^ 32 }
+        ensures functions { OnOk result
+            (functions_in self.new ≡ functions_in self.old ++ functions_of
+            (length (instances_in self.old)) instance.loaded.value instance.loaded.value.funcs) }
+        ensures instances { OnOk result
+            (instances_in self.new ≡ instances_in self.old ++ module_instance
+            (lists_of instance.addresses) instance.loaded.value ∷ []) }
         ensures unchanged { OnErr result (self.new ≡ self.old) }
     {
         let number = self.instances.len() as u32;
         let first = self.functions.len();
-        let count = loaded.as_ref().module().funcs.len() as u32;
-        let addresses = consecutive_addresses(alloc, first as u32, count)?;
+        let count = instance.loaded.as_ref().module().funcs.len() as u32;
         push_entries(&mut self.functions, number, count)?;
-        let instance = Instance {
-            loaded,
-            functions: addresses,
-        };
         match push_instance(&mut self.instances, instance) {
-            Ok(()) => Ok(number),
+            Ok(()) => Ok(()),
             Err(error) => {
                 self.functions.truncate(first);
                 Err(error)

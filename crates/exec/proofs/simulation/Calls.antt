@@ -30,7 +30,8 @@ use Rattle.exec.proofs.simulation.Instructions.{single_next}
 use Rattle.fuel.specs.Metering.{Metered}
 use Rattle.store.specs.Arguments.{TakesArguments}
 use Rattle.store.proofs.lemmas.Arguments.{length-typed}
-use Rattle.store.specs.Contents.{Contents, code_of, function_of, store_of}
+use Rattle.store.specs.Contents.{Contents, code_of, code_store, function_of, functions_in, store_with}
+use Rattle.store.specs.State.{StateContents}
 
 -- At the end of code nothing is left.
 rests-last : (code : List Op) → rests_at code (length code) ≡ continue_at Onward []
@@ -64,10 +65,10 @@ module _ (t : FuncType) (f : Func) (instance : ℕ) (code : FunctionCode) (calle
 
 -- A call of the function of an index.
 module _ (s : Contents) (w : World) (here : HasCode s w) (m : Machine) (x : ℕ) (before : IsBefore m (Plain (ControlPlain (Call x)))) where
-  pub call_next : (found : Option FunctionInstance) → function_under (store_of s) (frame_of m) x ≡ found → next_in w m (redex_of m) ≡ call_function 1 w.store (lent_memory w.store (frame_of m)) found m.operands.own (rests_at m.code.body.now (m.position + 1)).here.body
+  pub call_next : (found : Option FunctionInstance) → function_under (code_store s) (frame_of m) x ≡ found → next_in w m (redex_of m) ≡ call_function 1 w.store (lent_memory w.store (frame_of m)) found m.operands.own (rests_at m.code.body.now (m.position + 1)).here.body
   call_next found is = single_next w m (ControlPlain (Call x)) before ∙ ap (λ (g : Option FunctionInstance). call_function 1 w.store (lent_memory w.store (frame_of m)) g m.operands.own (rests_at m.code.body.now (m.position + 1)).here.body) (function_here s w m here x ∙ is)
 
-  pub call_of_none : (frames : ℕ) (whole : Configuration) → Represents m frames whole → function_under (store_of s) (frame_of m) x ≡ None → (bound fuel : ℕ) → EndsWith bound w fuel whole GotStuck w fuel
+  pub call_of_none : (frames : ℕ) (whole : Configuration) → Represents m frames whole → function_under (code_store s) (frame_of m) x ≡ None → (bound fuel : ℕ) → EndsWith bound w fuel whole GotStuck w fuel
   call_of_none frames whole h is bound fuel = stuck_ends w whole NotReady (whole_waits w m frames (redex_of m) whole h (call_next None is)) bound fuel tt
 
 -- A call, with this operation, of a function that is found.
@@ -138,13 +139,13 @@ module _ (w : World) (m : Machine) (frames : ℕ) (redex whole : Configuration) 
         }
 
 -- The arguments are as many as the parameters.
-pub argument_count : (s : Contents) (address : ℕ) (args : List Val) (t : FuncType) (f : Func) (instance : ℕ) → slice_get (store_of s).functions address ≡ Some (function_of t instance f) → TakesArguments (store_of s) address args → length args ≡ length t.params
-argument_count s address args t f instance is (g, there, typed) =
+pub argument_count : (code : Contents) (state : StateContents) (address : ℕ) (args : List Val) (t : FuncType) (f : Func) (instance : ℕ) → slice_get (functions_in code) address ≡ Some (function_of t instance f) → TakesArguments (store_with code state) address args → length args ≡ length t.params
+argument_count code state address args t f instance is (g, there, typed) =
     let same : g ≡ function_of t instance f = (let both = sym there ∙ is in cc) in
-    length-typed (store_of s) args g.ty.params typed ∙ ap (λ (k : FunctionInstance). length k.ty.params) same
+    length-typed (store_with code state) args g.ty.params typed ∙ ap (λ (k : FunctionInstance). length k.ty.params) same
 
 -- A call from outside.
-module _ (s : Contents) (w : World) (here : HasCode s w) (address : ℕ) (args : List Val) (t : FuncType) (f : Func) (instance : ℕ) (is : slice_get (store_of s).functions address ≡ Some (function_of t instance f)) (typed : length args ≡ length t.params) where
+module _ (s : Contents) (w : World) (here : HasCode s w) (address : ℕ) (args : List Val) (t : FuncType) (f : Func) (instance : ℕ) (is : slice_get (functions_in s) address ≡ Some (function_of t instance f)) (typed : length args ≡ length t.params) where
   abbrev pub entered_from_outside : Configuration
   entered_from_outside = FrameAround (activation_of (length t.results) [] Empty) (record { instance = Some instance; locals = args ++ map default_of f.locals }) (function_body t (code_of f))
 

@@ -13,7 +13,7 @@ use Rattle.core_types.specs.declared.outcome.Val.TheVariants.{I32, I64, FuncRef,
 use Rattle.meaning.specs.structure.Bodies.{Body, Empty, IfKind, Rests, first_part, if_with, other_parts, rests}
 use Rattle.meaning.specs.execution.Runs.{GotStuck}
 use Rattle.meaning.specs.execution.Configurations.{Frame, Configuration}
-use Rattle.meaning.specs.execution.Instructions.{Branches, Done, Lacks, NotReady, continue_after, type_of_block, branch_by_table, branch_if, choose_body, enter_label, step_sequence}
+use Rattle.meaning.specs.execution.Instructions.{Branches, Done, Lacks, NotReady, continue_after, type_of_block, branch_by_table, branch_if, choose_body, enter_label, step_sequence, instruction_cost}
 use Rattle.meaning.specs.execution.Store.{Store}
 use Rattle.exec.specs.declared.machine.Machine.{Machine}
 use Rattle.exec.specs.Positions.{IsElse, after_end, rests_at}
@@ -87,7 +87,7 @@ module _ (w : World) (m : Machine) where
       pub if_branches : (n ≡ 0 → ⊥) → next_in w m (redex_of m) ≡ Branches label values
       if_branches some = single_next w m (ControlPlain (BrIf label)) before ∙ ap (λ (vs : List Val). branch_if store (frame_of m) label vs inside.here.body) is ∙ branched-not-zero store (frame_of m) inside.here.body label n values some
 
-      pub if_passes : n ≡ 0 → next_in w m (redex_of m) ≡ continue_after (frame_of m) (Done store m.locals.own values) inside.here.body
+      pub if_passes : n ≡ 0 → next_in w m (redex_of m) ≡ continue_after (frame_of m) (Done instruction_cost store m.locals.own values) inside.here.body
       if_passes none = single_next w m (ControlPlain (BrIf label)) before ∙ ap (λ (vs : List Val). branch_if store (frame_of m) label vs inside.here.body) (is ∙ ap (λ (k : ℕ). I32 k ∷ values) none)
 
   -- br_table

@@ -3,18 +3,19 @@ use Rattle.std.proofs.Common.{◌≡◌, ℕ, ◌+◌, ◌<◌, ◌≤◌, refl,
 use Rattle.core_types.specs.declared.op.BlockType.{BlockType}
 use Rattle.core_types.specs.declared.outcome.Trap.{Trap}
 use Rattle.meaning.specs.execution.Configurations.{Frame, Configuration, depth, no_frame}
-use Rattle.meaning.specs.execution.Instructions.{Next, Goes, Opens, Traps, NotReady, function_at, next, type_of_block}
+use Rattle.meaning.specs.execution.Instructions.{Next, Goes, Grows, Opens, Traps, NotReady, function_at, next, type_of_block}
 use Rattle.meaning.specs.execution.Layers.{outermost, plug, count_frames}
 use Rattle.meaning.specs.execution.Runs.{no_fuel, no_memory, stuck, OutOfFuel, OutOfMemory, GotStuck, IsReady, IsStuck, IsWithinBound, price}
 use Rattle.meaning.specs.execution.Store.{FunctionInstance, ModuleInstance, Store, item_at, no_instance}
 use Rattle.meaning.specs.validation.Types.{block_type}
-use Rattle.meaning.proofs.lemmas.Layers.{plugged-depth, plugged-goes, plugged-opens, plugged-traps, plugged-waits}
+use Rattle.meaning.proofs.lemmas.Layers.{plugged-depth, plugged-goes, plugged-grows, plugged-opens, plugged-traps, plugged-waits}
 use Rattle.std.specs.Prelude.{List, slice_get, unwrap_or}
 use Rattle.exec.specs.declared.machine.Machine.{Machine}
 use Rattle.exec.specs.Representation.{RepresentsAt, frame_of, rests_of}
 use Rattle.exec.specs.Simulation.{EndsWith, HasCode, World, next_in, world_of}
 use Rattle.exec.proofs.simulation.Controls.{outermost-none}
-use Rattle.store.specs.Contents.{Contents, store_of}
+use Rattle.store.specs.Contents.{Contents, code_store, instances_in}
+use Rattle.store.specs.State.{StateContents}
 
 -- What the whole does next, outside of all frames.
 abbrev pub whole_next : World → Configuration → Next
@@ -30,6 +31,9 @@ module _ (w : World) (m : Machine) (frames : ℕ) (redex whole : Configuration) 
 
   pub whole_goes : (cost : ℕ) (store' : Store) (frame' : Frame) (y : Configuration) → next_in w m redex ≡ Goes cost store' frame' y → whole_next w whole ≡ Goes cost store' no_frame (plug h.layers frame' y)
   whole_goes cost store' frame' y e = from_redex (Goes cost store' no_frame (plug h.layers frame' y)) (plugged-goes w.store h.layers (frame_of m) frame' store' cost redex y e ∙ ap (λ (f : Frame). Goes cost store' f (plug h.layers frame' y)) (none_outside frame'))
+
+  pub whole_grows : (cost : ℕ) (store' : Store) (frame' : Frame) (y : Configuration) → next_in w m redex ≡ Grows cost store' frame' y → whole_next w whole ≡ Grows cost store' no_frame (plug h.layers frame' y)
+  whole_grows cost store' frame' y e = from_redex (Grows cost store' no_frame (plug h.layers frame' y)) (plugged-grows w.store h.layers (frame_of m) frame' store' cost redex y e ∙ ap (λ (f : Frame). Grows cost store' f (plug h.layers frame' y)) (none_outside frame'))
 
   pub whole_opens : (cost : ℕ) (store' : Store) (y : Configuration) → next_in w m redex ≡ Opens cost store' y → whole_next w whole ≡ Opens cost store' (plug h.layers (frame_of m) y)
   whole_opens cost store' y e = from_redex (Opens cost store' (plug h.layers (frame_of m) y)) (plugged-opens w.store h.layers (frame_of m) store' cost redex y e)
@@ -54,14 +58,14 @@ module _ (w : World) (whole : Configuration) (n : Next) (is : whole_next w whole
   pub stuck_ends : IsStuck n → EndsWith bound w fuel whole GotStuck w fuel
   stuck_ends h = stuck (subst IsStuck (sym is) h) refl refl
 
--- A store's own world has its code.
-pub same_code : {s : Contents} → HasCode s (world_of s)
-same_code = record { functions = refl; instances = refl }
+-- The world of a store has its code.
+pub same_code : (code : Contents) (state : StateContents) → HasCode code (world_of code state)
+same_code code state = record { functions = refl; instances = refl }
 
 -- What the code has, the store has.
 module _ (s : Contents) (w : World) (m : Machine) (here : HasCode s w) where
-  pub type_here : (type : BlockType) → type_of_block w.store (frame_of m) type ≡ type_of_block (store_of s) (frame_of m) type
+  pub type_here : (type : BlockType) → type_of_block w.store (frame_of m) type ≡ type_of_block (code_store s) (frame_of m) type
   type_here type = ap (λ (instances : List ModuleInstance). block_type (unwrap_or (slice_get instances m.code.instance) no_instance).types type) here.instances
 
-  pub function_here : (x : ℕ) → function_at w.store (frame_of m) x ≡ function_at (store_of s) (frame_of m) x
-  function_here x = ap (λ (instances : List ModuleInstance). item_at w.store.functions (unwrap_or (slice_get instances m.code.instance) no_instance).functions x) here.instances ∙ ap (λ (functions : List FunctionInstance). item_at functions (unwrap_or (slice_get (store_of s).instances m.code.instance) no_instance).functions x) here.functions
+  pub function_here : (x : ℕ) → function_at w.store (frame_of m) x ≡ function_at (code_store s) (frame_of m) x
+  function_here x = ap (λ (instances : List ModuleInstance). item_at w.store.functions (unwrap_or (slice_get instances m.code.instance) no_instance).functions x) here.instances ∙ ap (λ (functions : List FunctionInstance). item_at functions (unwrap_or (slice_get (instances_in s) m.code.instance) no_instance).functions x) here.functions

@@ -1,5 +1,5 @@
 -- Labels and frames that are left with values alone inside.
-use Rattle.std.proofs.Common.{◌≡◌, ℕ, suc, ◌+◌, ◌-◌, ◌<◌, ◌≤◌, List, [], ◌∷◌, ◌++◌, length, refl, ap, sym, subst, ◌∙◌, append-nil, arith, length-append}
+use Rattle.std.proofs.Common.{◌≡◌, ℕ, suc, ◌+◌, ◌-◌, List, [], ◌∷◌, ◌++◌, length, refl, ap, sym, subst, ◌∙◌, append-nil, arith}
 use Rattle.core_types.specs.declared.outcome.Val.{Val}
 use Rattle.meaning.specs.structure.Bodies.{Body, Empty, first_part}
 use Rattle.meaning.specs.execution.Runs.{goes}
@@ -32,32 +32,9 @@ module _ (m : Machine) (frames : ℕ) (redex whole : Configuration) (h : Represe
     pub label_fits : fits_with (InLabel label ∷ controls)
     label_fits = subst fits_with is h.fits
 
-    pub label_within : label.outside ≤ length m.operands.below
-    label_within =
-        let f = label_fits in
-        let high : length m.operands.below ≡ length f.values + length f.lower = ap length f.below_is ∙ length-append f.values f.lower in
-        let low = f.outside in omega arith
-
   module _ (c : Caller) (controls : List Control) (is : m.controls ≡ InFrame c ∷ controls) where
     pub frame_fits : fits_with (InFrame c ∷ controls)
     frame_fits = subst fits_with is h.fits
-
-    pub frame_within : c.outside ≤ length m.operands.below
-    frame_within =
-        let f = frame_fits.1 in
-        let high : length m.operands.below ≡ length f.values + length f.lower = ap length f.below_is ∙ length-append f.values f.lower in
-        let low = f.outside in omega arith
-
-    pub frame_locals_within : c.locals ≤ length m.locals.below
-    frame_locals_within =
-        let f = frame_fits.1 in
-        let high : length m.locals.below ≡ length f.lower_locals + length f.own = ap length f.locals_are ∙ length-append f.lower_locals f.own in
-        let low = f.locals_base in omega arith
-
-    pub frame_open : 0 < frames
-    frame_open =
-        let counted : count_frames h.layers ≡ suc (count_frames frame_fits.1.further_layers) = ap count_frames frame_fits.1.layers_are in
-        let deep = h.deep in omega arith
 
 -- A label left: its values stay, and what lies behind it goes on.
 module _ (w : World) (m : Machine) (frames : ℕ) (whole : Configuration) (h : Represents m frames whole) (ended : IsAtEnd m) where

@@ -7,7 +7,7 @@ ghost use Rattle.meaning.specs.execution.Configurations.{Configuration};
 ghost use Rattle.meaning.specs.execution.Store.{instance_of};
 ghost use Rattle.meaning.specs.validation.Types.{block_type, label_types};
 ghost use Rattle.store.specs.Ends.{HasEnds};
-ghost use Rattle.store.specs.Contents.{store_of};
+ghost use Rattle.store.specs.Contents.{code_store};
 ghost use Rattle.exec.specs.Representation.{IsBefore};
 ghost use Rattle.exec.specs.Simulation.{HasCode, Simulates, SimulatesAt, IfGoes, IsEntry, HasArity, World, measure};
 
@@ -16,7 +16,7 @@ use crate::positions::{position_behind, position_of_else};
 use core_types::{BlockType, Exhaustion};
 use fuel::Meter;
 use plain::pop_i32;
-use store::Store;
+use store::Code;
 
 /// How many operands a block takes and gives.
 #[derive(Clone, Copy)]
@@ -27,8 +27,8 @@ pub struct Arity {
 
 /// How many operands a block of this type takes and gives, by the types of an instance.
 #[inline(always)]
-pub fn arity_of(store: &Store, instance: u32, ty: BlockType) -> Option<Arity>
-    ensures { MatchOption result (block_type (instance_of (store_of store.now) (Some instance)).types ty ≡ None) (λ arity. HasArity (block_type (instance_of (store_of store.now) (Some instance)).types ty) arity) }
+pub fn arity_of(code: &Code, instance: u32, ty: BlockType) -> Option<Arity>
+    ensures { MatchOption result (block_type (instance_of (code_store code.now) (Some instance)).types ty ≡ None) (λ arity. HasArity (block_type (instance_of (code_store code.now) (Some instance)).types ty) arity) }
 {
     match ty {
         BlockType::Empty => Some(Arity {
@@ -40,7 +40,7 @@ pub fn arity_of(store: &Store, instance: u32, ty: BlockType) -> Option<Arity>
             results: 1,
         }),
         BlockType::Index(x) => {
-            let ty = store.type_at(instance, x)?;
+            let ty = code.type_at(instance, x)?;
             Some(Arity {
                 params: ty.params.len(),
                 results: ty.results.len(),
@@ -94,21 +94,16 @@ pub fn enter_label(
 
 /// A block begins (Execution, Control Instructions).
 #[inline(always)]
-pub fn step_block(
-    store: &Store,
-    ty: BlockType,
-    machine: &mut Machine<'_>,
-    meter: &mut Meter,
-) -> Step
+pub fn step_block(code: &Code, ty: BlockType, machine: &mut Machine<'_>, meter: &mut Meter) -> Step
     requires ends { HasEnds machine.old.code.body.now machine.old.code.ends.now }
     requires position { machine.old.position < length machine.old.code.body.now }
-    ensures simulates { (w : World) → HasCode store.now w → IsBefore machine.old (BlockMark ty)
+    ensures simulates { (w : World) → HasCode code.now w → IsBefore machine.old (BlockMark ty)
         → Simulates w machine.old meter.old result w machine.new meter.new }
     ensures falls { IfGoes result (measure machine.new meter.new < measure machine.old meter.old) }
     ensures stays { machine.new.code ≡ machine.old.code }
     ensures bound { meter.new.bound ≡ meter.old.bound }
 {
-    let Some(arity) = arity_of(store, machine.code.instance, ty) else {
+    let Some(arity) = arity_of(code, machine.code.instance, ty) else {
         return Step::Stuck;
     };
     let inside = machine.position + 1;
@@ -118,15 +113,15 @@ pub fn step_block(
 
 /// A loop begins (Execution, Control Instructions); a branch to it goes on where it begins.
 #[inline(always)]
-pub fn step_loop(store: &Store, ty: BlockType, machine: &mut Machine<'_>, meter: &mut Meter) -> Step
+pub fn step_loop(code: &Code, ty: BlockType, machine: &mut Machine<'_>, meter: &mut Meter) -> Step
     requires position { machine.old.position + 1 < 2 ^ 64 }
-    ensures simulates { (w : World) → HasCode store.now w → IsBefore machine.old (LoopMark ty)
+    ensures simulates { (w : World) → HasCode code.now w → IsBefore machine.old (LoopMark ty)
         → Simulates w machine.old meter.old result w machine.new meter.new }
     ensures falls { IfGoes result (measure machine.new meter.new < measure machine.old meter.old) }
     ensures stays { machine.new.code ≡ machine.old.code }
     ensures bound { meter.new.bound ≡ meter.old.bound }
 {
-    let Some(arity) = arity_of(store, machine.code.instance, ty) else {
+    let Some(arity) = arity_of(code, machine.code.instance, ty) else {
         return Step::Stuck;
     };
     let target = machine.position;
@@ -136,10 +131,10 @@ pub fn step_loop(store: &Store, ty: BlockType, machine: &mut Machine<'_>, meter:
 
 /// An if begins (Execution, Control Instructions): its first body where the topmost operand is not zero, and else its second.
 #[inline(always)]
-pub fn step_if(store: &Store, ty: BlockType, machine: &mut Machine<'_>, meter: &mut Meter) -> Step
+pub fn step_if(code: &Code, ty: BlockType, machine: &mut Machine<'_>, meter: &mut Meter) -> Step
     requires ends { HasEnds machine.old.code.body.now machine.old.code.ends.now }
     requires position { machine.old.position < length machine.old.code.body.now }
-    ensures simulates { (w : World) → HasCode store.now w → IsBefore machine.old (IfMark ty)
+    ensures simulates { (w : World) → HasCode code.now w → IsBefore machine.old (IfMark ty)
         → Simulates w machine.old meter.old result w machine.new meter.new }
     ensures falls { IfGoes result (measure machine.new meter.new < measure machine.old meter.old) }
     ensures stays { machine.new.code ≡ machine.old.code }
@@ -148,7 +143,7 @@ pub fn step_if(store: &Store, ty: BlockType, machine: &mut Machine<'_>, meter: &
     let Some(condition) = pop_i32(&mut machine.operands) else {
         return Step::Stuck;
     };
-    let Some(arity) = arity_of(store, machine.code.instance, ty) else {
+    let Some(arity) = arity_of(code, machine.code.instance, ty) else {
         return Step::Stuck;
     };
     let inside = machine.position + 1;

@@ -17,7 +17,7 @@ use crate::machine::{Caller, Control, FunctionCode, Label, Machine, Step};
 use core_types::Exhaustion;
 use fuel::Meter;
 use std::alloc::AllocError;
-use store::{Callee, Store};
+use store::{Callee, Code};
 
 // Goes on in the caller of a frame that is left.
 #[inline(always)]
@@ -206,19 +206,19 @@ fn call<'a>(callee: &Callee<'a>, machine: &mut Machine<'a>, meter: &mut Meter) -
 
 /// A call of the function of an index.
 #[inline(always)]
-pub fn step_call<'a>(store: &'a Store, x: u32, machine: &mut Machine<'a>, meter: &mut Meter) -> Step
+pub fn step_call<'a>(code: &'a Code, x: u32, machine: &mut Machine<'a>, meter: &mut Meter) -> Step
     requires position { machine.old.position + 1 < 2 ^ 64 }
-    ensures simulates { (w : World) → HasCode store.now w
+    ensures simulates { (w : World) → HasCode code.now w
         → IsBefore machine.old (Plain (ControlPlain (Call x)))
         → Simulates w machine.old meter.old result w machine.new meter.new }
     ensures falls { IfGoes result (measure machine.new meter.new < measure machine.old meter.old) }
     ensures stays { IfStays result (machine.new.code ≡ machine.old.code) }
     ensures bound { meter.new.bound ≡ meter.old.bound }
 {
-    let Some(address) = store.function_address(machine.code.instance, x) else {
+    let Some(address) = code.function_address(machine.code.instance, x) else {
         return Step::Stuck;
     };
-    let Some(callee) = store.function(address) else {
+    let Some(callee) = code.function(address) else {
         return Step::Stuck;
     };
     call(&callee, machine, meter)

@@ -5,7 +5,7 @@ use Rattle.std.specs.Prelude.{Bool, true, false, if◌then◌else◌, nat_le}
 use Rattle.core_types.specs.declared.outcome.Trap.{Trap}
 use Rattle.core_types.specs.declared.outcome.Val.{Val}
 use Rattle.meaning.specs.execution.Configurations.{Activation, Configuration, Frame, InFrame, InLabel, Label, Running, continue_with, depth}
-use Rattle.meaning.specs.execution.Instructions.{Branches, Goes, NotReady, Opens, Returns, Traps, instruction_cost, next, step_in_frame, step_in_label}
+use Rattle.meaning.specs.execution.Instructions.{Branches, Goes, Grows, NotReady, Opens, Returns, Traps, instruction_cost, next, step_in_frame, step_in_label}
 use Rattle.meaning.specs.execution.Layers.{AroundFrame, AroundLabel, Layer, count_frames, outermost, plug}
 use Rattle.meaning.specs.execution.Store.{Store}
 
@@ -27,6 +27,11 @@ module _ (store : Store) where
   plugged-goes [] frame frame' store' cost x y e = e
   plugged-goes (AroundLabel label ∷ layers) frame frame' store' cost x y e = plugged-goes layers frame frame' store' cost (InLabel label x) (InLabel label y) (ap (step_in_label store frame label) e)
   plugged-goes (AroundFrame activation outer ∷ layers) frame frame' store' cost x y e = plugged-goes layers outer outer store' cost (InFrame activation frame x) (InFrame activation frame' y) (ap (step_in_frame store outer activation frame) e)
+
+  pub plugged-grows : (layers : List Layer) (frame frame' : Frame) (store' : Store) (cost : ℕ) (x y : Configuration) → next store frame x ≡ Grows cost store' frame' y → next store (outermost layers frame) (plug layers frame x) ≡ Grows cost store' (outermost layers frame') (plug layers frame' y)
+  plugged-grows [] frame frame' store' cost x y e = e
+  plugged-grows (AroundLabel label ∷ layers) frame frame' store' cost x y e = plugged-grows layers frame frame' store' cost (InLabel label x) (InLabel label y) (ap (step_in_label store frame label) e)
+  plugged-grows (AroundFrame activation outer ∷ layers) frame frame' store' cost x y e = plugged-grows layers outer outer store' cost (InFrame activation frame x) (InFrame activation frame' y) (ap (step_in_frame store outer activation frame) e)
 
   pub plugged-opens : (layers : List Layer) (frame : Frame) (store' : Store) (cost : ℕ) (x y : Configuration) → next store frame x ≡ Opens cost store' y → next store (outermost layers frame) (plug layers frame x) ≡ Opens cost store' (plug layers frame y)
   plugged-opens [] frame store' cost x y e = e
@@ -96,15 +101,10 @@ module _ (store : Store) (frame : Frame) (kept : List Val) where
     pub branch-lacks : length kept < label.arity → next store frame (InLabel label (in_labels labels x)) ≡ NotReady
     branch-lacks lt = ap (step_in_label store frame label) branch-arrives ∙ if-more label.arity (length kept) (Goes instruction_cost store frame (Running (take label.arity kept ++ label.values) (continue_with label.continuation label.rest))) NotReady lt
 
-  module _ (labels : List Label) (activation : Activation) (outer : Frame) (x : Configuration) where
-    -- A branch past all labels of the frame leads nowhere.
-    pub branch-leaves-frame : (further : ℕ) → next store frame x ≡ Branches (length labels + further) kept → next store outer (InFrame activation frame (in_labels labels x)) ≡ NotReady
-    branch-leaves-frame further e = ap (step_in_frame store outer activation frame) (branch-passes labels further x e)
+  module _ (labels : List Label) (activation : Activation) (outer : Frame) (x : Configuration) (e : next store frame x ≡ Returns kept) where
+    -- A return from the frame lands.
+    pub return-lands : activation.arity ≤ length kept → next store outer (InFrame activation frame (in_labels labels x)) ≡ Goes instruction_cost store outer (Running (take activation.arity kept ++ activation.values) activation.rest)
+    return-lands le = ap (step_in_frame store outer activation frame) (return-passes labels x e) ∙ if-at-most activation.arity (length kept) _ NotReady le
 
-    module _ (e : next store frame x ≡ Returns kept) where
-      -- A return from the frame lands.
-      pub return-lands : activation.arity ≤ length kept → next store outer (InFrame activation frame (in_labels labels x)) ≡ Goes instruction_cost store outer (Running (take activation.arity kept ++ activation.values) activation.rest)
-      return-lands le = ap (step_in_frame store outer activation frame) (return-passes labels x e) ∙ if-at-most activation.arity (length kept) _ NotReady le
-
-      pub return-lacks : length kept < activation.arity → next store outer (InFrame activation frame (in_labels labels x)) ≡ NotReady
-      return-lacks lt = ap (step_in_frame store outer activation frame) (return-passes labels x e) ∙ if-more activation.arity (length kept) (Goes instruction_cost store outer (Running (take activation.arity kept ++ activation.values) activation.rest)) NotReady lt
+    pub return-lacks : length kept < activation.arity → next store outer (InFrame activation frame (in_labels labels x)) ≡ NotReady
+    return-lacks lt = ap (step_in_frame store outer activation frame) (return-passes labels x e) ∙ if-more activation.arity (length kept) (Goes instruction_cost store outer (Running (take activation.arity kept ++ activation.values) activation.rest)) NotReady lt

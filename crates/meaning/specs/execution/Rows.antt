@@ -1,12 +1,16 @@
 -- Worked rows of runs: calls of small functions, with the fuel before and after.
-use Rattle.std.specs.Prelude.{◌≡◌, ℕ, suc, List, [], ◌∷◌, Option}
+use Rattle.std.specs.Prelude.{◌≡◌, ℕ, suc, List, [], ◌∷◌, Option, None}
 use Rattle.core_types.specs.declared.types.ValType.{ValType}
 use Rattle.core_types.specs.declared.types.ValType.TheVariants as ty
 use Rattle.core_types.specs.declared.op.BlockType.TheVariants as block
 use Rattle.core_types.specs.declared.op.ControlOp.TheVariants.{Br, Call}
 use Rattle.core_types.specs.declared.op.PlainOp.{PlainOp}
-use Rattle.core_types.specs.declared.op.PlainOp.TheVariants.{Control, I32Const, Numeric, Variable}
-use Rattle.core_types.specs.declared.op.VariableOp.TheVariants.{LocalGet}
+use Rattle.core_types.specs.declared.op.PlainOp.TheVariants.{Control, I32Const, Memory, Numeric, Variable}
+use Rattle.core_types.specs.declared.op.VariableOp.TheVariants.{GlobalGet, GlobalSet, LocalGet}
+use Rattle.core_types.specs.declared.op.LoadOp.TheVariants.{Bits8, Bits16}
+use Rattle.core_types.specs.declared.op.MemoryOp.TheVariants.{Fill, Grow, Init, Load}
+use Rattle.core_types.specs.declared.op.Sign.TheVariants.{Unsigned}
+use Rattle.core_types.specs.declared.types.Mutability.TheVariants.{Var}
 use Rattle.core_types.specs.declared.op.NumericOp.TheVariants.{Binary}
 use Rattle.core_types.specs.declared.op.Width.TheVariants.{W32}
 use Rattle.core_types.specs.declared.op.BinaryOp.TheVariants.{Add}
@@ -30,7 +34,11 @@ function params results body =
 abbrev pub instance_of_two : FunctionInstance → FunctionInstance → Store
 instance_of_two f g = record {
   functions = f ∷ g ∷ [];
-  instances = record { types = []; functions = 0 ∷ 1 ∷ []; memories = []; exports = [] } ∷ [];
+  instances = record { types = []; functions = 0 ∷ 1 ∷ []; memories = []; globals = []; datas = []; exports = [] } ∷ [];
+  memories = [];
+  globals = [];
+  datas = [];
+  pages = 0;
 }
 
 -- The instruction that gets a local.
@@ -86,7 +94,11 @@ caller = function [] [] (Then (Control (Call 1)) Empty)
 abbrev pub store_with_host : FunctionInstance → (host_params host_results : List ValType) → Store
 store_with_host f host_params host_results = record {
   functions = f ∷ record { ty = function_type host_params host_results; implementation = InHost 0 } ∷ [];
-  instances = record { types = []; functions = 0 ∷ 1 ∷ []; memories = 6 ∷ []; exports = [] } ∷ [];
+  instances = record { types = []; functions = 0 ∷ 1 ∷ []; memories = 6 ∷ []; globals = []; datas = []; exports = [] } ∷ [];
+  memories = [];
+  globals = [];
+  datas = [];
+  pages = 0;
 }
 
 -- The host function that counts its calls and answers the count, if it is lent this memory.
@@ -116,3 +128,32 @@ calls_with_one_and_two = function [] [] (Then (I32Const 1) (Then (I32Const 2) (T
 abbrev pub trapping : (fuel : ℕ) → State ℕ
 trapping fuel =
     record { store = store_with_host calls_with_one_and_two (ty.I32 ∷ ty.I32 ∷ []) []; hosts = []; fuel = fuel }
+
+-- ---- memories and globals
+
+-- The store of this function, with a memory of 128 bytes and a global that is 5, in one instance.
+abbrev pub store_with_memory : FunctionInstance → (bytes : List ℕ) → (value : ℕ) → Store
+store_with_memory f bytes value = record {
+  functions = f ∷ [];
+  instances = record { types = []; functions = 0 ∷ []; memories = 0 ∷ []; globals = 0 ∷ []; datas = 0 ∷ []; exports = [] } ∷ [];
+  memories = record { limits = record { min = 0; max = None }; bytes = bytes } ∷ [];
+  globals = record { ty = record { value = ty.I32; mutability = Var }; value = I32 value } ∷ [];
+  datas = record { bytes = 9 ∷ 8 ∷ [] } ∷ [];
+  pages = 0;
+}
+
+abbrev pub with_bytes_and_global : FunctionInstance → List ℕ → (value fuel : ℕ) → State ⊥
+with_bytes_and_global f bytes value fuel =
+    record { store = store_with_memory f bytes value; hosts = []; fuel = fuel }
+
+-- It fills the 128 bytes with 7.
+abbrev pub fills : FunctionInstance
+fills = function [] [] (Then (I32Const 0) (Then (I32Const 7) (Then (I32Const 128) (Then (Memory Fill) Empty))))
+
+-- It puts the second byte of the data segment at 1, reads both bytes, and sets the global to what it read.
+abbrev pub copies_and_sets : FunctionInstance
+copies_and_sets = function [] (ty.I32 ∷ []) (Then (I32Const 1) (Then (I32Const 1) (Then (I32Const 1) (Then (Memory (Init 0)) (Then (I32Const 0) (Then (Memory (Load (Bits16 W32 Unsigned) (record { align = 1; offset = 0 }))) (Then (Variable (GlobalSet 0)) (Then (Variable (GlobalGet 0)) Empty))))))))
+
+-- It grows its memory by a page, which the bound does not allow, and then reads past the end.
+abbrev pub grows_and_reads : FunctionInstance
+grows_and_reads = function [] (ty.I32 ∷ []) (Then (I32Const 1) (Then (Memory Grow) (Then (Memory (Load (Bits8 W32 Unsigned) (record { align = 0; offset = 0 }))) Empty)))

@@ -1,5 +1,8 @@
--- The store (Execution, Runtime Structure), as far as it holds functions and module instances.
-use Rattle.std.specs.Prelude.{ℕ, List, [], Option, Some, None, slice_get, unwrap_or}
+-- The store (Execution, Runtime Structure), as far as it holds functions, memories, globals, data segments and module instances.
+use Rattle.std.specs.Prelude.{ℕ, List, [], Option, Some, None, slice_get, slice_set, unwrap_or}
+use Rattle.core_types.specs.declared.outcome.Val.{Val}
+use Rattle.core_types.specs.declared.types.GlobalType.{GlobalType}
+use Rattle.meaning.specs.execution.Memories.{MemoryInstance}
 use Rattle.core_types.specs.declared.types.ValType.{ValType}
 use Rattle.core_types.specs.declared.types.FuncType.{FuncType}
 use Rattle.core_types.specs.declared.module.Export.{Export}
@@ -20,22 +23,38 @@ pub record FunctionInstance : Type 0 where
   pub ty : FuncType
   pub implementation : Implementation
 
--- A module instance: its types, the addresses of its functions and memories, and its exports (Module Instances).
+-- A global instance: its type and its value (Global Instances).
+pub record GlobalInstance : Type 0 where
+  pub ty : GlobalType
+  pub value : Val
+
+-- A data instance: its bytes, none once it was dropped (Data Instances).
+pub record DataInstance : Type 0 where
+  pub bytes : List ℕ
+
+-- A module instance: its types, the addresses of what it has of each kind, and its exports (Module Instances).
 pub record ModuleInstance : Type 0 where
   pub types : List FuncType
   pub functions : List ℕ
   pub memories : List ℕ
+  pub globals : List ℕ
+  pub datas : List ℕ
   pub exports : List Export
 
+-- The objects of each kind by address, and how many pages a memory may have, which is the embedding's.
 pub record Store : Type 0 where
   pub functions : List FunctionInstance
   pub instances : List ModuleInstance
+  pub memories : List MemoryInstance
+  pub globals : List GlobalInstance
+  pub datas : List DataInstance
+  pub pages : ℕ
 
 -- ---- look-ups, which are total
 
 -- What is found where there is no instance.
 abbrev pub no_instance : ModuleInstance
-no_instance = record { types = []; functions = []; memories = []; exports = [] }
+no_instance = record { types = []; functions = []; memories = []; globals = []; datas = []; exports = [] }
 
 -- The module instance at an address; outside of all modules there is none.
 abbrev pub instance_of : Store → Option ℕ → ModuleInstance
@@ -50,3 +69,23 @@ item_of items (Some address) = slice_get items address
 -- The object that an instance has under an index: the instance has its address under that index.
 abbrev pub item_at : {T : Type 0} → List T → List ℕ → ℕ → Option T
 item_at items addresses x = item_of items (slice_get addresses x)
+
+-- The object at an address, and the address, if it is there.
+abbrev pub locate_at : {T : Type 0} → ℕ → Option T → Option (ℕ × T)
+locate_at address None = None
+locate_at address (Some object) = Some (address, object)
+
+abbrev pub locate : {T : Type 0} → List T → Option ℕ → Option (ℕ × T)
+locate items None = None
+locate items (Some address) = locate_at address (slice_get items address)
+
+-- ---- changes
+
+abbrev pub with_memory : Store → (address : ℕ) → MemoryInstance → Store
+with_memory store address memory = record store { memories = slice_set store.memories address memory }
+
+abbrev pub with_global : Store → (address : ℕ) → GlobalInstance → Store
+with_global store address g = record store { globals = slice_set store.globals address g }
+
+abbrev pub with_data : Store → (address : ℕ) → DataInstance → Store
+with_data store address segment = record store { datas = slice_set store.datas address segment }

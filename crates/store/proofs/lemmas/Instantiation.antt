@@ -1,14 +1,13 @@
 -- A store with one more module.
-use Rattle.std.proofs.Common.{◌≡◌, ℕ, suc, List, [], ◌∷◌, ◌++◌, length, take, map, refl, sym, ap, subst, ◌∙◌, append_assoc, length-append, arith}
+use Rattle.std.proofs.Common.{◌≡◌, ℕ, suc, List, [], ◌∷◌, ◌++◌, length, map, refl, sym, ap, subst, ◌∙◌, append_assoc, length-append, arith}
 use Rattle.std.specs.Prelude.{Option, Some, None, IsSome, unwrap_or, slice_get}
 use Rattle.std.proofs.lemmas.List.{map-append, length-map}
-use Rattle.std.proofs.Math.Seq.{take-append_seam}
 use Rattle.core_types.specs.declared.module.Func.{Func}
 use Rattle.meaning.specs.validation.Modules.{IsValid, IsValidFunction}
-use Rattle.meaning.specs.execution.Store.{FunctionInstance as Function, Store}
+use Rattle.meaning.specs.execution.Store.{FunctionInstance as Function}
 use Rattle.store.specs.declared.instances.FunctionInstance.{FunctionInstance}
 use Rattle.store.specs.declared.instances.Instance.{Instance}
-use Rattle.store.specs.Contents.{AllFound, IsFound, consecutive, contents_of, entries_of, entry_function, function_at, functions_of, instance_function, module_function, module_instance, module_instance_of, no_function, store_of, typed_function, with_module}
+use Rattle.store.specs.Contents.{AllFound, IsFound, consecutive, contents_of, entries_of, entry_function, function_at, functions_of, instance_function, module_function, functions_in, instances_in, module_instance_of, no_function, typed_function}
 use Rattle.store.proofs.lemmas.Positions.{slice_get-front, slice_get-seam, holds-at}
 
 -- An entry that finds its function finds it still when instances are added.
@@ -36,10 +35,6 @@ function_at-behind instances new (f ∷ fs) h =
 AllFound-append : (instances : List Instance) (fs gs : List FunctionInstance) → AllFound instances fs → AllFound instances gs → AllFound instances (fs ++ gs)
 AllFound-append instances [] gs h k = k
 AllFound-append instances (f ∷ fs) gs h k = (h.0, AllFound-append instances fs gs h.1 k)
-
--- Without the added entries the functions are as before.
-pub AllFound-cut : (instances : List Instance) (functions added after : List FunctionInstance) → AllFound instances functions → after ≡ functions ++ added → AllFound instances (take (length functions) after)
-AllFound-cut instances functions added after found behind = subst (AllFound instances) (sym (ap (take (length functions)) behind ∙ take-append_seam functions added)) found
 
 module _ (instances : List Instance) (i : Instance) (valid : IsValid i.loaded.value) where
   abbrev all : List Instance
@@ -83,25 +78,16 @@ module _ (instances : List Instance) (i : Instance) (valid : IsValid i.loaded.va
       cc
 
   module _ (functions after : List FunctionInstance) (found : AllFound instances functions) (behind : after ≡ functions ++ entries_of (length instances) (consecutive 0 (length i.loaded.value.funcs))) where
-    -- the store with the module, as an instance of this number whose functions have these addresses
-    abbrev made : (number : ℕ) → (addresses : List ℕ) → Store
-    made number addresses = record {
-      functions = map (function_at instances) functions ++ functions_of number i.loaded.value i.loaded.value.funcs;
-      instances = map module_instance_of instances ++ module_instance addresses i.loaded.value ∷ [];
-    }
-
     abbrev added : List FunctionInstance
     added = entries_of (length instances) (consecutive 0 (length i.loaded.value.funcs))
 
     pub AllFound-added : AllFound all after
     AllFound-added = subst (AllFound all) (sym behind) (AllFound-append all functions added (AllFound-behind instances (i ∷ []) functions found) (AllFound-new [] i.loaded.value.funcs refl))
 
-    -- The store is the one before, with the module.
-    pub store_of-added : i.functions.items ≡ consecutive (length functions) (length i.loaded.value.funcs) → store_of (contents_of after all) ≡ with_module (store_of (contents_of functions instances)) i.loaded.value
-    store_of-added addresses =
+    -- The functions are those before, with those of the module.
+    pub functions-added : functions_in (contents_of after all) ≡ functions_in (contents_of functions instances) ++ functions_of (length (instances_in (contents_of functions instances))) i.loaded.value i.loaded.value.funcs
+    functions-added =
         let old = map-append (function_at all) functions added in
         let before = function_at-behind instances (i ∷ []) functions found in
         let new = function_at-new [] i.loaded.value.funcs refl in
-        let others = map-append module_instance_of instances (i ∷ []) in
-        let all_of : store_of (contents_of after all) ≡ made (length instances) i.functions.items = rw (behind, old, before, new, others) refl in
-        all_of ∙ ap (λ (number : ℕ). made number i.functions.items) (sym (length-map instances module_instance_of)) ∙ ap (made (length (map module_instance_of instances))) (addresses ∙ ap (λ (first : ℕ). consecutive first (length i.loaded.value.funcs)) (sym (length-map functions (function_at instances))))
+        rw (behind, old, before, new, length-map instances module_instance_of) refl

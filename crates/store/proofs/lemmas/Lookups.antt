@@ -10,10 +10,10 @@ use Rattle.core_types.specs.declared.op.Op.{Op}
 use Rattle.core_types.specs.declared.op.Op.TheVariants.{Else, End}
 use Rattle.meaning.specs.structure.Bodies.{Body, BlockKind, LoopKind, IfKind, Empty, Then, Nested, IfElse, writing, rests, other_parts}
 use Rattle.meaning.specs.validation.Modules.{IsValid, IsValidFunction}
-use Rattle.meaning.specs.execution.Store.{FunctionInstance as Function, ModuleInstance, instance_of, no_instance}
+use Rattle.meaning.specs.execution.Store.{FunctionInstance as Function}
 use Rattle.store.specs.declared.instances.FunctionInstance.{FunctionInstance}
 use Rattle.store.specs.declared.instances.Instance.{Instance}
-use Rattle.store.specs.Contents.{Contents, IsFound, AllFound, entry_function, instance_function, module_function, typed_function, function_of, function_at, module_instance_of, store_of, no_function}
+use Rattle.store.specs.Contents.{Contents, IsFound, AllFound, entry_function, instance_function, module_function, typed_function, function_of, function_at, functions_in, no_function}
 use Rattle.store.proofs.lemmas.Positions.{holds-at}
 
 -- ---- the bodies around a body's writing
@@ -59,7 +59,7 @@ found-at instances (g ∷ gs) zero f h e = let same : g ≡ f = cc in subst (IsF
 found-at instances (g ∷ gs) (suc k) f h e = found-at instances gs k f h.1 e
 
 module _ (s : Contents) (found : AllFound s.instances s.functions) (address : ℕ) (entry : FunctionInstance) (there : Some entry ≡ slice_get s.functions address) where
-  function-there : (f : Function) → entry_function s.instances entry ≡ Some f → slice_get (store_of s).functions address ≡ Some f
+  function-there : (f : Function) → entry_function s.instances entry ≡ Some f → slice_get (functions_in s) address ≡ Some f
   function-there f e =
       slice_get-map (function_at s.instances) s.functions address ∙ ap (option_map (function_at s.instances)) (sym there) ∙ ap (λ (o : Option Function). Some (unwrap_or o no_function)) e
 
@@ -74,15 +74,5 @@ module _ (s : Contents) (found : AllFound s.instances s.functions) (address : �
     func-never e = never (ap (instance_function entry) (sym in_instance) ∙ ap (module_function entry.instance i.loaded.value) e)
 
     module _ (f : Func) (in_module : slice_get i.loaded.value.funcs entry.index ≡ Some f) where
-      pub function-found : (t : FuncType) → slice_get i.loaded.value.types f.ty ≡ Some t → slice_get (store_of s).functions address ≡ Some (function_of t entry.instance f)
+      pub function-found : (t : FuncType) → slice_get i.loaded.value.types f.ty ≡ Some t → slice_get (functions_in s) address ≡ Some (function_of t entry.instance f)
       function-found t e = function-there (function_of t entry.instance f) (ap (instance_function entry) (sym in_instance) ∙ ap (module_function entry.instance i.loaded.value) in_module ∙ ap (λ (o : Option FuncType). typed_function entry.instance o f) e)
-
--- ---- what an instance has under an index
-
-module _ (s : Contents) (number : ℕ) where
-  pub instance-found : (i : Instance) → Some i ≡ slice_get s.instances number → instance_of (store_of s) (Some number) ≡ module_instance_of i
-  instance-found i there = ap (λ (o : Option ModuleInstance). unwrap_or o no_instance) (slice_get-map module_instance_of s.instances number ∙ ap (option_map module_instance_of) (sym there))
-
-  -- No instance has no functions and no types.
-  pub no-instance-found : None ≡ slice_get s.instances number → instance_of (store_of s) (Some number) ≡ no_instance
-  no-instance-found none = ap (λ (o : Option ModuleInstance). unwrap_or o no_instance) (slice_get-map module_instance_of s.instances number ∙ ap (option_map module_instance_of) (sym none))

@@ -1,38 +1,33 @@
-use Rattle.std.proofs.Common.{sym, refl, ap, subst, arith}
-use Rattle.exec.specs.Representation.{frame_of}
-use Rattle.exec.proofs.simulation.Effects.{IsThere, IsDone-there, plain_goes, plain_lacks, plain_no_fuel, plain_no_memory, plain_traps}
-use Rattle.exec.proofs.simulation.Fuel.{below_one}
-use Rattle.fuel.specs.Metering.{Metered}
+use Rattle.std.proofs.Common.{[], refl, subst, sym}
+use Rattle.meaning.specs.execution.Runs.{GotStuck, OutOfFuel, OutOfMemory, WithTrap}
+use Rattle.meaning.specs.execution.Store.{Store}
+use Rattle.store.specs.Contents.{store_with}
+use Rattle.exec.specs.Simulation.{EndsWith, world_of}
+use Rattle.exec.proofs.simulation.Effects.{effect_goes, effect_lacks, effect_no_fuel, effect_no_memory, effect_traps, end_unchanged}
 use Rattle.exec.proofs.effects.step_effect.Goals as goal
 
-pub returns-in-Lacking-clause-simulates : goal.returns-in-Lacking-clause-simulates
-returns-in-Lacking-clause-simulates c w before is whole h =
-    plain_lacks w c.args.machine.now c.args.meter.now.frames whole h c.args.op.now _ is c.args.meter.now.bound c.args.meter.now.left (c.in-Lacking.ensures w.store (frame_of c.args.machine.now) refl)
+pub returns-in-Done-clause-simulates : goal.returns-in-Done-clause-simulates
+returns-in-Done-clause-simulates c before is whole h =
+    let had = c.in-Done.ensures.had in
+    effect_goes (world_of c.args.code.now c.args.state.now) c.args.machine.now c.args.meter.now.frames whole h c.args.op.now c.run_plain.new.operands c.run_plain.new.locals _ is before had.1 c.in-Done.ensures.below (store_with c.args.code.now c.run_plain.new.state) c.args.meter.now c.run_plain.new.meter had.0 refl c.in-Done.ensures.paid.frames
 
-pub returns-then-left-eq0-clause-simulates : goal.returns-then-left-eq0-clause-simulates
-returns-then-left-eq0-clause-simulates c w before is whole h =
-    plain_no_fuel w c.args.machine.now c.args.meter.now.frames whole h c.args.op.now _ is (IsDone-there _ (c.in-NoRoom.ensures w.store (frame_of c.args.machine.now) refl)) c.args.meter.now.bound c.args.meter.now.left (omega arith)
+pub returns-in-Trapped-clause-simulates : goal.returns-in-Trapped-clause-simulates
+returns-in-Trapped-clause-simulates c before is whole h =
+    let had = c.in-Trapped.ensures.had in
+    subst (λ (s : Store). EndsWith c.args.meter.now.bound (world_of c.args.code.now c.args.state.now) c.args.meter.now.left whole (WithTrap c.in-Trapped.trap) (record { store = s; hosts = [] }) c.run_plain.new.meter.left) (sym had.1)
+    (effect_traps (world_of c.args.code.now c.args.state.now) c.args.machine.now c.args.meter.now.frames whole h c.args.op.now c.args.meter.now.bound c.args.meter.now.left _ is c.in-Trapped.trap c.run_plain.new.meter.left had.0)
 
-pub returns-else-left-eq0-clause-simulates : goal.returns-else-left-eq0-clause-simulates
-returns-else-left-eq0-clause-simulates c w before is whole h =
-    plain_no_memory w c.args.machine.now c.args.meter.now.frames whole h c.args.op.now _ is (c.in-NoRoom.ensures w.store (frame_of c.args.machine.now) refl) c.args.meter.now.bound c.args.meter.now.left (omega arith)
+pub returns-in-NoFuel-clause-simulates : goal.returns-in-NoFuel-clause-simulates
+returns-in-NoFuel-clause-simulates c before is whole h =
+    let had = c.in-NoFuel.ensures.had in
+    end_unchanged (world_of c.args.code.now c.args.state.now) c.args.meter.now.bound c.args.meter.now.left whole OutOfFuel (store_with c.args.code.now c.run_plain.new.state) c.run_plain.new.meter.left had.1 had.2 (effect_no_fuel (world_of c.args.code.now c.args.state.now) c.args.machine.now c.args.meter.now.frames whole h c.args.op.now c.args.meter.now.bound c.args.meter.now.left _ is had.0)
 
-pub returns-then-not-try_spend-clause-simulates : goal.returns-then-not-try_spend-clause-simulates
-returns-then-not-try_spend-clause-simulates c w before is whole h =
-    let done = c.in-AllDone.ensures w.store (frame_of c.args.machine.now) refl in
-    rw c.if-not-try_spend.ensures.unchanged (plain_no_fuel w c.args.machine.now c.args.meter.now.frames whole h c.args.op.now _ is (subst IsThere (sym done.0) tt) c.args.meter.now.bound c.args.meter.now.left (below_one _ c.if-not-try_spend.ensures.enough.1))
+pub returns-in-NoMemory-clause-simulates : goal.returns-in-NoMemory-clause-simulates
+returns-in-NoMemory-clause-simulates c before is whole h =
+    let had = c.in-NoMemory.ensures.had in
+    end_unchanged (world_of c.args.code.now c.args.state.now) c.args.meter.now.bound c.args.meter.now.left whole OutOfMemory (store_with c.args.code.now c.run_plain.new.state) c.run_plain.new.meter.left had.1 had.2 (effect_no_memory (world_of c.args.code.now c.args.state.now) c.args.machine.now c.args.meter.now.frames whole h c.args.op.now c.args.meter.now.bound c.args.meter.now.left _ is had.0)
 
-pub returns-then-not-try_spend-2-clause-simulates : goal.returns-then-not-try_spend-2-clause-simulates
-returns-then-not-try_spend-2-clause-simulates c w before is whole h =
-    let failed = c.in-Failed.ensures w.store (frame_of c.args.machine.now) refl in
-    rw c.if-not-try_spend-2.ensures.unchanged (plain_no_fuel w c.args.machine.now c.args.meter.now.frames whole h c.args.op.now _ is (subst IsThere (sym failed) tt) c.args.meter.now.bound c.args.meter.now.left (below_one _ c.if-not-try_spend-2.ensures.enough.1))
-
-pub returns-else-not-try_spend-clause-simulates : goal.returns-else-not-try_spend-clause-simulates
-returns-else-not-try_spend-clause-simulates c w before is whole h =
-    let done = c.in-AllDone.ensures w.store (frame_of c.args.machine.now) refl in
-    plain_goes w c.args.machine.now c.args.meter.now.frames whole h c.args.op.now before c.run_plain.new.operands c.run_plain.new.locals _ is done.0 done.1 done.2 c.args.meter.now _ refl (c.if-not-try_spend.ensures.enough.0 refl) (ap (λ (m : Metered). m.left) c.if-not-try_spend.ensures.spent) (ap (λ (m : Metered). m.frames) c.if-not-try_spend.ensures.spent)
-
-pub returns-else-not-try_spend-2-clause-simulates : goal.returns-else-not-try_spend-2-clause-simulates
-returns-else-not-try_spend-2-clause-simulates c w before is whole h =
-    let failed = c.in-Failed.ensures w.store (frame_of c.args.machine.now) refl in
-    rw c.if-not-try_spend-2.ensures.spent (plain_traps w c.args.machine.now c.args.meter.now.frames whole h c.args.op.now _ is c.args.meter.now.bound c.args.meter.now.left c.in-Failed.trap failed (c.if-not-try_spend-2.ensures.enough.0 refl))
+pub returns-in-NotReady-clause-simulates : goal.returns-in-NotReady-clause-simulates
+returns-in-NotReady-clause-simulates c before is whole h =
+    let had = c.in-NotReady.ensures.had in
+    end_unchanged (world_of c.args.code.now c.args.state.now) c.args.meter.now.bound c.args.meter.now.left whole GotStuck (store_with c.args.code.now c.run_plain.new.state) c.run_plain.new.meter.left had.1 had.2 (effect_lacks (world_of c.args.code.now c.args.state.now) c.args.machine.now c.args.meter.now.frames whole h c.args.op.now c.args.meter.now.bound c.args.meter.now.left _ is had.0)

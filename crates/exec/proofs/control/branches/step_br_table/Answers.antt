@@ -3,12 +3,12 @@ use Rattle.meaning.specs.execution.Instructions.{Branches}
 use Rattle.core_types.specs.declared.op.PlainOp.TheVariants.{BrTable}
 use Rattle.exec.specs.Representation.{redex_of}
 use Rattle.exec.proofs.simulation.Conditions.{popped_stands, table_branches, table_lacks}
-use Rattle.exec.proofs.simulation.Effects.{plain_lacks}
+use Rattle.exec.proofs.simulation.Effects.{effect_lacks}
 use Rattle.exec.proofs.control.branches.step_br_table.Goals as goal
 
 pub returns-in_default-clause-simulates : goal.returns-in_default-clause-simulates
 returns-in_default-clause-simulates c w before whole h =
-    plain_lacks w c.args.machine.now c.args.meter.now.frames whole h (BrTable c.args.table.now) _ (table_lacks w c.args.machine.now c.args.table.now before c.in_default.ensures) c.args.meter.now.bound c.args.meter.now.left refl
+    effect_lacks w c.args.machine.now c.args.meter.now.frames whole h (BrTable c.args.table.now) c.args.meter.now.bound c.args.meter.now.left _ (table_lacks w c.args.machine.now c.args.table.now before c.in_default.ensures) refl
 
 pub returns-clause-simulates : goal.returns-clause-simulates
 returns-clause-simulates c w before whole h =

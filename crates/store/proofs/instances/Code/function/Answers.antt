@@ -1,6 +1,6 @@
 use Rattle.store.specs.Contents.{contents_of}
 use Rattle.store.proofs.lemmas.Lookups.{func-never, function-found, instance-never}
-use Rattle.store.proofs.instances.Store.function.Goals as goal
+use Rattle.store.proofs.instances.Code.function.Goals as goal
 
 pub returns-in_err-instance-clause-found : goal.returns-in_err-instance-clause-found
 returns-in_err-instance-clause-found c =

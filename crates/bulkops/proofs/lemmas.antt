@@ -1,0 +1,2 @@
+-- What the proofs of the calls rest on.
+pub mod Numbers

@@ -1,0 +1,244 @@
+ghost use Rattle.std.specs.Prelude.{◌≡◌, ◌<◌, ◌≤◌, ◌^◌, ℕ, [], length};
+ghost use Rattle.meaning.specs.execution.Memories.{can_grow as can_grow_by, copy_bytes as copy_of, fill_bytes as fill_of, load_from, store_into, store_size};
+ghost use Rattle.store.specs.State.{data_of, memory_of, put_data};
+ghost use Rattle.bulkops.specs.Accesses.{Wrote};
+ghost use Rattle.bulkops.specs.Memories.{DidGrow, bulk_price, growth_price, price_of_write, room_to_grow, state_with};
+
+use crate::bulk::{copy_bytes, fill_bytes, init_bytes, is_within};
+use crate::loads::load;
+use crate::stores::store;
+use core_types::{Limits, LoadOp, StoreOp, Trap, Val};
+use std::alloc::AllocError;
+use store::State;
+
+/// What a load from a memory at an offset gives, or its trap (Execution, Memory Instructions).
+///
+/// The memory is there, and the offset is the sum of an operand and the immediate offset of the instruction.
+pub fn mem_load(state: &State, address: u32, op: LoadOp, offset: u64) -> Result<Val, Trap>
+    requires there { address < length state.now.contents.memories }
+    requires offset { offset < 2 ^ 33 }
+    ensures { result ≡ load_from op (memory_of state.now address).bytes offset }
+{
+    match state.memory(address) {
+        Some(memory) => load(op, memory.bytes(), offset),
+        None => Err(Trap::MemoryBounds),
+    }
+}
+
+/// Writes a number, or its low bytes, into a memory at an offset, or traps and changes nothing (Execution, Memory Instructions).
+///
+/// The memory is there, and the offset is the sum of an operand and the immediate offset of the instruction.
+pub fn mem_store(
+    state: &mut State,
+    address: u32,
+    op: StoreOp,
+    offset: u64,
+    n: u64,
+) -> Result<(), Trap>
+    requires there { address < length state.old.contents.memories }
+    requires offset { offset < 2 ^ 33 }
+    ensures { Wrote result state.old state.new
+        (state_with state.old address
+        (store_into (memory_of state.old address).bytes offset (store_size op) n)) }
+{
+    let bytes = state.memory_mut(address);
+    store(op, bytes, offset, n)
+}
+
+// What an instruction on that many bytes costs, by whether it stays in bounds.
+fn bulk_cost(fits: bool, count: u32) -> u64
+    ensures price { result ≡ bulk_price fits count }
+    ensures some { 1 ≤ result }
+{
+    if fits { 1 + count as u64 / 64 } else { 1 }
+}
+
+/// What a fill costs (memory.fill).
+pub fn fill_cost(state: &State, address: u32, offset: u32, count: u32) -> u64
+    requires { address < length state.now.contents.memories }
+    ensures price { (value : ℕ)
+        → result ≡ price_of_write (fill_of (memory_of state.now address).bytes offset value count)
+        count }
+    ensures some { 1 ≤ result }
+{
+    match state.memory(address) {
+        Some(memory) => bulk_cost(is_within(memory.bytes().len(), offset, count), count),
+        None => 1,
+    }
+}
+
+/// Gives that many bytes of a memory the low byte of a value, or traps and changes nothing (memory.fill).
+pub fn mem_fill(
+    state: &mut State,
+    address: u32,
+    offset: u32,
+    value: u32,
+    count: u32,
+) -> Result<(), Trap>
+    requires { address < length state.old.contents.memories }
+    ensures { Wrote result state.old state.new
+        (state_with state.old address
+        (fill_of (memory_of state.old address).bytes offset value count)) }
+{
+    let bytes = state.memory_mut(address);
+    fill_bytes(bytes, offset, value, count)
+}
+
+/// What a copy within a memory costs (memory.copy).
+pub fn copy_cost(state: &State, address: u32, target: u32, from: u32, count: u32) -> u64
+    requires { address < length state.now.contents.memories }
+    ensures price { result ≡ price_of_write
+        (copy_of (memory_of state.now address).bytes (memory_of state.now address).bytes target from
+        count) count }
+    ensures some { 1 ≤ result }
+{
+    match state.memory(address) {
+        Some(memory) => {
+            let size = memory.bytes().len();
+            bulk_cost(
+                is_within(size, from, count) && is_within(size, target, count),
+                count,
+            )
+        }
+        None => 1,
+    }
+}
+
+/// Copies that many bytes within a memory, as if they were read before any is written, or traps and changes nothing (memory.copy).
+pub fn mem_copy(
+    state: &mut State,
+    address: u32,
+    target: u32,
+    from: u32,
+    count: u32,
+) -> Result<(), Trap>
+    requires { address < length state.old.contents.memories }
+    ensures { Wrote result state.old state.new
+        (state_with state.old address
+        (copy_of (memory_of state.old address).bytes (memory_of state.old address).bytes target from
+        count)) }
+{
+    let bytes = state.memory_mut(address);
+    copy_bytes(bytes, target, from, count)
+}
+
+/// What a copy from a data segment costs (memory.init).
+pub fn init_cost(
+    state: &State,
+    address: u32,
+    segment: u32,
+    target: u32,
+    from: u32,
+    count: u32,
+) -> u64
+    requires memory { address < length state.now.contents.memories }
+    requires segment { segment < length state.now.contents.datas }
+    ensures price { result ≡ price_of_write
+        (copy_of (memory_of state.now address).bytes (data_of state.now segment).bytes target from
+        count) count }
+    ensures some { 1 ≤ result }
+{
+    match (state.memory(address), state.data_segment(segment)) {
+        (Some(memory), Some(source)) => {
+            let reads = is_within(source.bytes().len(), from, count);
+            bulk_cost(
+                reads && is_within(memory.bytes().len(), target, count),
+                count,
+            )
+        }
+        _ => 1,
+    }
+}
+
+/// Copies that many bytes of a data segment into a memory, or traps and changes nothing (memory.init).
+pub fn mem_init(
+    state: &mut State,
+    address: u32,
+    segment: u32,
+    target: u32,
+    from: u32,
+    count: u32,
+) -> Result<(), Trap>
+    requires memory { address < length state.old.contents.memories }
+    requires segment { segment < length state.old.contents.datas }
+    ensures { Wrote result state.old state.new
+        (state_with state.old address
+        (copy_of (memory_of state.old address).bytes (data_of state.old segment).bytes target from
+        count)) }
+{
+    let (bytes, source) = state.memory_and_data(address, segment);
+    init_bytes(bytes, source, target, from, count)
+}
+
+/// The size of a memory, in pages (memory.size).
+pub fn mem_size(state: &State, address: u32) -> u32
+    requires { address < length state.now.contents.memories }
+    ensures { result ≡ (memory_of state.now address).limits.min }
+{
+    match state.memory(address) {
+        Some(memory) => memory.limits().min,
+        None => 0,
+    }
+}
+
+// Whether limits allow that many more pages, under the bound of the embedding.
+fn can_grow(bound: u32, limits: Limits, pages: u32) -> bool
+    ensures { result ≡ can_grow_by bound limits pages }
+{
+    let wanted = limits.min as u64 + pages as u64;
+    let declared = match limits.max {
+        Some(max) => wanted <= max as u64,
+        None => true,
+    };
+    wanted <= bound as u64 && wanted <= 65536 && declared
+}
+
+/// The size of a memory, in pages, if it may grow by that many more.
+pub fn size_to_grow(state: &State, address: u32, pages: u32) -> Option<u32>
+    requires { address < length state.now.contents.memories }
+    ensures { result ≡ room_to_grow state.now address pages }
+{
+    let memory = state.memory(address)?;
+    let limits = memory.limits();
+    if can_grow(state.pages(), limits, pages) {
+        Some(limits.min)
+    } else {
+        None
+    }
+}
+
+/// What a growth costs (memory.grow).
+pub fn growth_cost(state: &State, address: u32, pages: u32) -> u64
+    requires { address < length state.now.contents.memories }
+    ensures price { result ≡ growth_price (room_to_grow state.now address pages) pages }
+    ensures some { 1 ≤ result }
+{
+    match size_to_grow(state, address, pages) {
+        Some(_) => 1 + 1024 * pages as u64,
+        None => 1,
+    }
+}
+
+/// Adds pages of zeros to a memory, and answers its size before, in pages; or answers -1 and changes nothing where the memory may
+/// not grow so (memory.grow). Where there is no memory for the pages, nothing has changed.
+pub fn mem_grow(state: &mut State, address: u32, pages: u32) -> Result<u32, AllocError>
+    requires { address < length state.old.contents.memories }
+    ensures { DidGrow (room_to_grow state.old address pages) result state.old state.new address
+        pages }
+{
+    match size_to_grow(state, address, pages) {
+        Some(size) => {
+            state.grow_memory(address, pages)?;
+            Ok(size)
+        }
+        None => Ok(u32::MAX),
+    }
+}
+
+/// Leaves a data segment without bytes, and gives their memory back (data.drop).
+pub fn data_drop(state: &mut State, segment: u32)
+    requires { segment < length state.old.contents.datas }
+    ensures { state.new ≡ put_data state.old segment (record { bytes = [] }) }
+{
+    state.drop_data(segment);
+}

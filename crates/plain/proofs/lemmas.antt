@@ -1,0 +1,2 @@
+-- What the instructions share.
+pub mod Lookups

@@ -1,0 +1,49 @@
+ghost use Rattle.std.specs.Prelude.{◌≡◌};
+
+use core_types::{GlobalType, Val};
+use std::marker::Model;
+
+/// A global: its type and its value (Execution, Global Instances).
+#[derive(Drop)]
+pub struct GlobalVariable {
+    ty: GlobalType,
+    value: Val,
+}
+
+impl Model for GlobalVariable {
+    ghost use Rattle.meaning.specs.execution.Store.{GlobalInstance};
+
+    ghost Value = { GlobalInstance };
+
+    ghost view = { λ g. record { ty = g.ty; value = g.value } };
+}
+
+impl GlobalVariable {
+    /// A global of this type, with this value at first.
+    pub fn new(ty: GlobalType, value: Val) -> GlobalVariable
+        ensures { result ≡ record { ty = ty; value = value } }
+    {
+        GlobalVariable { ty, value }
+    }
+
+    /// The type.
+    pub fn ty(&self) -> GlobalType
+        ensures { result ≡ self.now.ty }
+    {
+        self.ty
+    }
+
+    /// The value.
+    pub fn value(&self) -> Val
+        ensures { result ≡ self.now.value }
+    {
+        self.value
+    }
+
+    /// Sets the value.
+    pub fn set(&mut self, value: Val)
+        ensures { self.new ≡ record { ty = self.old.ty; value = value } }
+    {
+        self.value = value;
+    }
+}
