@@ -1,2 +1,4 @@
 pub mod Accesses
+pub mod Growth
 pub mod Memories
+pub mod Tables

@@ -1,13 +1,19 @@
-//! What the instructions on memories and data segments do to the state of the store, each proved equal to its case of the definitions.
+//! What the instructions on tables, memories and segments do to the state of the store, each proved equal to its case of the definitions.
 //! An access that reaches past the end traps before anything is written.
 #![tactic(auto)]
 
 mod bulk;
+mod growth;
 mod loads;
 mod memories;
 mod stores;
+mod tables;
 
 pub use memories::{
-    copy_cost, data_drop, fill_cost, growth_cost, init_cost, mem_copy, mem_fill, mem_grow,
-    mem_init, mem_load, mem_size, mem_store,
+    data_drop, mem_copy, mem_copy_cost, mem_fill, mem_fill_cost, mem_grow, mem_grow_cost, mem_init,
+    mem_init_cost, mem_load, mem_size, mem_store,
+};
+pub use tables::{
+    elem_drop, table_copy, table_copy_cost, table_fill, table_fill_cost, table_get, table_grow,
+    table_grow_cost, table_init, table_init_cost, table_set, table_size,
 };

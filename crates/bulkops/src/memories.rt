@@ -1,15 +1,21 @@
 ghost use Rattle.std.specs.Prelude.{◌≡◌, ◌<◌, ◌≤◌, ◌^◌, ℕ, [], length};
-ghost use Rattle.meaning.specs.execution.Memories.{can_grow as can_grow_by, copy_bytes as copy_of, fill_bytes as fill_of, load_from, store_into, store_size};
-ghost use Rattle.store.specs.State.{data_of, memory_of, put_data};
-ghost use Rattle.bulkops.specs.Accesses.{Wrote};
-ghost use Rattle.bulkops.specs.Memories.{DidGrow, bulk_price, growth_price, price_of_write, room_to_grow, state_with};
+ghost use Rattle.meaning.specs.execution.Effects.{bulk_cost as cost_of_bytes, growth_cost as cost_of_pages};
+ghost use Rattle.meaning.specs.execution.Memories.{copy_bytes as copy_of, fill_bytes as fill_of, grow_by, load_from, most_pages, store_into, store_size};
+ghost use Rattle.store.specs.State.{data_of, memory_of, put_data, put_memory};
+ghost use Rattle.bulkops.specs.Accesses.{Wrote, price_if, price_of_access};
+ghost use Rattle.bulkops.specs.Growth.{DidGrow, price_of_growth, size_to_grow as size_by};
+ghost use Rattle.bulkops.specs.Memories.{state_with};
 
 use crate::bulk::{copy_bytes, fill_bytes, init_bytes, is_within};
+use crate::growth::size_to_grow;
 use crate::loads::load;
 use crate::stores::store;
-use core_types::{Limits, LoadOp, StoreOp, Trap, Val};
+use core_types::{LoadOp, StoreOp, Trap, Val};
 use std::alloc::AllocError;
 use store::State;
+
+// How many pages a memory may have.
+const MOST_PAGES: u32 = 65536;
 
 /// What a load from a memory at an offset gives, or its trap (Execution, Memory Instructions).
 ///
@@ -47,18 +53,18 @@ pub fn mem_store(
 
 // What an instruction on that many bytes costs, by whether it stays in bounds.
 fn bulk_cost(fits: bool, count: u32) -> u64
-    ensures price { result ≡ bulk_price fits count }
+    ensures price { result ≡ price_if fits (cost_of_bytes count) }
     ensures some { 1 ≤ result }
 {
     if fits { 1 + count as u64 / 64 } else { 1 }
 }
 
 /// What a fill costs (memory.fill).
-pub fn fill_cost(state: &State, address: u32, offset: u32, count: u32) -> u64
+pub fn mem_fill_cost(state: &State, address: u32, offset: u32, count: u32) -> u64
     requires { address < length state.now.contents.memories }
     ensures price { (value : ℕ)
-        → result ≡ price_of_write (fill_of (memory_of state.now address).bytes offset value count)
-        count }
+        → result ≡ price_of_access (fill_of (memory_of state.now address).bytes offset value count)
+        (cost_of_bytes count) }
     ensures some { 1 ≤ result }
 {
     match state.memory(address) {
@@ -85,11 +91,11 @@ pub fn mem_fill(
 }
 
 /// What a copy within a memory costs (memory.copy).
-pub fn copy_cost(state: &State, address: u32, target: u32, from: u32, count: u32) -> u64
+pub fn mem_copy_cost(state: &State, address: u32, target: u32, from: u32, count: u32) -> u64
     requires { address < length state.now.contents.memories }
-    ensures price { result ≡ price_of_write
+    ensures price { result ≡ price_of_access
         (copy_of (memory_of state.now address).bytes (memory_of state.now address).bytes target from
-        count) count }
+        count) (cost_of_bytes count) }
     ensures some { 1 ≤ result }
 {
     match state.memory(address) {
@@ -123,7 +129,7 @@ pub fn mem_copy(
 }
 
 /// What a copy from a data segment costs (memory.init).
-pub fn init_cost(
+pub fn mem_init_cost(
     state: &State,
     address: u32,
     segment: u32,
@@ -133,9 +139,9 @@ pub fn init_cost(
 ) -> u64
     requires memory { address < length state.now.contents.memories }
     requires segment { segment < length state.now.contents.datas }
-    ensures price { result ≡ price_of_write
+    ensures price { result ≡ price_of_access
         (copy_of (memory_of state.now address).bytes (data_of state.now segment).bytes target from
-        count) count }
+        count) (cost_of_bytes count) }
     ensures some { 1 ≤ result }
 {
     match (state.memory(address), state.data_segment(segment)) {
@@ -181,39 +187,24 @@ pub fn mem_size(state: &State, address: u32) -> u32
     }
 }
 
-// Whether limits allow that many more pages, under the bound of the embedding.
-fn can_grow(bound: u32, limits: Limits, pages: u32) -> bool
-    ensures { result ≡ can_grow_by bound limits pages }
-{
-    let wanted = limits.min as u64 + pages as u64;
-    let declared = match limits.max {
-        Some(max) => wanted <= max as u64,
-        None => true,
-    };
-    wanted <= bound as u64 && wanted <= 65536 && declared
-}
-
-/// The size of a memory, in pages, if it may grow by that many more.
-pub fn size_to_grow(state: &State, address: u32, pages: u32) -> Option<u32>
+// The size of a memory, in pages, if it may grow by that many more.
+fn size_for(state: &State, address: u32, pages: u32) -> Option<u32>
     requires { address < length state.now.contents.memories }
-    ensures { result ≡ room_to_grow state.now address pages }
+    ensures { result ≡ size_by state.now.bounds.pages most_pages (memory_of state.now address).limits
+        pages }
 {
     let memory = state.memory(address)?;
-    let limits = memory.limits();
-    if can_grow(state.pages(), limits, pages) {
-        Some(limits.min)
-    } else {
-        None
-    }
+    size_to_grow(state.pages(), MOST_PAGES, memory.limits(), pages)
 }
 
 /// What a growth costs (memory.grow).
-pub fn growth_cost(state: &State, address: u32, pages: u32) -> u64
+pub fn mem_grow_cost(state: &State, address: u32, pages: u32) -> u64
     requires { address < length state.now.contents.memories }
-    ensures price { result ≡ growth_price (room_to_grow state.now address pages) pages }
+    ensures price { result ≡ price_of_growth (size_by state.now.bounds.pages most_pages
+        (memory_of state.now address).limits pages) (cost_of_pages pages) }
     ensures some { 1 ≤ result }
 {
-    match size_to_grow(state, address, pages) {
+    match size_for(state, address, pages) {
         Some(_) => 1 + 1024 * pages as u64,
         None => 1,
     }
@@ -223,10 +214,11 @@ pub fn growth_cost(state: &State, address: u32, pages: u32) -> u64
 /// not grow so (memory.grow). Where there is no memory for the pages, nothing has changed.
 pub fn mem_grow(state: &mut State, address: u32, pages: u32) -> Result<u32, AllocError>
     requires { address < length state.old.contents.memories }
-    ensures { DidGrow (room_to_grow state.old address pages) result state.old state.new address
-        pages }
+    ensures { DidGrow (size_by state.old.bounds.pages most_pages (memory_of state.old address).limits
+        pages) result state.old state.new
+        (put_memory state.old address (grow_by (memory_of state.old address) pages)) }
 {
-    match size_to_grow(state, address, pages) {
+    match size_for(state, address, pages) {
         Some(size) => {
             state.grow_memory(address, pages)?;
             Ok(size)

@@ -24,7 +24,7 @@ pub use op::{
     NumericOp, Op, ParametricOp, PlainOp, ReferenceOp, Sign, StoreOp, TableOp, UnaryOp, VariableOp,
     Width,
 };
-pub use outcome::{Exhaustion, Trap, Val};
+pub use outcome::{Exhaustion, Extern, Trap, Val};
 pub use stack::Stack;
 pub use text::Name;
 pub use types::{

@@ -29,3 +29,12 @@ pub enum Exhaustion {
     Depth,
     Memory,
 }
+
+/// An external value: its kind, and its address in the store (Execution, Runtime Structure, External Values).
+#[derive(Clone, Copy)]
+pub enum Extern {
+    Func(u32),
+    Table(u32),
+    Memory(u32),
+    Global(u32),
+}

@@ -9,6 +9,7 @@ pub mod Effects
 pub mod Ends
 pub mod Fuel
 pub mod Instructions
+pub mod IndirectCalls
 pub mod Labels
 pub mod Positions
 pub mod Returns

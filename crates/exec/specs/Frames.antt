@@ -3,7 +3,7 @@ use Rattle.std.specs.Prelude.{◌≡◌, ℕ, suc, ◌+◌, List, [], ◌∷◌,
 use Rattle.core_types.specs.declared.module.Func.{Func}
 use Rattle.core_types.specs.declared.outcome.Val.{Val}
 use Rattle.core_types.specs.declared.types.FuncType.{FuncType}
-use Rattle.meaning.specs.execution.Instructions.{default_of}
+use Rattle.meaning.specs.execution.Values.{default_of}
 use Rattle.exec.specs.declared.machine.Caller.{Caller}
 use Rattle.exec.specs.declared.machine.Control.{Control}
 use Rattle.exec.specs.declared.machine.Control.TheVariants.{InLabel, InFrame, FromOutside}

@@ -3,3 +3,4 @@
 pub mod blocks;
 pub mod branches;
 pub mod calls;
+pub mod indirect_calls;

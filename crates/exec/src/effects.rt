@@ -1,6 +1,7 @@
 ghost use Rattle.std.specs.Prelude.{◌≡◌, ◌+◌, ◌<◌, ◌^◌};
 ghost use Rattle.core_types.specs.declared.op.Op.TheVariants.{Plain};
-ghost use Rattle.meaning.specs.execution.Instructions.{continue_after, effect};
+ghost use Rattle.meaning.specs.execution.Effects.{effect};
+ghost use Rattle.meaning.specs.execution.Instructions.{continue_after};
 ghost use Rattle.store.specs.Contents.{store_with};
 ghost use Rattle.exec.specs.Positions.{rests_at};
 ghost use Rattle.exec.specs.Representation.{IsBefore, frame_of, redex_of};

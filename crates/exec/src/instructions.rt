@@ -6,6 +6,7 @@ ghost use Rattle.exec.specs.Simulation.{Simulates, IfGoes, IfStays, measure, wor
 use crate::control::blocks::{step_block, step_if, step_loop};
 use crate::control::branches::{step_br, step_br_if, step_br_table};
 use crate::control::calls::{leave, step_call, step_return};
+use crate::control::indirect_calls::step_call_indirect;
 use crate::effects::step_effect;
 use crate::machine::{Machine, Step};
 use crate::positions::position_behind;
@@ -35,6 +36,9 @@ fn step_plain<'a>(
         PlainOp::Control(ControlOp::BrIf(label)) => step_br_if(*label, machine, meter),
         PlainOp::Control(ControlOp::Return) => step_return(machine, meter),
         PlainOp::Control(ControlOp::Call(x)) => step_call(code, *x, machine, meter),
+        PlainOp::Control(ControlOp::CallIndirect { ty, table }) => {
+            step_call_indirect(code, state, *ty, *table, machine, meter)
+        }
         PlainOp::BrTable(table) => step_br_table(table.get(), machine, meter),
         _ => step_effect(op, code, state, machine, meter),
     }

@@ -150,7 +150,13 @@ static TRAPS: [Row; 11] = [
 
 // Selections and constants.
 #[rattlefmt::skip]
-static OTHERS: [Row; 8] = [
+static OTHERS: [Row; 14] = [
+    Row { name: "ref.null func", instruction: Reference(ReferenceOp::Null(RefType::FuncRef)), operands: &[], wanted: Gives(Val::FuncRef(None)) },
+    Row { name: "ref.null extern", instruction: Reference(ReferenceOp::Null(RefType::ExternRef)), operands: &[], wanted: Gives(Val::ExternRef(None)) },
+    Row { name: "ref.is_null of null", instruction: Reference(ReferenceOp::IsNull), operands: &[Val::FuncRef(None)], wanted: Gives(Val::I32(1)) },
+    Row { name: "ref.is_null of function 0", instruction: Reference(ReferenceOp::IsNull), operands: &[Val::FuncRef(Some(0))], wanted: Gives(Val::I32(0)) },
+    Row { name: "ref.is_null of an external null", instruction: Reference(ReferenceOp::IsNull), operands: &[Val::ExternRef(None)], wanted: Gives(Val::I32(1)) },
+    Row { name: "ref.is_null of an external 0", instruction: Reference(ReferenceOp::IsNull), operands: &[Val::ExternRef(Some(0))], wanted: Gives(Val::I32(0)) },
     Row { name: "select by 7", instruction: Parametric(ParametricOp::Select), operands: &[Val::I32(10), Val::I32(20), Val::I32(7)], wanted: Gives(Val::I32(10)) },
     Row { name: "select by 0", instruction: Parametric(ParametricOp::Select), operands: &[Val::I32(10), Val::I32(20), Val::I32(0)], wanted: Gives(Val::I32(20)) },
     Row { name: "select by an i64", instruction: Parametric(ParametricOp::Select), operands: &[Val::I32(10), Val::I32(20), Val::I64(7)], wanted: Lacks },
@@ -163,7 +169,7 @@ static OTHERS: [Row; 8] = [
 
 // Instructions that find no operand or local of their kind, or are none that is run here.
 #[rattlefmt::skip]
-static LACKING: [Row; 13] = [
+static LACKING: [Row; 14] = [
     Row { name: "i32.add of other types", instruction: Numeric(NumericOp::Binary(Width::W32, BinaryOp::Add)), operands: &[Val::I64(1), Val::I32(2)], wanted: Lacks },
     Row { name: "i32.add of other types", instruction: Numeric(NumericOp::Binary(Width::W32, BinaryOp::Add)), operands: &[Val::I32(1), Val::I64(2)], wanted: Lacks },
     Row { name: "i32.add of other types", instruction: Numeric(NumericOp::Binary(Width::W32, BinaryOp::Add)), operands: &[Val::FuncRef(None), Val::I32(2)], wanted: Lacks },
@@ -174,7 +180,8 @@ static LACKING: [Row; 13] = [
     Row { name: "br of nothing that is there", instruction: Control(ControlOp::Br(0)), operands: &[Val::I32(1)], wanted: Lacks },
     Row { name: "return of nothing that is there", instruction: Control(ControlOp::Return), operands: &[Val::I32(1)], wanted: Lacks },
     Row { name: "call of nothing that is there", instruction: Control(ControlOp::Call(0)), operands: &[Val::I32(1)], wanted: Lacks },
-    Row { name: "ref.null of nothing that is there", instruction: Reference(ReferenceOp::Null(RefType::FuncRef)), operands: &[Val::I32(1)], wanted: Lacks },
+    Row { name: "ref.func of nothing that is there", instruction: Reference(ReferenceOp::Func(0)), operands: &[Val::I32(1)], wanted: Lacks },
+    Row { name: "ref.is_null of an integer", instruction: Reference(ReferenceOp::IsNull), operands: &[Val::I32(0)], wanted: Lacks },
     Row { name: "table.size of nothing that is there", instruction: Table(TableOp::Size(0)), operands: &[Val::I32(1)], wanted: Lacks },
     Row { name: "memory.size of nothing that is there", instruction: Memory(MemoryOp::Size), operands: &[Val::I32(1)], wanted: Lacks },
 ];
@@ -227,7 +234,7 @@ fn run_alone(
     locals: &mut FrameLocals,
     operands: &mut Operands,
 ) -> (Progress, u64) {
-    let mut store = Store::new(alloc, 0);
+    let mut store = Store::new(alloc, 0, 0);
     let mut meter = Meter::new(1, 0);
     let (code, state) = store.parts_mut();
     let did = run_plain(op, code, 0, state, locals, operands, &mut meter);

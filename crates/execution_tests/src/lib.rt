@@ -8,8 +8,6 @@ mod instructions;
 #[cfg(test)]
 mod memories;
 #[cfg(test)]
-mod memory_runs;
-#[cfg(test)]
 mod metering;
 #[cfg(test)]
 mod modules;
@@ -18,8 +16,12 @@ mod numeric_rows;
 #[cfg(test)]
 mod numerics;
 #[cfg(test)]
+mod object_runs;
+#[cfg(test)]
 mod operands;
 #[cfg(test)]
 mod runs;
 #[cfg(test)]
 mod stores;
+#[cfg(test)]
+mod tables;

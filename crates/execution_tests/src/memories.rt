@@ -3,8 +3,8 @@
 use crate::modules::store_with;
 use Step::{Bytes, Copy, Drop, Fill, Grow, Init, Load, Size, Write};
 use bulkops::{
-    copy_cost, data_drop, fill_cost, growth_cost, init_cost, mem_copy, mem_fill, mem_grow,
-    mem_init, mem_load, mem_size, mem_store,
+    data_drop, mem_copy, mem_copy_cost, mem_fill, mem_fill_cost, mem_grow, mem_grow_cost, mem_init,
+    mem_init_cost, mem_load, mem_size, mem_store,
 };
 use core_types::{LoadOp, Sign, StoreOp, Trap, Val, Width};
 use std::alloc::Global;
@@ -155,15 +155,15 @@ fn writes(state: &mut State, step: Step) -> bool {
     }
     match step {
         Fill(offset, value, count, cost, answer) => {
-            fill_cost(state, 0, offset, count) == cost
+            mem_fill_cost(state, 0, offset, count) == cost
                 && mem_fill(state, 0, offset, value, count) == answer
         }
         Copy(target, from, count, cost, answer) => {
-            copy_cost(state, 0, target, from, count) == cost
+            mem_copy_cost(state, 0, target, from, count) == cost
                 && mem_copy(state, 0, target, from, count) == answer
         }
         Init(target, from, count, cost, answer) => {
-            init_cost(state, 0, 0, target, from, count) == cost
+            mem_init_cost(state, 0, 0, target, from, count) == cost
                 && mem_init(state, 0, 0, target, from, count) == answer
         }
         _ => false,
@@ -181,7 +181,7 @@ fn takes(state: &mut State, step: Step) -> bool {
             offset < 1 << 33 && mem_store(state, 0, op, offset, n) == answer
         }
         Grow(pages, cost, size) => {
-            growth_cost(state, 0, pages) == cost && mem_grow(state, 0, pages) == Ok(size)
+            mem_grow_cost(state, 0, pages) == cost && mem_grow(state, 0, pages) == Ok(size)
         }
         Size(pages) => mem_size(state, 0) == pages,
         Drop => {

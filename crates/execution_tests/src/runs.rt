@@ -135,7 +135,44 @@ memory.grow up to the bound on pages | i32 1023 | 1047555 | 1 | values i32 1 | 1
 global.get of a constant | | 5 | 1 | values i64 7 | 4 | (global i64 i64.const 7) (func (result i64) global.get 0)
 global.set and global.get | | 9 | 1 | values i32 5 i32 6 | 5 | (global (mut i32) i32.const 5) (func (result i32 i32) global.get 0 i32.const 6 global.set 0 global.get 0)
 global.set, one fuel short | | 1 | 1 | exhausted fuel | 0 | (global (mut i32) i32.const 5) (func i32.const 6 global.set 0)
-global.get without fuel | | 0 | 1 | exhausted fuel | 0 | (global i64 i64.const 7) (func (result i64) global.get 0)";
+global.get without fuel | | 0 | 1 | exhausted fuel | 0 | (global i64 i64.const 7) (func (result i64) global.get 0)
+table.fill of 16 entries | | 6 | 1 | values | 0 | (table 16 funcref) (func i32.const 0 ref.null func i32.const 16 table.fill)
+table.fill of 17 entries | | 6 | 1 | trap out of bounds table access | 2 | (table 16 funcref) (func i32.const 0 ref.null func i32.const 17 table.fill)
+table.fill, one fuel short | | 5 | 1 | exhausted fuel | 2 | (table 16 funcref) (func i32.const 0 ref.null func i32.const 16 table.fill)
+table.fill of 15 entries | | 5 | 1 | values | 0 | (table 16 funcref) (func i32.const 1 ref.null func i32.const 15 table.fill)
+nothing is filled at the end | | 4 | 1 | values | 0 | (table 16 funcref) (func i32.const 16 ref.null func i32.const 0 table.fill)
+nothing is filled past the end | | 4 | 1 | trap out of bounds table access | 0 | (table 16 funcref) (func i32.const 17 ref.null func i32.const 0 table.fill)
+table.set and table.get | externref 4 | 9 | 1 | values externref 4 | 4 | (table 2 externref) (func (param externref) (result externref) i32.const 1 local.get 0 table.set i32.const 1 table.get)
+table.get past the end | externref 4 | 9 | 1 | trap out of bounds table access | 7 | (table 2 externref) (func (param externref) (result externref) i32.const 2 table.get)
+table.get without fuel | externref 4 | 1 | 1 | exhausted fuel | 0 | (table 2 externref) (func (param externref) (result externref) i32.const 1 table.get)
+table.set past the end | externref 4 | 9 | 1 | trap out of bounds table access | 6 | (table 2 externref) (func (param externref) i32.const 2 local.get 0 table.set)
+table.get of a null | | 9 | 1 | values externref null | 7 | (table 2 externref) (func (result externref) i32.const 0 table.get)
+ref.func and ref.is_null | | 9 | 1 | values funcref 1 i32 0 i32 1 | 4 | (elem declare func 1) (func (result funcref i32 i32) ref.func 1 ref.func 1 ref.is_null ref.null func ref.is_null) (func)
+table.size | | 9 | 1 | values i32 3 i32 5 | 7 | (table 3 funcref) (table 5 externref) (func (result i32 i32) table.size 0 table.size 1)
+table.grow up to the maximum, and past it | | 9 | 1 | values i32 2 i32 4294967295 i32 10 | 1 | (table 2 10 funcref) (func (result i32 i32 i32) ref.null func i32.const 8 table.grow ref.null func i32.const 1 table.grow table.size)
+table.grow, one fuel short | | 3 | 1 | exhausted fuel | 1 | (table 2 10 funcref) (func (result i32) ref.null func i32.const 8 table.grow)
+table.grow up to the bound on entries | | 20 | 1 | values i32 98 | 17 | (table 98 funcref) (func (result i32) ref.null func i32.const 2 table.grow)
+table.grow past the bound on entries | | 20 | 1 | values i32 4294967295 | 17 | (table 98 funcref) (func (result i32) ref.null func i32.const 3 table.grow)
+table.grow with a value | externref 7 | 20 | 1 | values i32 1 externref 7 | 15 | (table 1 externref) (func (param externref) (result i32 externref) local.get 0 i32.const 1 table.grow i32.const 1 table.get)
+a call through a null entry | | 9 | 2 | trap uninitialized element | 7 | (type (func (result i32))) (table 2 funcref) (func (result i32) i32.const 1 call_indirect (type 0))
+a call through no entry | | 9 | 2 | trap undefined element | 7 | (type (func (result i32))) (table 2 funcref) (func (result i32) i32.const 2 call_indirect (type 0))
+a call through no entry, without fuel | | 1 | 2 | exhausted fuel | 0 | (type (func (result i32))) (table 2 funcref) (func (result i32) i32.const 2 call_indirect (type 0))
+a call of a function of another type | | 9 | 2 | trap indirect call type mismatch | 4 | (type (func (result i32))) (table 2 funcref) (elem declare func 1) (func (result i32) i32.const 0 ref.func 1 table.set i32.const 0 call_indirect (type 0)) (func)
+a call of a function with another type of its parameter | | 9 | 2 | trap indirect call type mismatch | 3 | (type (func (param i32) (result i32))) (table 2 funcref) (elem declare func 1) (func (result i32) i32.const 0 ref.func 1 table.set i32.const 7 i32.const 0 call_indirect (type 0)) (func (param i64) (result i32) i32.const 1)
+a call of a function of an equal type of another index | | 9 | 2 | values i32 5 | 2 | (type (func (param i32) (result i32))) (type (func (param i32) (result i32))) (table 2 funcref) (elem declare func 1) (func (result i32) i32.const 0 ref.func 1 table.set i32.const 5 i32.const 0 call_indirect (type 0)) (func (type 1) local.get 0)
+a call through an entry, one fuel short | | 5 | 2 | exhausted fuel | 0 | (type (func (param i32) (result i32))) (table 2 funcref) (elem declare func 1) (func (result i32) i32.const 0 ref.func 1 table.set i32.const 5 i32.const 0 call_indirect (type 0)) (func (type 0) local.get 0)
+a call through an entry past the depth bound | | 9 | 1 | exhausted depth | 4 | (type (func (param i32) (result i32))) (table 2 funcref) (elem declare func 1) (func (result i32) i32.const 0 ref.func 1 table.set i32.const 5 i32.const 0 call_indirect (type 0)) (func (type 0) local.get 0)
+a call through the second table | | 9 | 2 | values i32 5 | 3 | (type (func (result i32))) (table 1 externref) (table 1 funcref) (elem declare func 1) (func (result i32) i32.const 0 ref.func 1 table.set 1 i32.const 0 call_indirect 1 (type 0)) (func (result i32) i32.const 5)
+table.init of some references | | 20 | 1 | values i32 1 i32 0 i32 0 | 7 | (table 3 funcref) (elem func 0 0 0) (func (result i32 i32 i32) i32.const 1 i32.const 0 i32.const 2 table.init 0 i32.const 0 table.get ref.is_null i32.const 1 table.get ref.is_null i32.const 2 table.get ref.is_null)
+table.init past the references | | 20 | 1 | trap out of bounds table access | 16 | (table 3 funcref) (elem func 0 0) (func i32.const 0 i32.const 0 i32.const 3 table.init 0)
+table.init past the entries | | 20 | 1 | trap out of bounds table access | 16 | (table 3 funcref) (elem func 0 0) (func i32.const 2 i32.const 0 i32.const 2 table.init 0)
+elem.drop | | 20 | 1 | trap out of bounds table access | 11 | (table 3 funcref) (elem func 0 0) (func elem.drop 0 i32.const 0 i32.const 0 i32.const 0 table.init 0 i32.const 0 i32.const 0 i32.const 1 table.init 0)
+elem.drop without fuel | | 0 | 1 | exhausted fuel | 0 | (table 3 funcref) (elem func 0 0) (func elem.drop 0)
+table.init of 8 references | | 4 | 1 | exhausted fuel | 1 | (table 8 funcref) (elem func 0 0 0 0 0 0 0 0) (func i32.const 0 i32.const 0 i32.const 8 table.init 0)
+table.copy of 8 entries | | 5 | 1 | values | 0 | (table 8 funcref) (table 8 funcref) (func i32.const 0 i32.const 0 i32.const 8 table.copy 0 1)
+table.copy of 8 entries, one fuel short | | 4 | 1 | exhausted fuel | 1 | (table 8 funcref) (table 8 funcref) (func i32.const 0 i32.const 0 i32.const 8 table.copy 0 1)
+table.copy past the source | | 9 | 1 | trap out of bounds table access | 5 | (table 8 funcref) (table 7 funcref) (func i32.const 0 i32.const 0 i32.const 8 table.copy 0 1)
+table.copy past the target | | 9 | 1 | trap out of bounds table access | 5 | (table 8 funcref) (table 9 funcref) (func i32.const 0 i32.const 0 i32.const 9 table.copy 0 1)";
 
 // The value of a type that a word writes.
 fn value(ty: &str, word: &str) -> Option<Val> {
@@ -143,7 +180,9 @@ fn value(ty: &str, word: &str) -> Option<Val> {
         ("i32", _) => Some(Val::I32(word.parse().ok()?)),
         ("i64", _) => Some(Val::I64(word.parse().ok()?)),
         ("funcref", "null") => Some(Val::FuncRef(None)),
+        ("funcref", _) => Some(Val::FuncRef(Some(word.parse().ok()?))),
         ("externref", "null") => Some(Val::ExternRef(None)),
+        ("externref", _) => Some(Val::ExternRef(Some(word.parse().ok()?))),
         _ => None,
     }
 }
@@ -166,7 +205,11 @@ fn trap_text(trap: Trap) -> &'static str {
         Trap::DivideByZero => "integer divide by zero",
         Trap::IntegerOverflow => "integer overflow",
         Trap::MemoryBounds => "out of bounds memory access",
-        _ => "another trap",
+        Trap::TableBounds => "out of bounds table access",
+        Trap::UndefinedElement => "undefined element",
+        Trap::UninitializedElement => "uninitialized element",
+        Trap::IndirectType => "indirect call type mismatch",
+        Trap::Host(_) => "host trap",
     }
 }
 
@@ -257,7 +300,7 @@ fn agrees(alloc: Global, line: &str) -> bool {
 
 #[test]
 fn runs_functions(rt: HostRuntime) {
-    assert!(rt; ROWS.lines().count() == 126);
+    assert!(rt; ROWS.lines().count() == 163);
     for line in ROWS.lines() {
         assert!(rt; agrees(rt.alloc(), line), "{line}");
     }

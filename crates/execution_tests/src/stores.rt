@@ -1,7 +1,8 @@
 //! Functions, types and instances by address, the ends of bodies, and the arguments that a function takes.
 
-use crate::modules::{PAGES, append, loaded_module, store_with};
-use core_types::{BlockType, Op, PlainOp, Val, ValType};
+use crate::modules::{append, empty_store, loaded_module, store_with};
+use crate::runs::calls_so;
+use core_types::{BlockType, Extern, ExternType, Op, PlainOp, RefType, Val, ValType};
 use std::alloc::{AllocError, Global};
 use store::{Callee, Store, accepts, ends_of};
 
@@ -95,7 +96,7 @@ fn is_kept(store: &Store, address: u32) -> bool {
 
 // Whether one loaded module that is put into a store three times has an instance and a function of its own each time.
 fn keeps_modules(alloc: Global) -> bool {
-    let mut store = Store::new(alloc, PAGES);
+    let mut store = empty_store(alloc);
     let mut all = true;
     let Some(loaded) = loaded_module(alloc, "(func (result i32) i32.const 7)") else {
         return false;
@@ -253,5 +254,72 @@ fn takes_so(alloc: Global, row: &Arguments) -> bool {
 fn takes_arguments(rt: HostRuntime) {
     for row in &ARGUMENTS {
         assert!(rt; takes_so(rt.alloc(), row), "{}", row.name);
+    }
+}
+
+// What an external value is: the parameters and results of a function; what a table holds, and its sizes; the sizes of a memory;
+// the type of a global.
+#[derive(Clone, Copy)]
+enum Described {
+    Func(&'static [ValType], &'static [ValType]),
+    Table(RefType, u32, Option<u32>),
+    Memory(u32, Option<u32>),
+    Global(ValType),
+    Missing,
+}
+
+#[rattlefmt::skip]
+static EXTERNS: [(Extern, Described); 9] = [
+    (Extern::Func(0), Described::Func(&[ValType::I32, ValType::FuncRef], &[ValType::I64])),
+    (Extern::Func(1), Described::Func(&[], &[])),
+    (Extern::Func(2), Described::Missing),
+    (Extern::Table(0), Described::Table(RefType::ExternRef, 3, Some(5))),
+    (Extern::Table(1), Described::Missing),
+    (Extern::Memory(0), Described::Memory(2, None)),
+    (Extern::Memory(1), Described::Missing),
+    (Extern::Global(1), Described::Global(ValType::I64)),
+    (Extern::Global(2), Described::Missing),
+];
+
+// Whether a type is the described one.
+fn is_described(ty: &ExternType, wanted: Described) -> bool {
+    match (ty, wanted) {
+        (ExternType::Func(ty), Described::Func(params, results)) => {
+            ty.params.as_slice() == params && ty.results.as_slice() == results
+        }
+        (ExternType::Table(ty), Described::Table(element, min, max)) => {
+            ty.element == element && ty.limits.min == min && ty.limits.max == max
+        }
+        (ExternType::Memory(limits), Described::Memory(min, max)) => {
+            limits.min == min && limits.max == max
+        }
+        (ExternType::Global(ty), Described::Global(value)) => ty.value == value,
+        _ => false,
+    }
+}
+
+// Whether an external value is as described in a store of a module, whose table and memory were grown by one.
+fn describes(alloc: Global, value: Extern, wanted: Described) -> bool {
+    let text =
+        "(table 2 5 externref) (memory 1) (global i32 i32.const 1) (global (mut i64) i64.const 1) (func (param i32 funcref) (result i64) i64.const 0) (func ref.null extern i32.const 1 table.grow drop i32.const 1 memory.grow drop)";
+    let Some(mut store) = store_with(alloc, &[text]) else {
+        return false;
+    };
+    if !calls_so(alloc, &mut store, (1, &[]), (2000, 1), ("values", 969)) {
+        return false;
+    }
+    if !store.has_extern(value) {
+        return matches!(wanted, Described::Missing);
+    }
+    match store.extern_type(alloc, value) {
+        Ok(ty) => is_described(&ty, wanted),
+        Err(_) => false,
+    }
+}
+
+#[test]
+fn describes_external_values(rt: HostRuntime) {
+    for (number, (value, wanted)) in EXTERNS.iter().enumerate() {
+        assert!(rt; describes(rt.alloc(), *value, *wanted), "{number}");
     }
 }

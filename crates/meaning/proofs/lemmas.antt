@@ -4,3 +4,4 @@ pub mod Layers
 pub mod OperatorRanges
 pub mod Runs
 pub mod Typing
+pub mod SameTypes

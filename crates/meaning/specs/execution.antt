@@ -1,9 +1,12 @@
 -- Execution.
+pub mod Values
 pub mod Store
 pub mod Numerics
 pub mod Storage
 pub mod Memories
+pub mod Tables
 pub mod Configurations
+pub mod Effects
 pub mod Instructions
 pub mod Layers
 pub mod Runs

@@ -2,8 +2,8 @@
 
 ghost use Rattle.std.specs.Prelude.{◌≡◌, ◌∷◌, [], ℕ, ◌⊎◌, Some, None, replicate};
 ghost use Rattle.core_types.specs.declared.outcome.Val.TheVariants.{I32};
-ghost use Rattle.core_types.specs.declared.outcome.Trap.TheVariants.{Host, MemoryBounds};
-ghost use Rattle.meaning.specs.execution.Rows.{Calls, CountsCalls, TrapsAtOneAndTwo, adder, caller, copies_and_sets, counting, endless, fills, grows_and_reads, last_of_three, one_and_two, seven_or_eight, trapping, with_bytes_and_global};
+ghost use Rattle.core_types.specs.declared.outcome.Trap.TheVariants.{Host, IndirectType, MemoryBounds, TableBounds, UndefinedElement, UninitializedElement};
+ghost use Rattle.meaning.specs.execution.Rows.{Calls, CallsEntry, CountsCalls, TrapsAtOneAndTwo, adder, at, caller, copies_and_sets, counting, endless, fills, fills_entries, grows_and_reads, grows_table, inits_entry, last_of_three, null, one_and_two, seven_or_eight, trapping, with_bytes_and_global, with_entries};
 ghost use Rattle.meaning.specs.execution.Configurations.{Configuration, Frame, Invoking, no_frame};
 ghost use Rattle.meaning.specs.execution.Runs.{Ending, NoHosts, OutOfDepth, OutOfFuel, OutOfMemory, Run, State, Steps, WithTrap, WithValues};
 
@@ -43,6 +43,20 @@ pub fn memories_change_in_runs()
     ensures no_fuel { Run NoHosts 1 no_frame (with_bytes_and_global fills (replicate 128 0) 5 5) (Invoking ([]) 0) OutOfFuel (with_bytes_and_global fills (replicate 128 0) 5 2) }
     ensures global { Run NoHosts 1 no_frame (with_bytes_and_global copies_and_sets (1 ∷ 2 ∷ []) 5 8) (Invoking ([]) 0) (WithValues (I32 2049 ∷ [])) (with_bytes_and_global copies_and_sets (1 ∷ 8 ∷ []) 2049 0) }
     ensures trap { Run NoHosts 1 no_frame (with_bytes_and_global grows_and_reads (1 ∷ []) 5 8) (Invoking ([]) 0) (WithTrap MemoryBounds) (with_bytes_and_global grows_and_reads (1 ∷ []) 5 5) }
+{}
+
+/// Worked rows of runs on tables and element segments: a call through an entry, and its traps in their order; a fill of three entries, and one past
+/// the end; a copy from a segment, which is dropped; and a growth within the bound, and one past it.
+pub fn tables_change_in_runs()
+    ensures call { CallsEntry 0 3 (WithValues (I32 10 ∷ [])) 0 }
+    ensures other_type { CallsEntry 1 3 (WithTrap IndirectType) 1 }
+    ensures null_entry { CallsEntry 2 3 (WithTrap UninitializedElement) 1 }
+    ensures past { CallsEntry 3 3 (WithTrap UndefinedElement) 1 }
+    ensures fill { Run NoHosts 1 no_frame (with_entries (fills_entries 3) (at 0 ∷ at 1 ∷ at 2 ∷ []) ([]) 4) (Invoking ([]) 0) (WithValues ([])) (with_entries (fills_entries 3) (null ∷ null ∷ null ∷ []) ([]) 0) }
+    ensures fill_past { Run NoHosts 1 no_frame (with_entries (fills_entries 4) (at 0 ∷ at 1 ∷ at 2 ∷ []) ([]) 4) (Invoking ([]) 0) (WithTrap TableBounds) (with_entries (fills_entries 4) (at 0 ∷ at 1 ∷ at 2 ∷ []) ([]) 0) }
+    ensures init { Run NoHosts 1 no_frame (with_entries inits_entry (null ∷ null ∷ []) (at 2 ∷ []) 7) (Invoking ([]) 0) (WithValues (at 2 ∷ [])) (with_entries inits_entry (null ∷ at 2 ∷ []) ([]) 0) }
+    ensures grow { Run NoHosts 1 no_frame (with_entries (grows_table 2) (null ∷ null ∷ []) ([]) 3) (Invoking ([]) 0) (WithValues (I32 2 ∷ [])) (with_entries (grows_table 2) (null ∷ null ∷ at 1 ∷ at 1 ∷ []) ([]) 0) }
+    ensures refused { Run NoHosts 1 no_frame (with_entries (grows_table 3) (null ∷ null ∷ []) ([]) 3) (Invoking ([]) 0) (WithValues (I32 4294967295 ∷ [])) (with_entries (grows_table 3) (null ∷ null ∷ []) ([]) 0) }
 {}
 
 /// Law: without host functions two bounded runs from one start end alike, in one state, unless one of them ends out of memory.

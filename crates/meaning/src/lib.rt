@@ -11,7 +11,7 @@ mod validation;
 
 pub use execution::{
     adding_one_and_two_costs_three, control_keeps_its_order, hosts_answer_calls,
-    memories_change_in_runs, runs_agree, steps_lead_to_runs,
+    memories_change_in_runs, runs_agree, steps_lead_to_runs, tables_change_in_runs,
 };
 pub use numerics::{
     counts_are_of_digits_and_bits, integers_stand_for_signed_numbers, logic_goes_bit_by_bit,
@@ -21,5 +21,6 @@ pub use soundness::first_values_have_their_types;
 pub use storage::{bytes_are_read_and_written, bytes_represent_numbers};
 pub use structure::writing_is_read;
 pub use validation::{
-    operands_after_unreachable, operands_below_stay, typing_carries_over, typing_composes,
+    function_types_compare_by_structure, operands_after_unreachable, operands_below_stay,
+    typing_carries_over, typing_composes,
 };

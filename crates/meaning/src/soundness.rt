@@ -1,7 +1,7 @@
 //! Laws of typed values.
 
 ghost use Rattle.core_types.specs.declared.types.ValType.{ValType};
-ghost use Rattle.meaning.specs.execution.Instructions.{default_of};
+ghost use Rattle.meaning.specs.execution.Values.{default_of};
 ghost use Rattle.meaning.specs.soundness.Values.{ValueHasType};
 ghost use Rattle.meaning.specs.execution.Store.{Store};
 

@@ -1,11 +1,13 @@
 //! Laws and worked rows of typing.
 
-ghost use Rattle.std.specs.Prelude.{[], ◌++◌, List};
+ghost use Rattle.std.specs.Prelude.{◌≡◌, ◌↔◌, [], ◌++◌, List, IsTrue};
 ghost use Rattle.core_types.specs.declared.types.OperandType.{OperandType};
+ghost use Rattle.core_types.specs.declared.types.FuncType.{FuncType};
 ghost use Rattle.meaning.specs.structure.Bodies.{Body, joined};
 ghost use Rattle.meaning.specs.validation.Context.{Context};
 ghost use Rattle.meaning.specs.validation.ContextExtension.{Carries};
 ghost use Rattle.meaning.specs.validation.Rows.{sum_of_a_long, sum_of_any};
+ghost use Rattle.meaning.specs.validation.Types.{is_same_function_type};
 ghost use Rattle.meaning.specs.validation.Instructions.{AllFit, HasType};
 
 /// Law: a body leads from each stack that fits one from which it leads, to each that is fitted by one to which it leads; and
@@ -32,4 +34,9 @@ pub fn typing_carries_over()
 pub fn operands_after_unreachable()
     ensures any { (context : Context) → HasType context sum_of_any ([]) ([]) }
     ensures kept { (context : Context) → HasType context sum_of_a_long ([]) ([]) → ⊥ }
+{}
+
+/// Law: two types of functions are the same exactly where their parameters and results are.
+pub fn function_types_compare_by_structure()
+    ensures { (t u : FuncType) → IsTrue (is_same_function_type t u) ↔ (t ≡ u) }
 {}

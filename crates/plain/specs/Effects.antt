@@ -4,7 +4,7 @@ use Rattle.core_types.specs.declared.outcome.Trap.{Trap}
 use Rattle.core_types.specs.declared.outcome.Val.{Val}
 use Rattle.core_types.specs.declared.outcome.Val.TheVariants.{I32, I64, FuncRef, ExternRef}
 use Rattle.fuel.specs.Metering.{Metered}
-use Rattle.meaning.specs.execution.Instructions.{Effect, Done, Grown, Fails, Lacks, instruction_cost}
+use Rattle.meaning.specs.execution.Effects.{Effect, Done, Grown, Fails, Lacks, instruction_cost}
 use Rattle.meaning.specs.execution.Store.{Store}
 use Rattle.stacks.specs.Stacked.{OperandStack, operand_stack}
 use Rattle.plain.specs.declared.did.Did.{Did}

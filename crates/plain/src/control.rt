@@ -1,6 +1,6 @@
 ghost use Rattle.core_types.specs.declared.op.PlainOp.TheVariants.{Control};
 ghost use Rattle.meaning.specs.execution.Configurations.{Frame};
-ghost use Rattle.meaning.specs.execution.Instructions.{effect};
+ghost use Rattle.meaning.specs.execution.Effects.{effect};
 ghost use Rattle.meaning.specs.execution.Store.{Store};
 ghost use Rattle.stacks.specs.Stacked.{OperandStack};
 ghost use Rattle.plain.specs.Effects.{DidOperands};

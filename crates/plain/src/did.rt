@@ -7,7 +7,7 @@ pub enum Did {
     AllDone,
     /// It trapped.
     Failed(Trap),
-    /// Operands are missing or of another type, or the instruction is not defined yet.
+    /// Operands are missing or of another type.
     Lacking,
     /// There was no memory for the result.
     NoRoom,

@@ -1,5 +1,5 @@
 ghost use Rattle.std.specs.Prelude.{◌≡◌};
-ghost use Rattle.meaning.specs.execution.Instructions.{effect};
+ghost use Rattle.meaning.specs.execution.Effects.{effect};
 ghost use Rattle.store.specs.Contents.{store_with};
 ghost use Rattle.plain.specs.Effects.{HasEffect, IfDone, IsPaid};
 ghost use Rattle.plain.specs.Lookups.{frame_in};
@@ -11,6 +11,8 @@ use crate::parametric::{run_parametric, run_select};
 use crate::payment::pay;
 use crate::popping::push_value;
 use crate::progress::Progress;
+use crate::reference::run_reference;
+use crate::table::run_table;
 use crate::variable::run_variable;
 use core_types::{PlainOp, Val};
 use fuel::Meter;
@@ -18,8 +20,7 @@ use stacks::{FrameLocals, Operands};
 use store::{Code, State};
 
 /// Runs one instruction without control, in a frame of an instance, and pays for it (Execution, Instructions). The fuel is looked
-/// at before anything of the store changes. Of branches, returns and calls it answers `NotReady`, as of those instructions that
-/// are not defined yet.
+/// at before anything of the store changes. Of branches, returns and calls it answers `NotReady`.
 pub fn run_plain(
     op: &PlainOp,
     code: &Code,
@@ -42,10 +43,12 @@ pub fn run_plain(
         PlainOp::Parametric(op) => pay(run_parametric(*op, operands), meter),
         PlainOp::SelectTyped(_) => pay(run_select(operands), meter),
         PlainOp::Variable(op) => run_variable(*op, code, instance, state, locals, operands, meter),
+        PlainOp::Reference(op) => pay(run_reference(*op, code, instance, operands), meter),
+        PlainOp::Table(op) => run_table(*op, code, instance, state, operands, meter),
         PlainOp::Numeric(op) => pay(run_numeric(*op, operands), meter),
         PlainOp::Memory(op) => run_memory(*op, code, instance, state, operands, meter),
         PlainOp::I32Const(n) => pay(push_value(operands, Val::I32(*n)), meter),
         PlainOp::I64Const(n) => pay(push_value(operands, Val::I64(*n)), meter),
-        _ => Progress::NotReady,
+        PlainOp::BrTable(_) => Progress::NotReady,
     }
 }

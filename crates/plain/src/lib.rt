@@ -1,4 +1,5 @@
-//! Instructions without control, in a frame of an instance: on operands, locals, globals, memories and data segments, within the fuel.
+//! Instructions without control, in a frame of an instance: on operands, references, locals, globals, tables, memories and
+//! segments, within the fuel.
 #![tactic(auto)]
 
 mod control;
@@ -11,6 +12,8 @@ mod parametric;
 mod payment;
 mod popping;
 mod progress;
+mod reference;
+mod table;
 mod variable;
 
 pub use instructions::run_plain;

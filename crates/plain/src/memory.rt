@@ -1,7 +1,7 @@
 ghost use Rattle.std.specs.Prelude.{◌≡◌, ◌<◌, ℕ, List, length, Some};
 ghost use Rattle.core_types.specs.declared.op.MemoryOp.TheVariants.{Copy, Fill, Grow, Init, Load, Size, Store as StoreNumber};
 ghost use Rattle.core_types.specs.declared.outcome.Val.{Val as AnyVal};
-ghost use Rattle.meaning.specs.execution.Instructions.{drop_data, data_at, init_memory, memory_effect, memory_or_data_effect};
+ghost use Rattle.meaning.specs.execution.Effects.{drop_data, data_at, init_memory, memory_effect, memory_or_data_effect};
 ghost use Rattle.meaning.specs.execution.Memories.{stored_number};
 ghost use Rattle.store.specs.Contents.{Contents, store_with};
 ghost use Rattle.store.specs.State.{data_of, memory_of};
@@ -13,8 +13,8 @@ use crate::payment::pay;
 use crate::popping::{peek_i32, pop_i32, push_value};
 use crate::progress::Progress;
 use bulkops::{
-    copy_cost, data_drop, fill_cost, growth_cost, init_cost, mem_copy, mem_fill, mem_grow,
-    mem_init, mem_load, mem_size, mem_store,
+    data_drop, mem_copy, mem_copy_cost, mem_fill, mem_fill_cost, mem_grow, mem_grow_cost, mem_init,
+    mem_init_cost, mem_load, mem_size, mem_store,
 };
 use core_types::{LoadOp, MemArg, MemoryOp, StoreOp, Val, Width};
 use fuel::Meter;
@@ -117,7 +117,7 @@ fn run_grow(address: u32, state: &mut State, operands: &mut Operands, meter: &mu
     let Some(pages) = peek_i32(operands) else {
         return Progress::NotReady;
     };
-    let cost = growth_cost(state, address, pages);
+    let cost = mem_grow_cost(state, address, pages);
     if meter.left() < cost {
         return Progress::NoFuel;
     }
@@ -150,7 +150,7 @@ fn run_fill(address: u32, state: &mut State, operands: &mut Operands, meter: &mu
     let Some(offset) = pop_i32(operands) else {
         return Progress::NotReady;
     };
-    if !meter.try_spend(fill_cost(state, address, offset, count)) {
+    if !meter.try_spend(mem_fill_cost(state, address, offset, count)) {
         return Progress::NoFuel;
     }
     match mem_fill(state, address, offset, value, count) {
@@ -178,7 +178,7 @@ fn run_copy(address: u32, state: &mut State, operands: &mut Operands, meter: &mu
     let Some(target) = pop_i32(operands) else {
         return Progress::NotReady;
     };
-    if !meter.try_spend(copy_cost(state, address, target, from, count)) {
+    if !meter.try_spend(mem_copy_cost(state, address, target, from, count)) {
         return Progress::NoFuel;
     }
     match mem_copy(state, address, target, from, count) {
@@ -213,7 +213,7 @@ fn run_init(
     let Some(target) = pop_i32(operands) else {
         return Progress::NotReady;
     };
-    if !meter.try_spend(init_cost(state, address, segment, target, from, count)) {
+    if !meter.try_spend(mem_init_cost(state, address, segment, target, from, count)) {
         return Progress::NoFuel;
     }
     match mem_init(state, address, segment, target, from, count) {

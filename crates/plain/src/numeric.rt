@@ -1,5 +1,5 @@
 ghost use Rattle.meaning.specs.execution.Configurations.{Frame};
-ghost use Rattle.meaning.specs.execution.Instructions.{numeric_effect};
+ghost use Rattle.meaning.specs.execution.Effects.{numeric_effect};
 ghost use Rattle.meaning.specs.execution.Store.{Store};
 ghost use Rattle.core_types.specs.declared.op.NumericOp.TheVariants.{Eqz, Compare, Unary, Binary, Convert};
 ghost use Rattle.core_types.specs.declared.op.Width.TheVariants.{W32, W64};

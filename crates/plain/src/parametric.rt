@@ -1,5 +1,5 @@
 ghost use Rattle.meaning.specs.execution.Configurations.{Frame};
-ghost use Rattle.meaning.specs.execution.Instructions.{parametric_effect, select_operand};
+ghost use Rattle.meaning.specs.execution.Effects.{parametric_effect, select_operand};
 ghost use Rattle.meaning.specs.execution.Store.{Store};
 ghost use Rattle.core_types.specs.declared.op.ParametricOp.TheVariants.{DropOperand};
 ghost use Rattle.plain.specs.Effects.{DidOperands};

@@ -1,6 +1,6 @@
 ghost use Rattle.std.specs.Prelude.{List};
 ghost use Rattle.core_types.specs.declared.outcome.Val.{Val as AnyVal};
-ghost use Rattle.meaning.specs.execution.Instructions.{Effect};
+ghost use Rattle.meaning.specs.execution.Effects.{Effect};
 ghost use Rattle.meaning.specs.execution.Store.{Store};
 ghost use Rattle.stacks.specs.Stacked.{OperandStack};
 ghost use Rattle.plain.specs.Effects.{DidOperands, HasEffect, IsPaid};

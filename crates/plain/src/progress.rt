@@ -12,6 +12,6 @@ pub enum Progress {
     NoFuel,
     /// There was no memory for the result, or for a growth.
     NoMemory,
-    /// Operands are missing or of another type, or what it names is not there, or the instruction is not defined yet.
+    /// Operands are missing or of another type, or what it names is not there.
     NotReady,
 }

@@ -2,7 +2,7 @@ ghost use Rattle.std.specs.Prelude.{◌≡◌, List};
 ghost use Rattle.core_types.specs.declared.outcome.Val.{Val as AnyVal};
 ghost use Rattle.core_types.specs.declared.op.VariableOp.TheVariants.{GlobalGet, GlobalSet, LocalGet, LocalSet, LocalTee};
 ghost use Rattle.meaning.specs.execution.Configurations.{Frame};
-ghost use Rattle.meaning.specs.execution.Instructions.{variable_effect};
+ghost use Rattle.meaning.specs.execution.Effects.{variable_effect};
 ghost use Rattle.meaning.specs.execution.Store.{Store};
 ghost use Rattle.store.specs.Contents.{store_with};
 ghost use Rattle.plain.specs.Effects.{DidOperands, HasEffect, IfDone, IsPaid};

@@ -1,8 +1,10 @@
 //! The steps of a call: a module is loaded, linked, looked into and run. A check decodes and validates alone.
 
-use crate::linking::{new_objects, run_data_segments};
+use crate::linking::LinkEnd;
+use crate::objects::new_objects;
 use crate::refusals::Refusal;
-use crate::support::is_run;
+use crate::segments::run_segments;
+use crate::support::is_linked;
 use binary::decode;
 use core_types::{Export, ExportDesc, Val, ValType};
 use exec::{HostTable, Outcome, invoke};
@@ -29,23 +31,11 @@ pub fn check(alloc: Global, bytes: &[u8]) -> Result<(), Refusal> {
     Ok(())
 }
 
-/// Why a module is not linked to its end.
-#[derive(Drop)]
-pub enum LinkEnd {
-    /// It is refused, and nothing has changed.
-    Refused(Refusal),
-    /// A trap or an exhaustion ended the link, and what was done stays.
-    Ended(Outcome),
-}
-
-impl From<Refusal> for LinkEnd {
-    fn from(refusal: Refusal) -> LinkEnd {
-        LinkEnd::Refused(refusal)
-    }
-}
-
 // How many pages a memory may have at most.
 const PAGES: u32 = 1_024;
+
+// How many entries a table may have at most.
+const ENTRIES: u32 = 1_000_000;
 
 /// A store of linked modules, the fuel for calls into it, and how many frames a call may have open at once.
 #[derive(Drop)]
@@ -62,7 +52,7 @@ impl Engine {
     pub fn new(alloc: Global, fuel: u64, depth: u32) -> Engine {
         Engine {
             alloc,
-            store: Store::new(alloc, PAGES),
+            store: Store::new(alloc, PAGES, ENTRIES),
             hosts: HostTable::new(alloc),
             fuel,
             depth,
@@ -74,10 +64,10 @@ impl Engine {
         self.fuel
     }
 
-    /// The module that bytes spell, if it is valid and all of it is run.
+    /// The module that bytes spell, if it is valid and all of it is linked.
     pub fn load(&self, bytes: &[u8]) -> Result<Rc<LoadedModule>, Refusal> {
         let given = decode(self.alloc, bytes)?;
-        if !is_run(&given) {
+        if !is_linked(&given) {
             return Err(Refusal::Unsupported);
         }
         let validated = validate(self.alloc, given)?;
@@ -89,30 +79,30 @@ impl Engine {
     }
 
     // Puts an instance of a module without imports into the store, with its objects, and answers its number.
-    fn append(&mut self, loaded: &Rc<LoadedModule>) -> Result<u32, Refusal> {
+    fn append(&mut self, loaded: &Rc<LoadedModule>) -> Result<u32, LinkEnd> {
         let wanted = loaded.as_ref().module();
         let first_function = self.store.code().function_count();
-        let pages = self.store.state().pages();
-        let objects = new_objects(self.alloc, wanted, first_function, pages)?;
+        let (entries, pages) = (self.store.state().entries(), self.store.state().pages());
+        let objects = new_objects(self.alloc, wanted, first_function, entries, pages)?;
         if !self.store.has_room_for(wanted, &objects) {
-            return Err(Refusal::Limit);
+            return Err(LinkEnd::Refused(Refusal::Limit));
         }
         let shared = loaded.clone()?;
         Ok(self.store.append_module(self.alloc, shared, objects)?)
     }
 
-    /// Links a module without imports, and answers the number of its instance: its objects are made, and its active data segments
-    /// are copied into its memory within the fuel. A module may be linked many times.
+    /// Links a module without imports, and answers the number of its instance: its objects are made, and its segments are copied
+    /// or dropped within the fuel. A module may be linked many times.
     pub fn link(&mut self, loaded: &Rc<LoadedModule>) -> Result<u32, LinkEnd> {
         let instance = self.append(loaded)?;
         let mut meter = Meter::new(self.fuel, self.depth);
         let (code, state) = self.store.parts_mut();
-        let datas = loaded.as_ref().module().datas.as_slice();
-        let ended = run_data_segments(code, state, &mut meter, instance, datas);
+        let linked = loaded.as_ref().module();
+        let ended = run_segments(code, state, &mut meter, instance, linked);
         self.fuel = meter.left();
         match ended {
-            None => Ok(instance),
-            Some(outcome) => Err(LinkEnd::Ended(outcome)),
+            Ok(()) => Ok(instance),
+            Err(end) => Err(end),
         }
     }
 

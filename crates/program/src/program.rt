@@ -3,8 +3,9 @@
 ghost use Rattle.program.specs.Statuses.{IsStatus};
 
 use crate::args::{ArgsFault, read_args};
-use crate::engine::{Engine, LinkEnd, check};
+use crate::engine::{Engine, check};
 use crate::inputs::{Files, ReadFault};
+use crate::linking::LinkEnd;
 use crate::print::{print_end, print_fault, print_valid};
 use crate::refusals::Refusal;
 use command_line::{CallOrder, Order, WordsFault, read_words};

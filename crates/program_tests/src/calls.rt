@@ -11,7 +11,7 @@ struct Run {
 }
 
 #[rattlefmt::skip]
-static RUN: [Run; 22] = [
+static RUN: [Run; 29] = [
     Run {
         name: "i32.eqz",
         sections: "0105016000017F 03020100 07050101660000 0A070105004100450B",
@@ -122,6 +122,41 @@ static RUN: [Run; 22] = [
         sections: "0105016000017F 0303020000 07050101660000 0A0E020700100141016A0B040041070B",
         out: "i32 8\nfuel left 96\n",
     },
+    Run {
+        name: "ref.null",
+        sections: "0105016000017F 03020100 07050101660000 0A09010700D0701A41070B",
+        out: "i32 7\nfuel left 97\n",
+    },
+    Run {
+        name: "ref.is_null",
+        sections: "0105016000017F 03020100 07050101660000 0A07010500D070D10B",
+        out: "i32 1\nfuel left 98\n",
+    },
+    Run {
+        name: "ref.func",
+        sections: "0105016000017F 03020100 07050101660000 0A09010700D2001A41070B",
+        out: "i32 7\nfuel left 97\n",
+    },
+    Run {
+        name: "ref.null within a block that is left",
+        sections: "0105016000017F 03020100 07050101660000 0A0E010C0002400C00D0701A0B41070B",
+        out: "i32 7\nfuel left 97\n",
+    },
+    Run {
+        name: "ref.is_null in the second function",
+        sections: "0105016000017F 0303020000 07050101660000 0A0C02040041070B0500D070D10B",
+        out: "i32 7\nfuel left 99\n",
+    },
+    Run {
+        name: "a table",
+        sections: "0105016000017F 03020100 040401700001 07050101660000 0A0601040041070B",
+        out: "i32 7\nfuel left 99\n",
+    },
+    Run {
+        name: "a passive element segment",
+        sections: "0105016000017F 03020100 07050101660000 09050101000100 0A0601040041070B",
+        out: "i32 7\nfuel left 99\n",
+    },
 ];
 
 fn is_run(alloc: Global, run: &Run) -> Result<bool, AllocError> {
@@ -136,56 +171,35 @@ fn runs_each_group_of_instructions(rt: HostRuntime) {
     }
 }
 
-// A name, and the sections of a module.
-struct NotRun {
+// A name, the sections of a module, and the line with which a call of it is refused.
+struct Refused {
     name: &'static str,
     sections: &'static str,
+    line: &'static str,
 }
 
 #[rattlefmt::skip]
-static NOT_RUN: [NotRun; 13] = [
-    NotRun { name: "ref.null", sections: "0105016000017F 03020100 07050101660000 0A09010700D0701A41070B" },
-    NotRun { name: "ref.is_null", sections: "0105016000017F 03020100 07050101660000 0A07010500D070D10B" },
-    NotRun { name: "ref.func", sections: "0105016000017F 03020100 07050101660000 0A09010700D2001A41070B" },
-    NotRun { name: "table.get", sections: "0105016000017F 03020100 07050101660000 0A0B010900410025001A41070B" },
-    NotRun { name: "table.size", sections: "0105016000017F 03020100 07050101660000 0A07010500FC10000B" },
-    NotRun { name: "elem.drop", sections: "0105016000017F 03020100 07050101660000 0A09010700FC0D0041070B" },
-    NotRun { name: "call_indirect", sections: "0105016000017F 03020100 07050101660000 0A0901070041001100000B" },
-    NotRun {
-        name: "ref.null_within_a_block_that_is_left",
-        sections: "0105016000017F 03020100 07050101660000 0A0E010C0002400C00D0701A0B41070B",
-    },
-    NotRun {
-        name: "ref.null_in_the_second_function",
-        sections: "0105016000017F 0303020000 07050101660000 0A0C02040041070B0500D070D10B",
-    },
-    NotRun {
-        name: "an_import",
-        sections: "0105016000017F 020701016101620000 03020100 07050101660000 0A0601040041070B",
-    },
-    NotRun { name: "a_table", sections: "0105016000017F 03020100 040401700001 07050101660000 0A0601040041070B" },
-    NotRun {
-        name: "an_element_segment",
-        sections: "0105016000017F 03020100 07050101660000 09050101000100 0A0601040041070B",
-    },
-    NotRun {
-        name: "a_start",
-        sections: "0108026000017F600000 0303020001 07050101660000 080101 0A0A02040041070B0300010B",
-    },
+static REFUSED: [Refused; 6] = [
+    Refused { name: "table.get of no table", sections: "0105016000017F 03020100 07050101660000 0A0B010900410025001A41070B", line: "refused 4 Invalid\n" },
+    Refused { name: "table.size of no table", sections: "0105016000017F 03020100 07050101660000 0A07010500FC10000B", line: "refused 4 Invalid\n" },
+    Refused { name: "elem.drop of no segment", sections: "0105016000017F 03020100 07050101660000 0A09010700FC0D0041070B", line: "refused 4 Invalid\n" },
+    Refused { name: "call_indirect through no table", sections: "0105016000017F 03020100 07050101660000 0A0901070041001100000B", line: "refused 4 Invalid\n" },
+    Refused { name: "an import", sections: "0105016000017F 020701016101620000 03020100 07050101660000 0A0601040041070B", line: "refused 2 Unsupported\n" },
+    Refused { name: "a start function", sections: "0108026000017F600000 0303020001 07050101660000 080101 0A0A02040041070B0300010B", line: "refused 2 Unsupported\n" },
 ];
 
-fn is_refused(alloc: Global, sections: &str) -> Result<bool, AllocError> {
-    let ending = Ending::Err("refused 2 Unsupported\n", 5);
-    ends_so_on(alloc, "call module.wasm f", sections, ending)
+fn is_refused(alloc: Global, row: &Refused) -> Result<bool, AllocError> {
+    ends_so_on(
+        alloc,
+        "call module.wasm f",
+        row.sections,
+        Ending::Err(row.line, 5),
+    )
 }
 
 #[test]
-fn refuses_what_is_not_run(rt: HostRuntime) {
-    for row in &NOT_RUN {
-        assert!(rt;
-            is_refused(rt.alloc(), row.sections) == Ok(true),
-            "{}",
-            row.name
-        );
+fn refuses_what_is_invalid_or_not_linked(rt: HostRuntime) {
+    for row in &REFUSED {
+        assert!(rt; is_refused(rt.alloc(), row) == Ok(true), "{}", row.name);
     }
 }

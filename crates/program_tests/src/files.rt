@@ -3,7 +3,7 @@
 use crate::runs::{Row, ends_so, words_of};
 use program::{Files, ReadFault, System};
 use std::alloc::{AllocError, Global};
-use testing::bytes_of;
+use testing::{assemble, bytes_of};
 
 // A file in memory: its path, and its bytes in hexadecimal numbers, or none where they are too many for memory.
 struct File {
@@ -125,6 +125,22 @@ impl Files for OneModule<'_> {
         match module_of(self.alloc, self.sections) {
             Ok(bytes) => Ok(bytes),
             Err(_) => Err(ReadFault::Memory),
+        }
+    }
+}
+
+/// One module in the text format, whatever the path.
+#[derive(Drop)]
+pub struct TextModule<'a> {
+    pub alloc: Global,
+    pub text: &'a str,
+}
+
+impl Files for TextModule<'_> {
+    fn read(&mut self, _path: &str) -> Result<Vec<u8>, ReadFault> {
+        match assemble(self.alloc, self.text) {
+            Ok(bytes) => Ok(bytes),
+            Err(_) => Err(ReadFault::Failed),
         }
     }
 }

@@ -24,4 +24,6 @@ mod printing;
 #[cfg(test)]
 mod runs;
 #[cfg(test)]
+mod tables;
+#[cfg(test)]
 mod usage;

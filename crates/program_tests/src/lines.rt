@@ -45,7 +45,7 @@ static FAULTS: [Row; 18] = [
     Row { words: "call short.wasm add 1 2", ending: Ending::Err("refused 1 Malformed\n", 5) },
     Row { words: "call short.wasm sub x", ending: Ending::Err("refused 1 Malformed\n", 5) },
     Row { words: "call floating.wasm add 1 2", ending: Ending::Err("refused 2 Unsupported\n", 5) },
-    Row { words: "call table.wasm add 1 2", ending: Ending::Err("refused 2 Unsupported\n", 5) },
+    Row { words: "call table.wasm add 1 2", ending: Ending::Err("refused 9 UnknownExport\n", 2) },
     Row { words: "call memory.wasm add 1 2", ending: Ending::Err("refused 9 UnknownExport\n", 2) },
     Row { words: "call empty_body.wasm add 1 2", ending: Ending::Err("refused 4 Invalid\n", 5) },
     Row { words: "call huge.wasm add 1 2", ending: Ending::Err("refused 13 OutOfMemory\n", 6) },

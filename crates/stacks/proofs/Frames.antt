@@ -4,7 +4,7 @@ use Rattle.std.specs.Prelude.{Some, None, slice_get}
 use Rattle.std.proofs.lemmas.List.{map-append}
 use Rattle.core_types.specs.declared.types.ValType.{ValType}
 use Rattle.core_types.specs.declared.outcome.Val.{Val}
-use Rattle.meaning.specs.execution.Instructions.{default_of}
+use Rattle.meaning.specs.execution.Values.{default_of}
 
 take-next : {A : Type 0} (xs : List A) (k : ℕ) (x : A) → slice_get xs k ≡ Some x → take (suc k) xs ≡ take k xs ++ x ∷ []
 take-next [] k x e = absurd cc

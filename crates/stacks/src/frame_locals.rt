@@ -1,7 +1,7 @@
 ghost use Rattle.std.specs.Prelude.{◌≡◌, ◌≤◌, ◌<◌, ◌↔◌, List, [], ◌++◌, length, map, take, slice_get, slice_set, OnOk, OnErr, IsTrue};
 ghost use Rattle.std.specs.Bool.{OnTrue, OnFalse};
 ghost use Rattle.core_types.specs.declared.outcome.Val.{Val as AnyVal};
-ghost use Rattle.meaning.specs.execution.Instructions.{default_of};
+ghost use Rattle.meaning.specs.execution.Values.{default_of};
 ghost use Rattle.stacks.specs.Stacked.{local_stack};
 
 use core_types::{Locals, Val, ValType};

@@ -70,15 +70,19 @@ consecutive first (suc count) = first ∷ consecutive (suc first) count
 -- The addresses of what an instance has, a list a kind.
 pub record AddressLists : Type 0 where
   pub functions : List ℕ
+  pub tables : List ℕ
   pub memories : List ℕ
   pub globals : List ℕ
+  pub elements : List ℕ
   pub datas : List ℕ
 
 abbrev pub lists_of : Addresses → AddressLists
 lists_of addresses = record {
   functions = addresses.functions.items;
+  tables = addresses.tables.items;
   memories = addresses.memories.items;
   globals = addresses.globals.items;
+  elements = addresses.elements.items;
   datas = addresses.datas.items;
 }
 
@@ -87,8 +91,10 @@ abbrev pub module_instance : AddressLists → Module → ModuleInstance
 module_instance addresses m = record {
   types = m.types;
   functions = addresses.functions;
+  tables = addresses.tables;
   memories = addresses.memories;
   globals = addresses.globals;
+  elements = addresses.elements;
   datas = addresses.datas;
   exports = m.exports;
 }
@@ -108,10 +114,13 @@ abbrev pub store_with : Contents → StateContents → Store
 store_with code state = record {
   functions = functions_in code;
   instances = instances_in code;
+  tables = state.contents.tables;
   memories = state.contents.memories;
   globals = state.contents.globals;
+  elements = state.contents.elements;
   datas = state.contents.datas;
-  pages = state.pages;
+  pages = state.bounds.pages;
+  entries = state.bounds.entries;
 }
 
 -- The store of this code alone.
@@ -119,10 +128,13 @@ abbrev pub code_store : Contents → Store
 code_store code = record {
   functions = functions_in code;
   instances = instances_in code;
+  tables = [];
   memories = [];
   globals = [];
+  elements = [];
   datas = [];
   pages = 0;
+  entries = 0;
 }
 
 -- Both parts of what the store holds.
@@ -143,8 +155,10 @@ functions_of instance m funcs =
 abbrev pub new_addresses : Store → Module → ObjectLists → AddressLists
 new_addresses store m objects = record {
   functions = consecutive (length store.functions) (length m.funcs);
+  tables = consecutive (length store.tables) (length objects.tables);
   memories = consecutive (length store.memories) (length objects.memories);
   globals = consecutive (length store.globals) (length objects.globals);
+  elements = consecutive (length store.elements) (length objects.elements);
   datas = consecutive (length store.datas) (length objects.datas);
 }
 
@@ -153,18 +167,23 @@ abbrev pub with_module : Store → Module → ObjectLists → Store
 with_module store m objects = record {
   functions = store.functions ++ functions_of (length store.instances) m m.funcs;
   instances = store.instances ++ module_instance (new_addresses store m objects) m ∷ [];
+  tables = store.tables ++ objects.tables;
   memories = store.memories ++ objects.memories;
   globals = store.globals ++ objects.globals;
+  elements = store.elements ++ objects.elements;
   datas = store.datas ++ objects.datas;
   pages = store.pages;
+  entries = store.entries;
 }
 
 -- Addresses and instance numbers have 32 bits.
 pub record HasRoom (s : BothParts) (m : Module) (objects : ObjectLists) : Type 0 where
   pub functions : length s.code.functions + length m.funcs < 2 ^ 32
   pub instances : length s.code.instances + 1 < 2 ^ 32
+  pub tables : length s.state.contents.tables + length objects.tables < 2 ^ 32
   pub memories : length s.state.contents.memories + length objects.memories < 2 ^ 32
   pub globals : length s.state.contents.globals + length objects.globals < 2 ^ 32
+  pub elements : length s.state.contents.elements + length objects.elements < 2 ^ 32
   pub datas : length s.state.contents.datas + length objects.datas < 2 ^ 32
 
 -- The entries of an instance's functions of these indices.

@@ -40,8 +40,8 @@ impl GlobalVariable {
         self.value
     }
 
-    /// Sets the value.
-    pub fn set(&mut self, value: Val)
+    // Sets the value.
+    pub(crate) fn set(&mut self, value: Val)
         ensures { self.new ≡ record { ty = self.old.ty; value = value } }
     {
         self.value = value;

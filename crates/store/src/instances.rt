@@ -23,8 +23,10 @@ pub struct FunctionInstance {
 #[derive(Drop)]
 pub struct Addresses {
     pub functions: Vec<u32>,
+    pub tables: Vec<u32>,
     pub memories: Vec<u32>,
     pub globals: Vec<u32>,
+    pub elements: Vec<u32>,
     pub datas: Vec<u32>,
 }
 
@@ -122,6 +124,14 @@ impl Code {
         found.addresses.functions.get(x as usize).copied()
     }
 
+    /// The address of the table that an instance has under an index, if there is one.
+    pub fn table_address(&self, instance: u32, x: u32) -> Option<u32>
+        ensures { result ≡ slice_get (instance_of (code_store self.now) (Some instance)).tables x }
+    {
+        let found = item(&self.instances, instance)?;
+        found.addresses.tables.get(x as usize).copied()
+    }
+
     /// The address of the memory that an instance has under an index, if there is one.
     pub fn memory_address(&self, instance: u32, x: u32) -> Option<u32>
         ensures { result ≡ slice_get (instance_of (code_store self.now) (Some instance)).memories
@@ -137,6 +147,15 @@ impl Code {
     {
         let found = item(&self.instances, instance)?;
         found.addresses.globals.get(x as usize).copied()
+    }
+
+    /// The address of the element segment that an instance has under an index, if there is one.
+    pub fn element_address(&self, instance: u32, x: u32) -> Option<u32>
+        ensures { result ≡ slice_get (instance_of (code_store self.now) (Some instance)).elements
+            x }
+    {
+        let found = item(&self.instances, instance)?;
+        found.addresses.elements.get(x as usize).copied()
     }
 
     /// The address of the data segment that an instance has under an index, if there is one.

@@ -1,10 +1,11 @@
 //! The store of a run, in two parts: functions and module instances by address, with the positions at which the bodies of code end;
-//! and memories, globals and data segments by address, which a run may change.
+//! and tables, memories, globals and segments by address, which a run may change.
 #![tactic(auto)]
 
 mod arguments;
 mod ends;
 mod entries;
+mod externs;
 mod globals;
 mod instances;
 mod loaded_modules;
@@ -13,6 +14,7 @@ mod memories;
 mod segments;
 mod state;
 mod store;
+mod tables;
 
 pub use arguments::accepts;
 pub use ends::ends_of;
@@ -20,6 +22,7 @@ pub use globals::GlobalVariable;
 pub use instances::{Addresses, Callee, Code, FunctionInstance, Instance};
 pub use loaded_modules::LoadedModule;
 pub use memories::Memory;
-pub use segments::DataSegment;
+pub use segments::{DataSegment, ElementSegment};
 pub use state::{Objects, State};
 pub use store::Store;
+pub use tables::Table;

@@ -55,16 +55,16 @@ impl Memory {
         &self.bytes
     }
 
-    /// The bytes, for writing. Their number stays.
-    pub fn bytes_mut(&mut self) -> &mut [u8]
+    // The bytes, for writing. Their number stays.
+    pub(crate) fn bytes_mut(&mut self) -> &mut [u8]
         ensures* lent { sem 𝓛 (LendsBytes self.entry result) }
         ensures same { result.now ≡ self.old.bytes }
     {
         self.bytes.as_mut_slice()
     }
 
-    /// Adds pages of zeros. Where memory runs out, the memory is as before.
-    pub fn grow(&mut self, pages: u32) -> Result<(), AllocError>
+    // Adds pages of zeros. Where memory runs out, the memory is as before.
+    pub(crate) fn grow(&mut self, pages: u32) -> Result<(), AllocError>
         requires { self.old.limits.min + pages ≤ 65536 }
         ensures grown { OnOk result (self.new ≡ grow_by self.old pages) }
         ensures unchanged { OnErr result (self.new ≡ self.old) }

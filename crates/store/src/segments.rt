@@ -1,7 +1,46 @@
 ghost use Rattle.std.specs.Prelude.{◌≡◌, []};
 
+use core_types::{RefType, Val};
 use std::alloc::Global;
 use std::marker::Model;
+
+/// An element segment: the type of its references, and these, none once it was dropped (Execution, Element Instances).
+#[derive(Drop)]
+pub struct ElementSegment {
+    ty: RefType,
+    references: Vec<Val>,
+}
+
+impl Model for ElementSegment {
+    ghost use Rattle.meaning.specs.execution.Tables.{ElementInstance};
+
+    ghost Value = { ElementInstance };
+
+    ghost view = { λ s. record { ty = s.ty; references = s.references.items } };
+}
+
+impl ElementSegment {
+    /// A segment of these references.
+    pub fn new(ty: RefType, references: Vec<Val>) -> ElementSegment
+        ensures { result ≡ record { ty = ty; references = references.items } }
+    {
+        ElementSegment { ty, references }
+    }
+
+    /// The references, for reading.
+    pub fn references(&self) -> &[Val]
+        ensures { result.now ≡ self.now.references }
+    {
+        &self.references
+    }
+
+    // Gives the references back. Takes no memory.
+    pub(crate) fn clear(&mut self, alloc: Global)
+        ensures { self.new ≡ record { ty = self.old.ty; references = [] } }
+    {
+        self.references = Vec::new(alloc);
+    }
+}
 
 /// A data segment: its bytes, none once it was dropped (Execution, Data Instances).
 #[derive(Drop)]
@@ -32,8 +71,8 @@ impl DataSegment {
         &self.bytes
     }
 
-    /// Gives the bytes back. Takes no memory.
-    pub fn clear(&mut self, alloc: Global)
+    // Gives the bytes back. Takes no memory.
+    pub(crate) fn clear(&mut self, alloc: Global)
         ensures { self.new.bytes ≡ [] }
     {
         self.bytes = Vec::new(alloc);

@@ -1,21 +1,28 @@
-ghost use Rattle.std.specs.Prelude.{◌≡◌, ◌+◌, ◌<◌, ◌≤◌, [], length, slice_get, option_copied, OnOk, OnErr};
+ghost use Rattle.std.specs.Prelude.{◌≡◌, ◌≢◌, ◌+◌, ◌<◌, ◌≤◌, [], length, replicate, slice_get, slice_set, option_copied, OnOk, OnErr};
 ghost use Rattle.std.specs.Borrow.{sem};
 ghost use Rattle.meaning.specs.execution.Memories.{grow_by};
 ghost use Rattle.store.specs.Lending.{LendsMemory};
-ghost use Rattle.store.specs.State.{AreWithin, Fits, append_objects, data_of, memory_of, no_objects, put_data, put_global, put_memory};
+ghost use Rattle.meaning.specs.execution.Storage.{items_at, overwrite};
+ghost use Rattle.meaning.specs.execution.Tables.{grow_entries};
+ghost use Rattle.store.specs.State.{AreWithin, Fits, append_objects, data_of, elements_of, memory_of, no_objects, put_data, put_elements, put_global, put_memory, put_table, table_of};
+ghost use Rattle.store.specs.Tables.{with_entries};
 
 use crate::globals::GlobalVariable;
 use crate::memories::Memory;
-use crate::segments::DataSegment;
+use crate::segments::{DataSegment, ElementSegment};
+use crate::tables::Table;
 use core_types::Val;
 use std::alloc::{AllocError, Global};
 use std::marker::Model;
+use std::mem;
 
 /// Objects that a run may change, a list a kind.
 #[derive(Drop)]
 pub struct Objects {
+    pub tables: Vec<Table>,
     pub memories: Vec<Memory>,
     pub globals: Vec<GlobalVariable>,
+    pub elements: Vec<ElementSegment>,
     pub datas: Vec<DataSegment>,
 }
 
@@ -24,17 +31,20 @@ impl Model for Objects {
 
     ghost Value = { ObjectLists };
 
-    ghost view = { λ o. record { memories = o.memories.items; globals = o.globals.items; datas = o.datas.items } };
+    ghost view = { λ o. record { tables = o.tables.items; memories = o.memories.items; globals = o.globals.items; elements = o.elements.items; datas = o.datas.items } };
 }
 
-/// What a run may change of the store: memories, globals and data segments by address.
+/// What a run may change of the store: tables, memories, globals and segments by address.
 #[derive(Drop)]
 pub struct State {
     alloc: Global,
+    tables: Vec<Table>,
     memories: Vec<Memory>,
     globals: Vec<GlobalVariable>,
+    elements: Vec<ElementSegment>,
     datas: Vec<DataSegment>,
     pages: u32,
+    entries: u32,
 }
 
 impl Model for State {
@@ -44,34 +54,51 @@ impl Model for State {
     ghost Value = { StateContents };
 
     ghost view = { λ s. record {
-      contents = record { memories = s.memories.items; globals = s.globals.items; datas = s.datas.items };
-      room = record { memories = vec_capacity s.memories - vec_len s.memories; globals = vec_capacity s.globals - vec_len s.globals; datas = vec_capacity s.datas - vec_len s.datas };
-      pages = s.pages;
+      contents = record { tables = s.tables.items; memories = s.memories.items; globals = s.globals.items; elements = s.elements.items; datas = s.datas.items };
+      room = record { tables = vec_capacity s.tables - vec_len s.tables; memories = vec_capacity s.memories - vec_len s.memories; globals = vec_capacity s.globals - vec_len s.globals; elements = vec_capacity s.elements - vec_len s.elements; datas = vec_capacity s.datas - vec_len s.datas };
+      bounds = record { entries = s.entries; pages = s.pages };
     } };
 
-    ghost invariant = { λ s. AreWithin s.pages s.memories.items };
+    ghost invariant = { λ s. AreWithin (record { entries = s.entries; pages = s.pages }) s.tables.items s.memories.items };
 }
 
 impl State {
-    /// No objects. A memory may have this many pages at most. Takes no memory.
-    pub fn new(alloc: Global, pages: u32) -> State
+    /// No objects. A memory may have this many pages and a table this many entries at most. Takes no memory.
+    pub fn new(alloc: Global, pages: u32, entries: u32) -> State
         ensures contents { result.contents ≡ no_objects }
-        ensures pages { result.pages ≡ pages }
+        ensures bounds { result.bounds ≡ record { entries = entries; pages = pages } }
     {
         State {
             alloc,
+            tables: Vec::new(alloc),
             memories: Vec::new(alloc),
             globals: Vec::new(alloc),
+            elements: Vec::new(alloc),
             datas: Vec::new(alloc),
             pages,
+            entries,
         }
     }
 
     /// How many pages a memory may have at most.
     pub fn pages(&self) -> u32
-        ensures { result ≡ self.now.pages }
+        ensures { result ≡ self.now.bounds.pages }
     {
         self.pages
+    }
+
+    /// How many entries a table may have at most.
+    pub fn entries(&self) -> u32
+        ensures { result ≡ self.now.bounds.entries }
+    {
+        self.entries
+    }
+
+    /// How many tables there are.
+    pub fn table_count(&self) -> usize
+        ensures { result ≡ length self.now.contents.tables }
+    {
+        self.tables.len()
     }
 
     /// How many memories there are.
@@ -88,6 +115,13 @@ impl State {
         self.globals.len()
     }
 
+    /// How many element segments there are.
+    pub fn element_count(&self) -> usize
+        ensures { result ≡ length self.now.contents.elements }
+    {
+        self.elements.len()
+    }
+
     /// How many data segments there are.
     pub fn data_count(&self) -> usize
         ensures { result ≡ length self.now.contents.datas }
@@ -98,11 +132,13 @@ impl State {
     /// Makes room for these objects. What is there stays, also where memory runs out.
     pub fn reserve_all(&mut self, objects: &Objects) -> Result<(), AllocError>
         ensures contents { self.new.contents ≡ self.old.contents }
-        ensures pages { self.new.pages ≡ self.old.pages }
+        ensures bounds { self.new.bounds ≡ self.old.bounds }
         ensures fits { OnOk result (Fits self.new.room objects.now) }
     {
+        self.tables.try_reserve(objects.tables.len())?;
         self.memories.try_reserve(objects.memories.len())?;
         self.globals.try_reserve(objects.globals.len())?;
+        self.elements.try_reserve(objects.elements.len())?;
         self.datas.try_reserve(objects.datas.len())?;
         Ok(())
     }
@@ -110,13 +146,107 @@ impl State {
     /// Adds objects for which there is room. Takes no memory.
     pub fn append_all(&mut self, mut objects: Objects)
         requires fits { Fits self.old.room objects }
-        requires within { AreWithin self.old.pages objects.memories }
+        requires within { AreWithin self.old.bounds objects.tables objects.memories }
         ensures contents { self.new.contents ≡ append_objects self.old.contents objects }
-        ensures pages { self.new.pages ≡ self.old.pages }
+        ensures bounds { self.new.bounds ≡ self.old.bounds }
     {
+        let _ = self.tables.append(&mut objects.tables);
         let _ = self.memories.append(&mut objects.memories);
         let _ = self.globals.append(&mut objects.globals);
+        let _ = self.elements.append(&mut objects.elements);
         let _ = self.datas.append(&mut objects.datas);
+    }
+
+    /// The table at an address, if there is one.
+    pub fn table(&self, address: u32) -> Option<&Table>
+        ensures { option_copied result ≡ slice_get self.now.contents.tables address }
+    {
+        self.tables.get(address as usize)
+    }
+
+    /// Sets an entry of a table.
+    pub fn set_entry(&mut self, address: u32, offset: u32, value: Val)
+        requires there { address < length self.old.contents.tables }
+        requires within { offset < length (table_of self.old address).entries }
+        ensures { self.new ≡ put_table self.old address (with_entries (table_of self.old address)
+            (slice_set (table_of self.old address).entries offset value)) }
+    {
+        let table = &mut self.tables[address as usize];
+        table.set(offset, value);
+    }
+
+    /// Gives that many entries of a table a value.
+    pub fn fill_entries(&mut self, address: u32, offset: u32, value: Val, count: u32)
+        requires there { address < length self.old.contents.tables }
+        requires within { offset + count ≤ length (table_of self.old address).entries }
+        ensures { self.new ≡ put_table self.old address (with_entries (table_of self.old address)
+            (overwrite (table_of self.old address).entries offset (replicate count value))) }
+    {
+        let table = &mut self.tables[address as usize];
+        table.fill(offset, value, count);
+    }
+
+    // Copies that many entries of a table into another, which is taken out meanwhile.
+    fn copy_between(&mut self, into: u32, source: u32, target: u32, from: u32, count: u32)
+        requires apart { source ≢ into }
+        requires there { into < length self.old.contents.tables }
+        requires source { source < length self.old.contents.tables }
+        requires read { from + count ≤ length (table_of self.old source).entries }
+        requires written { target + count ≤ length (table_of self.old into).entries }
+        ensures { self.new ≡ put_table self.old into (with_entries (table_of self.old into)
+            (overwrite (table_of self.old into).entries target
+            (items_at (table_of self.old source).entries from count))) }
+    {
+        let none = Table::empty(self.alloc);
+        let mut table = mem::replace(&mut self.tables[into as usize], none);
+        table.copy_from(self.tables[source as usize].entries(), target, from, count);
+        self.tables[into as usize] = table;
+    }
+
+    /// Copies that many entries of a table into another or the same, as if they were read before any is written.
+    pub fn copy_entries(&mut self, into: u32, source: u32, target: u32, from: u32, count: u32)
+        requires there { into < length self.old.contents.tables }
+        requires source { source < length self.old.contents.tables }
+        requires read { from + count ≤ length (table_of self.old source).entries }
+        requires written { target + count ≤ length (table_of self.old into).entries }
+        ensures { self.new ≡ put_table self.old into (with_entries (table_of self.old into)
+            (overwrite (table_of self.old into).entries target
+            (items_at (table_of self.old source).entries from count))) }
+    {
+        if into == source {
+            let table = &mut self.tables[into as usize];
+            table.copy_within(target, from, count);
+        } else {
+            self.copy_between(into, source, target, from, count);
+        }
+    }
+
+    /// Copies that many references of an element segment into a table.
+    pub fn init_entries(&mut self, into: u32, segment: u32, target: u32, from: u32, count: u32)
+        requires there { into < length self.old.contents.tables }
+        requires segment { segment < length self.old.contents.elements }
+        requires read { from + count ≤ length (elements_of self.old segment).references }
+        requires written { target + count ≤ length (table_of self.old into).entries }
+        ensures { self.new ≡ put_table self.old into (with_entries (table_of self.old into)
+            (overwrite (table_of self.old into).entries target
+            (items_at (elements_of self.old segment).references from count))) }
+    {
+        let table = &mut self.tables[into as usize];
+        let source = &self.elements[segment as usize];
+        table.copy_from(source.references(), target, from, count);
+    }
+
+    /// Adds entries of a value to a table. Where memory runs out, nothing has changed.
+    pub fn grow_table(&mut self, address: u32, value: Val, count: u32) -> Result<(), AllocError>
+        requires there { address < length self.old.contents.tables }
+        requires most { (table_of self.old address).ty.limits.min + count ≤ 4294967295 }
+        requires within { (table_of self.old address).ty.limits.min + count ≤ self.old.bounds.entries }
+        ensures grown { OnOk result (self.new ≡ put_table self.old address
+            (grow_entries (table_of self.old address) value count)) }
+        ensures unchanged { OnErr result (self.new ≡ self.old) }
+    {
+        let table = &mut self.tables[address as usize];
+        table.grow(value, count)
     }
 
     /// The memory at an address, if there is one.
@@ -153,7 +283,7 @@ impl State {
     pub fn grow_memory(&mut self, address: u32, pages: u32) -> Result<(), AllocError>
         requires there { address < length self.old.contents.memories }
         requires most { (memory_of self.old address).limits.min + pages ≤ 65536 }
-        requires within { (memory_of self.old address).limits.min + pages ≤ self.old.pages }
+        requires within { (memory_of self.old address).limits.min + pages ≤ self.old.bounds.pages }
         ensures grown { OnOk result
             (self.new ≡ put_memory self.old address (grow_by (memory_of self.old address) pages)) }
         ensures unchanged { OnErr result (self.new ≡ self.old) }
@@ -176,6 +306,25 @@ impl State {
     {
         let variable = &mut self.globals[address as usize];
         variable.set(value);
+    }
+
+    /// The element segment at an address, if there is one.
+    pub fn element_segment(&self, address: u32) -> Option<&ElementSegment>
+        ensures { option_copied result ≡ slice_get self.now.contents.elements address }
+    {
+        self.elements.get(address as usize)
+    }
+
+    /// Gives the references of an element segment back. Takes no memory.
+    pub fn drop_elements(&mut self, address: u32)
+        requires { address < length self.old.contents.elements }
+        ensures { self.new ≡ put_elements self.old address (record {
+          ty = (elements_of self.old address).ty;
+          references = [];
+        }) }
+    {
+        let segment = &mut self.elements[address as usize];
+        segment.clear(self.alloc);
     }
 
     /// The data segment at an address, if there is one.

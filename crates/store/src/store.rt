@@ -36,15 +36,16 @@ fn has_addresses(used: usize, wanted: usize) -> bool
 }
 
 impl Store {
-    /// A store with nothing in it, in which a memory may have this many pages at most. Takes no memory.
-    pub fn new(alloc: Global, pages: u32) -> Store
+    /// A store with nothing in it, in which a memory may have this many pages and a table this many entries at most. Takes no
+    /// memory.
+    pub fn new(alloc: Global, pages: u32, entries: u32) -> Store
         ensures code { result.code ≡ contents_of ([]) ([]) }
         ensures contents { result.state.contents ≡ no_objects }
-        ensures pages { result.state.pages ≡ pages }
+        ensures bounds { result.state.bounds ≡ record { entries = entries; pages = pages } }
     {
         Store {
             code: Code::new(alloc),
-            state: State::new(alloc, pages),
+            state: State::new(alloc, pages, entries),
         }
     }
 
@@ -77,8 +78,10 @@ impl Store {
     {
         has_addresses(self.code.function_count(), wanted.funcs.len())
             && has_addresses(self.code.instance_count(), 1)
+            && has_addresses(self.state.table_count(), objects.tables.len())
             && has_addresses(self.state.memory_count(), objects.memories.len())
             && has_addresses(self.state.global_count(), objects.globals.len())
+            && has_addresses(self.state.element_count(), objects.elements.len())
             && has_addresses(self.state.data_count(), objects.datas.len())
     }
 
@@ -95,13 +98,17 @@ impl Store {
             objects.now) }
     {
         let functions = self.code.function_count() as u32;
+        let tables = self.state.table_count() as u32;
         let memories = self.state.memory_count() as u32;
         let globals = self.state.global_count() as u32;
+        let elements = self.state.element_count() as u32;
         let datas = self.state.data_count() as u32;
         Ok(Addresses {
             functions: consecutive_addresses(alloc, functions, wanted.funcs.len() as u32)?,
+            tables: consecutive_addresses(alloc, tables, objects.tables.len() as u32)?,
             memories: consecutive_addresses(alloc, memories, objects.memories.len() as u32)?,
             globals: consecutive_addresses(alloc, globals, objects.globals.len() as u32)?,
+            elements: consecutive_addresses(alloc, elements, objects.elements.len() as u32)?,
             datas: consecutive_addresses(alloc, datas, objects.datas.len() as u32)?,
         })
     }
@@ -115,7 +122,7 @@ impl Store {
         objects: Objects,
     ) -> Result<u32, AllocError>
         requires room { HasRoom self.old loaded.value objects }
-        requires within { AreWithin self.old.state.pages objects.memories }
+        requires within { AreWithin self.old.state.bounds objects.tables objects.memories }
         ensures number { IfOk result (λ number. number ≡ length self.old.code.instances) }
         ensures appended { OnOk result
             (store_of self.new ≡ with_module (store_of self.old) loaded.value objects) }

@@ -12,7 +12,8 @@ use Rattle.core_types.specs.declared.types.FuncType.{FuncType}
 use Rattle.core_types.specs.declared.outcome.Val.{Val}
 use Rattle.meaning.specs.structure.Bodies.{Body, Empty, rests}
 use Rattle.meaning.specs.execution.Configurations.{Activation, Configuration, Onward, InFrame as FrameAround, Invoking, Label, depth, no_frame}
-use Rattle.meaning.specs.execution.Instructions.{NotReady, Opens, call_function, default_of, enter_function, function_at as function_under, lent_memory, frame_of as frame_for, function_body}
+use Rattle.meaning.specs.execution.Instructions.{NotReady, Opens, call_function, enter_function, function_at as function_under, lent_memory, frame_of as frame_for, function_body}
+use Rattle.meaning.specs.execution.Values.{default_of}
 use Rattle.meaning.specs.execution.Layers.{AroundFrame, AroundLabel, Layer, plug}
 use Rattle.meaning.specs.execution.Runs.{GotStuck, OutOfDepth, OutOfFuel, OutOfMemory, no_depth, opens}
 use Rattle.meaning.specs.execution.Store.{FunctionInstance}

@@ -13,7 +13,8 @@ use Rattle.core_types.specs.declared.outcome.Val.TheVariants.{I32, I64, FuncRef,
 use Rattle.meaning.specs.structure.Bodies.{Body, Empty, IfKind, Rests, first_part, if_with, other_parts, rests}
 use Rattle.meaning.specs.execution.Runs.{GotStuck}
 use Rattle.meaning.specs.execution.Configurations.{Frame, Configuration}
-use Rattle.meaning.specs.execution.Instructions.{Branches, Done, Lacks, NotReady, continue_after, type_of_block, branch_by_table, branch_if, choose_body, enter_label, step_sequence, instruction_cost}
+use Rattle.meaning.specs.execution.Effects.{Done, Lacks, instruction_cost}
+use Rattle.meaning.specs.execution.Instructions.{Branches, NotReady, continue_after, type_of_block, branch_by_table, branch_if, choose_body, enter_label, step_sequence}
 use Rattle.meaning.specs.execution.Store.{Store}
 use Rattle.exec.specs.declared.machine.Machine.{Machine}
 use Rattle.exec.specs.Positions.{IsElse, after_end, rests_at}

@@ -7,7 +7,8 @@ use Rattle.core_types.specs.declared.op.PlainOp.{PlainOp}
 use Rattle.meaning.specs.structure.Bodies.{Body, rests}
 use Rattle.meaning.specs.execution.Runs.{Ending, trapped, WithTrap, OutOfFuel, OutOfMemory, GotStuck, goes, grows}
 use Rattle.meaning.specs.execution.Configurations.{Configuration, Running}
-use Rattle.meaning.specs.execution.Instructions.{Effect, Done, Fails, Grown, Lacks, NotReady, continue_after, instruction_cost}
+use Rattle.meaning.specs.execution.Effects.{Effect, Done, Fails, Grown, Lacks, instruction_cost}
+use Rattle.meaning.specs.execution.Instructions.{NotReady, continue_after}
 use Rattle.meaning.specs.execution.Store.{Store}
 use Rattle.exec.specs.declared.machine.Machine.{Machine}
 use Rattle.plain.specs.Effects.{IsAffordable, LeadsTo, TrapsWith, price_of}

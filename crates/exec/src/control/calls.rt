@@ -171,9 +171,9 @@ fn open_frame<'a>(
     enter_function(Control::InFrame(caller), code, results, machine)
 }
 
-// A call of a function that was found, with the topmost operands as arguments.
+/// A call of a function that was found, with the topmost operands as arguments.
 #[inline(always)]
-fn call<'a>(callee: &Callee<'a>, machine: &mut Machine<'a>, meter: &mut Meter) -> Step
+pub fn call<'a>(callee: &Callee<'a>, machine: &mut Machine<'a>, meter: &mut Meter) -> Step
     requires position { machine.old.position + 1 < 2 ^ 64 }
     requires ends { HasEnds callee.now.func.now.body callee.now.ends.now }
     requires whole { (rests callee.now.func.now.body).around ≡ [] }

@@ -5,7 +5,8 @@ use Rattle.std.specs.Prelude.{Bool, true, false, if◌then◌else◌, nat_le}
 use Rattle.core_types.specs.declared.outcome.Trap.{Trap}
 use Rattle.core_types.specs.declared.outcome.Val.{Val}
 use Rattle.meaning.specs.execution.Configurations.{Activation, Configuration, Frame, InFrame, InLabel, Label, Running, continue_with, depth}
-use Rattle.meaning.specs.execution.Instructions.{Branches, Goes, Grows, NotReady, Opens, Returns, Traps, instruction_cost, next, step_in_frame, step_in_label}
+use Rattle.meaning.specs.execution.Effects.{instruction_cost}
+use Rattle.meaning.specs.execution.Instructions.{Branches, Goes, Grows, NotReady, Opens, Returns, Traps, next, step_in_frame, step_in_label}
 use Rattle.meaning.specs.execution.Layers.{AroundFrame, AroundLabel, Layer, count_frames, outermost, plug}
 use Rattle.meaning.specs.execution.Store.{Store}
 

@@ -1,216 +1,23 @@
 -- The reduction (Execution, Instructions), by cases on the leftmost redex, with the cost of each step, which is this
 -- project's own.
-use Rattle.std.specs.Prelude.{ℕ, zero, suc, ◌+◌, ◌*◌, ◌/◌, List, [], ◌∷◌, ◌++◌, length, take, drop, reverse, map, get_or, Option, Some, None, Result, Ok, Err, slice_get, slice_set, nat_le, nat_lt, if◌then◌else◌}
+use Rattle.std.specs.Prelude.{ℕ, zero, suc, List, [], ◌∷◌, ◌++◌, length, take, drop, reverse, map, get_or, Option, Some, None, slice_get, nat_le, if◌then◌else◌}
 use Rattle.core_types.specs.declared.types.FuncType.{FuncType}
-use Rattle.core_types.specs.declared.types.ValType.{ValType}
-use Rattle.core_types.specs.declared.types.ValType.TheVariants as ty
 use Rattle.core_types.specs.declared.op.BlockType.{BlockType}
 use Rattle.core_types.specs.declared.op.BranchTable.{BranchTable}
-use Rattle.core_types.specs.declared.op.ControlOp.TheVariants.{Unreachable, Nop, Br, BrIf, Return, Call}
-use Rattle.core_types.specs.declared.op.Conversion.TheVariants.{I32WrapI64, I64ExtendI32S, I64ExtendI32U, I64Extend32S}
-use Rattle.core_types.specs.declared.op.Width.TheVariants.{W32, W64}
-use Rattle.core_types.specs.declared.op.NumericOp.{NumericOp}
-use Rattle.core_types.specs.declared.op.NumericOp.TheVariants.{Eqz, Compare, Unary, Binary, Convert}
-use Rattle.core_types.specs.declared.op.ParametricOp.{ParametricOp}
-use Rattle.core_types.specs.declared.op.ParametricOp.TheVariants.{DropOperand, Select}
-use Rattle.core_types.specs.declared.op.VariableOp.{VariableOp}
-use Rattle.core_types.specs.declared.op.VariableOp.TheVariants.{LocalGet, LocalSet, LocalTee, GlobalGet, GlobalSet}
-use Rattle.core_types.specs.declared.op.MemoryOp.{MemoryOp}
-use Rattle.core_types.specs.declared.op.MemoryOp.TheVariants.{Load, Store as StoreNumber, Size, Grow, Fill, Copy, Init, DataDrop}
-use Rattle.core_types.specs.declared.op.StoreOp.{StoreOp}
+use Rattle.core_types.specs.declared.op.ControlOp.TheVariants.{Br, BrIf, Return, Call, CallIndirect}
 use Rattle.core_types.specs.declared.op.PlainOp.{PlainOp}
-use Rattle.core_types.specs.declared.op.PlainOp.TheVariants.{BrTable, Control, I32Const, I64Const, Memory, Numeric, Parametric, SelectTyped, Variable}
+use Rattle.core_types.specs.declared.op.PlainOp.TheVariants.{BrTable, Control}
 use Rattle.core_types.specs.declared.outcome.Val.{Val}
-use Rattle.core_types.specs.declared.outcome.Val.TheVariants.{I32, I64, FuncRef, ExternRef}
+use Rattle.core_types.specs.declared.outcome.Val.TheVariants.{I32, FuncRef}
 use Rattle.core_types.specs.declared.outcome.Trap.{Trap}
-use Rattle.core_types.specs.declared.outcome.Trap.TheVariants.{Unreachable as UnreachableTrap}
+use Rattle.core_types.specs.declared.outcome.Trap.TheVariants.{IndirectType, UndefinedElement, UninitializedElement}
 use Rattle.meaning.specs.structure.Bodies.{Kind, BlockKind, LoopKind, IfKind, Body, Empty, Then, Nested, IfElse}
 use Rattle.meaning.specs.execution.Configurations.{Frame, Continuation, Onward, Again, continue_with, Label, Activation, Configuration, Running, InLabel, InFrame, Invoking}
-use Rattle.meaning.specs.execution.Numerics.{binary_operator, comparison_operator, conversion_operator, eqz_operator, unary_operator}
-use Rattle.meaning.specs.execution.Memories.{MemoryInstance, can_grow, copy_bytes, fill_bytes, grow_by, load_from, store_into, store_size, stored_number}
-use Rattle.meaning.specs.execution.Store.{Code, DataInstance, FunctionInstance, GlobalInstance, Implementation, InCode, InHost, Store, instance_of, item_at, locate, with_data, with_global, with_memory}
-use Rattle.meaning.specs.validation.Types.{block_type, label_types}
-
--- The cost of a step that executes an instruction. Leaving a label or a frame, and an entry from outside, cost 0.
-abbrev pub instruction_cost : ℕ
-instruction_cost = 1
-
--- What an instruction without control does: at a cost, a new store, locals and values; the same, for which a memory or a table
--- grows; a trap; or nothing, as operands or what they name are missing, or as it is not defined yet.
-pub data Effect : Type 0 where
-  Done : (cost : ℕ) (store : Store) (locals values : List Val) → Effect
-  Grown : (cost : ℕ) (store : Store) (locals values : List Val) → Effect
-  Fails : (trap : Trap) → Effect
-  Lacks : Effect
-
--- ---- instructions without control
-
--- local.get: the value of a local (Variable Instructions).
-abbrev pub get_local : Store → Frame → Option Val → List Val → Effect
-get_local store frame None values = Lacks
-get_local store frame (Some v) values = Done instruction_cost store frame.locals (v ∷ values)
-
--- local.set and local.tee: the local gets the value; local.tee leaves it on the stack, too.
-abbrev pub set_local : Store → Frame → ℕ → Val → List Val → Effect
-set_local store frame x v values =
-    if nat_lt x (length frame.locals)
-    then Done instruction_cost store (slice_set frame.locals x v) values
-    else Lacks
-
--- The address of the global that the frame's instance has under an index, and the global.
-abbrev pub global_at : Store → Frame → ℕ → Option (ℕ × GlobalInstance)
-global_at store frame x = locate store.globals (slice_get (instance_of store frame.instance).globals x)
-
--- global.get.
-abbrev pub get_global : Store → Frame → Option (ℕ × GlobalInstance) → List Val → Effect
-get_global store frame None values = Lacks
-get_global store frame (Some (address, g)) values = Done instruction_cost store frame.locals (g.value ∷ values)
-
--- global.set.
-abbrev pub set_global : Store → Frame → Option (ℕ × GlobalInstance) → Val → List Val → Effect
-set_global store frame None v values = Lacks
-set_global store frame (Some (address, g)) v values =
-    Done instruction_cost (with_global store address (record { ty = g.ty; value = v })) frame.locals values
-
--- An instruction on a local or a global (Variable Instructions).
-abbrev pub variable_effect : Store → Frame → VariableOp → List Val → Effect
-variable_effect store frame (LocalGet x) values = get_local store frame (slice_get frame.locals x) values
-variable_effect store frame (LocalSet x) (v ∷ values) = set_local store frame x v values
-variable_effect store frame (LocalTee x) (v ∷ values) = set_local store frame x v (v ∷ values)
-variable_effect store frame (GlobalGet x) values = get_global store frame (global_at store frame x) values
-variable_effect store frame (GlobalSet x) (v ∷ values) = set_global store frame (global_at store frame x) v values
-variable_effect store frame op values = Lacks
-
--- An operator's integer on top of the values, or its trap.
-abbrev pub push_result : Store → Frame → (ℕ → Val) → Result ℕ Trap → List Val → Effect
-push_result store frame integer (Ok n) values = Done instruction_cost store frame.locals (integer n ∷ values)
-push_result store frame integer (Err trap) values = Fails trap
-
--- t.testop, t.relop, t.unop, t.binop and the conversions, the first operand below the second (Numeric Instructions).
-abbrev pub numeric_effect : Store → Frame → NumericOp → List Val → Effect
-numeric_effect store frame (Eqz W32) (I32 a ∷ values) = Done instruction_cost store frame.locals (I32 (eqz_operator a) ∷ values)
-numeric_effect store frame (Eqz W64) (I64 a ∷ values) = Done instruction_cost store frame.locals (I32 (eqz_operator a) ∷ values)
-numeric_effect store frame (Compare W32 op) (I32 b ∷ (I32 a ∷ values)) =
-    Done instruction_cost store frame.locals (I32 (comparison_operator 32 op a b) ∷ values)
-numeric_effect store frame (Compare W64 op) (I64 b ∷ (I64 a ∷ values)) =
-    Done instruction_cost store frame.locals (I32 (comparison_operator 64 op a b) ∷ values)
-numeric_effect store frame (Unary W32 op) (I32 a ∷ values) =
-    Done instruction_cost store frame.locals (I32 (unary_operator 32 op a) ∷ values)
-numeric_effect store frame (Unary W64 op) (I64 a ∷ values) =
-    Done instruction_cost store frame.locals (I64 (unary_operator 64 op a) ∷ values)
-numeric_effect store frame (Binary W32 op) (I32 b ∷ (I32 a ∷ values)) =
-    push_result store frame I32 (binary_operator 32 op a b) values
-numeric_effect store frame (Binary W64 op) (I64 b ∷ (I64 a ∷ values)) =
-    push_result store frame I64 (binary_operator 64 op a b) values
-numeric_effect store frame (Convert I32WrapI64) (I64 a ∷ values) =
-    Done instruction_cost store frame.locals (I32 (conversion_operator I32WrapI64 a) ∷ values)
-numeric_effect store frame (Convert I64ExtendI32S) (I32 a ∷ values) =
-    Done instruction_cost store frame.locals (I64 (conversion_operator I64ExtendI32S a) ∷ values)
-numeric_effect store frame (Convert I64ExtendI32U) (I32 a ∷ values) =
-    Done instruction_cost store frame.locals (I64 (conversion_operator I64ExtendI32U a) ∷ values)
-numeric_effect store frame (Convert I64Extend32S) (I64 a ∷ values) =
-    Done instruction_cost store frame.locals (I64 (conversion_operator I64Extend32S a) ∷ values)
-numeric_effect store frame op values = Lacks
-
--- select: the first of two values where the i32 over them is not zero, and else the second (Parametric Instructions).
-abbrev pub select_operand : Store → Frame → List Val → Effect
-select_operand store frame (I32 zero ∷ (b ∷ (a ∷ values))) = Done instruction_cost store frame.locals (b ∷ values)
-select_operand store frame (I32 (suc n) ∷ (b ∷ (a ∷ values))) = Done instruction_cost store frame.locals (a ∷ values)
-select_operand store frame values = Lacks
-
-abbrev pub parametric_effect : Store → Frame → ParametricOp → List Val → Effect
-parametric_effect store frame DropOperand (v ∷ values) = Done instruction_cost store frame.locals values
-parametric_effect store frame Select values = select_operand store frame values
-parametric_effect store frame op values = Lacks
-
--- ---- memories
-
--- What a bulk instruction on that many bytes costs, and a growth by that many pages; this project's own.
-abbrev pub bulk_cost : (count : ℕ) → ℕ
-bulk_cost count = instruction_cost + count / 64
-
-abbrev pub growth_cost : (pages : ℕ) → ℕ
-growth_cost pages = instruction_cost + 1024 * pages
-
--- A value on top of the values, or a trap.
-abbrev pub push_loaded : Store → Frame → Result Val Trap → List Val → Effect
-push_loaded store frame (Ok v) values = Done instruction_cost store frame.locals (v ∷ values)
-push_loaded store frame (Err trap) values = Fails trap
-
--- Other bytes in the memory at an address, at a cost, or a trap.
-abbrev pub write_memory : Store → Frame → (cost address : ℕ) → MemoryInstance → Result (List ℕ) Trap → List Val → Effect
-write_memory store frame cost address memory (Ok bytes) values =
-    Done cost (with_memory store address (record { limits = memory.limits; bytes = bytes })) frame.locals values
-write_memory store frame cost address memory (Err trap) values = Fails trap
-
--- t.store and t.storeN: the operand has the instruction's type.
-abbrev pub store_number : Store → Frame → (address : ℕ) → MemoryInstance → StoreOp → (offset : ℕ) → Option ℕ → List Val → Effect
-store_number store frame address memory op offset None values = Lacks
-store_number store frame address memory op offset (Some n) values =
-    write_memory store frame instruction_cost address memory (store_into memory.bytes offset (store_size op) n) values
-
--- memory.grow: the size before, in pages, or -1 where the memory may not grow so.
-abbrev pub grow_memory : Store → Frame → (address : ℕ) → MemoryInstance → (pages : ℕ) → List Val → Effect
-grow_memory store frame address memory pages values =
-    if can_grow store.pages memory.limits pages
-    then Grown (growth_cost pages) (with_memory store address (grow_by memory pages)) frame.locals (I32 memory.limits.min ∷ values)
-    else Done instruction_cost store frame.locals (I32 4294967295 ∷ values)
-
--- The data segment that the frame's instance has under an index.
-abbrev pub data_at : Store → Frame → ℕ → Option (ℕ × DataInstance)
-data_at store frame x = locate store.datas (slice_get (instance_of store frame.instance).datas x)
-
--- memory.init: from the bytes of a data segment.
-abbrev pub init_memory : Store → Frame → (address : ℕ) → MemoryInstance → Option (ℕ × DataInstance) → List Val → Effect
-init_memory store frame address memory (Some (at, segment)) (I32 count ∷ (I32 from ∷ (I32 target ∷ values))) =
-    write_memory store frame (bulk_cost count) address memory (copy_bytes memory.bytes segment.bytes target from count) values
-init_memory store frame address memory found values = Lacks
-
--- An instruction on the memory at this address (Memory Instructions).
-abbrev pub memory_effect : Store → Frame → (address : ℕ) → MemoryInstance → MemoryOp → List Val → Effect
-memory_effect store frame address memory (Load op arg) (I32 i ∷ values) =
-    push_loaded store frame (load_from op memory.bytes (i + arg.offset)) values
-memory_effect store frame address memory (StoreNumber op arg) (v ∷ (I32 i ∷ values)) =
-    store_number store frame address memory op (i + arg.offset) (stored_number op v) values
-memory_effect store frame address memory Size values =
-    Done instruction_cost store frame.locals (I32 memory.limits.min ∷ values)
-memory_effect store frame address memory Grow (I32 pages ∷ values) = grow_memory store frame address memory pages values
-memory_effect store frame address memory Fill (I32 count ∷ (I32 value ∷ (I32 target ∷ values))) =
-    write_memory store frame (bulk_cost count) address memory (fill_bytes memory.bytes target value count) values
-memory_effect store frame address memory Copy (I32 count ∷ (I32 from ∷ (I32 target ∷ values))) =
-    write_memory store frame (bulk_cost count) address memory (copy_bytes memory.bytes memory.bytes target from count) values
-memory_effect store frame address memory (Init x) values =
-    init_memory store frame address memory (data_at store frame x) values
-memory_effect store frame address memory op values = Lacks
-
--- In the memory of the frame's instance.
-abbrev pub in_memory : Store → Frame → Option (ℕ × MemoryInstance) → MemoryOp → List Val → Effect
-in_memory store frame None op values = Lacks
-in_memory store frame (Some (address, memory)) op values = memory_effect store frame address memory op values
-
--- data.drop: the segment has no bytes from then on.
-abbrev pub drop_data : Store → Frame → Option (ℕ × DataInstance) → List Val → Effect
-drop_data store frame None values = Lacks
-drop_data store frame (Some (address, segment)) values =
-    Done instruction_cost (with_data store address (record { bytes = [] })) frame.locals values
-
--- An instruction on the memory or a data segment.
-abbrev pub memory_or_data_effect : Store → Frame → MemoryOp → List Val → Effect
-memory_or_data_effect store frame (DataDrop x) values = drop_data store frame (data_at store frame x) values
-memory_or_data_effect store frame op values =
-    in_memory store frame (locate store.memories (slice_get (instance_of store frame.instance).memories 0)) op values
-
-abbrev pub effect : Store → Frame → PlainOp → List Val → Effect
-effect store frame (Control Unreachable) values = Fails UnreachableTrap
-effect store frame (Control Nop) values = Done instruction_cost store frame.locals values
-effect store frame (Variable op) values = variable_effect store frame op values
-effect store frame (Numeric op) values = numeric_effect store frame op values
-effect store frame (Memory op) values = memory_or_data_effect store frame op values
-effect store frame (Parametric op) values = parametric_effect store frame op values
-effect store frame (SelectTyped types) values = select_operand store frame values
-effect store frame (I32Const n) values = Done instruction_cost store frame.locals (I32 n ∷ values)
-effect store frame (I64Const n) values = Done instruction_cost store frame.locals (I64 n ∷ values)
-effect store frame op values = Lacks
+use Rattle.meaning.specs.execution.Effects.{Effect, Done, Grown, Fails, Lacks, effect, instruction_cost, table_at}
+use Rattle.meaning.specs.execution.Store.{Code, FunctionInstance, Implementation, InCode, InHost, Store, instance_of, item_at}
+use Rattle.meaning.specs.execution.Tables.{TableInstance}
+use Rattle.meaning.specs.execution.Values.{default_of}
+use Rattle.meaning.specs.validation.Types.{block_type, is_same_function_type, label_types}
 
 -- What a configuration does next.
 pub data Next : Type 0 where
@@ -247,13 +54,6 @@ continue_after frame (Fails trap) rest = Traps instruction_cost trap
 continue_after frame Lacks rest = NotReady
 
 -- ---- calls
-
--- The value that a local has at first: zero or null.
-abbrev pub default_of : ValType → Val
-default_of ty.I32 = I32 0
-default_of ty.I64 = I64 0
-default_of ty.FuncRef = FuncRef None
-default_of ty.ExternRef = ExternRef None
 
 -- The topmost values, in the order of the types that they are for: the last one was on top.
 abbrev pub topmost : {T : Type 0} → List T → List Val → List Val
@@ -303,6 +103,29 @@ lent_memory store frame = slice_get (instance_of store frame.instance).memories 
 abbrev pub function_at : Store → Frame → ℕ → Option FunctionInstance
 function_at store frame x = item_at store.functions (instance_of store frame.instance).functions x
 
+-- A call of a function that has to be of this type (call_indirect).
+abbrev pub call_of_type : Store → (lent : Option ℕ) → FuncType → Option FunctionInstance → List Val → Body → Next
+call_of_type store lent t None values rest = NotReady
+call_of_type store lent t (Some f) values rest =
+    if is_same_function_type f.ty t
+    then call_function instruction_cost store lent (Some f) values rest
+    else Traps instruction_cost IndirectType
+
+-- A call of the function that an entry of a table refers to: there has to be an entry, it has to be no null, and the function
+-- has to be of this type, in this order (call_indirect).
+abbrev pub call_entry : Store → (lent : Option ℕ) → FuncType → (entry : Option Val) → List Val → Body → Next
+call_entry store lent t None values rest = Traps instruction_cost UndefinedElement
+call_entry store lent t (Some (FuncRef None)) values rest = Traps instruction_cost UninitializedElement
+call_entry store lent t (Some (FuncRef (Some address))) values rest =
+    call_of_type store lent t (slice_get store.functions address) values rest
+call_entry store lent t (Some v) values rest = NotReady
+
+-- call_indirect: the i32 on top is the offset of the entry.
+abbrev pub call_through : Store → (lent : Option ℕ) → Option FuncType → Option (ℕ × TableInstance) → List Val → Body → Next
+call_through store lent (Some t) (Some (address, table)) (I32 i ∷ values) rest =
+    call_entry store lent t (slice_get table.entries i) values rest
+call_through store lent t found values rest = NotReady
+
 -- ---- control
 
 -- br_if: a branch where the i32 is not zero.
@@ -324,6 +147,8 @@ step_instruction store frame (BrTable table) values rest = branch_by_table table
 step_instruction store frame (Control Return) values rest = Returns values
 step_instruction store frame (Control (Call x)) values rest =
     call_function instruction_cost store (lent_memory store frame) (function_at store frame x) values rest
+step_instruction store frame (Control (CallIndirect type x)) values rest =
+    call_through store (lent_memory store frame) (slice_get (instance_of store frame.instance).types type) (table_at store frame x) values rest
 step_instruction store frame op values rest = continue_after frame (effect store frame op values) rest
 
 -- The type of a block, by the types of the frame's instance.

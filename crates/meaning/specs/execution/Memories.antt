@@ -13,7 +13,7 @@ use Rattle.core_types.specs.declared.outcome.Val.{Val}
 use Rattle.core_types.specs.declared.outcome.Val.TheVariants.{I32, I64}
 use Rattle.core_types.specs.declared.types.Limits.{Limits}
 use Rattle.meaning.specs.execution.Numerics.{extended}
-use Rattle.meaning.specs.execution.Storage.{bytes_at, bytes_of_number, number_of_bytes, overwrite}
+use Rattle.meaning.specs.execution.Storage.{items_at, bytes_of_number, number_of_bytes, overwrite}
 
 -- The bytes of a page, and how many pages a memory may have.
 abbrev pub page_size : ℕ
@@ -60,7 +60,7 @@ loaded_value (load.Bits32 Unsigned) n = I64 n
 abbrev pub load_from : LoadOp → List ℕ → (offset : ℕ) → Result Val Trap
 load_from op bytes offset =
     if nat_le (offset + load_size op) (length bytes)
-    then Ok (loaded_value op (number_of_bytes (bytes_at bytes offset (load_size op))))
+    then Ok (loaded_value op (number_of_bytes (items_at bytes offset (load_size op))))
     else Err MemoryBounds
 
 -- How many bytes a store writes.
@@ -102,7 +102,7 @@ fill_bytes bytes offset value count =
 abbrev pub copy_bytes : List ℕ → List ℕ → (target from count : ℕ) → Result (List ℕ) Trap
 copy_bytes bytes source target from count =
     if nat_le (from + count) (length source) && nat_le (target + count) (length bytes)
-    then Ok (overwrite bytes target (bytes_at source from count))
+    then Ok (overwrite bytes target (items_at source from count))
     else Err MemoryBounds
 
 -- ---- growth
@@ -112,15 +112,19 @@ abbrev pub is_within : Option ℕ → ℕ → Bool
 is_within None size = true
 is_within (Some max) size = nat_le size max
 
--- Whether a memory may grow by that many pages: up to its maximum, to what all memories may have, and to the bound of the
--- embedding.
-abbrev pub can_grow : (bound : ℕ) → Limits → (pages : ℕ) → Bool
-can_grow bound limits pages =
-    nat_le (limits.min + pages) bound && (nat_le (limits.min + pages) most_pages && is_within limits.max (limits.min + pages))
+-- Whether a memory or a table of these limits may grow by so many: up to its maximum, to the most that any may have, and to the
+-- bound of the embedding.
+abbrev pub can_grow : (bound most : ℕ) → Limits → (more : ℕ) → Bool
+can_grow bound most limits more =
+    nat_le (limits.min + more) bound && (nat_le (limits.min + more) most && is_within limits.max (limits.min + more))
+
+-- The limits with so many more as the present size.
+abbrev pub raised : Limits → (more : ℕ) → Limits
+raised limits more = record { min = limits.min + more; max = limits.max }
 
 -- The memory with that many pages of zeros behind its own (growmem).
 abbrev pub grow_by : MemoryInstance → (pages : ℕ) → MemoryInstance
 grow_by memory pages = record {
-  limits = record { min = memory.limits.min + pages; max = memory.limits.max };
+  limits = raised memory.limits pages;
   bytes = memory.bytes ++ replicate (page_size * pages) 0;
 }

@@ -1,21 +1,24 @@
 -- Worked rows of runs: calls of small functions, with the fuel before and after.
-use Rattle.std.specs.Prelude.{◌≡◌, ℕ, suc, List, [], ◌∷◌, Option, None}
+use Rattle.std.specs.Prelude.{◌≡◌, ℕ, suc, List, [], ◌∷◌, length, Option, Some, None}
 use Rattle.core_types.specs.declared.types.ValType.{ValType}
 use Rattle.core_types.specs.declared.types.ValType.TheVariants as ty
 use Rattle.core_types.specs.declared.op.BlockType.TheVariants as block
-use Rattle.core_types.specs.declared.op.ControlOp.TheVariants.{Br, Call}
+use Rattle.core_types.specs.declared.op.ControlOp.TheVariants.{Br, Call, CallIndirect}
 use Rattle.core_types.specs.declared.op.PlainOp.{PlainOp}
-use Rattle.core_types.specs.declared.op.PlainOp.TheVariants.{Control, I32Const, Memory, Numeric, Variable}
+use Rattle.core_types.specs.declared.op.PlainOp.TheVariants.{Control, I32Const, Memory, Numeric, Reference, Table, Variable}
 use Rattle.core_types.specs.declared.op.VariableOp.TheVariants.{GlobalGet, GlobalSet, LocalGet}
 use Rattle.core_types.specs.declared.op.LoadOp.TheVariants.{Bits8, Bits16}
 use Rattle.core_types.specs.declared.op.MemoryOp.TheVariants.{Fill, Grow, Init, Load}
+use Rattle.core_types.specs.declared.op.ReferenceOp.TheVariants.{Func, Null}
+use Rattle.core_types.specs.declared.op.TableOp.TheVariants as table
+use Rattle.core_types.specs.declared.types.RefType.TheVariants as ref
 use Rattle.core_types.specs.declared.op.Sign.TheVariants.{Unsigned}
 use Rattle.core_types.specs.declared.types.Mutability.TheVariants.{Var}
 use Rattle.core_types.specs.declared.op.NumericOp.TheVariants.{Binary}
 use Rattle.core_types.specs.declared.op.Width.TheVariants.{W32}
 use Rattle.core_types.specs.declared.op.BinaryOp.TheVariants.{Add}
 use Rattle.core_types.specs.declared.outcome.Val.{Val}
-use Rattle.core_types.specs.declared.outcome.Val.TheVariants.{I32}
+use Rattle.core_types.specs.declared.outcome.Val.TheVariants.{I32, FuncRef}
 use Rattle.meaning.specs.structure.Bodies.{Body, Empty, Then, Nested, IfElse, BlockKind, LoopKind}
 use Rattle.meaning.specs.validation.Types.{function_type}
 use Rattle.meaning.specs.execution.Configurations.{Invoking, no_frame}
@@ -34,11 +37,14 @@ function params results body =
 abbrev pub instance_of_two : FunctionInstance → FunctionInstance → Store
 instance_of_two f g = record {
   functions = f ∷ g ∷ [];
-  instances = record { types = []; functions = 0 ∷ 1 ∷ []; memories = []; globals = []; datas = []; exports = [] } ∷ [];
+  instances = record { types = []; functions = 0 ∷ 1 ∷ []; tables = []; memories = []; globals = []; elements = []; datas = []; exports = [] } ∷ [];
+  tables = [];
   memories = [];
   globals = [];
+  elements = [];
   datas = [];
   pages = 0;
+  entries = 0;
 }
 
 -- The instruction that gets a local.
@@ -94,11 +100,14 @@ caller = function [] [] (Then (Control (Call 1)) Empty)
 abbrev pub store_with_host : FunctionInstance → (host_params host_results : List ValType) → Store
 store_with_host f host_params host_results = record {
   functions = f ∷ record { ty = function_type host_params host_results; implementation = InHost 0 } ∷ [];
-  instances = record { types = []; functions = 0 ∷ 1 ∷ []; memories = 6 ∷ []; globals = []; datas = []; exports = [] } ∷ [];
+  instances = record { types = []; functions = 0 ∷ 1 ∷ []; tables = []; memories = 6 ∷ []; globals = []; elements = []; datas = []; exports = [] } ∷ [];
+  tables = [];
   memories = [];
   globals = [];
+  elements = [];
   datas = [];
   pages = 0;
+  entries = 0;
 }
 
 -- The host function that counts its calls and answers the count, if it is lent this memory.
@@ -135,11 +144,14 @@ trapping fuel =
 abbrev pub store_with_memory : FunctionInstance → (bytes : List ℕ) → (value : ℕ) → Store
 store_with_memory f bytes value = record {
   functions = f ∷ [];
-  instances = record { types = []; functions = 0 ∷ []; memories = 0 ∷ []; globals = 0 ∷ []; datas = 0 ∷ []; exports = [] } ∷ [];
+  instances = record { types = []; functions = 0 ∷ []; tables = []; memories = 0 ∷ []; globals = 0 ∷ []; elements = []; datas = 0 ∷ []; exports = [] } ∷ [];
+  tables = [];
   memories = record { limits = record { min = 0; max = None }; bytes = bytes } ∷ [];
   globals = record { ty = record { value = ty.I32; mutability = Var }; value = I32 value } ∷ [];
+  elements = [];
   datas = record { bytes = 9 ∷ 8 ∷ [] } ∷ [];
   pages = 0;
+  entries = 0;
 }
 
 abbrev pub with_bytes_and_global : FunctionInstance → List ℕ → (value fuel : ℕ) → State ⊥
@@ -157,3 +169,56 @@ copies_and_sets = function [] (ty.I32 ∷ []) (Then (I32Const 1) (Then (I32Const
 -- It grows its memory by a page, which the bound does not allow, and then reads past the end.
 abbrev pub grows_and_reads : FunctionInstance
 grows_and_reads = function [] (ty.I32 ∷ []) (Then (I32Const 1) (Then (Memory Grow) (Then (Memory (Load (Bits8 W32 Unsigned) (record { align = 0; offset = 0 }))) Empty)))
+
+-- ---- tables and calls through them
+
+-- A function that answers 10.
+abbrev pub ten : FunctionInstance
+ten = function [] (ty.I32 ∷ []) (Then (I32Const 10) Empty)
+
+-- The store of this function, the one that answers 10 and the one that does nothing, with a table of these entries, which may have
+-- four, and an element segment of these references, in one instance. Its type 0 is that of a function that answers an i32.
+abbrev pub store_with_table : FunctionInstance → (entries references : List Val) → Store
+store_with_table f entries references = record {
+  functions = f ∷ ten ∷ nothing ∷ [];
+  instances = record { types = function_type [] (ty.I32 ∷ []) ∷ []; functions = 0 ∷ 1 ∷ 2 ∷ []; tables = 0 ∷ []; memories = []; globals = []; elements = 0 ∷ []; datas = []; exports = [] } ∷ [];
+  tables = record { ty = record { element = ref.FuncRef; limits = record { min = length entries; max = None } }; entries = entries } ∷ [];
+  memories = [];
+  globals = [];
+  elements = record { ty = ref.FuncRef; references = references } ∷ [];
+  datas = [];
+  pages = 0;
+  entries = 4;
+}
+
+abbrev pub with_entries : FunctionInstance → (entries references : List Val) → (fuel : ℕ) → State ⊥
+with_entries f entries references fuel =
+    record { store = store_with_table f entries references; hosts = []; fuel = fuel }
+
+-- The function at an address, and null.
+abbrev pub at : ℕ → Val
+at address = FuncRef (Some address)
+
+abbrev pub null : Val
+null = FuncRef None
+
+-- It calls the function of an entry, which has to answer an i32.
+abbrev pub calls_entry : FunctionInstance
+calls_entry = function (ty.I32 ∷ []) (ty.I32 ∷ []) (Then (local 0) (Then (Control (CallIndirect 0 0)) Empty))
+
+-- A call of it for an entry of a table of the function that answers 10, the one that does nothing, and null.
+abbrev pub CallsEntry : (offset fuel : ℕ) → Ending → (left : ℕ) → Type 0
+CallsEntry offset fuel ending left =
+    Run NoHosts 2 no_frame (with_entries calls_entry (at 1 ∷ at 2 ∷ null ∷ []) [] fuel) (Invoking (I32 offset ∷ []) 0) ending (with_entries calls_entry (at 1 ∷ at 2 ∷ null ∷ []) [] left)
+
+-- It fills that many entries with null.
+abbrev pub fills_entries : (count : ℕ) → FunctionInstance
+fills_entries count = function [] [] (Then (I32Const 0) (Then (Reference (Null ref.FuncRef)) (Then (I32Const count) (Then (Table (table.Fill 0)) Empty))))
+
+-- It copies the reference of the segment to the entry at 1, drops the segment, and reads the entry.
+abbrev pub inits_entry : FunctionInstance
+inits_entry = function [] (ty.FuncRef ∷ []) (Then (I32Const 1) (Then (I32Const 0) (Then (I32Const 1) (Then (Table (table.Init 0 0)) (Then (Table (table.ElemDrop 0)) (Then (I32Const 1) (Then (Table (table.Get 0)) Empty)))))))
+
+-- It grows the table by that many entries of the function at 1.
+abbrev pub grows_table : (count : ℕ) → FunctionInstance
+grows_table count = function [] (ty.I32 ∷ []) (Then (Reference (Func 1)) (Then (I32Const count) (Then (Table (table.Grow 0)) Empty)))

@@ -1,4 +1,4 @@
--- Numbers as bytes, and bytes that take the place of others (Execution, Numerics, Storage).
+-- Numbers as bytes, and items that take the place of others (Execution, Numerics, Storage).
 use Rattle.std.specs.Prelude.{ℕ, zero, suc, ◌+◌, ◌*◌, ◌/◌, ◌%◌, List, [], ◌∷◌, ◌++◌, take, drop, length}
 
 -- The number that bytes represent, the lowest byte first (the inverse of bytes).
@@ -11,10 +11,10 @@ unfoldable pub bytes_of_number : (count : ℕ) → ℕ → List ℕ
 bytes_of_number zero n = []
 bytes_of_number (suc count) n = n % 256 ∷ bytes_of_number count (n / 256)
 
--- That many bytes from an offset on.
-abbrev pub bytes_at : List ℕ → (offset count : ℕ) → List ℕ
-bytes_at bytes offset count = take count (drop offset bytes)
+-- That many items from an offset on.
+abbrev pub items_at : {T : Type 0} → List T → (offset count : ℕ) → List T
+items_at items offset count = take count (drop offset items)
 
--- The bytes with others in place of those from an offset on.
-abbrev pub overwrite : List ℕ → (offset : ℕ) → List ℕ → List ℕ
-overwrite bytes offset new = take offset bytes ++ (new ++ drop (offset + length new) bytes)
+-- The items with others in place of those from an offset on.
+abbrev pub overwrite : {T : Type 0} → List T → (offset : ℕ) → List T → List T
+overwrite items offset new = take offset items ++ (new ++ drop (offset + length new) items)

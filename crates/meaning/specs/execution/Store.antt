@@ -1,8 +1,13 @@
--- The store (Execution, Runtime Structure), as far as it holds functions, memories, globals, data segments and module instances.
-use Rattle.std.specs.Prelude.{ℕ, List, [], Option, Some, None, slice_get, slice_set, unwrap_or}
+-- The store (Execution, Runtime Structure).
+use Rattle.std.specs.Prelude.{ℕ, List, [], Option, Some, None, option_map, slice_get, slice_set, unwrap_or}
 use Rattle.core_types.specs.declared.outcome.Val.{Val}
+use Rattle.core_types.specs.declared.outcome.Extern.{Extern}
+use Rattle.core_types.specs.declared.outcome.Extern.TheVariants as value
+use Rattle.core_types.specs.declared.types.ExternType.{ExternType}
+use Rattle.core_types.specs.declared.types.ExternType.TheVariants as type
 use Rattle.core_types.specs.declared.types.GlobalType.{GlobalType}
 use Rattle.meaning.specs.execution.Memories.{MemoryInstance}
+use Rattle.meaning.specs.execution.Tables.{ElementInstance, TableInstance}
 use Rattle.core_types.specs.declared.types.ValType.{ValType}
 use Rattle.core_types.specs.declared.types.FuncType.{FuncType}
 use Rattle.core_types.specs.declared.module.Export.{Export}
@@ -36,25 +41,40 @@ pub record DataInstance : Type 0 where
 pub record ModuleInstance : Type 0 where
   pub types : List FuncType
   pub functions : List ℕ
+  pub tables : List ℕ
   pub memories : List ℕ
   pub globals : List ℕ
+  pub elements : List ℕ
   pub datas : List ℕ
   pub exports : List Export
 
--- The objects of each kind by address, and how many pages a memory may have, which is the embedding's.
+-- The objects of each kind by address, and how many pages a memory and how many entries a table may have, which is the
+-- embedding's.
 pub record Store : Type 0 where
   pub functions : List FunctionInstance
   pub instances : List ModuleInstance
+  pub tables : List TableInstance
   pub memories : List MemoryInstance
   pub globals : List GlobalInstance
+  pub elements : List ElementInstance
   pub datas : List DataInstance
   pub pages : ℕ
+  pub entries : ℕ
 
 -- ---- look-ups, which are total
 
 -- What is found where there is no instance.
 abbrev pub no_instance : ModuleInstance
-no_instance = record { types = []; functions = []; memories = []; globals = []; datas = []; exports = [] }
+no_instance = record {
+  types = [];
+  functions = [];
+  tables = [];
+  memories = [];
+  globals = [];
+  elements = [];
+  datas = [];
+  exports = [];
+}
 
 -- The module instance at an address; outside of all modules there is none.
 abbrev pub instance_of : Store → Option ℕ → ModuleInstance
@@ -79,7 +99,17 @@ abbrev pub locate : {T : Type 0} → List T → Option ℕ → Option (ℕ × T)
 locate items None = None
 locate items (Some address) = locate_at address (slice_get items address)
 
+-- The type of an external value that is there. The minimum of a table or a memory is its present size (External Typing).
+abbrev pub extern_type : Store → Extern → Option ExternType
+extern_type store (value.Func address) = option_map (λ (f : FunctionInstance). type.Func f.ty) (slice_get store.functions address)
+extern_type store (value.Table address) = option_map (λ (table : TableInstance). type.Table table.ty) (slice_get store.tables address)
+extern_type store (value.Memory address) = option_map (λ (memory : MemoryInstance). type.Memory memory.limits) (slice_get store.memories address)
+extern_type store (value.Global address) = option_map (λ (g : GlobalInstance). type.Global g.ty) (slice_get store.globals address)
+
 -- ---- changes
+
+abbrev pub with_table : Store → (address : ℕ) → TableInstance → Store
+with_table store address table = record store { tables = slice_set store.tables address table }
 
 abbrev pub with_memory : Store → (address : ℕ) → MemoryInstance → Store
 with_memory store address memory = record store { memories = slice_set store.memories address memory }
@@ -89,3 +119,6 @@ with_global store address g = record store { globals = slice_set store.globals a
 
 abbrev pub with_data : Store → (address : ℕ) → DataInstance → Store
 with_data store address segment = record store { datas = slice_set store.datas address segment }
+
+abbrev pub with_elements : Store → (address : ℕ) → ElementInstance → Store
+with_elements store address segment = record store { elements = slice_set store.elements address segment }

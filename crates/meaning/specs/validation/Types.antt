@@ -1,5 +1,5 @@
 -- Types (Validation, Types): block types, limits and memory types, and the types that the definitions share.
-use Rattle.std.specs.Prelude.{◌≤◌, ◌^◌, List, [], ◌∷◌, Option, Some, None, slice_get}
+use Rattle.std.specs.Prelude.{◌≤◌, ◌^◌, List, [], ◌∷◌, Option, Some, None, slice_get, Bool, true, false, ◌&&◌}
 use Rattle.core_types.specs.declared.op.BlockType.{BlockType}
 use Rattle.core_types.specs.declared.op.BlockType.TheVariants as block
 use Rattle.core_types.specs.declared.types.FuncType.{FuncType}
@@ -7,7 +7,7 @@ use Rattle.core_types.specs.declared.types.Limits.{Limits}
 use Rattle.core_types.specs.declared.types.RefType.{RefType}
 use Rattle.core_types.specs.declared.types.RefType.TheVariants as ref
 use Rattle.core_types.specs.declared.types.ValType.{ValType}
-use Rattle.core_types.specs.declared.types.ValType.TheVariants.{FuncRef, ExternRef}
+use Rattle.core_types.specs.declared.types.ValType.TheVariants.{I32, I64, FuncRef, ExternRef}
 use Rattle.meaning.specs.structure.Bodies.{Kind, BlockKind, LoopKind, IfKind}
 
 -- From the parameters to the results.
@@ -17,6 +17,22 @@ function_type params results = record { params = params; results = results }
 abbrev pub reference_type : RefType → ValType
 reference_type ref.FuncRef = FuncRef
 reference_type ref.ExternRef = ExternRef
+
+-- Whether two types of functions are the same, which goes by their structure (Function Types).
+abbrev pub is_same_type : ValType → ValType → Bool
+is_same_type I32 I32 = true
+is_same_type I64 I64 = true
+is_same_type FuncRef FuncRef = true
+is_same_type ExternRef ExternRef = true
+is_same_type t u = false
+
+abbrev pub are_same_types : List ValType → List ValType → Bool
+are_same_types [] [] = true
+are_same_types (t ∷ ts) (u ∷ us) = is_same_type t u && are_same_types ts us
+are_same_types ts us = false
+
+abbrev pub is_same_function_type : FuncType → FuncType → Bool
+is_same_function_type t u = are_same_types t.params u.params && are_same_types t.results u.results
 
 -- The type of a block (Block Types): no parameters and at most one result, or a type of the module.
 abbrev pub block_type : List FuncType → BlockType → Option FuncType

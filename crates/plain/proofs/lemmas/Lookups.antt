@@ -5,7 +5,7 @@ use Rattle.core_types.specs.declared.op.MemoryOp.{MemoryOp}
 use Rattle.core_types.specs.declared.op.MemoryOp.TheVariants.{Load, Store as StoreNumber, Size, Grow, Fill, Copy, Init, DataDrop}
 use Rattle.core_types.specs.declared.outcome.Val.{Val}
 use Rattle.meaning.specs.execution.Configurations.{Frame}
-use Rattle.meaning.specs.execution.Instructions.{in_memory, memory_or_data_effect}
+use Rattle.meaning.specs.execution.Effects.{in_memory, memory_or_data_effect}
 use Rattle.meaning.specs.execution.Store.{Store, instance_of, locate}
 
 pub is_there : {X : Type 0} (xs : List X) (i : ℕ) (d : X) → i < length xs → slice_get xs i ≡ Some (get_or xs i d)

@@ -1,7 +1,7 @@
 use Rattle.std.proofs.Common.{refl, arith}
 use Rattle.core_types.specs.declared.types.ValType.{ValType}
 use Rattle.core_types.specs.declared.types.ValType.TheVariants.{I32, I64, FuncRef, ExternRef}
-use Rattle.meaning.specs.execution.Instructions.{default_of}
+use Rattle.meaning.specs.execution.Values.{default_of}
 use Rattle.meaning.specs.soundness.Values.{ValueHasType}
 use Rattle.meaning.specs.execution.Store.{Store}
 use Rattle.meaning.proofs.soundness.first_values_have_their_types.Goals as goal

@@ -1,5 +1,5 @@
 use Rattle.std.proofs.Common.{◌≡◌, ◌++◌, map, take}
-use Rattle.meaning.specs.execution.Instructions.{default_of}
+use Rattle.meaning.specs.execution.Values.{default_of}
 use Rattle.stacks.proofs.frame_locals.add_locals.Given as goal
 
 abbrev pub invariant-loop-index : goal.invariant-loop-index

@@ -1,7 +1,7 @@
 use Rattle.std.proofs.Common.{refl, ap}
 use Rattle.core_types.specs.declared.op.ControlOp.TheVariants.{BrIf}
 use Rattle.core_types.specs.declared.op.PlainOp.TheVariants.{Control as ControlPlain}
-use Rattle.meaning.specs.execution.Instructions.{Done, instruction_cost}
+use Rattle.meaning.specs.execution.Effects.{Done, instruction_cost}
 use Rattle.exec.specs.Representation.{redex_of}
 use Rattle.exec.proofs.simulation.Conditions.{if_branches, if_lacks, if_passes, popped_stands}
 use Rattle.exec.proofs.simulation.Effects.{effect_goes, effect_lacks, effect_no_fuel}

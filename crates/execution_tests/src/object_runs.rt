@@ -1,4 +1,4 @@
-//! Calls of functions that read and change memories, globals and data segments.
+//! Calls of functions that read and change tables, memories, globals and segments.
 
 use crate::modules::store_with;
 use crate::runs::calls_so;
@@ -163,6 +163,47 @@ static OBJECTS: [Case; 6] = [
     ] },
 ];
 
+// Tables, element segments and calls through entries.
+#[rattlefmt::skip]
+static TABLES: [Case; 5] = [
+    Case { name: "a copy within a table, over itself", modules: &["(type (func (result i32))) (table 4 funcref) (elem func 0 1 2 3) (func (result i32) i32.const 10) (func (result i32) i32.const 11) (func (result i32) i32.const 12) (func (result i32) i32.const 13) (func i32.const 0 i32.const 0 i32.const 4 table.init 0 i32.const 0 i32.const 1 i32.const 3 table.copy) (func (param i32) (result i32) local.get 0 call_indirect (type 0))"], bytes: None, calls: &[
+        Call { address: 4, args: &[], fuel: 8, ends: "values", left: 0 },
+        Call { address: 5, args: &[Val::I32(0)], fuel: 3, ends: "values i32 11", left: 0 },
+        Call { address: 5, args: &[Val::I32(1)], fuel: 3, ends: "values i32 12", left: 0 },
+        Call { address: 5, args: &[Val::I32(2)], fuel: 3, ends: "values i32 13", left: 0 },
+        Call { address: 5, args: &[Val::I32(3)], fuel: 3, ends: "values i32 13", left: 0 },
+    ] },
+    Case { name: "a copy upward within a table, over itself", modules: &["(type (func (result i32))) (table 4 funcref) (elem func 0 1 2 3) (func (result i32) i32.const 10) (func (result i32) i32.const 11) (func (result i32) i32.const 12) (func (result i32) i32.const 13) (func i32.const 0 i32.const 0 i32.const 4 table.init 0 i32.const 1 i32.const 0 i32.const 3 table.copy) (func (param i32) (result i32) local.get 0 call_indirect (type 0))"], bytes: None, calls: &[
+        Call { address: 4, args: &[], fuel: 8, ends: "values", left: 0 },
+        Call { address: 5, args: &[Val::I32(0)], fuel: 3, ends: "values i32 10", left: 0 },
+        Call { address: 5, args: &[Val::I32(1)], fuel: 3, ends: "values i32 10", left: 0 },
+        Call { address: 5, args: &[Val::I32(2)], fuel: 3, ends: "values i32 11", left: 0 },
+        Call { address: 5, args: &[Val::I32(3)], fuel: 3, ends: "values i32 12", left: 0 },
+    ] },
+    Case { name: "another type, null, and no entry", modules: &["(type (func (result i32))) (table 2 funcref) (elem declare func 0) (func) (func i32.const 0 ref.func 0 table.set) (func (param i32) (result i32) local.get 0 call_indirect (type 0))"], bytes: None, calls: &[
+        Call { address: 1, args: &[], fuel: 3, ends: "values", left: 0 },
+        Call { address: 2, args: &[Val::I32(0)], fuel: 2, ends: "trap indirect call type mismatch", left: 0 },
+        Call { address: 2, args: &[Val::I32(1)], fuel: 2, ends: "trap uninitialized element", left: 0 },
+        Call { address: 2, args: &[Val::I32(2)], fuel: 2, ends: "trap undefined element", left: 0 },
+        Call { address: 2, args: &[Val::I32(4294967295)], fuel: 2, ends: "trap undefined element", left: 0 },
+    ] },
+    Case { name: "an instance has tables and functions of its own", modules: &["(type (func (result i32))) (table 1 funcref) (elem func 0) (func (result i32) i32.const 10) (func i32.const 0 i32.const 0 i32.const 1 table.init 0) (func (result i32) i32.const 0 call_indirect (type 0))", "(type (func)) (type (func (result i32))) (table 1 funcref) (elem func 0) (func (result i32) i32.const 20) (func i32.const 0 i32.const 0 i32.const 1 table.init 0) (func (result i32) i32.const 0 call_indirect (type 1)) (func (result funcref) i32.const 0 table.get)"], bytes: None, calls: &[
+        Call { address: 4, args: &[], fuel: 4, ends: "values", left: 0 },
+        Call { address: 2, args: &[], fuel: 2, ends: "trap uninitialized element", left: 0 },
+        Call { address: 5, args: &[], fuel: 3, ends: "values i32 20", left: 0 },
+        Call { address: 1, args: &[], fuel: 4, ends: "values", left: 0 },
+        Call { address: 2, args: &[], fuel: 3, ends: "values i32 10", left: 0 },
+        Call { address: 6, args: &[], fuel: 2, ends: "values funcref 3", left: 0 },
+    ] },
+    Case { name: "references of the host", modules: &["(table 2 externref) (func (param externref) i32.const 1 local.get 0 table.set) (func (param i32) (result externref) local.get 0 table.get)"], bytes: None, calls: &[
+        Call { address: 0, args: &[Val::ExternRef(Some(4))], fuel: 2, ends: "exhausted fuel", left: 0 },
+        Call { address: 1, args: &[Val::I32(1)], fuel: 2, ends: "values externref null", left: 0 },
+        Call { address: 0, args: &[Val::ExternRef(Some(4))], fuel: 3, ends: "values", left: 0 },
+        Call { address: 1, args: &[Val::I32(1)], fuel: 2, ends: "values externref 4", left: 0 },
+        Call { address: 1, args: &[Val::I32(2)], fuel: 2, ends: "trap out of bounds table access", left: 0 },
+    ] },
+];
+
 // Whether a call ends so and leaves so much fuel.
 fn goes_so(alloc: Global, store: &mut Store, call: &Call) -> bool {
     let Call {
@@ -172,7 +213,7 @@ fn goes_so(alloc: Global, store: &mut Store, call: &Call) -> bool {
         ends,
         left,
     } = call;
-    calls_so(alloc, store, (*address, args), (*fuel, 1), (ends, *left))
+    calls_so(alloc, store, (*address, args), (*fuel, 2), (ends, *left))
 }
 
 // Whether the first memory begins with these bytes, behind which all are zero.
@@ -230,6 +271,14 @@ fn loads_and_copies(rt: HostRuntime) {
 #[test]
 fn changes_segments_and_globals(rt: HostRuntime) {
     for case in &OBJECTS {
+        let first = first_at_fault(rt.alloc(), case);
+        assert!(rt; first.is_none(), "{} {first:?}", case.name);
+    }
+}
+
+#[test]
+fn changes_tables_and_calls_through_them(rt: HostRuntime) {
+    for case in &TABLES {
         let first = first_at_fault(rt.alloc(), case);
         assert!(rt; first.is_none(), "{} {first:?}", case.name);
     }

@@ -1,0 +1,260 @@
+ghost use Rattle.std.specs.Prelude.{◌≡◌, ◌<◌, ◌≤◌, [], length};
+ghost use Rattle.core_types.specs.declared.outcome.Val.{Val as AnyVal};
+ghost use Rattle.meaning.specs.execution.Effects.{entries_cost as cost_of_entries};
+ghost use Rattle.meaning.specs.execution.Tables.{copy_entries, fill_entries, grow_entries, most_entries, read_entry, write_entry};
+ghost use Rattle.store.specs.State.{elements_of, put_elements, put_table, table_of};
+ghost use Rattle.bulkops.specs.Accesses.{Wrote, price_if, price_of_access};
+ghost use Rattle.bulkops.specs.Growth.{DidGrow, price_of_growth, size_to_grow as size_by};
+ghost use Rattle.bulkops.specs.Tables.{state_with_entries};
+
+use crate::bulk::is_within;
+use crate::growth::size_to_grow;
+use core_types::{Trap, Val};
+use std::alloc::AllocError;
+use store::State;
+
+// What an instruction on that many entries costs, by whether it stays in bounds.
+fn entries_cost(fits: bool, count: u32) -> u64
+    ensures price { result ≡ price_if fits (cost_of_entries count) }
+    ensures some { 1 ≤ result }
+{
+    if fits { 1 + count as u64 / 8 } else { 1 }
+}
+
+// How many entries a table has.
+fn length_of(state: &State, address: u32) -> usize
+    requires { address < length state.now.contents.tables }
+    ensures { result ≡ length (table_of state.now address).entries }
+{
+    match state.table(address) {
+        Some(table) => table.entries().len(),
+        None => 0,
+    }
+}
+
+// How many references an element segment has.
+fn reference_count(state: &State, segment: u32) -> usize
+    requires { segment < length state.now.contents.elements }
+    ensures { result ≡ length (elements_of state.now segment).references }
+{
+    match state.element_segment(segment) {
+        Some(source) => source.references().len(),
+        None => 0,
+    }
+}
+
+/// The entry of a table at an offset, or its trap (table.get).
+pub fn table_get(state: &State, address: u32, offset: u32) -> Result<Val, Trap>
+    requires { address < length state.now.contents.tables }
+    ensures { result ≡ read_entry (table_of state.now address).entries offset }
+{
+    match state.table(address) {
+        Some(table) => match table.entries().get(offset as usize) {
+            Some(value) => Ok(*value),
+            None => Err(Trap::TableBounds),
+        },
+        None => Err(Trap::TableBounds),
+    }
+}
+
+/// Sets the entry of a table at an offset, or traps and changes nothing (table.set).
+pub fn table_set(state: &mut State, address: u32, offset: u32, value: Val) -> Result<(), Trap>
+    requires { address < length state.old.contents.tables }
+    ensures { Wrote result state.old state.new
+        (state_with_entries state.old address
+        (write_entry (table_of state.old address).entries offset value)) }
+{
+    if offset as usize >= length_of(state, address) {
+        return Err(Trap::TableBounds);
+    }
+    state.set_entry(address, offset, value);
+    Ok(())
+}
+
+/// The size of a table, in entries (table.size).
+pub fn table_size(state: &State, address: u32) -> u32
+    requires { address < length state.now.contents.tables }
+    ensures { result ≡ (table_of state.now address).ty.limits.min }
+{
+    match state.table(address) {
+        Some(table) => table.ty().limits.min,
+        None => 0,
+    }
+}
+
+/// What a fill costs (table.fill).
+pub fn table_fill_cost(state: &State, address: u32, offset: u32, count: u32) -> u64
+    requires { address < length state.now.contents.tables }
+    ensures price { (value : AnyVal)
+        → result ≡ price_of_access (fill_entries (table_of state.now address).entries offset value
+        count) (cost_of_entries count) }
+    ensures some { 1 ≤ result }
+{
+    entries_cost(is_within(length_of(state, address), offset, count), count)
+}
+
+/// Gives that many entries of a table a value, or traps and changes nothing (table.fill).
+pub fn table_fill(
+    state: &mut State,
+    address: u32,
+    offset: u32,
+    value: Val,
+    count: u32,
+) -> Result<(), Trap>
+    requires { address < length state.old.contents.tables }
+    ensures { Wrote result state.old state.new
+        (state_with_entries state.old address
+        (fill_entries (table_of state.old address).entries offset value count)) }
+{
+    if !is_within(length_of(state, address), offset, count) {
+        return Err(Trap::TableBounds);
+    }
+    state.fill_entries(address, offset, value, count);
+    Ok(())
+}
+
+/// What a copy from one table to another, or within one, costs (table.copy).
+pub fn table_copy_cost(
+    state: &State,
+    into: u32,
+    source: u32,
+    target: u32,
+    from: u32,
+    count: u32,
+) -> u64
+    requires target { into < length state.now.contents.tables }
+    requires source { source < length state.now.contents.tables }
+    ensures price { result ≡ price_of_access
+        (copy_entries (table_of state.now into).entries (table_of state.now source).entries target
+        from count) (cost_of_entries count) }
+    ensures some { 1 ≤ result }
+{
+    let reads = is_within(length_of(state, source), from, count);
+    let writes = is_within(length_of(state, into), target, count);
+    entries_cost(reads && writes, count)
+}
+
+/// Copies that many entries of a table to another or the same, as if they were read before any is written, or traps and changes
+/// nothing (table.copy). Both tables are named by their addresses, which may be equal.
+pub fn table_copy(
+    state: &mut State,
+    into: u32,
+    source: u32,
+    target: u32,
+    from: u32,
+    count: u32,
+) -> Result<(), Trap>
+    requires target { into < length state.old.contents.tables }
+    requires source { source < length state.old.contents.tables }
+    ensures { Wrote result state.old state.new
+        (state_with_entries state.old into
+        (copy_entries (table_of state.old into).entries (table_of state.old source).entries target
+        from count)) }
+{
+    if !is_within(length_of(state, source), from, count) {
+        return Err(Trap::TableBounds);
+    }
+    if !is_within(length_of(state, into), target, count) {
+        return Err(Trap::TableBounds);
+    }
+    state.copy_entries(into, source, target, from, count);
+    Ok(())
+}
+
+/// What a copy from an element segment costs (table.init).
+pub fn table_init_cost(
+    state: &State,
+    into: u32,
+    segment: u32,
+    target: u32,
+    from: u32,
+    count: u32,
+) -> u64
+    requires target { into < length state.now.contents.tables }
+    requires segment { segment < length state.now.contents.elements }
+    ensures price { result ≡ price_of_access
+        (copy_entries (table_of state.now into).entries (elements_of state.now segment).references
+        target from count) (cost_of_entries count) }
+    ensures some { 1 ≤ result }
+{
+    let reads = is_within(reference_count(state, segment), from, count);
+    let writes = is_within(length_of(state, into), target, count);
+    entries_cost(reads && writes, count)
+}
+
+/// Copies that many references of an element segment into a table, or traps and changes nothing (table.init).
+pub fn table_init(
+    state: &mut State,
+    into: u32,
+    segment: u32,
+    target: u32,
+    from: u32,
+    count: u32,
+) -> Result<(), Trap>
+    requires target { into < length state.old.contents.tables }
+    requires segment { segment < length state.old.contents.elements }
+    ensures { Wrote result state.old state.new
+        (state_with_entries state.old into
+        (copy_entries (table_of state.old into).entries (elements_of state.old segment).references
+        target from count)) }
+{
+    if !is_within(reference_count(state, segment), from, count) {
+        return Err(Trap::TableBounds);
+    }
+    if !is_within(length_of(state, into), target, count) {
+        return Err(Trap::TableBounds);
+    }
+    state.init_entries(into, segment, target, from, count);
+    Ok(())
+}
+
+// The size of a table, if it may grow by that many entries more.
+fn size_for(state: &State, address: u32, count: u32) -> Option<u32>
+    requires { address < length state.now.contents.tables }
+    ensures { result ≡ size_by state.now.bounds.entries most_entries
+        (table_of state.now address).ty.limits count }
+{
+    let table = state.table(address)?;
+    size_to_grow(state.entries(), u32::MAX, table.ty().limits, count)
+}
+
+/// What a growth costs (table.grow).
+pub fn table_grow_cost(state: &State, address: u32, count: u32) -> u64
+    requires { address < length state.now.contents.tables }
+    ensures price { result ≡ price_of_growth (size_by state.now.bounds.entries most_entries
+        (table_of state.now address).ty.limits count) (cost_of_entries count) }
+    ensures some { 1 ≤ result }
+{
+    entries_cost(size_for(state, address, count).is_some(), count)
+}
+
+/// Adds entries of a value to a table, and answers its size before; or answers -1 and changes nothing where the table may not grow
+/// so (table.grow). Where there is no memory for the entries, nothing has changed.
+pub fn table_grow(
+    state: &mut State,
+    address: u32,
+    value: Val,
+    count: u32,
+) -> Result<u32, AllocError>
+    requires { address < length state.old.contents.tables }
+    ensures { DidGrow (size_by state.old.bounds.entries most_entries
+        (table_of state.old address).ty.limits count) result state.old state.new
+        (put_table state.old address (grow_entries (table_of state.old address) value count)) }
+{
+    match size_for(state, address, count) {
+        Some(size) => {
+            state.grow_table(address, value, count)?;
+            Ok(size)
+        }
+        None => Ok(u32::MAX),
+    }
+}
+
+/// Leaves an element segment without references, and gives their memory back (elem.drop).
+pub fn elem_drop(state: &mut State, segment: u32)
+    requires { segment < length state.old.contents.elements }
+    ensures { state.new ≡ put_elements state.old segment
+        (record { ty = (elements_of state.old segment).ty; references = [] }) }
+{
+    state.drop_elements(segment);
+}

@@ -1,0 +1,134 @@
+ghost use Rattle.std.specs.Prelude.{◌≡◌, ◌+◌, ◌<◌, ◌≤◌, length, replicate, slice_set, OnOk, OnErr, IfOk};
+ghost use Rattle.meaning.specs.execution.Storage.{items_at, overwrite};
+ghost use Rattle.meaning.specs.execution.Tables.{grow_entries, new_table};
+ghost use Rattle.meaning.specs.execution.Values.{null_of};
+ghost use Rattle.store.specs.State.{no_table};
+ghost use Rattle.store.specs.Tables.{HasEntries, with_entries};
+
+use core_types::{Limits, RefType, TableType, Val};
+use std::alloc::{AllocError, Global};
+use std::marker::Model;
+
+/// A table: its type, whose minimum is its present size, and its entries (Execution, Table Instances).
+#[derive(Drop)]
+pub struct Table {
+    ty: TableType,
+    entries: Vec<Val>,
+}
+
+impl Model for Table {
+    ghost use Rattle.meaning.specs.execution.Tables.{TableInstance};
+    ghost use Rattle.store.specs.Tables.{HasEntries};
+
+    ghost Value = { TableInstance };
+
+    ghost view = { λ t. record { ty = t.ty; entries = t.entries.items } };
+
+    ghost invariant = { λ t. HasEntries t.ty.limits.min t.entries.items };
+}
+
+// The null of a type.
+fn null_of(ty: RefType) -> Val
+    ensures { result ≡ null_of ty }
+{
+    match ty {
+        RefType::FuncRef => Val::FuncRef(None),
+        RefType::ExternRef => Val::ExternRef(None),
+    }
+}
+
+impl Table {
+    // A table without entries, for a place from which another was taken. Takes no memory.
+    pub(crate) fn empty(alloc: Global) -> Table
+        ensures { result ≡ no_table }
+    {
+        let limits = Limits { min: 0, max: None };
+        let ty = TableType {
+            element: RefType::FuncRef,
+            limits,
+        };
+        Table {
+            ty,
+            entries: Vec::new(alloc),
+        }
+    }
+
+    /// A table of this type: as many entries as the minimum says, all null.
+    pub fn new(alloc: Global, ty: TableType) -> Result<Table, AllocError>
+        ensures { IfOk result (λ t. t ≡ new_table ty) }
+    {
+        let mut entries = Vec::new(alloc);
+        entries.resize(ty.limits.min as usize, null_of(ty.element))?;
+        Ok(Table { ty, entries })
+    }
+
+    /// The type, whose minimum is the present size.
+    pub fn ty(&self) -> TableType
+        ensures { result ≡ self.now.ty }
+    {
+        self.ty
+    }
+
+    /// The entries, for reading.
+    pub fn entries(&self) -> &[Val]
+        ensures same { result.now ≡ self.now.entries }
+        ensures size { HasEntries (self.now.ty.limits.min) self.now.entries }
+    {
+        &self.entries
+    }
+
+    // Sets an entry.
+    pub(crate) fn set(&mut self, offset: u32, value: Val)
+        requires { offset < length self.old.entries }
+        ensures { self.new ≡ with_entries self.old (slice_set self.old.entries offset value) }
+    {
+        self.entries[offset as usize] = value;
+    }
+
+    // Gives that many entries a value.
+    pub(crate) fn fill(&mut self, offset: u32, value: Val, count: u32)
+        requires { offset + count ≤ length self.old.entries }
+        ensures { self.new ≡ with_entries self.old
+            (overwrite self.old.entries offset (replicate count value)) }
+    {
+        let from = offset as usize;
+        self.entries[from..from + count as usize].fill(value);
+    }
+
+    // Copies that many entries within the table, as if they were read before any is written.
+    pub(crate) fn copy_within(&mut self, target: u32, from: u32, count: u32)
+        requires source { from + count ≤ length self.old.entries }
+        requires target { target + count ≤ length self.old.entries }
+        ensures { self.new ≡ with_entries self.old
+            (overwrite self.old.entries target (items_at self.old.entries from count)) }
+    {
+        let start = from as usize;
+        self.entries
+            .copy_within(start..start + count as usize, target as usize);
+    }
+
+    // Copies that many values from others.
+    pub(crate) fn copy_from(&mut self, source: &[Val], target: u32, from: u32, count: u32)
+        requires source { from + count ≤ length source.now }
+        requires target { target + count ≤ length self.old.entries }
+        ensures { self.new ≡ with_entries self.old
+            (overwrite self.old.entries target (items_at source.now from count)) }
+    {
+        let start = from as usize;
+        let offset = target as usize;
+        let read = &source[start..start + count as usize];
+        self.entries[offset..offset + count as usize].copy_from_slice(read);
+    }
+
+    // Adds entries of a value. Where memory runs out, the table is as before.
+    pub(crate) fn grow(&mut self, value: Val, count: u32) -> Result<(), AllocError>
+        requires { self.old.ty.limits.min + count ≤ 4294967295 }
+        ensures grown { OnOk result (self.new ≡ grow_entries self.old value count) }
+        ensures unchanged { OnErr result (self.new ≡ self.old) }
+    {
+        let size = self.entries.len() + count as usize;
+        self.entries.resize(size, value)?;
+        self.ty.limits.min += count;
+        Ok(())
+    }
+}
