@@ -190,8 +190,8 @@ pub fn mem_size(state: &State, address: u32) -> u32
 // The size of a memory, in pages, if it may grow by that many more.
 fn size_for(state: &State, address: u32, pages: u32) -> Option<u32>
     requires { address < length state.now.contents.memories }
-    ensures { result ≡ size_by state.now.bounds.pages most_pages (memory_of state.now address).limits
-        pages }
+    ensures { result ≡ size_by state.now.bounds.pages most_pages (memory_of state.now
+        address).limits pages }
 {
     let memory = state.memory(address)?;
     size_to_grow(state.pages(), MOST_PAGES, memory.limits(), pages)
@@ -214,9 +214,9 @@ pub fn mem_grow_cost(state: &State, address: u32, pages: u32) -> u64
 /// not grow so (memory.grow). Where there is no memory for the pages, nothing has changed.
 pub fn mem_grow(state: &mut State, address: u32, pages: u32) -> Result<u32, AllocError>
     requires { address < length state.old.contents.memories }
-    ensures { DidGrow (size_by state.old.bounds.pages most_pages (memory_of state.old address).limits
-        pages) result state.old state.new
-        (put_memory state.old address (grow_by (memory_of state.old address) pages)) }
+    ensures { DidGrow (size_by state.old.bounds.pages most_pages (memory_of state.old
+        address).limits pages) result state.old state.new (put_memory state.old address (grow_by
+        (memory_of state.old address) pages)) }
 {
     match size_for(state, address, pages) {
         Some(size) => {

@@ -29,4 +29,5 @@ pub use stack::Stack;
 pub use text::Name;
 pub use types::{
     ExternType, FuncType, GlobalType, Limits, Mutability, OperandType, RefType, TableType, ValType,
+    are_same_types,
 };

@@ -1,3 +1,5 @@
+ghost use Rattle.std.specs.Prelude.{◌≡◌, ◌↔◌, IsTrue};
+
 use crate::items::Items;
 
 /// A type of values (Structure, Types, Value Types).
@@ -29,6 +31,31 @@ pub enum OperandType {
 pub struct FuncType {
     pub params: Items<ValType>,
     pub results: Items<ValType>,
+}
+
+/// Whether two lists of types are equal.
+pub fn are_same_types(first: &[ValType], second: &[ValType]) -> bool
+    ensures { IsTrue result ↔ (first.now ≡ second.now) }
+{
+    if first.len() != second.len() {
+        return false;
+    }
+    for i in 0..first.len() {
+        if first[i] != second[i] {
+            return false;
+        }
+    }
+    true
+}
+
+impl FuncType {
+    /// Whether two types have equal parameters and equal results.
+    pub fn is_same(&self, other: &FuncType) -> bool
+        ensures { IsTrue result ↔ (self.now ≡ other.now) }
+    {
+        are_same_types(self.params.as_slice(), other.params.as_slice())
+            && are_same_types(self.results.as_slice(), other.results.as_slice())
+    }
 }
 
 /// The bounds of a memory or a table (Structure, Types, Limits).

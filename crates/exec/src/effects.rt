@@ -23,9 +23,12 @@ pub fn step_effect(
     meter: &mut Meter,
 ) -> Step
     requires position { machine.old.position + 1 < 2 ^ 64 }
-    ensures simulates { IsBefore machine.old (Plain op.now)
-        → next_in (world_of code.now state.old) machine.old (redex_of machine.old) ≡ continue_after (frame_of machine.old) (effect (store_with code.now state.old) (frame_of machine.old) op.now machine.old.operands.own) (rests_at (machine.old.code.body.now) (machine.old.position + 1)).here.body
-        → Simulates (world_of code.now state.old) machine.old meter.old result (world_of code.now state.new) machine.new meter.new }
+    ensures simulates { IsBefore machine.old (Plain op.now) → next_in (world_of code.now state.old)
+        machine.old (redex_of machine.old) ≡ continue_after (frame_of machine.old) (effect
+        (store_with code.now state.old) (frame_of machine.old) op.now machine.old.operands.own)
+        (rests_at (machine.old.code.body.now) (machine.old.position + 1)).here.body → Simulates
+        (world_of code.now state.old) machine.old meter.old result (world_of code.now state.new)
+        machine.new meter.new }
     ensures falls { IfGoes result (measure machine.new meter.new < measure machine.old meter.old) }
     ensures stays { machine.new.code ≡ machine.old.code }
     ensures bound { meter.new.bound ≡ meter.old.bound }

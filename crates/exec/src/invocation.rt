@@ -20,8 +20,9 @@ use store::{Callee, Code, State, Store};
 // Runs a machine to the end of its call.
 fn run<'a>(code: &'a Code, state: &mut State, machine: Machine<'a>, meter: &mut Meter) -> Outcome
     requires sound { RepresentsSome machine meter.old.frames }
-    ensures run { (whole : Configuration) → Represents machine.entry meter.old.frames whole
-        → RunsTo meter.old.bound (world_of code.now state.old) meter.old.left whole (ending_of result) (world_of code.now state.new) meter.new.left }
+    ensures run { (whole : Configuration) → Represents machine.entry meter.old.frames whole → RunsTo
+        meter.old.bound (world_of code.now state.old) meter.old.left whole (ending_of result)
+        (world_of code.now state.new) meter.new.left }
     ensures bound { meter.new.bound ≡ meter.old.bound }
 {
     let mut machine = machine;

@@ -49,7 +49,8 @@ impl Meter {
     /// Spends so much fuel if it is there; if not, answers false and changes nothing.
     pub fn try_spend(&mut self, cost: u64) -> bool
         ensures enough { IsTrue result ↔ (cost ≤ self.old.left) }
-        ensures spent { OnTrue result (self.new ≡ metered (self.old.left - cost) self.old.bound self.old.frames) }
+        ensures spent { OnTrue result (self.new ≡ metered (self.old.left - cost) self.old.bound
+            self.old.frames) }
         ensures unchanged { OnFalse result (self.new ≡ self.old) }
     {
         if cost <= self.left {
@@ -63,7 +64,8 @@ impl Meter {
     /// Opens a frame if fewer are open than the bound allows; if not, answers false and changes nothing.
     pub fn enter(&mut self) -> bool
         ensures within { IsTrue result ↔ (self.old.frames < self.old.bound) }
-        ensures opened { OnTrue result (self.new ≡ metered self.old.left self.old.bound (self.old.frames + 1)) }
+        ensures opened { OnTrue result (self.new ≡ metered self.old.left self.old.bound
+            (self.old.frames + 1)) }
         ensures unchanged { OnFalse result (self.new ≡ self.old) }
     {
         if self.frames < self.bound {

@@ -1,5 +1,6 @@
 -- Validation.
 pub mod Types
+pub mod Matching
 pub mod Context
 pub mod Instructions
 pub mod ContextExtension

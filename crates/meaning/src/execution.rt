@@ -31,18 +31,27 @@ pub fn control_keeps_its_order()
 /// outside, which costs nothing; from code it is lent the memory of the caller's instance, from outside none; and one that traps
 /// is called with 1 and 2.
 pub fn hosts_answer_calls()
-    ensures from_code { Run (CountsCalls (Some 6)) 1 no_frame (counting 0 10) (Invoking ([]) 0) (WithValues (I32 1 ∷ I32 2 ∷ [])) (counting 2 8) }
-    ensures from_outside { Run (CountsCalls None) 0 no_frame (counting 4 0) (Invoking ([]) 1) (WithValues (I32 5 ∷ [])) (counting 5 0) }
-    ensures trap { Run TrapsAtOneAndTwo 1 no_frame (trapping 10) (Invoking ([]) 0) (WithTrap (Host 4)) (trapping 7) }
+    ensures from_code { Run (CountsCalls (Some 6)) 1 no_frame (counting 0 10) (Invoking ([]) 0)
+        (WithValues (I32 1 ∷ I32 2 ∷ [])) (counting 2 8) }
+    ensures from_outside { Run (CountsCalls None) 0 no_frame (counting 4 0) (Invoking ([]) 1)
+        (WithValues (I32 5 ∷ [])) (counting 5 0) }
+    ensures trap { Run TrapsAtOneAndTwo 1 no_frame (trapping 10) (Invoking ([]) 0) (WithTrap (Host
+        4)) (trapping 7) }
 {}
 
 /// Worked rows of runs on memories, data segments and globals: a fill of 128 bytes costs 3 and is done or not by the fuel; a byte of a segment is copied and
 /// read, and a global is set; a growth that is not allowed answers -1, and an access past the end traps.
 pub fn memories_change_in_runs()
-    ensures fill { Run NoHosts 1 no_frame (with_bytes_and_global fills (replicate 128 0) 5 6) (Invoking ([]) 0) (WithValues ([])) (with_bytes_and_global fills (replicate 128 7) 5 0) }
-    ensures no_fuel { Run NoHosts 1 no_frame (with_bytes_and_global fills (replicate 128 0) 5 5) (Invoking ([]) 0) OutOfFuel (with_bytes_and_global fills (replicate 128 0) 5 2) }
-    ensures global { Run NoHosts 1 no_frame (with_bytes_and_global copies_and_sets (1 ∷ 2 ∷ []) 5 8) (Invoking ([]) 0) (WithValues (I32 2049 ∷ [])) (with_bytes_and_global copies_and_sets (1 ∷ 8 ∷ []) 2049 0) }
-    ensures trap { Run NoHosts 1 no_frame (with_bytes_and_global grows_and_reads (1 ∷ []) 5 8) (Invoking ([]) 0) (WithTrap MemoryBounds) (with_bytes_and_global grows_and_reads (1 ∷ []) 5 5) }
+    ensures fill { Run NoHosts 1 no_frame (with_bytes_and_global fills (replicate 128 0) 5 6)
+        (Invoking ([]) 0) (WithValues ([])) (with_bytes_and_global fills (replicate 128 7) 5 0) }
+    ensures no_fuel { Run NoHosts 1 no_frame (with_bytes_and_global fills (replicate 128 0) 5 5)
+        (Invoking ([]) 0) OutOfFuel (with_bytes_and_global fills (replicate 128 0) 5 2) }
+    ensures global { Run NoHosts 1 no_frame (with_bytes_and_global copies_and_sets (1 ∷ 2 ∷ []) 5 8)
+        (Invoking ([]) 0) (WithValues (I32 2049 ∷ [])) (with_bytes_and_global copies_and_sets (1 ∷ 8
+        ∷ []) 2049 0) }
+    ensures trap { Run NoHosts 1 no_frame (with_bytes_and_global grows_and_reads (1 ∷ []) 5 8)
+        (Invoking ([]) 0) (WithTrap MemoryBounds) (with_bytes_and_global grows_and_reads (1 ∷ []) 5
+        5) }
 {}
 
 /// Worked rows of runs on tables and element segments: a call through an entry, and its traps in their order; a fill of three entries, and one past
@@ -52,24 +61,34 @@ pub fn tables_change_in_runs()
     ensures other_type { CallsEntry 1 3 (WithTrap IndirectType) 1 }
     ensures null_entry { CallsEntry 2 3 (WithTrap UninitializedElement) 1 }
     ensures past { CallsEntry 3 3 (WithTrap UndefinedElement) 1 }
-    ensures fill { Run NoHosts 1 no_frame (with_entries (fills_entries 3) (at 0 ∷ at 1 ∷ at 2 ∷ []) ([]) 4) (Invoking ([]) 0) (WithValues ([])) (with_entries (fills_entries 3) (null ∷ null ∷ null ∷ []) ([]) 0) }
-    ensures fill_past { Run NoHosts 1 no_frame (with_entries (fills_entries 4) (at 0 ∷ at 1 ∷ at 2 ∷ []) ([]) 4) (Invoking ([]) 0) (WithTrap TableBounds) (with_entries (fills_entries 4) (at 0 ∷ at 1 ∷ at 2 ∷ []) ([]) 0) }
-    ensures init { Run NoHosts 1 no_frame (with_entries inits_entry (null ∷ null ∷ []) (at 2 ∷ []) 7) (Invoking ([]) 0) (WithValues (at 2 ∷ [])) (with_entries inits_entry (null ∷ at 2 ∷ []) ([]) 0) }
-    ensures grow { Run NoHosts 1 no_frame (with_entries (grows_table 2) (null ∷ null ∷ []) ([]) 3) (Invoking ([]) 0) (WithValues (I32 2 ∷ [])) (with_entries (grows_table 2) (null ∷ null ∷ at 1 ∷ at 1 ∷ []) ([]) 0) }
-    ensures refused { Run NoHosts 1 no_frame (with_entries (grows_table 3) (null ∷ null ∷ []) ([]) 3) (Invoking ([]) 0) (WithValues (I32 4294967295 ∷ [])) (with_entries (grows_table 3) (null ∷ null ∷ []) ([]) 0) }
+    ensures fill { Run NoHosts 1 no_frame (with_entries (fills_entries 3) (at 0 ∷ at 1 ∷ at 2 ∷ [])
+        ([]) 4) (Invoking ([]) 0) (WithValues ([])) (with_entries (fills_entries 3) (null ∷ null ∷
+        null ∷ []) ([]) 0) }
+    ensures fill_past { Run NoHosts 1 no_frame (with_entries (fills_entries 4) (at 0 ∷ at 1 ∷ at 2 ∷
+        []) ([]) 4) (Invoking ([]) 0) (WithTrap TableBounds) (with_entries (fills_entries 4) (at 0 ∷
+        at 1 ∷ at 2 ∷ []) ([]) 0) }
+    ensures init { Run NoHosts 1 no_frame (with_entries inits_entry (null ∷ null ∷ []) (at 2 ∷ [])
+        7) (Invoking ([]) 0) (WithValues (at 2 ∷ [])) (with_entries inits_entry (null ∷ at 2 ∷ [])
+        ([]) 0) }
+    ensures grow { Run NoHosts 1 no_frame (with_entries (grows_table 2) (null ∷ null ∷ []) ([]) 3)
+        (Invoking ([]) 0) (WithValues (I32 2 ∷ [])) (with_entries (grows_table 2) (null ∷ null ∷ at
+        1 ∷ at 1 ∷ []) ([]) 0) }
+    ensures refused { Run NoHosts 1 no_frame (with_entries (grows_table 3) (null ∷ null ∷ []) ([])
+        3) (Invoking ([]) 0) (WithValues (I32 4294967295 ∷ [])) (with_entries (grows_table 3) (null
+        ∷ null ∷ []) ([]) 0) }
 {}
 
 /// Law: without host functions two bounded runs from one start end alike, in one state, unless one of them ends out of memory.
 pub fn runs_agree()
-    ensures { (bound : ℕ) (outside : Frame) (at s t : State ⊥) (configuration : Configuration) (e f : Ending)
-        → Run NoHosts bound outside at configuration e s → Run NoHosts bound outside at configuration f t
-        → (e ≡ OutOfMemory) ⊎ ((f ≡ OutOfMemory) ⊎ ((e ≡ f) × (s ≡ t))) }
+    ensures { (bound : ℕ) (outside : Frame) (at s t : State ⊥) (configuration : Configuration) (e f
+        : Ending) → Run NoHosts bound outside at configuration e s → Run NoHosts bound outside at
+        configuration f t → (e ≡ OutOfMemory) ⊎ ((f ≡ OutOfMemory) ⊎ ((e ≡ f) × (s ≡ t))) }
 {}
 
 /// Law: a run behind steps is a run from before them.
 pub fn steps_lead_to_runs()
-    ensures { (bound : ℕ) (outside : Frame) (old between last : State ⊥) (first second : Configuration) (ending : Ending)
-        → Steps NoHosts bound outside old first between second
-        → Run NoHosts bound outside between second ending last
-        → Run NoHosts bound outside old first ending last }
+    ensures { (bound : ℕ) (outside : Frame) (old between last : State ⊥) (first second :
+        Configuration) (ending : Ending) → Steps NoHosts bound outside old first between second →
+        Run NoHosts bound outside between second ending last → Run NoHosts bound outside old first
+        ending last }
 {}

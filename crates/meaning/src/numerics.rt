@@ -13,8 +13,10 @@ ghost use Rattle.meaning.specs.execution.Numerics.{binary_operator, comparison_o
 /// Law: an integer represents one signed number, between the least and the greatest of its width.
 pub fn integers_stand_for_signed_numbers()
     ensures back { (bits a : ℕ) → a < 2 ^ bits → integer bits (signed bits a) ≡ a }
-    ensures least { (bits a : ℕ) → 0 < bits → a < 2 ^ bits → neg_ℤ (pos (2 ^ (bits - 1))) ≤ℤ signed bits a }
-    ensures greatest { (bits a : ℕ) → 0 < bits → a < 2 ^ bits → signed bits a <ℤ pos (2 ^ (bits - 1)) }
+    ensures least { (bits a : ℕ) → 0 < bits → a < 2 ^ bits → neg_ℤ (pos (2 ^ (bits - 1))) ≤ℤ signed
+        bits a }
+    ensures greatest { (bits a : ℕ) → 0 < bits → a < 2 ^ bits → signed bits a <ℤ pos (2 ^ (bits -
+        1)) }
 {}
 
 /// Law: the words of the counts. A number is below 2 to the count of its binary digits, and below no lesser power of 2; it is
@@ -30,15 +32,20 @@ pub fn counts_are_of_digits_and_bits()
 
 /// Law: `and`, `or` and `xor` go bit by bit, each on the two bits of one place.
 pub fn logic_goes_bit_by_bit()
-    ensures conjunction { (bits a b i : ℕ) → IfOk (binary_operator bits And a b) (λ n. bit_at n i ≡ min (bit_at a i) (bit_at b i)) }
-    ensures disjunction { (bits a b i : ℕ) → IfOk (binary_operator bits Or a b) (λ n. bit_at n i ≡ max (bit_at a i) (bit_at b i)) }
-    ensures exclusion { (bits a b i : ℕ) → IfOk (binary_operator bits Xor a b) (λ n. bit_at n i ≡ (bit_at a i + bit_at b i) % 2) }
+    ensures conjunction { (bits a b i : ℕ) → IfOk (binary_operator bits And a b) (λ n. bit_at n i ≡
+        min (bit_at a i) (bit_at b i)) }
+    ensures disjunction { (bits a b i : ℕ) → IfOk (binary_operator bits Or a b) (λ n. bit_at n i ≡
+        max (bit_at a i) (bit_at b i)) }
+    ensures exclusion { (bits a b i : ℕ) → IfOk (binary_operator bits Xor a b) (λ n. bit_at n i ≡
+        (bit_at a i + bit_at b i) % 2) }
 {}
 
 /// Law: a rotation moves each bit by a number of places, upward or downward, round the ends.
 pub fn rotations_move_each_bit()
-    ensures left { (bits a b i : ℕ) → a < 2 ^ bits → i < bits → IfOk (binary_operator bits Rotl a b) (λ n. bit_at n ((i + b) % bits) ≡ bit_at a i) }
-    ensures right { (bits a b i : ℕ) → a < 2 ^ bits → i < bits → IfOk (binary_operator bits Rotr a b) (λ n. bit_at n i ≡ bit_at a ((i + b) % bits)) }
+    ensures left { (bits a b i : ℕ) → a < 2 ^ bits → i < bits → IfOk (binary_operator bits Rotl a b)
+        (λ n. bit_at n ((i + b) % bits) ≡ bit_at a i) }
+    ensures right { (bits a b i : ℕ) → a < 2 ^ bits → i < bits → IfOk (binary_operator bits Rotr a
+        b) (λ n. bit_at n i ≡ bit_at a ((i + b) % bits)) }
 {}
 
 /// Law: an operator on integers of a width gives one of the width, or a trap. A test or a comparison
@@ -48,7 +55,8 @@ pub fn results_have_their_width()
         → IfOk (binary_operator bits op a b) (λ n. n < 2 ^ bits) }
     ensures unary { (bits : ℕ) (op : UnaryOp) (a : ℕ) → unary_operator bits op a < 2 ^ bits }
     ensures eqz { (a : ℕ) → eqz_operator a ≤ 1 }
-    ensures comparison { (bits : ℕ) (op : Comparison) (a b : ℕ) → comparison_operator bits op a b ≤ 1 }
+    ensures comparison { (bits : ℕ) (op : Comparison) (a b : ℕ) → comparison_operator bits op a b ≤
+        1 }
     ensures wrap { (a : ℕ) → conversion_operator I32WrapI64 a < 2 ^ 32 }
     ensures conversion { (op : Conversion) (a : ℕ) → a < 2 ^ 64 → conversion_operator op a < 2 ^ 64 }
 {}

@@ -22,9 +22,11 @@ pub fn bytes_represent_numbers()
 pub fn bytes_are_read_and_written()
     ensures signed { load_from (load.Bits8 W32 Signed) (128 ∷ 255 ∷ []) 0 ≡ Ok (I32 4294967168) }
     ensures unsigned { load_from (load.Bits16 W32 Unsigned) (128 ∷ 255 ∷ []) 0 ≡ Ok (I32 65408) }
-    ensures long { load_from (load.Bits16 W64 Signed) (128 ∷ 255 ∷ []) 0 ≡ Ok (I64 18446744073709551488) }
+    ensures long { load_from (load.Bits16 W64 Signed) (128 ∷ 255 ∷ []) 0 ≡ Ok (I64
+        18446744073709551488) }
     ensures past { load_from (load.Bits16 W32 Unsigned) (128 ∷ 255 ∷ []) 1 ≡ Err MemoryBounds }
-    ensures copy { copy_bytes (1 ∷ 2 ∷ 3 ∷ 4 ∷ []) (1 ∷ 2 ∷ 3 ∷ 4 ∷ []) 1 0 3 ≡ Ok (1 ∷ 1 ∷ 2 ∷ 3 ∷ []) }
+    ensures copy { copy_bytes (1 ∷ 2 ∷ 3 ∷ 4 ∷ []) (1 ∷ 2 ∷ 3 ∷ 4 ∷ []) 1 0 3 ≡ Ok (1 ∷ 1 ∷ 2 ∷ 3 ∷
+        []) }
     ensures fill { fill_bytes (0 ∷ 0 ∷ []) 0 263 1 ≡ Ok (7 ∷ 0 ∷ []) }
     ensures nothing_at_end { fill_bytes (0 ∷ 0 ∷ []) 2 1 0 ≡ Ok (0 ∷ 0 ∷ []) }
     ensures nothing_past_end { fill_bytes (0 ∷ 0 ∷ []) 3 1 0 ≡ Err MemoryBounds }

@@ -10,6 +10,10 @@ ghost use Rattle.meaning.specs.structure.Bodies.{Body, body_of, rests, writing};
 pub fn writing_is_read()
     ensures whole { (b : Body) → body_of (writing b) ≡ b }
     ensures ended { (b : Body) (ops : List Op) → body_of (writing b ++ (End ∷ ops)) ≡ b }
-    ensures around { (b : Body) (ops : List Op) → rests (writing b ++ (End ∷ ops)) ≡ record { here = record { body = b; other = None }; around = (rests ops).here ∷ (rests ops).around } }
+    ensures around { (b : Body) (ops : List Op) → rests (writing b ++ (End ∷ ops)) ≡ record {
+      here =
+          record { body = b; other = None };
+      around = (rests ops).here ∷ (rests ops).around;
+    } }
     ensures one_tree { (a b : Body) → writing a ≡ writing b → a ≡ b }
 {}

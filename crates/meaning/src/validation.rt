@@ -13,9 +13,13 @@ ghost use Rattle.meaning.specs.validation.Instructions.{AllFit, HasType};
 /// Law: a body leads from each stack that fits one from which it leads, to each that is fitted by one to which it leads; and
 /// one body behind another leads as far as the two.
 pub fn typing_composes()
-    ensures before { (context : Context) (b : Body) (before given after : List OperandType) → AllFit given before → HasType context b before after → HasType context b given after }
-    ensures after { (context : Context) (b : Body) (before after wanted : List OperandType) → HasType context b before after → AllFit after wanted → HasType context b before wanted }
-    ensures joined { (context : Context) (a b : Body) (before between after : List OperandType) → HasType context a before between → HasType context b between after → HasType context (joined a b) before after }
+    ensures before { (context : Context) (b : Body) (before given after : List OperandType) → AllFit
+        given before → HasType context b before after → HasType context b given after }
+    ensures after { (context : Context) (b : Body) (before after wanted : List OperandType) →
+        HasType context b before after → AllFit after wanted → HasType context b before wanted }
+    ensures joined { (context : Context) (a b : Body) (before between after : List OperandType) →
+        HasType context a before between → HasType context b between after → HasType context (joined
+        a b) before after }
 {}
 
 /// Law: what lies below the operands of a body stays below its results.

@@ -10,7 +10,8 @@ use core_types::{ControlOp, Trap};
 
 // `unreachable` and `nop`: the control instructions that lead nowhere (Execution, Control Instructions).
 pub fn run_control(op: ControlOp) -> Did
-    ensures { (store : Store) (frame : Frame) (operands : OperandStack) → DidOperands result (effect store frame (Control op) operands.own) store frame.locals operands operands.below }
+    ensures { (store : Store) (frame : Frame) (operands : OperandStack) → DidOperands result (effect
+        store frame (Control op) operands.own) store frame.locals operands operands.below }
 {
     match op {
         ControlOp::Unreachable => Did::Failed(Trap::Unreachable),

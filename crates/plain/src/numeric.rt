@@ -16,7 +16,8 @@ use stacks::Operands;
 
 // Whether the integer on top is zero.
 fn run_eqz(width: Width, operands: &mut Operands) -> Did
-    ensures { (store : Store) (frame : Frame) → DidOperands result (numeric_effect store frame (Eqz width) operands.old.own) store frame.locals operands.new operands.old.below }
+    ensures { (store : Store) (frame : Frame) → DidOperands result (numeric_effect store frame (Eqz
+        width) operands.old.own) store frame.locals operands.new operands.old.below }
 {
     match width {
         Width::W32 => {
@@ -36,7 +37,8 @@ fn run_eqz(width: Width, operands: &mut Operands) -> Did
 
 // A comparison of the two integers on top.
 fn run_compare(width: Width, op: Comparison, operands: &mut Operands) -> Did
-    ensures { (store : Store) (frame : Frame) → DidOperands result (numeric_effect store frame (Compare width op) operands.old.own) store frame.locals operands.new operands.old.below }
+    ensures { (store : Store) (frame : Frame) → DidOperands result (numeric_effect store frame
+        (Compare width op) operands.old.own) store frame.locals operands.new operands.old.below }
 {
     match width {
         Width::W32 => {
@@ -62,7 +64,8 @@ fn run_compare(width: Width, op: Comparison, operands: &mut Operands) -> Did
 
 // An operator on the integer on top.
 fn run_unary(width: Width, op: UnaryOp, operands: &mut Operands) -> Did
-    ensures { (store : Store) (frame : Frame) → DidOperands result (numeric_effect store frame (Unary width op) operands.old.own) store frame.locals operands.new operands.old.below }
+    ensures { (store : Store) (frame : Frame) → DidOperands result (numeric_effect store frame
+        (Unary width op) operands.old.own) store frame.locals operands.new operands.old.below }
 {
     match width {
         Width::W32 => {
@@ -82,7 +85,8 @@ fn run_unary(width: Width, op: UnaryOp, operands: &mut Operands) -> Did
 
 // An operator on the two integers of 32 bits on top.
 fn run_binary_32(op: BinaryOp, operands: &mut Operands) -> Did
-    ensures { (store : Store) (frame : Frame) → DidOperands result (numeric_effect store frame (Binary W32 op) operands.old.own) store frame.locals operands.new operands.old.below }
+    ensures { (store : Store) (frame : Frame) → DidOperands result (numeric_effect store frame
+        (Binary W32 op) operands.old.own) store frame.locals operands.new operands.old.below }
 {
     let Some(b) = pop_i32(operands) else {
         return Did::Lacking;
@@ -98,7 +102,8 @@ fn run_binary_32(op: BinaryOp, operands: &mut Operands) -> Did
 
 // An operator on the two integers of 64 bits on top.
 fn run_binary_64(op: BinaryOp, operands: &mut Operands) -> Did
-    ensures { (store : Store) (frame : Frame) → DidOperands result (numeric_effect store frame (Binary W64 op) operands.old.own) store frame.locals operands.new operands.old.below }
+    ensures { (store : Store) (frame : Frame) → DidOperands result (numeric_effect store frame
+        (Binary W64 op) operands.old.own) store frame.locals operands.new operands.old.below }
 {
     let Some(b) = pop_i64(operands) else {
         return Did::Lacking;
@@ -114,7 +119,8 @@ fn run_binary_64(op: BinaryOp, operands: &mut Operands) -> Did
 
 // An operator on the two integers of a width on top.
 fn run_binary(width: Width, op: BinaryOp, operands: &mut Operands) -> Did
-    ensures { (store : Store) (frame : Frame) → DidOperands result (numeric_effect store frame (Binary width op) operands.old.own) store frame.locals operands.new operands.old.below }
+    ensures { (store : Store) (frame : Frame) → DidOperands result (numeric_effect store frame
+        (Binary width op) operands.old.own) store frame.locals operands.new operands.old.below }
 {
     match width {
         Width::W32 => run_binary_32(op, operands),
@@ -124,7 +130,8 @@ fn run_binary(width: Width, op: BinaryOp, operands: &mut Operands) -> Did
 
 // A conversion of the integer on top.
 fn run_convert(op: Conversion, operands: &mut Operands) -> Did
-    ensures { (store : Store) (frame : Frame) → DidOperands result (numeric_effect store frame (Convert op) operands.old.own) store frame.locals operands.new operands.old.below }
+    ensures { (store : Store) (frame : Frame) → DidOperands result (numeric_effect store frame
+        (Convert op) operands.old.own) store frame.locals operands.new operands.old.below }
 {
     match op {
         Conversion::I32WrapI64 => {
@@ -156,7 +163,8 @@ fn run_convert(op: Conversion, operands: &mut Operands) -> Did
 
 // An operator on integers.
 pub fn run_numeric(op: NumericOp, operands: &mut Operands) -> Did
-    ensures { (store : Store) (frame : Frame) → DidOperands result (numeric_effect store frame op operands.old.own) store frame.locals operands.new operands.old.below }
+    ensures { (store : Store) (frame : Frame) → DidOperands result (numeric_effect store frame op
+        operands.old.own) store frame.locals operands.new operands.old.below }
 {
     match op {
         NumericOp::Eqz(width) => run_eqz(width, operands),

@@ -11,7 +11,8 @@ use stacks::Operands;
 
 // Takes the topmost operand off.
 fn drop_operand(operands: &mut Operands) -> Did
-    ensures { (store : Store) (frame : Frame) → DidOperands result (parametric_effect store frame DropOperand operands.old.own) store frame.locals operands.new operands.old.below }
+    ensures { (store : Store) (frame : Frame) → DidOperands result (parametric_effect store frame
+        DropOperand operands.old.own) store frame.locals operands.new operands.old.below }
 {
     match operands.pop() {
         Some(_) => Did::AllDone,
@@ -21,7 +22,8 @@ fn drop_operand(operands: &mut Operands) -> Did
 
 // One of two operands, by the i32 over them.
 pub fn run_select(operands: &mut Operands) -> Did
-    ensures { (store : Store) (frame : Frame) → DidOperands result (select_operand store frame operands.old.own) store frame.locals operands.new operands.old.below }
+    ensures { (store : Store) (frame : Frame) → DidOperands result (select_operand store frame
+        operands.old.own) store frame.locals operands.new operands.old.below }
 {
     let Some(condition) = pop_i32(operands) else {
         return Did::Lacking;
@@ -41,7 +43,8 @@ pub fn run_select(operands: &mut Operands) -> Did
 
 // An instruction on operands of any type.
 pub fn run_parametric(op: ParametricOp, operands: &mut Operands) -> Did
-    ensures { (store : Store) (frame : Frame) → DidOperands result (parametric_effect store frame op operands.old.own) store frame.locals operands.new operands.old.below }
+    ensures { (store : Store) (frame : Frame) → DidOperands result (parametric_effect store frame op
+        operands.old.own) store frame.locals operands.new operands.old.below }
 {
     match op {
         ParametricOp::DropOperand => drop_operand(operands),

@@ -8,7 +8,8 @@ use stacks::Operands;
 
 /// Takes the i32 on top of the operands; `None` where no i32 is on top, and it is then left open what the operands are.
 pub fn pop_i32(operands: &mut Operands) -> Option<u32>
-    ensures { MatchOption result (HasNoI32 operands.old.own) (λ n. (operands.old.own ≡ I32 n ∷ operands.new.own) × (operands.new.below ≡ operands.old.below)) }
+    ensures { MatchOption result (HasNoI32 operands.old.own) (λ n. (operands.old.own ≡ I32 n ∷
+        operands.new.own) × (operands.new.below ≡ operands.old.below)) }
 {
     match operands.pop() {
         Some(Val::I32(n)) => Some(n),
@@ -18,7 +19,8 @@ pub fn pop_i32(operands: &mut Operands) -> Option<u32>
 
 // The i64 on top of the operands.
 pub fn pop_i64(operands: &mut Operands) -> Option<u64>
-    ensures { MatchOption result (HasNoI64 operands.old.own) (λ n. (operands.old.own ≡ I64 n ∷ operands.new.own) × (operands.new.below ≡ operands.old.below)) }
+    ensures { MatchOption result (HasNoI64 operands.old.own) (λ n. (operands.old.own ≡ I64 n ∷
+        operands.new.own) × (operands.new.below ≡ operands.old.below)) }
 {
     match operands.pop() {
         Some(Val::I64(n)) => Some(n),
@@ -39,7 +41,8 @@ pub fn peek(operands: &Operands) -> Option<Val>
 
 // The i32 on top of the operands, which stays.
 pub fn peek_i32(operands: &Operands) -> Option<u32>
-    ensures { MatchOption result (HasNoI32 operands.now.own) (λ n. operands.now.own ≡ I32 n ∷ drop 1 operands.now.own) }
+    ensures { MatchOption result (HasNoI32 operands.now.own) (λ n. operands.now.own ≡ I32 n ∷ drop 1
+        operands.now.own) }
 {
     match peek(operands) {
         Some(Val::I32(n)) => Some(n),

@@ -29,10 +29,10 @@ fn run_get(
     meter: &mut Meter,
 ) -> Progress
     requires { address < length state.now.contents.tables }
-    ensures had { (code : Contents) (instance : ℕ) (locals : List AnyVal)
-        → HasEffect result (table_effect (store_with code state.now) (frame_in instance locals) address (table_of state.now address) (Get x) operands.old.own)
-        (store_with code state.now) meter.old.left (store_with code state.now) locals operands.new
-        meter.new.left operands.old.below }
+    ensures had { (code : Contents) (instance : ℕ) (locals : List AnyVal) → HasEffect result
+        (table_effect (store_with code state.now) (frame_in instance locals) address (table_of
+        state.now address) (Get x) operands.old.own) (store_with code state.now) meter.old.left
+        (store_with code state.now) locals operands.new meter.new.left operands.old.below }
     ensures paid { IsPaid result meter.old meter.new }
 {
     let Some(offset) = peek_i32(operands) else {
@@ -59,10 +59,10 @@ fn run_set(
     meter: &mut Meter,
 ) -> Progress
     requires { address < length state.old.contents.tables }
-    ensures had { (code : Contents) (instance : ℕ) (locals : List AnyVal)
-        → HasEffect result (table_effect (store_with code state.old) (frame_in instance locals) address (table_of state.old address) (Set x) operands.old.own)
-        (store_with code state.old) meter.old.left (store_with code state.new) locals operands.new
-        meter.new.left operands.old.below }
+    ensures had { (code : Contents) (instance : ℕ) (locals : List AnyVal) → HasEffect result
+        (table_effect (store_with code state.old) (frame_in instance locals) address (table_of
+        state.old address) (Set x) operands.old.own) (store_with code state.old) meter.old.left
+        (store_with code state.new) locals operands.new meter.new.left operands.old.below }
     ensures paid { IsPaid result meter.old meter.new }
 {
     let Some(value) = operands.pop() else {
@@ -89,10 +89,10 @@ fn run_grow(
     meter: &mut Meter,
 ) -> Progress
     requires { address < length state.old.contents.tables }
-    ensures had { (code : Contents) (instance : ℕ) (locals : List AnyVal)
-        → HasEffect result (table_effect (store_with code state.old) (frame_in instance locals) address (table_of state.old address) (Grow x) operands.old.own)
-        (store_with code state.old) meter.old.left (store_with code state.new) locals operands.new
-        meter.new.left operands.old.below }
+    ensures had { (code : Contents) (instance : ℕ) (locals : List AnyVal) → HasEffect result
+        (table_effect (store_with code state.old) (frame_in instance locals) address (table_of
+        state.old address) (Grow x) operands.old.own) (store_with code state.old) meter.old.left
+        (store_with code state.new) locals operands.new meter.new.left operands.old.below }
     ensures paid { IsPaid result meter.old meter.new }
 {
     let Some(count) = pop_i32(operands) else {
@@ -124,10 +124,10 @@ fn run_fill(
     meter: &mut Meter,
 ) -> Progress
     requires { address < length state.old.contents.tables }
-    ensures had { (code : Contents) (instance : ℕ) (locals : List AnyVal)
-        → HasEffect result (table_effect (store_with code state.old) (frame_in instance locals) address (table_of state.old address) (Fill x) operands.old.own)
-        (store_with code state.old) meter.old.left (store_with code state.new) locals operands.new
-        meter.new.left operands.old.below }
+    ensures had { (code : Contents) (instance : ℕ) (locals : List AnyVal) → HasEffect result
+        (table_effect (store_with code state.old) (frame_in instance locals) address (table_of
+        state.old address) (Fill x) operands.old.own) (store_with code state.old) meter.old.left
+        (store_with code state.new) locals operands.new meter.new.left operands.old.below }
     ensures paid { IsPaid result meter.old meter.new }
 {
     let Some(count) = pop_i32(operands) else {
@@ -158,9 +158,13 @@ fn run_copy(
 ) -> Progress
     requires target { into < length state.old.contents.tables }
     requires source { source < length state.old.contents.tables }
-    ensures had { (code : Contents) (instance : ℕ) (locals : List AnyVal)
-        → HasEffect result (copy_table (store_with code state.old) (frame_in instance locals) (Some (into, table_of state.old into)) (Some (source, table_of state.old source)) operands.old.own)
-        (store_with code state.old) meter.old.left (store_with code state.new) locals operands.new
+    ensures had { (code : Contents) (instance : ℕ) (locals : List AnyVal) → HasEffect result
+        (copy_table (store_with code state.old) (frame_in instance locals) (Some (
+          into,
+          table_of
+              state.old into,
+        )) (Some (source, table_of state.old source)) operands.old.own) (store_with
+        code state.old) meter.old.left (store_with code state.new) locals operands.new
         meter.new.left operands.old.below }
     ensures paid { IsPaid result meter.old meter.new }
 {
@@ -192,10 +196,11 @@ fn run_copy_of(
     operands: &mut Operands,
     meter: &mut Meter,
 ) -> Progress
-    ensures had { (locals : List AnyVal)
-        → HasEffect result (copy_table (store_with code.now state.old) (frame_in instance locals) (table_at (store_with code.now state.old) (frame_in instance locals) target) (table_at (store_with code.now state.old) (frame_in instance locals) source) operands.old.own)
-        (store_with code.now state.old) meter.old.left (store_with code.now state.new) locals operands.new
-        meter.new.left operands.old.below }
+    ensures had { (locals : List AnyVal) → HasEffect result (copy_table (store_with code.now
+        state.old) (frame_in instance locals) (table_at (store_with code.now state.old) (frame_in
+        instance locals) target) (table_at (store_with code.now state.old) (frame_in instance
+        locals) source) operands.old.own) (store_with code.now state.old) meter.old.left (store_with
+        code.now state.new) locals operands.new meter.new.left operands.old.below }
     ensures paid { IsPaid result meter.old meter.new }
 {
     let Some(into) = table_here(code, state, instance, target) else {
@@ -217,8 +222,12 @@ fn run_init(
 ) -> Progress
     requires target { into < length state.old.contents.tables }
     requires segment { segment < length state.old.contents.elements }
-    ensures had { (code : Contents) (instance : ℕ) (locals : List AnyVal)
-        → HasEffect result (init_table (store_with code state.old) (frame_in instance locals) (Some (into, table_of state.old into)) (Some (segment, elements_of state.old segment)) operands.old.own)
+    ensures had { (code : Contents) (instance : ℕ) (locals : List AnyVal) → HasEffect result
+        (init_table (store_with code state.old) (frame_in instance locals) (Some (
+          into,
+          table_of
+              state.old into,
+        )) (Some (segment, elements_of state.old segment)) operands.old.own)
         (store_with code state.old) meter.old.left (store_with code state.new) locals operands.new
         meter.new.left operands.old.below }
     ensures paid { IsPaid result meter.old meter.new }
@@ -251,10 +260,11 @@ fn run_init_of(
     operands: &mut Operands,
     meter: &mut Meter,
 ) -> Progress
-    ensures had { (locals : List AnyVal)
-        → HasEffect result (init_table (store_with code.now state.old) (frame_in instance locals) (table_at (store_with code.now state.old) (frame_in instance locals) table) (elements_at (store_with code.now state.old) (frame_in instance locals) segment) operands.old.own)
-        (store_with code.now state.old) meter.old.left (store_with code.now state.new) locals operands.new
-        meter.new.left operands.old.below }
+    ensures had { (locals : List AnyVal) → HasEffect result (init_table (store_with code.now
+        state.old) (frame_in instance locals) (table_at (store_with code.now state.old) (frame_in
+        instance locals) table) (elements_at (store_with code.now state.old) (frame_in instance
+        locals) segment) operands.old.own) (store_with code.now state.old) meter.old.left
+        (store_with code.now state.new) locals operands.new meter.new.left operands.old.below }
     ensures paid { IsPaid result meter.old meter.new }
 {
     let Some(into) = table_here(code, state, instance, table) else {
@@ -275,10 +285,10 @@ fn run_elem_drop(
     operands: &Operands,
     meter: &mut Meter,
 ) -> Progress
-    ensures had { (locals : List AnyVal)
-        → HasEffect result (drop_elements (store_with code.now state.old) (frame_in instance locals) (elements_at (store_with code.now state.old) (frame_in instance locals) x) operands.now.own)
-        (store_with code.now state.old) meter.old.left (store_with code.now state.new) locals operands.now
-        meter.new.left operands.now.below }
+    ensures had { (locals : List AnyVal) → HasEffect result (drop_elements (store_with code.now
+        state.old) (frame_in instance locals) (elements_at (store_with code.now state.old) (frame_in
+        instance locals) x) operands.now.own) (store_with code.now state.old) meter.old.left
+        (store_with code.now state.new) locals operands.now meter.new.left operands.now.below }
     ensures paid { IsPaid result meter.old meter.new }
 {
     let Some(segment) = elements_here(code, state, instance, x) else {
@@ -300,10 +310,10 @@ fn run_in_table(
     meter: &mut Meter,
 ) -> Progress
     requires { address < length state.old.contents.tables }
-    ensures had { (code : Contents) (instance : ℕ) (locals : List AnyVal)
-        → HasEffect result (table_effect (store_with code state.old) (frame_in instance locals) address (table_of state.old address) op operands.old.own)
-        (store_with code state.old) meter.old.left (store_with code state.new) locals operands.new
-        meter.new.left operands.old.below }
+    ensures had { (code : Contents) (instance : ℕ) (locals : List AnyVal) → HasEffect result
+        (table_effect (store_with code state.old) (frame_in instance locals) address (table_of
+        state.old address) op operands.old.own) (store_with code state.old) meter.old.left
+        (store_with code state.new) locals operands.new meter.new.left operands.old.below }
     ensures paid { IsPaid result meter.old meter.new }
 {
     match op {
@@ -329,10 +339,10 @@ fn run_on_table(
     operands: &mut Operands,
     meter: &mut Meter,
 ) -> Progress
-    ensures had { (locals : List AnyVal)
-        → HasEffect result (on_table (store_with code.now state.old) (frame_in instance locals) (table_at (store_with code.now state.old) (frame_in instance locals) x) op operands.old.own)
-        (store_with code.now state.old) meter.old.left (store_with code.now state.new) locals operands.new
-        meter.new.left operands.old.below }
+    ensures had { (locals : List AnyVal) → HasEffect result (on_table (store_with code.now
+        state.old) (frame_in instance locals) (table_at (store_with code.now state.old) (frame_in
+        instance locals) x) op operands.old.own) (store_with code.now state.old) meter.old.left
+        (store_with code.now state.new) locals operands.new meter.new.left operands.old.below }
     ensures paid { IsPaid result meter.old meter.new }
 {
     match table_here(code, state, instance, x) {
@@ -350,10 +360,10 @@ pub fn run_table(
     operands: &mut Operands,
     meter: &mut Meter,
 ) -> Progress
-    ensures had { (locals : List AnyVal)
-        → HasEffect result (table_or_elements_effect (store_with code.now state.old) (frame_in instance locals) op operands.old.own)
-        (store_with code.now state.old) meter.old.left (store_with code.now state.new) locals operands.new
-        meter.new.left operands.old.below }
+    ensures had { (locals : List AnyVal) → HasEffect result (table_or_elements_effect (store_with
+        code.now state.old) (frame_in instance locals) op operands.old.own) (store_with code.now
+        state.old) meter.old.left (store_with code.now state.new) locals operands.new meter.new.left
+        operands.old.below }
     ensures paid { IsPaid result meter.old meter.new }
 {
     match op {

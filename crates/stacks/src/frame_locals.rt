@@ -40,7 +40,8 @@ fn default_value(ty: ValType) -> Val
 
 // Adds the arguments, and the first values of the further locals. Where memory runs out, a part of them may be there.
 fn add_locals(values: &mut Vec<Val>, args: &[Val], types: &Locals) -> Result<(), AllocError>
-    ensures added { OnOk result (values.new.items ≡ values.old.items ++ (args.now ++ map default_of types.now)) }
+    ensures added { OnOk result (values.new.items ≡ values.old.items ++ (args.now ++ map default_of
+        types.now)) }
     ensures kept { OnErr result (take (length values.old.items) values.new.items ≡ values.old.items) }
 {
     values.extend_from_slice(args)?;
@@ -80,7 +81,8 @@ impl FrameLocals {
     /// Sets a local of the innermost frame; if it has none of this index, answers false and changes nothing.
     pub fn set(&mut self, x: u32, value: Val) -> bool
         ensures within { IsTrue result ↔ (x < length self.old.own) }
-        ensures written { OnTrue result (self.new ≡ local_stack (slice_set self.old.own x value) (self.old.below)) }
+        ensures written { OnTrue result (self.new ≡ local_stack (slice_set self.old.own x value)
+            (self.old.below)) }
         ensures unchanged { OnFalse result (self.new ≡ self.old) }
     {
         if x as usize >= self.items.len() - self.base {
@@ -93,7 +95,8 @@ impl FrameLocals {
     /// Opens a frame with these arguments, and the first values of the further locals. Where memory runs out, the locals are as
     /// before.
     pub fn enter(&mut self, args: &[Val], types: &Locals) -> Result<(), AllocError>
-        ensures opened { OnOk result (self.new ≡ local_stack (args.now ++ map default_of types.now) (self.old.below ++ self.old.own)) }
+        ensures opened { OnOk result (self.new ≡ local_stack (args.now ++ map default_of types.now)
+            (self.old.below ++ self.old.own)) }
         ensures unchanged { OnErr result (self.new ≡ self.old) }
     {
         let base = self.items.len();
@@ -112,7 +115,8 @@ impl FrameLocals {
     /// Leaves the innermost frame, whose locals are lost; the base of the one below it is this. Takes no memory.
     pub fn leave(&mut self, base: usize)
         requires { base ≤ length self.old.below }
-        ensures { (lower own : List AnyVal) → self.old.below ≡ lower ++ own → length lower ≡ base → self.new ≡ local_stack own lower }
+        ensures { (lower own : List AnyVal) → self.old.below ≡ lower ++ own → length lower ≡ base →
+            self.new ≡ local_stack own lower }
     {
         self.items.truncate(self.base);
         self.base = base;

@@ -52,7 +52,8 @@ impl Operands {
 
     /// Puts an operand on top. Where memory runs out, the stack is as before.
     pub fn push(&mut self, value: Val) -> Result<(), AllocError>
-        ensures pushed { OnOk result (self.new ≡ operand_stack (value ∷ self.old.own) (self.old.below)) }
+        ensures pushed { OnOk result (self.new ≡ operand_stack (value ∷ self.old.own)
+            (self.old.below)) }
         ensures unchanged { OnErr result (self.new ≡ self.old) }
     {
         self.items.push(value)?;
@@ -61,7 +62,8 @@ impl Operands {
 
     /// Takes the topmost operand off, if the innermost label has one. Takes no memory.
     pub fn pop(&mut self) -> Option<Val>
-        ensures { MatchOption result ((self.old.own ≡ []) × (self.new ≡ self.old)) (λ value. (self.old.own ≡ value ∷ self.new.own) × (self.new.below ≡ self.old.below)) }
+        ensures { MatchOption result ((self.old.own ≡ []) × (self.new ≡ self.old)) (λ value.
+            (self.old.own ≡ value ∷ self.new.own) × (self.new.below ≡ self.old.below)) }
     {
         if self.floor < self.items.len() {
             self.items.pop()
@@ -98,7 +100,8 @@ impl Operands {
     /// Opens a label that has the topmost `count` operands inside. Takes no memory.
     pub fn nest(&mut self, count: usize)
         requires { count ≤ length self.old.own }
-        ensures { self.new ≡ operand_stack (take count self.old.own) (drop count self.old.own ++ self.old.below) }
+        ensures { self.new ≡ operand_stack (take count self.old.own) (drop count self.old.own ++
+            self.old.below) }
     {
         self.floor = self.items.len() - count;
     }
@@ -106,7 +109,8 @@ impl Operands {
     /// Leaves a label whose operands all stay; outside of it the floor is this. Takes no memory.
     pub fn unnest(&mut self, floor: usize)
         requires { floor ≤ length self.old.below }
-        ensures { (values lower : List AnyVal) → self.old.below ≡ values ++ lower → length lower ≡ floor → self.new ≡ operand_stack (self.old.own ++ values) (lower) }
+        ensures { (values lower : List AnyVal) → self.old.below ≡ values ++ lower → length lower ≡
+            floor → self.new ≡ operand_stack (self.old.own ++ values) (lower) }
     {
         self.floor = floor;
     }
@@ -117,7 +121,9 @@ impl Operands {
         requires count { count ≤ length self.old.own }
         requires floor { floor ≤ base }
         requires base { base ≤ length self.old.below }
-        ensures { (gone values lower : List AnyVal) → self.old.below ≡ gone ++ (values ++ lower) → length (values ++ lower) ≡ base → length lower ≡ floor → self.new ≡ operand_stack (take count self.old.own ++ values) (lower) }
+        ensures { (gone values lower : List AnyVal) → self.old.below ≡ gone ++ (values ++ lower) →
+            length (values ++ lower) ≡ base → length lower ≡ floor → self.new ≡ operand_stack (take
+            count self.old.own ++ values) (lower) }
     {
         let from = self.items.len() - count;
         self.items.copy_within(from.., base);

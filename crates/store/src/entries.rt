@@ -22,7 +22,8 @@ pub fn push_entries(
     instance: u32,
     count: u32,
 ) -> Result<(), AllocError>
-    ensures pushed { OnOk result (functions.new.items ≡ functions.old.items ++ entries_of instance (consecutive 0 count)) }
+    ensures pushed { OnOk result (functions.new.items ≡ functions.old.items ++ entries_of instance
+        (consecutive 0 count)) }
     ensures unchanged { OnErr result (functions.new.items ≡ functions.old.items) }
 {
     let before = functions.len();

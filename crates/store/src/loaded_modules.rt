@@ -74,7 +74,8 @@ impl LoadedModule {
 
     // The function of an index, if there is one.
     pub(crate) fn function(&self, index: u32) -> Option<LoadedFunction<'_>>
-        ensures func { MatchOption result (slice_get self.now.funcs index ≡ None) (λ f. slice_get self.now.funcs index ≡ Some f.func.now) }
+        ensures func { MatchOption result (slice_get self.now.funcs index ≡ None) (λ f. slice_get
+            self.now.funcs index ≡ Some f.func.now) }
         ensures ty { IfSome result (λ f. slice_get self.now.types f.func.now.ty ≡ Some f.ty.now) }
         ensures ends { IfSome result (λ f. HasEnds f.func.now.body f.ends.now) }
         ensures whole { IfSome result (λ f. (rests f.func.now.body).around ≡ []) }

@@ -240,7 +240,8 @@ impl State {
     pub fn grow_table(&mut self, address: u32, value: Val, count: u32) -> Result<(), AllocError>
         requires there { address < length self.old.contents.tables }
         requires most { (table_of self.old address).ty.limits.min + count ≤ 4294967295 }
-        requires within { (table_of self.old address).ty.limits.min + count ≤ self.old.bounds.entries }
+        requires within { (table_of self.old address).ty.limits.min + count ≤
+            self.old.bounds.entries }
         ensures grown { OnOk result (self.new ≡ put_table self.old address
             (grow_entries (table_of self.old address) value count)) }
         ensures unchanged { OnErr result (self.new ≡ self.old) }

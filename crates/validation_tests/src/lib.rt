@@ -1,4 +1,4 @@
-//! Tests of the validator, over modules in the text format.
+//! Tests of the validator, over modules in the text format, and of import matching.
 #![tactic(auto)]
 
 #[cfg(test)]
@@ -7,6 +7,8 @@ mod answers;
 mod blocks;
 #[cfg(test)]
 mod control;
+#[cfg(test)]
+mod import_matching;
 #[cfg(test)]
 mod memories;
 #[cfg(test)]

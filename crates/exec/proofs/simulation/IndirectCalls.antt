@@ -1,6 +1,6 @@
 -- Calls through entries of tables.
-use Rattle.std.proofs.Common.{◌≡◌, ◌↔◌, ℕ, ◌+◌, ◌-◌, ◌<◌, ◌≤◌, List, [], ◌∷◌, refl, ap, ◌∙◌}
-use Rattle.std.specs.Prelude.{Bool, true, false, IsTrue, Option, Some, None, slice_get}
+use Rattle.std.proofs.Common.{◌≡◌, ℕ, ◌+◌, ◌-◌, ◌<◌, ◌≤◌, List, [], ◌∷◌, refl, ap, ◌∙◌}
+use Rattle.std.specs.Prelude.{Option, Some, None, slice_get}
 use Rattle.core_types.specs.declared.op.ControlOp.TheVariants.{CallIndirect}
 use Rattle.core_types.specs.declared.op.Op.TheVariants.{Plain}
 use Rattle.core_types.specs.declared.op.PlainOp.TheVariants.{Control as ControlPlain}
@@ -8,16 +8,13 @@ use Rattle.core_types.specs.declared.outcome.Trap.{Trap}
 use Rattle.core_types.specs.declared.outcome.Val.{Val}
 use Rattle.core_types.specs.declared.outcome.Val.TheVariants.{I32, I64, FuncRef, ExternRef}
 use Rattle.core_types.specs.declared.types.FuncType.{FuncType}
-use Rattle.core_types.specs.declared.types.ValType.{ValType}
 use Rattle.meaning.specs.structure.Bodies.{Body}
-use Rattle.meaning.specs.validation.Types.{are_same_types}
 use Rattle.meaning.specs.execution.Configurations.{Configuration}
 use Rattle.meaning.specs.execution.Effects.{table_at}
 use Rattle.meaning.specs.execution.Instructions.{Next, NotReady, Traps, call_through, lent_memory}
 use Rattle.meaning.specs.execution.Runs.{GotStuck, OutOfFuel, WithTrap, trapped}
 use Rattle.meaning.specs.execution.Store.{Store, instance_of}
 use Rattle.meaning.specs.execution.Tables.{TableInstance}
-use Rattle.meaning.proofs.lemmas.SameTypes.{same-types, types-same}
 use Rattle.exec.specs.declared.machine.Machine.{Machine}
 use Rattle.exec.specs.Positions.{rests_at}
 use Rattle.exec.specs.Representation.{IsBefore, Represents, frame_of, redex_of}
@@ -25,15 +22,6 @@ use Rattle.exec.specs.Simulation.{EndsWith, World, next_in}
 use Rattle.exec.proofs.simulation.Configurations.{fuel_ends, stuck_ends, whole_traps, whole_waits}
 use Rattle.exec.proofs.simulation.Instructions.{single_next}
 use Rattle.plain.specs.Effects.{HasNoI32}
-
--- What tells whether lists of types are equal is whether they are the same.
-pub types_decided : (b : Bool) (ts us : List ValType) → (IsTrue b ↔ (ts ≡ us)) → are_same_types ts us ≡ b
-types_decided true ts us h = rw (h.0 refl) (types-same us)
-types_decided false ts us h = go (are_same_types ts us) refl
-  where
-    go : (d : Bool) → are_same_types ts us ≡ d → d ≡ false
-    go true e = absurd (let no = h.1 (same-types ts us e) in cc)
-    go false e = refl
 
 -- Without an i32 on top nothing is called.
 through-lacks : (store : Store) (lent : Option ℕ) (t : Option FuncType) (found : Option (ℕ × TableInstance)) (values : List Val) (rest : Body) → HasNoI32 values → call_through store lent t found values rest ≡ NotReady

@@ -28,7 +28,9 @@ pub struct Arity {
 /// How many operands a block of this type takes and gives, by the types of an instance.
 #[inline(always)]
 pub fn arity_of(code: &Code, instance: u32, ty: BlockType) -> Option<Arity>
-    ensures { MatchOption result (block_type (instance_of (code_store code.now) (Some instance)).types ty ≡ None) (λ arity. HasArity (block_type (instance_of (code_store code.now) (Some instance)).types ty) arity) }
+    ensures { MatchOption result (block_type (instance_of (code_store code.now) (Some
+        instance)).types ty ≡ None) (λ arity. HasArity (block_type (instance_of (code_store
+        code.now) (Some instance)).types ty) arity) }
 {
     match ty {
         BlockType::Empty => Some(Arity {
@@ -60,10 +62,10 @@ pub fn enter_label(
     target: usize,
     position: usize,
 ) -> Step
-    ensures simulates { (w : World) (redex : Configuration) (kind : Kind) (type : AnyBlockType) (t : FuncType)
-        → length t.params ≡ params → length (label_types kind t) ≡ arity
-        → IsEntry w machine.old redex kind type t target position
-        → SimulatesAt redex w machine.old meter.old result w machine.new meter.new }
+    ensures simulates { (w : World) (redex : Configuration) (kind : Kind) (type : AnyBlockType) (t :
+        FuncType) → length t.params ≡ params → length (label_types kind t) ≡ arity → IsEntry w
+        machine.old redex kind type t target position → SimulatesAt redex w machine.old meter.old
+        result w machine.new meter.new }
     ensures falls { IfGoes result (measure machine.new meter.new < measure machine.old meter.old) }
     ensures stays { machine.new.code ≡ machine.old.code }
     ensures bound { meter.new.bound ≡ meter.old.bound }

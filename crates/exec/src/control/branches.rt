@@ -16,7 +16,8 @@ use plain::pop_i32;
 // The label that many controls outward, if one is there.
 #[inline(always)]
 fn label_at(controls: &Stack<Control<'_>>, position: usize) -> Option<Label>
-    ensures { MatchOption result (IsNoLabel (slice_get controls.now position)) (λ label. slice_get controls.now position ≡ Some (InLabel label)) }
+    ensures { MatchOption result (IsNoLabel (slice_get controls.now position)) (λ label. slice_get
+        controls.now position ≡ Some (InLabel label)) }
 {
     match controls.get(position) {
         Some(Control::InLabel(label)) => Some(label),

@@ -25,7 +25,8 @@ fn resume<'a>(caller: Caller<'a>, machine: &mut Machine<'a>, meter: &mut Meter)
     requires locals { caller.locals ≤ length machine.old.locals.below }
     requires frames { 0 < meter.old.frames }
     ensures returns_to { ReturnsTo caller.entry machine.old machine.new }
-    ensures meter { (meter.new.left ≡ meter.old.left) × (meter.new.bound ≡ meter.old.bound) × (meter.new.frames ≡ meter.old.frames - 1) }
+    ensures meter { (meter.new.left ≡ meter.old.left) × (meter.new.bound ≡ meter.old.bound) ×
+        (meter.new.frames ≡ meter.old.frames - 1) }
 {
     machine.locals.leave(caller.locals);
     machine.code = caller.code;
@@ -105,7 +106,8 @@ pub fn step_return(machine: &mut Machine<'_>, meter: &mut Meter) -> Step
 /// The code of a function that was found.
 #[inline(always)]
 pub fn code_of<'a>(callee: &Callee<'a>) -> FunctionCode<'a>
-    ensures { (result.body.now ≡ callee.now.func.now.body) × (result.ends ≡ callee.now.ends) × (result.instance ≡ callee.now.instance) }
+    ensures { (result.body.now ≡ callee.now.func.now.body) × (result.ends ≡ callee.now.ends) ×
+        (result.instance ≡ callee.now.instance) }
 {
     FunctionCode {
         body: callee.func.body.as_slice(),
@@ -148,7 +150,8 @@ fn open_frame<'a>(
 ) -> Result<(), AllocError>
     requires params { length callee.now.ty.now.params ≤ length machine.old.operands.own }
     requires position { machine.old.position + 1 < 2 ^ 64 }
-    ensures { OnOk result (machine.new ≡ enter_callee callee.now.ty.now callee.now.func.now code.entry machine.old) }
+    ensures { OnOk result (machine.new ≡ enter_callee callee.now.ty.now callee.now.func.now
+        code.entry machine.old) }
 {
     let params = callee.ty.params.len();
     let results = callee.ty.results.len();
@@ -177,10 +180,12 @@ pub fn call<'a>(callee: &Callee<'a>, machine: &mut Machine<'a>, meter: &mut Mete
     requires position { machine.old.position + 1 < 2 ^ 64 }
     requires ends { HasEnds callee.now.func.now.body callee.now.ends.now }
     requires whole { (rests callee.now.func.now.body).around ≡ [] }
-    ensures simulates { (w : World) (redex : Configuration) (op : AnyPlainOp) (lent : Option ℕ)
-        → IsBefore machine.old (Plain op) → depth redex ≡ 0
-        → next_in w machine.old redex ≡ call_function 1 w.store lent (Some (function_of callee.now.ty.now callee.now.instance callee.now.func.now)) machine.old.operands.own (rests_at machine.old.code.body.now (machine.old.position + 1)).here.body
-        → SimulatesAt redex w machine.old meter.old result w machine.new meter.new }
+    ensures simulates { (w : World) (redex : Configuration) (op : AnyPlainOp) (lent : Option ℕ) →
+        IsBefore machine.old (Plain op) → depth redex ≡ 0 → next_in w machine.old redex ≡
+        call_function 1 w.store lent (Some (function_of callee.now.ty.now callee.now.instance
+        callee.now.func.now)) machine.old.operands.own (rests_at machine.old.code.body.now
+        (machine.old.position + 1)).here.body → SimulatesAt redex w machine.old meter.old result w
+        machine.new meter.new }
     ensures falls { IfGoes result (measure machine.new meter.new < measure machine.old meter.old) }
     ensures stays { IfStays result (machine.new.code ≡ machine.old.code) }
     ensures bound { meter.new.bound ≡ meter.old.bound }

@@ -1,4 +1,4 @@
-ghost use Rattle.std.specs.Prelude.{◌≡◌, ◌↔◌, ◌+◌, ◌<◌, ◌^◌, ◌∷◌, ℕ, IsTrue, List, Option, Some, slice_get};
+ghost use Rattle.std.specs.Prelude.{◌≡◌, ◌+◌, ◌<◌, ◌^◌, ◌∷◌, ℕ, List, Option, Some, slice_get};
 ghost use Rattle.core_types.specs.declared.op.ControlOp.TheVariants.{CallIndirect};
 ghost use Rattle.core_types.specs.declared.op.Op.TheVariants.{Plain};
 ghost use Rattle.core_types.specs.declared.op.PlainOp.TheVariants.{Control as ControlPlain};
@@ -16,7 +16,7 @@ ghost use Rattle.exec.specs.Simulation.{Simulates, IfGoes, IfStays, measure, wor
 
 use crate::control::calls::call;
 use crate::machine::{Machine, Step};
-use core_types::{Exhaustion, FuncType, Trap, Val, ValType};
+use core_types::{Exhaustion, FuncType, Trap, Val};
 use fuel::Meter;
 use plain::pop_i32;
 use store::{Callee, Code, State};
@@ -29,27 +29,11 @@ enum Found<'a> {
     Nothing,
 }
 
-// Whether the types are the same.
-fn are_same_types(first: &[ValType], second: &[ValType]) -> bool
-    ensures { IsTrue result ↔ (first.now ≡ second.now) }
-{
-    if first.len() != second.len() {
-        return false;
-    }
-    for i in 0..first.len() {
-        if first[i] != second[i] {
-            return false;
-        }
-    }
-    true
-}
-
-// Whether the types of functions are the same, which goes by their structure.
+// Whether two types of functions are the same, which goes by their structure.
 fn is_same_type(first: &FuncType, second: &FuncType) -> bool
     ensures { result ≡ is_same_function_type first.now second.now }
 {
-    are_same_types(first.params.as_slice(), second.params.as_slice())
-        && are_same_types(first.results.as_slice(), second.results.as_slice())
+    first.is_same(second)
 }
 
 // The function at an address, which has to be of this type.

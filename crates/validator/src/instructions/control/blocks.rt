@@ -11,7 +11,7 @@ use crate::errors::Fault;
 use crate::instructions::pop_operands;
 use crate::operands::{pop_types, push_types};
 use crate::types::{InstructionType, type_of_block};
-use core_types::{BlockType, ValType};
+use core_types::{BlockType, are_same_types};
 use std::alloc::AllocError;
 use std::mem;
 
@@ -101,27 +101,12 @@ pub fn step_else(stacks: &mut Stacks<'_>) -> Result<(), Fault>
     Ok(())
 }
 
-// Whether the types are the same.
-fn same_types(first: &[ValType], second: &[ValType]) -> bool
-    ensures { IsTrue result ↔ (first.now ≡ second.now) }
-{
-    if first.len() != second.len() {
-        return false;
-    }
-    for i in 0..first.len() {
-        if first[i] != second[i] {
-            return false;
-        }
-    }
-    true
-}
-
 // Whether the frame may end without an else.
 fn needs_no_else(frame: &ControlFrame<'_>) -> bool
     ensures { IsTrue result ↔ FrameNeedsNoElse frame.now }
 {
     match frame.kind {
-        FrameKind::If => same_types(frame.start_types, frame.end_types),
+        FrameKind::If => are_same_types(frame.start_types, frame.end_types),
         FrameKind::Function | FrameKind::Block | FrameKind::Loop | FrameKind::Else => true,
     }
 }

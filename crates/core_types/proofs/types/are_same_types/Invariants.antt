@@ -1,5 +1,5 @@
 use Rattle.std.proofs.Common.{◌≡◌, take}
-use Rattle.validator.proofs.instructions.control.blocks.same_types.Given as goal
+use Rattle.core_types.proofs.types.are_same_types.Given as goal
 
 abbrev pub invariant-loop-i : goal.invariant-loop-i
 invariant-loop-i l = take l.i l.first ≡ take l.i l.second
