@@ -3,3 +3,4 @@ pub mod binary
 pub mod validation
 pub mod execution
 pub mod soundness
+pub mod embedding

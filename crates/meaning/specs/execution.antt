@@ -10,4 +10,5 @@ pub mod Effects
 pub mod Instructions
 pub mod Layers
 pub mod Runs
+pub mod Modules
 pub mod Rows

@@ -1,10 +1,15 @@
 //! Laws and worked rows of runs.
 
-ghost use Rattle.std.specs.Prelude.{◌≡◌, ◌∷◌, [], ℕ, ◌⊎◌, Some, None, replicate};
+ghost use Rattle.std.specs.Prelude.{◌≡◌, ◌∷◌, [], List, ℕ, ◌⊎◌, Some, None, replicate};
+ghost use Rattle.core_types.specs.declared.op.PlainOp.{PlainOp};
+ghost use Rattle.core_types.specs.declared.outcome.Val.{Val};
 ghost use Rattle.core_types.specs.declared.outcome.Val.TheVariants.{I32};
 ghost use Rattle.core_types.specs.declared.outcome.Trap.TheVariants.{Host, IndirectType, MemoryBounds, TableBounds, UndefinedElement, UninitializedElement};
 ghost use Rattle.meaning.specs.execution.Rows.{Calls, CallsEntry, CountsCalls, TrapsAtOneAndTwo, adder, at, caller, copies_and_sets, counting, endless, fills, fills_entries, grows_and_reads, grows_table, inits_entry, last_of_three, null, one_and_two, seven_or_eight, trapping, with_bytes_and_global, with_entries};
 ghost use Rattle.meaning.specs.execution.Configurations.{Configuration, Frame, Invoking, no_frame};
+ghost use Rattle.meaning.specs.execution.Effects.{Done, effect, instruction_cost};
+ghost use Rattle.meaning.specs.execution.Modules.{constant};
+ghost use Rattle.meaning.specs.execution.Store.{Store, instance_of};
 ghost use Rattle.meaning.specs.execution.Runs.{Ending, NoHosts, OutOfDepth, OutOfFuel, OutOfMemory, Run, State, Steps, WithTrap, WithValues};
 
 /// Worked rows of runs: a function that adds its two arguments, called with 1 and 2 with fuel 10, 3 and 2, and with no depth.
@@ -91,4 +96,11 @@ pub fn steps_lead_to_runs()
         Configuration) (ending : Ending) → Steps NoHosts bound outside old first between second →
         Run NoHosts bound outside between second ending last → Run NoHosts bound outside old first
         ending last }
+{}
+
+/// Law: the value of a constant instruction is what the reduction puts on the stack for it, in every frame of the instance.
+pub fn constants_are_values()
+    ensures { (store : Store) (frame : Frame) (op : PlainOp) (v : Val) (values : List Val)
+        → constant store (instance_of store frame.instance) op ≡ Some v
+        → effect store frame op values ≡ Done instruction_cost store frame.locals (v ∷ values) }
 {}

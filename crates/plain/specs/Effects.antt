@@ -7,6 +7,7 @@ use Rattle.fuel.specs.Metering.{Metered}
 use Rattle.meaning.specs.execution.Effects.{Effect, Done, Grown, Fails, Lacks, instruction_cost}
 use Rattle.meaning.specs.execution.Store.{Store}
 use Rattle.stacks.specs.Stacked.{OperandStack, operand_stack}
+use Rattle.plain.specs.declared.copies.CopyOperands.{CopyOperands}
 use Rattle.plain.specs.declared.did.Did.{Did}
 use Rattle.plain.specs.declared.did.Did.TheVariants.{AllDone, Failed, Lacking, NoRoom}
 use Rattle.plain.specs.declared.progress.Progress.{Progress}
@@ -110,3 +111,7 @@ pub record IsPaid (p : Progress) (old new : Metered) : Type 0 where
   pub bound : new.bound ≡ old.bound
   pub frames : new.frames ≡ old.frames
   pub falls : IfDone p (new.left < old.left)
+
+-- The operands of a copy over other values.
+abbrev pub copy_operands : CopyOperands → List Val → List Val
+copy_operands given values = I32 given.count ∷ (I32 given.from ∷ (I32 given.target ∷ values))

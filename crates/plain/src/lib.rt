@@ -3,7 +3,9 @@
 #![tactic(auto)]
 
 mod control;
+mod copies;
 mod did;
+mod element_segments;
 mod instructions;
 mod lookups;
 mod memory;
@@ -16,6 +18,9 @@ mod reference;
 mod table;
 mod variable;
 
+pub use copies::CopyOperands;
+pub use element_segments::run_table_init;
 pub use instructions::run_plain;
+pub use memory::run_memory_init;
 pub use popping::pop_i32;
 pub use progress::Progress;

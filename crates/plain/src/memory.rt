@@ -1,13 +1,16 @@
 ghost use Rattle.std.specs.Prelude.{◌≡◌, ◌<◌, ℕ, List, length, Some};
 ghost use Rattle.core_types.specs.declared.op.MemoryOp.TheVariants.{Copy, Fill, Grow, Init, Load, Size, Store as StoreNumber};
+ghost use Rattle.core_types.specs.declared.op.PlainOp.TheVariants.{Memory as MemoryForm};
 ghost use Rattle.core_types.specs.declared.outcome.Val.{Val as AnyVal};
-ghost use Rattle.meaning.specs.execution.Effects.{drop_data, data_at, init_memory, memory_effect, memory_or_data_effect};
+ghost use Rattle.meaning.specs.execution.Effects.{drop_data, data_at, effect, init_memory, memory_effect, memory_or_data_effect};
 ghost use Rattle.meaning.specs.execution.Memories.{stored_number};
 ghost use Rattle.store.specs.Contents.{Contents, store_with};
 ghost use Rattle.store.specs.State.{data_of, memory_of};
-ghost use Rattle.plain.specs.Effects.{HasEffect, IsPaid};
+ghost use Rattle.plain.specs.Effects.{HasEffect, IsPaid, copy_operands};
 ghost use Rattle.plain.specs.Lookups.{frame_in};
+ghost use Rattle.stacks.specs.Stacked.{operand_stack};
 
+use crate::copies::CopyOperands;
 use crate::lookups::{data_here, memory_here};
 use crate::payment::pay;
 use crate::popping::{peek_i32, pop_i32, push_value};
@@ -187,6 +190,63 @@ fn run_copy(address: u32, state: &mut State, operands: &mut Operands, meter: &mu
     }
 }
 
+// memory.init from a segment that is there, into a memory that is there, with these operands.
+fn init_bytes(
+    address: u32,
+    segment: u32,
+    given: CopyOperands,
+    state: &mut State,
+    meter: &mut Meter,
+) -> Progress
+    requires memory { address < length state.old.contents.memories }
+    requires segment { segment < length state.old.contents.datas }
+    ensures had { (code : Contents) (instance : ℕ) (locals values below : List AnyVal)
+        → HasEffect result (init_memory (store_with code state.old) (frame_in instance locals)
+        address (memory_of state.old address) (Some (segment, data_of state.old segment))
+        (copy_operands given values)) (store_with code state.old) meter.old.left
+        (store_with code state.new) locals (operand_stack values below) meter.new.left below }
+    ensures paid { IsPaid result meter.old meter.new }
+{
+    let CopyOperands {
+        target,
+        from,
+        count,
+    } = given;
+    if !meter.try_spend(mem_init_cost(state, address, segment, target, from, count)) {
+        return Progress::NoFuel;
+    }
+    match mem_init(state, address, segment, target, from, count) {
+        Ok(()) => Progress::Done,
+        Err(trap) => Progress::Trapped(trap),
+    }
+}
+
+/// memory.init of an instance, with these operands, which need no stack. The fuel is looked at before anything of the store
+/// changes.
+pub fn run_memory_init(
+    x: u32,
+    given: CopyOperands,
+    code: &Code,
+    instance: u32,
+    state: &mut State,
+    meter: &mut Meter,
+) -> Progress
+    ensures had { (locals values below : List AnyVal)
+        → HasEffect result (effect (store_with code.now state.old) (frame_in instance locals)
+        (MemoryForm (Init x)) (copy_operands given values)) (store_with code.now state.old)
+        meter.old.left (store_with code.now state.new) locals (operand_stack values below)
+        meter.new.left below }
+    ensures paid { IsPaid result meter.old meter.new }
+{
+    let Some(address) = memory_here(code, state, instance) else {
+        return Progress::NotReady;
+    };
+    match data_here(code, state, instance, x) {
+        Some(segment) => init_bytes(address, segment, given, state, meter),
+        None => Progress::NotReady,
+    }
+}
+
 // memory.init of a segment that is there.
 fn run_init(
     address: u32,
@@ -213,13 +273,12 @@ fn run_init(
     let Some(target) = pop_i32(operands) else {
         return Progress::NotReady;
     };
-    if !meter.try_spend(mem_init_cost(state, address, segment, target, from, count)) {
-        return Progress::NoFuel;
-    }
-    match mem_init(state, address, segment, target, from, count) {
-        Ok(()) => Progress::Done,
-        Err(trap) => Progress::Trapped(trap),
-    }
+    let given = CopyOperands {
+        target,
+        from,
+        count,
+    };
+    init_bytes(address, segment, given, state, meter)
 }
 
 // memory.init of the segment of an index.

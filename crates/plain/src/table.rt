@@ -1,19 +1,20 @@
 ghost use Rattle.std.specs.Prelude.{◌<◌, ℕ, List, length, Some};
-ghost use Rattle.core_types.specs.declared.op.TableOp.TheVariants.{Fill, Get, Grow, Set};
+ghost use Rattle.core_types.specs.declared.op.TableOp.TheVariants.{Fill, Get, Grow, Init, Set};
 ghost use Rattle.core_types.specs.declared.outcome.Val.{Val as AnyVal};
-ghost use Rattle.meaning.specs.execution.Effects.{copy_table, drop_elements, elements_at, init_table, on_table, table_at, table_effect, table_or_elements_effect};
+ghost use Rattle.meaning.specs.execution.Effects.{copy_table, effect, on_table, table_at, table_effect, table_or_elements_effect};
 ghost use Rattle.store.specs.Contents.{Contents, store_with};
-ghost use Rattle.store.specs.State.{elements_of, table_of};
+ghost use Rattle.store.specs.State.{table_of};
 ghost use Rattle.plain.specs.Effects.{HasEffect, IsPaid};
 ghost use Rattle.plain.specs.Lookups.{frame_in};
 
-use crate::lookups::{elements_here, table_here};
+use crate::element_segments::{run_elem_drop, run_init_of};
+use crate::lookups::table_here;
 use crate::payment::pay;
 use crate::popping::{peek, peek_i32, pop_i32, push_value};
 use crate::progress::Progress;
 use bulkops::{
-    elem_drop, table_copy, table_copy_cost, table_fill, table_fill_cost, table_get, table_grow,
-    table_grow_cost, table_init, table_init_cost, table_set, table_size,
+    table_copy, table_copy_cost, table_fill, table_fill_cost, table_get, table_grow,
+    table_grow_cost, table_set, table_size,
 };
 use core_types::{TableOp, Val};
 use fuel::Meter;
@@ -210,95 +211,6 @@ fn run_copy_of(
         Some(other) => run_copy(into, other, state, operands, meter),
         None => Progress::NotReady,
     }
-}
-
-// table.init from a segment that is there, into a table that is there.
-fn run_init(
-    into: u32,
-    segment: u32,
-    state: &mut State,
-    operands: &mut Operands,
-    meter: &mut Meter,
-) -> Progress
-    requires target { into < length state.old.contents.tables }
-    requires segment { segment < length state.old.contents.elements }
-    ensures had { (code : Contents) (instance : ℕ) (locals : List AnyVal) → HasEffect result
-        (init_table (store_with code state.old) (frame_in instance locals) (Some (
-          into,
-          table_of
-              state.old into,
-        )) (Some (segment, elements_of state.old segment)) operands.old.own)
-        (store_with code state.old) meter.old.left (store_with code state.new) locals operands.new
-        meter.new.left operands.old.below }
-    ensures paid { IsPaid result meter.old meter.new }
-{
-    let Some(count) = pop_i32(operands) else {
-        return Progress::NotReady;
-    };
-    let Some(from) = pop_i32(operands) else {
-        return Progress::NotReady;
-    };
-    let Some(target) = pop_i32(operands) else {
-        return Progress::NotReady;
-    };
-    if !meter.try_spend(table_init_cost(state, into, segment, target, from, count)) {
-        return Progress::NoFuel;
-    }
-    match table_init(state, into, segment, target, from, count) {
-        Ok(()) => Progress::Done,
-        Err(trap) => Progress::Trapped(trap),
-    }
-}
-
-// table.init from the segment of an index, into the table of one.
-fn run_init_of(
-    segment: u32,
-    table: u32,
-    code: &Code,
-    instance: u32,
-    state: &mut State,
-    operands: &mut Operands,
-    meter: &mut Meter,
-) -> Progress
-    ensures had { (locals : List AnyVal) → HasEffect result (init_table (store_with code.now
-        state.old) (frame_in instance locals) (table_at (store_with code.now state.old) (frame_in
-        instance locals) table) (elements_at (store_with code.now state.old) (frame_in instance
-        locals) segment) operands.old.own) (store_with code.now state.old) meter.old.left
-        (store_with code.now state.new) locals operands.new meter.new.left operands.old.below }
-    ensures paid { IsPaid result meter.old meter.new }
-{
-    let Some(into) = table_here(code, state, instance, table) else {
-        return Progress::NotReady;
-    };
-    match elements_here(code, state, instance, segment) {
-        Some(from) => run_init(into, from, state, operands, meter),
-        None => Progress::NotReady,
-    }
-}
-
-// elem.drop.
-fn run_elem_drop(
-    x: u32,
-    code: &Code,
-    instance: u32,
-    state: &mut State,
-    operands: &Operands,
-    meter: &mut Meter,
-) -> Progress
-    ensures had { (locals : List AnyVal) → HasEffect result (drop_elements (store_with code.now
-        state.old) (frame_in instance locals) (elements_at (store_with code.now state.old) (frame_in
-        instance locals) x) operands.now.own) (store_with code.now state.old) meter.old.left
-        (store_with code.now state.new) locals operands.now meter.new.left operands.now.below }
-    ensures paid { IsPaid result meter.old meter.new }
-{
-    let Some(segment) = elements_here(code, state, instance, x) else {
-        return Progress::NotReady;
-    };
-    if !meter.try_spend(1) {
-        return Progress::NoFuel;
-    }
-    elem_drop(state, segment);
-    Progress::Done
 }
 
 // An instruction on one table, which is there.

@@ -1,14 +1,13 @@
 //! The steps of a call: a module is loaded, linked, looked into and run. A check decodes and validates alone.
 
-use crate::linking::LinkEnd;
-use crate::objects::new_objects;
+ghost use Rattle.std.specs.Prelude.{◌≡◌};
+
 use crate::refusals::Refusal;
-use crate::segments::run_segments;
-use crate::support::is_linked;
 use binary::decode;
 use core_types::{Export, ExportDesc, Val, ValType};
 use exec::{HostTable, Outcome, invoke};
 use fuel::Meter;
+use instantiate::{LinkEnd, instantiate};
 use std::alloc::Global;
 use std::rc::Rc;
 use store::{LoadedModule, Store, accepts};
@@ -24,7 +23,7 @@ fn export_under(exports: &[Export], name: &str) -> Option<ExportDesc> {
     None
 }
 
-/// Decodes and validates the module that bytes spell, also one that is not run yet.
+/// Decodes and validates the module that bytes spell.
 pub fn check(alloc: Global, bytes: &[u8]) -> Result<(), Refusal> {
     let decoded = decode(alloc, bytes)?;
     let _ = validate(alloc, decoded)?;
@@ -37,40 +36,28 @@ const PAGES: u32 = 1_024;
 // How many entries a table may have at most.
 const ENTRIES: u32 = 1_000_000;
 
-/// A store of linked modules, the fuel for calls into it, and how many frames a call may have open at once.
+/// A store of linked modules, and the host functions that they may call.
 #[derive(Drop)]
 pub struct Engine {
     alloc: Global,
     store: Store,
     hosts: HostTable,
-    fuel: u64,
-    depth: u32,
 }
 
 impl Engine {
     /// An engine without modules. Takes no memory.
-    pub fn new(alloc: Global, fuel: u64, depth: u32) -> Engine {
+    pub fn new(alloc: Global) -> Engine {
         Engine {
             alloc,
             store: Store::new(alloc, PAGES, ENTRIES),
             hosts: HostTable::new(alloc),
-            fuel,
-            depth,
         }
     }
 
-    /// The fuel that is left.
-    pub fn fuel_left(&self) -> u64 {
-        self.fuel
-    }
-
-    /// The module that bytes spell, if it is valid and all of it is linked.
+    /// The module that bytes spell, if it is valid.
     pub fn load(&self, bytes: &[u8]) -> Result<Rc<LoadedModule>, Refusal> {
-        let given = decode(self.alloc, bytes)?;
-        if !is_linked(&given) {
-            return Err(Refusal::Unsupported);
-        }
-        let validated = validate(self.alloc, given)?;
+        let decoded = decode(self.alloc, bytes)?;
+        let validated = validate(self.alloc, decoded)?;
         let loaded = LoadedModule::new(self.alloc, validated)?;
         match Rc::new(self.alloc, loaded) {
             Ok(shared) => Ok(shared),
@@ -78,35 +65,26 @@ impl Engine {
         }
     }
 
-    // Puts an instance of a module without imports into the store, with its objects, and answers its number.
-    fn append(&mut self, loaded: &Rc<LoadedModule>) -> Result<u32, LinkEnd> {
-        let wanted = loaded.as_ref().module();
-        let first_function = self.store.code().function_count();
-        let (entries, pages) = (self.store.state().entries(), self.store.state().pages());
-        let objects = new_objects(self.alloc, wanted, first_function, entries, pages)?;
-        if !self.store.has_room_for(wanted, &objects) {
-            return Err(LinkEnd::Refused(Refusal::Limit));
-        }
-        let shared = loaded.clone()?;
-        Ok(self.store.append_module(self.alloc, shared, objects)?)
+    /// Links a module, for whose imports nothing is given, and answers the number of its instance: its segments are copied and its
+    /// start function is called within the fuel of the meter, of which what they cost is spent.
+    ///
+    /// It is refused, and nothing has changed, where it has imports, where a limit is passed, and where there is no memory. A trap
+    /// or an exhaustion ends the link where it stands, and what was done stays.
+    pub fn link(&mut self, meter: &mut Meter, loaded: &Rc<LoadedModule>) -> Result<u32, LinkEnd>
+        requires closed { meter.old.frames ≡ 0 }
+        ensures closed { meter.new.frames ≡ 0 }
+    {
+        instantiate(
+            self.alloc,
+            &mut self.store,
+            &mut self.hosts,
+            meter,
+            loaded,
+            &[],
+        )
     }
 
-    /// Links a module without imports, and answers the number of its instance: its objects are made, and its segments are copied
-    /// or dropped within the fuel. A module may be linked many times.
-    pub fn link(&mut self, loaded: &Rc<LoadedModule>) -> Result<u32, LinkEnd> {
-        let instance = self.append(loaded)?;
-        let mut meter = Meter::new(self.fuel, self.depth);
-        let (code, state) = self.store.parts_mut();
-        let linked = loaded.as_ref().module();
-        let ended = run_segments(code, state, &mut meter, instance, linked);
-        self.fuel = meter.left();
-        match ended {
-            Ok(()) => Ok(instance),
-            Err(end) => Err(end),
-        }
-    }
-
-    /// The address of the function that an instance of a module without imports exports under a name.
+    /// The address of the function that an instance exports under a name.
     pub fn exported_function(&self, instance: u32, name: &str) -> Result<u32, Refusal> {
         let Some(found) = self.store.code().instance(instance) else {
             return Err(Refusal::UnknownExport);
@@ -134,21 +112,20 @@ impl Engine {
         }
     }
 
-    /// Calls the function at an address, if these are arguments of its parameter types.
-    pub fn call(&mut self, address: u32, args: &[Val]) -> Option<Outcome> {
+    /// Calls the function at an address within the fuel of the meter, if these are arguments of its parameter types.
+    pub fn call(&mut self, meter: &mut Meter, address: u32, args: &[Val]) -> Option<Outcome>
+        requires closed { meter.old.frames ≡ 0 }
+    {
         if !accepts(&self.store, address, args) {
             return None;
         }
-        let mut meter = Meter::new(self.fuel, self.depth);
-        let outcome = invoke(
+        Some(invoke(
             self.alloc,
             &mut self.store,
             &mut self.hosts,
-            &mut meter,
+            meter,
             address,
             args,
-        );
-        self.fuel = meter.left();
-        Some(outcome)
+        ))
     }
 }

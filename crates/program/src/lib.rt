@@ -2,16 +2,11 @@
 #![tactic(auto)]
 
 mod args;
-mod constants;
 mod engine;
 mod inputs;
-mod linking;
-mod objects;
 mod print;
 mod program;
 mod refusals;
-mod segments;
-mod support;
 
 pub use args::{ArgsFault, read_args};
 pub use inputs::{Files, ReadFault, System};

@@ -115,6 +115,8 @@ fn refusal_status(refusal: Refusal) -> u8
         Refusal::Unsupported => 5,
         Refusal::Limit => 5,
         Refusal::Invalid => 5,
+        Refusal::UnknownImport => 5,
+        Refusal::IncompatibleImport => 5,
         Refusal::UnknownExport => 2,
         Refusal::WrongKind => 2,
         Refusal::OutOfMemory => 6,

@@ -1,15 +1,17 @@
 //! The program over its words, its files and its writers.
 
+ghost use Rattle.std.specs.Prelude.{◌≡◌};
 ghost use Rattle.program.specs.Statuses.{IsStatus};
 
 use crate::args::{ArgsFault, read_args};
 use crate::engine::{Engine, check};
 use crate::inputs::{Files, ReadFault};
-use crate::linking::LinkEnd;
 use crate::print::{print_end, print_fault, print_valid};
 use crate::refusals::Refusal;
 use command_line::{CallOrder, Order, WordsFault, read_words};
 use exec::Outcome;
+use fuel::Meter;
+use instantiate::LinkEnd;
 use std::alloc::Global;
 use std::io::{self, Write};
 use std::rc::Rc;
@@ -77,7 +79,7 @@ fn read_file<'a, F: Files>(files: &mut F, path: &'a str) -> Result<Vec<u8>, Faul
     }
 }
 
-// The module in a file, if it is valid and all of it is run.
+// The module in a file, if it is valid.
 fn load_file<'a, F: Files>(
     engine: &Engine,
     files: &mut F,
@@ -92,33 +94,38 @@ fn call_in<'a>(
     alloc: Global,
     order: &CallOrder<'a>,
     engine: &mut Engine,
+    meter: &mut Meter,
     instance: u32,
-) -> Result<CallEnd, Fault<'a>> {
+) -> Result<CallEnd, Fault<'a>>
+    requires closed { meter.old.frames ≡ 0 }
+{
     let address = engine.exported_function(instance, order.export)?;
     let args = read_args(alloc, engine.parameters(address), order.args.as_slice())?;
-    match engine.call(address, args.as_slice()) {
+    match engine.call(meter, address, args.as_slice()) {
         Some(outcome) => Ok(CallEnd {
             outcome,
-            fuel_left: engine.fuel_left(),
+            fuel_left: meter.left(),
         }),
         None => Err(Fault::BadArguments),
     }
 }
 
-// Links the module that the order names, and calls the function. Where the link does not come to its end, that is the call's end.
+// Links the module that the order names, and calls the function, both within the order's fuel. A trap or an exhaustion of the link is
+// the call's end.
 fn call<'a, F: Files>(
     alloc: Global,
     order: &CallOrder<'a>,
     files: &mut F,
 ) -> Result<CallEnd, Fault<'a>> {
-    let mut engine = Engine::new(alloc, order.fuel, order.depth);
+    let mut engine = Engine::new(alloc);
+    let mut meter = Meter::new(order.fuel, order.depth);
     let loaded = load_file(&engine, files, order.file)?;
-    match engine.link(&loaded) {
-        Ok(instance) => call_in(alloc, order, &mut engine, instance),
-        Err(LinkEnd::Refused(refusal)) => Err(Fault::Refused(refusal)),
+    match engine.link(&mut meter, &loaded) {
+        Ok(instance) => call_in(alloc, order, &mut engine, &mut meter, instance),
+        Err(LinkEnd::Refused(refusal)) => Err(Fault::Refused(Refusal::from(refusal))),
         Err(LinkEnd::Ended(outcome)) => Ok(CallEnd {
             outcome,
-            fuel_left: engine.fuel_left(),
+            fuel_left: meter.left(),
         }),
     }
 }

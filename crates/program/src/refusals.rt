@@ -1,6 +1,7 @@
 //! Why the engine does not do what it is asked for.
 
 use binary::DecodeError;
+use instantiate::LinkRefusal;
 use std::alloc::{AllocError, AllocFailed};
 use validator::ValidateError;
 
@@ -15,6 +16,10 @@ pub enum Refusal {
     Limit,
     /// No typing accepts the module.
     Invalid,
+    /// There is nothing for an import.
+    UnknownImport,
+    /// What is given for an import does not match.
+    IncompatibleImport,
     /// Nothing is exported under the name.
     UnknownExport,
     /// What is exported is no function.
@@ -31,6 +36,8 @@ impl Refusal {
             Refusal::Unsupported => 2,
             Refusal::Limit => 3,
             Refusal::Invalid => 4,
+            Refusal::UnknownImport => 6,
+            Refusal::IncompatibleImport => 7,
             Refusal::UnknownExport => 9,
             Refusal::WrongKind => 10,
             Refusal::OutOfMemory => 13,
@@ -44,6 +51,8 @@ impl Refusal {
             Refusal::Unsupported => "Unsupported",
             Refusal::Limit => "Limit",
             Refusal::Invalid => "Invalid",
+            Refusal::UnknownImport => "UnknownImport",
+            Refusal::IncompatibleImport => "IncompatibleImport",
             Refusal::UnknownExport => "UnknownExport",
             Refusal::WrongKind => "WrongKind",
             Refusal::OutOfMemory => "OutOfMemory",
@@ -79,6 +88,17 @@ impl From<ValidateError> for Refusal {
         match error {
             ValidateError::Invalid(_) => Refusal::Invalid,
             ValidateError::OutOfMemory => Refusal::OutOfMemory,
+        }
+    }
+}
+
+impl From<LinkRefusal> for Refusal {
+    fn from(refusal: LinkRefusal) -> Refusal {
+        match refusal {
+            LinkRefusal::Limit => Refusal::Limit,
+            LinkRefusal::UnknownImport => Refusal::UnknownImport,
+            LinkRefusal::IncompatibleImport => Refusal::IncompatibleImport,
+            LinkRefusal::OutOfMemory => Refusal::OutOfMemory,
         }
     }
 }

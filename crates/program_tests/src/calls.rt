@@ -11,7 +11,7 @@ struct Run {
 }
 
 #[rattlefmt::skip]
-static RUN: [Run; 29] = [
+static RUN: [Run; 30] = [
     Run {
         name: "i32.eqz",
         sections: "0105016000017F 03020100 07050101660000 0A070105004100450B",
@@ -157,6 +157,11 @@ static RUN: [Run; 29] = [
         sections: "0105016000017F 03020100 07050101660000 09050101000100 0A0601040041070B",
         out: "i32 7\nfuel left 99\n",
     },
+    Run {
+        name: "a start function",
+        sections: "0108026000017F600000 0303020001 07050101660000 080101 0A0A02040041070B0300010B",
+        out: "i32 7\nfuel left 98\n",
+    },
 ];
 
 fn is_run(alloc: Global, run: &Run) -> Result<bool, AllocError> {
@@ -179,13 +184,12 @@ struct Refused {
 }
 
 #[rattlefmt::skip]
-static REFUSED: [Refused; 6] = [
+static REFUSED: [Refused; 5] = [
     Refused { name: "table.get of no table", sections: "0105016000017F 03020100 07050101660000 0A0B010900410025001A41070B", line: "refused 4 Invalid\n" },
     Refused { name: "table.size of no table", sections: "0105016000017F 03020100 07050101660000 0A07010500FC10000B", line: "refused 4 Invalid\n" },
     Refused { name: "elem.drop of no segment", sections: "0105016000017F 03020100 07050101660000 0A09010700FC0D0041070B", line: "refused 4 Invalid\n" },
     Refused { name: "call_indirect through no table", sections: "0105016000017F 03020100 07050101660000 0A0901070041001100000B", line: "refused 4 Invalid\n" },
-    Refused { name: "an import", sections: "0105016000017F 020701016101620000 03020100 07050101660000 0A0601040041070B", line: "refused 2 Unsupported\n" },
-    Refused { name: "a start function", sections: "0108026000017F600000 0303020001 07050101660000 080101 0A0A02040041070B0300010B", line: "refused 2 Unsupported\n" },
+    Refused { name: "an import", sections: "0105016000017F 020701016101620000 03020100 07050101660000 0A0601040041070B", line: "refused 6 UnknownImport\n" },
 ];
 
 fn is_refused(alloc: Global, row: &Refused) -> Result<bool, AllocError> {

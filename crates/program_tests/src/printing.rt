@@ -106,11 +106,13 @@ struct RefusalRow {
 }
 
 #[rattlefmt::skip]
-static REFUSALS: [RefusalRow; 7] = [
+static REFUSALS: [RefusalRow; 9] = [
     RefusalRow { refusal: Refusal::Malformed, line: "refused 1 Malformed\n", status: 5 },
     RefusalRow { refusal: Refusal::Unsupported, line: "refused 2 Unsupported\n", status: 5 },
     RefusalRow { refusal: Refusal::Limit, line: "refused 3 Limit\n", status: 5 },
     RefusalRow { refusal: Refusal::Invalid, line: "refused 4 Invalid\n", status: 5 },
+    RefusalRow { refusal: Refusal::UnknownImport, line: "refused 6 UnknownImport\n", status: 5 },
+    RefusalRow { refusal: Refusal::IncompatibleImport, line: "refused 7 IncompatibleImport\n", status: 5 },
     RefusalRow { refusal: Refusal::UnknownExport, line: "refused 9 UnknownExport\n", status: 2 },
     RefusalRow { refusal: Refusal::WrongKind, line: "refused 10 WrongKind\n", status: 2 },
     RefusalRow { refusal: Refusal::OutOfMemory, line: "refused 13 OutOfMemory\n", status: 6 },

@@ -1,4 +1,4 @@
-//! Calls of modules with tables and element segments: what their link does and costs.
+//! Calls of modules with tables, element segments, start functions and imports: what their link does and costs.
 
 use crate::files::TextModule;
 use crate::runs::Ending::{self, Err, Out};
@@ -57,10 +57,32 @@ static ENDS: [Row; 12] = [
         text: "(table 1000000 externref) (func (export \"f\") (result i32) table.size)" },
     Row { name: "a table of 1,000,001 entries", words: "call module.wasm f --fuel 100", ending: Err("refused 3 Limit\n", 5),
         text: "(table 1000001 externref) (func (export \"f\") (result i32) table.size)" },
-    Row { name: "a start function", words: "call module.wasm f --fuel 100", ending: Err("refused 2 Unsupported\n", 5),
+    Row { name: "a start function", words: "call module.wasm f --fuel 100", ending: Out("fuel left 100\n", 0),
         text: "(func (export \"f\")) (start 0)" },
-    Row { name: "an import", words: "call module.wasm f --fuel 100", ending: Err("refused 2 Unsupported\n", 5),
+    Row { name: "an import", words: "call module.wasm f --fuel 100", ending: Err("refused 6 UnknownImport\n", 5),
         text: "(import \"m\" \"g\" (func)) (func (export \"f\"))" },
+];
+
+#[rattlefmt::skip]
+static STARTS: [Row; 9] = [
+    Row { name: "a start function that traps", words: "call module.wasm f --fuel 10", ending: Out("trap: unreachable\nfuel left 9\n", 1),
+        text: "(func (export \"f\")) (func unreachable) (start 1)" },
+    Row { name: "a start function that traps, in a module without the export", words: "call module.wasm g --fuel 10", ending: Out("trap: unreachable\nfuel left 9\n", 1),
+        text: "(func (export \"f\")) (func unreachable) (start 1)" },
+    Row { name: "a start function that sets a global before the call", words: "call module.wasm f --fuel 10", ending: Out("i32 8\nfuel left 7\n", 0),
+        text: "(global (mut i32) i32.const 7) (func (export \"f\") (result i32) global.get 0) (func i32.const 8 global.set 0) (start 1)" },
+    Row { name: "a start function without fuel for its end", words: "call module.wasm f --fuel 1", ending: Out("exhausted: fuel\nfuel left 0\n", 6),
+        text: "(global (mut i32) i32.const 7) (func (export \"f\") (result i32) global.get 0) (func i32.const 8 global.set 0) (start 1)" },
+    Row { name: "a start function that leaves no fuel for the call", words: "call module.wasm f --fuel 2", ending: Out("exhausted: fuel\nfuel left 0\n", 6),
+        text: "(global (mut i32) i32.const 7) (func (export \"f\") (result i32) global.get 0) (func i32.const 8 global.set 0) (start 1)" },
+    Row { name: "a start function past the bound on frames", words: "call module.wasm f --fuel 10 --depth 1", ending: Out("exhausted: depth\nfuel left 10\n", 6),
+        text: "(func (export \"f\")) (func call 0) (start 1)" },
+    Row { name: "a start function after the element segments", words: "call module.wasm f --fuel 100", ending: Out("i32 0\nfuel left 93\n", 0),
+        text: "(table 1 funcref) (global (mut i32) i32.const 7) (elem (offset i32.const 0) func 0) (func (export \"f\") (result i32) global.get 0) (func i32.const 0 table.get ref.is_null global.set 0) (start 1)" },
+    Row { name: "a start function after a segment that traps", words: "call module.wasm f --fuel 10", ending: Out("trap: out of bounds table access\nfuel left 9\n", 1),
+        text: "(table 1 funcref) (elem (offset i32.const 1) func 0) (func (export \"f\")) (func unreachable) (start 1)" },
+    Row { name: "an import of a module with a start function", words: "call module.wasm f --fuel 10", ending: Err("refused 6 UnknownImport\n", 5),
+        text: "(import \"m\" \"g\" (func)) (func (export \"f\")) (func unreachable) (start 2)" },
 ];
 
 fn agrees(alloc: Global, row: &Row) -> Result<bool, AllocError> {
@@ -82,6 +104,13 @@ fn links_tables(rt: HostRuntime) {
 #[test]
 fn drops_element_segments(rt: HostRuntime) {
     for row in &ENDS {
+        assert!(rt; agrees(rt.alloc(), row) == Ok(true), "{}", row.name);
+    }
+}
+
+#[test]
+fn calls_start_functions(rt: HostRuntime) {
+    for row in &STARTS {
         assert!(rt; agrees(rt.alloc(), row) == Ok(true), "{}", row.name);
     }
 }

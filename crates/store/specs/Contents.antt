@@ -1,14 +1,15 @@
 -- What the store holds, in the terms of the definitions.
-use Rattle.std.specs.Prelude.{ℕ, zero, suc, ◌+◌, ◌^◌, ◌<◌, List, [], ◌∷◌, ◌++◌, length, map, Option, Some, None, IsSome, unwrap_or, slice_get}
+use Rattle.std.specs.Prelude.{ℕ, List, [], ◌∷◌, map, Option, Some, None, IsSome, unwrap_or, slice_get}
 use Rattle.core_types.specs.declared.types.FuncType.{FuncType}
 use Rattle.core_types.specs.declared.module.Func.{Func}
 use Rattle.core_types.specs.declared.module.Module.{Module}
-use Rattle.meaning.specs.structure.Bodies.{Empty, body_of}
-use Rattle.meaning.specs.execution.Store.{Code, FunctionInstance as Function, InCode, ModuleInstance, Store}
+use Rattle.meaning.specs.structure.Bodies.{Empty}
+use Rattle.meaning.specs.execution.Modules.{code_of}
+use Rattle.meaning.specs.execution.Store.{FunctionInstance as Function, InCode, ModuleInstance, Store}
 use Rattle.store.specs.declared.instances.Addresses.{Addresses}
 use Rattle.store.specs.declared.instances.FunctionInstance.{FunctionInstance}
 use Rattle.store.specs.declared.instances.Instance.{Instance}
-use Rattle.store.specs.State.{ObjectLists, StateContents}
+use Rattle.store.specs.State.{StateContents}
 
 -- The functions and the instances, as they are kept.
 pub record Contents : Type 0 where
@@ -17,10 +18,6 @@ pub record Contents : Type 0 where
 
 abbrev pub contents_of : List FunctionInstance → List Instance → Contents
 contents_of functions instances = record { functions = functions; instances = instances }
-
--- The code of a function of a module.
-abbrev pub code_of : Func → Code
-code_of f = record { locals = f.locals; body = body_of f.body }
 
 -- A function of a module, of this type, in this instance.
 abbrev pub function_of : FuncType → ℕ → Func → Function
@@ -61,11 +58,6 @@ no_function = record {
 
 abbrev pub function_at : List Instance → FunctionInstance → Function
 function_at instances f = unwrap_or (entry_function instances f) no_function
-
--- That many numbers in a row.
-abbrev pub consecutive : (first count : ℕ) → List ℕ
-consecutive first zero = []
-consecutive first (suc count) = first ∷ consecutive (suc first) count
 
 -- The addresses of what an instance has, a list a kind.
 pub record AddressLists : Type 0 where
@@ -145,46 +137,6 @@ pub record BothParts : Type 0 where
 -- The store that is kept.
 abbrev pub store_of : BothParts → Store
 store_of s = store_with s.code s.state
-
--- The functions of a module, in its order.
-abbrev pub functions_of : ℕ → Module → List Func → List Function
-functions_of instance m funcs =
-    map (λ (f : Func). unwrap_or (typed_function instance (slice_get m.types f.ty) f) no_function) funcs
-
--- The addresses of a module's functions and of these objects, behind those that the store has.
-abbrev pub new_addresses : Store → Module → ObjectLists → AddressLists
-new_addresses store m objects = record {
-  functions = consecutive (length store.functions) (length m.funcs);
-  tables = consecutive (length store.tables) (length objects.tables);
-  memories = consecutive (length store.memories) (length objects.memories);
-  globals = consecutive (length store.globals) (length objects.globals);
-  elements = consecutive (length store.elements) (length objects.elements);
-  datas = consecutive (length store.datas) (length objects.datas);
-}
-
--- The store with a module without imports: its functions, these objects, and an instance that has them, behind what there is.
-abbrev pub with_module : Store → Module → ObjectLists → Store
-with_module store m objects = record {
-  functions = store.functions ++ functions_of (length store.instances) m m.funcs;
-  instances = store.instances ++ module_instance (new_addresses store m objects) m ∷ [];
-  tables = store.tables ++ objects.tables;
-  memories = store.memories ++ objects.memories;
-  globals = store.globals ++ objects.globals;
-  elements = store.elements ++ objects.elements;
-  datas = store.datas ++ objects.datas;
-  pages = store.pages;
-  entries = store.entries;
-}
-
--- Addresses and instance numbers have 32 bits.
-pub record HasRoom (s : BothParts) (m : Module) (objects : ObjectLists) : Type 0 where
-  pub functions : length s.code.functions + length m.funcs < 2 ^ 32
-  pub instances : length s.code.instances + 1 < 2 ^ 32
-  pub tables : length s.state.contents.tables + length objects.tables < 2 ^ 32
-  pub memories : length s.state.contents.memories + length objects.memories < 2 ^ 32
-  pub globals : length s.state.contents.globals + length objects.globals < 2 ^ 32
-  pub elements : length s.state.contents.elements + length objects.elements < 2 ^ 32
-  pub datas : length s.state.contents.datas + length objects.datas < 2 ^ 32
 
 -- The entries of an instance's functions of these indices.
 abbrev pub entries_of : (instance : ℕ) → (indices : List ℕ) → List FunctionInstance

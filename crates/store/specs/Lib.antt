@@ -4,5 +4,6 @@ pub mod LoadedModules
 pub mod Contents
 pub mod Memories
 pub mod Tables
+pub mod Segments
 pub mod State
 pub mod Lending

@@ -8,16 +8,8 @@ use Rattle.core_types.specs.declared.types.ValType.TheVariants.{I32}
 use Rattle.core_types.specs.declared.types.RefType.TheVariants as ref
 use Rattle.meaning.specs.execution.Memories.{MemoryInstance}
 use Rattle.meaning.specs.execution.Tables.{ElementInstance, TableInstance}
-use Rattle.meaning.specs.execution.Store.{DataInstance, GlobalInstance}
+use Rattle.meaning.specs.execution.Store.{DataInstance, GlobalInstance, ObjectLists}
 use Rattle.store.specs.Memories.{with_bytes}
-
--- Objects, a list a kind.
-pub record ObjectLists : Type 0 where
-  pub tables : List TableInstance
-  pub memories : List MemoryInstance
-  pub globals : List GlobalInstance
-  pub elements : List ElementInstance
-  pub datas : List DataInstance
 
 -- For how many more objects of each kind there is memory.
 pub record Room : Type 0 where

@@ -1,8 +1,9 @@
-ghost use Rattle.std.specs.Prelude.{◌≡◌, [], ◌∷◌, ◌++◌, ◌+◌, ◌<◌, ◌^◌, length, slice_get, option_copied, IfSome, OnOk, OnErr, MatchOption, Some, None};
+ghost use Rattle.std.specs.Prelude.{◌≡◌, [], ◌∷◌, ◌++◌, ◌+◌, ◌<◌, ◌^◌, length, map, slice_get, option_copied, IfSome, OnOk, OnErr, MatchOption, Some, None};
 ghost use Rattle.meaning.specs.structure.Bodies.{rests};
+ghost use Rattle.meaning.specs.execution.Modules.{new_function};
 ghost use Rattle.meaning.specs.execution.Store.{instance_of};
 ghost use Rattle.store.specs.Ends.{HasEnds};
-ghost use Rattle.store.specs.Contents.{code_store, contents_of, functions_in, functions_of, function_of, instances_in, lists_of, module_instance};
+ghost use Rattle.store.specs.Contents.{code_store, contents_of, functions_in, function_of, instances_in, lists_of, module_instance};
 
 use crate::entries::push_entries;
 use crate::loaded_modules::LoadedModule;
@@ -192,8 +193,8 @@ impl Code {
             32 }
         requires instances { length self.old.instances + 1 < 2 ^ 32 }
         ensures functions { OnOk result
-            (functions_in self.new ≡ functions_in self.old ++ functions_of
-            (length (instances_in self.old)) instance.loaded.value instance.loaded.value.funcs) }
+            (functions_in self.new ≡ functions_in self.old ++ map (new_function
+            (length (instances_in self.old)) instance.loaded.value) instance.loaded.value.funcs) }
         ensures instances { OnOk result
             (instances_in self.new ≡ instances_in self.old ++ module_instance
             (lists_of instance.addresses) instance.loaded.value ∷ []) }

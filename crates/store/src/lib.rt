@@ -5,6 +5,7 @@
 mod arguments;
 mod ends;
 mod entries;
+mod exports;
 mod externs;
 mod globals;
 mod instances;

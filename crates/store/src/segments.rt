@@ -1,8 +1,12 @@
 ghost use Rattle.std.specs.Prelude.{◌≡◌, []};
+ghost use Rattle.store.specs.Segments.{bytes_at};
 
-use core_types::{RefType, Val};
+use crate::loaded_modules::LoadedModule;
+use crate::lookups::item;
+use core_types::{Module, RefType, Val};
 use std::alloc::Global;
 use std::marker::Model;
+use std::rc::Rc;
 
 /// An element segment: the type of its references, and these, none once it was dropped (Execution, Element Instances).
 #[derive(Drop)]
@@ -42,39 +46,58 @@ impl ElementSegment {
     }
 }
 
-/// A data segment: its bytes, none once it was dropped (Execution, Data Instances).
+// The bytes of a module's data segment, none where there is no such segment.
+fn bytes_of(read: &Module, index: u32) -> &[u8]
+    ensures { result.now ≡ bytes_at read.now index }
+{
+    match item(read.datas.as_slice(), index) {
+        Some(segment) => segment.bytes.as_slice(),
+        None => &[],
+    }
+}
+
+/// A data segment: that of an index of a loaded module, which it shares; or nothing once it was dropped (Execution, Data
+/// Instances).
 #[derive(Drop)]
 pub struct DataSegment {
-    bytes: Vec<u8>,
+    source: Option<Rc<LoadedModule>>,
+    index: u32,
 }
 
 impl Model for DataSegment {
     ghost use Rattle.meaning.specs.execution.Store.{DataInstance};
+    ghost use Rattle.store.specs.Segments.{bytes_in};
 
     ghost Value = { DataInstance };
 
-    ghost view = { λ s. record { bytes = s.bytes.items } };
+    ghost view = { λ s. record { bytes = bytes_in s.source s.index } };
 }
 
 impl DataSegment {
-    /// A segment of these bytes.
-    pub fn new(bytes: Vec<u8>) -> DataSegment
-        ensures { result.bytes ≡ bytes.items }
+    /// The data segment of this index of a module, none of whose bytes are copied.
+    pub fn new(loaded: Rc<LoadedModule>, index: u32) -> DataSegment
+        ensures { result.bytes ≡ bytes_at loaded.value index }
     {
-        DataSegment { bytes }
+        DataSegment {
+            source: Some(loaded),
+            index,
+        }
     }
 
     /// The bytes, for reading.
     pub fn bytes(&self) -> &[u8]
         ensures { result.now ≡ self.now.bytes }
     {
-        &self.bytes
+        match &self.source {
+            Some(loaded) => bytes_of(loaded.as_ref().module(), self.index),
+            None => &[],
+        }
     }
 
-    // Gives the bytes back. Takes no memory.
-    pub(crate) fn clear(&mut self, alloc: Global)
+    // Gives the module back. Takes no memory.
+    pub(crate) fn clear(&mut self)
         ensures { self.new.bytes ≡ [] }
     {
-        self.bytes = Vec::new(alloc);
+        self.source = None;
     }
 }

@@ -27,7 +27,7 @@ pub struct Objects {
 }
 
 impl Model for Objects {
-    ghost use Rattle.store.specs.State.{ObjectLists};
+    ghost use Rattle.meaning.specs.execution.Store.{ObjectLists};
 
     ghost Value = { ObjectLists };
 
@@ -341,6 +341,6 @@ impl State {
         ensures { self.new ≡ put_data self.old address (record { bytes = [] }) }
     {
         let segment = &mut self.datas[address as usize];
-        segment.clear(self.alloc);
+        segment.clear();
     }
 }

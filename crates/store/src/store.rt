@@ -1,10 +1,10 @@
 ghost use Rattle.std.specs.Prelude.{◌≡◌, ◌↔◌, [], ◌+◌, ◌<◌, ◌^◌, length, IsTrue, IfOk, OnOk, OnErr};
 ghost use Rattle.std.specs.Borrow.{sem};
-ghost use Rattle.store.specs.Contents.{HasRoom, contents_of, lists_of, new_addresses, store_of, with_module};
+ghost use Rattle.meaning.specs.execution.Modules.{HasRoom, with_module};
+ghost use Rattle.store.specs.Contents.{contents_of, lists_of, module_instance, store_of};
 ghost use Rattle.store.specs.Lending.{LendsState};
 ghost use Rattle.store.specs.State.{AreWithin, no_objects};
 
-use crate::entries::consecutive_addresses;
 use crate::instances::{Addresses, Code, Instance};
 use crate::loaded_modules::LoadedModule;
 use crate::state::{Objects, State};
@@ -72,64 +72,37 @@ impl Store {
         (&self.code, &mut self.state)
     }
 
-    /// Whether the functions of a module without imports, these objects and an instance of it still get addresses of 32 bits.
-    pub fn has_room_for(&self, wanted: &Module, objects: &Objects) -> bool
-        ensures { IsTrue result ↔ HasRoom self.now wanted.now objects.now }
+    /// Whether the functions of a module, its objects and an instance of it still get addresses of 32 bits.
+    pub fn has_room_for(&self, wanted: &Module) -> bool
+        ensures { IsTrue result ↔ HasRoom (store_of self.now) wanted.now }
     {
         has_addresses(self.code.function_count(), wanted.funcs.len())
             && has_addresses(self.code.instance_count(), 1)
-            && has_addresses(self.state.table_count(), objects.tables.len())
-            && has_addresses(self.state.memory_count(), objects.memories.len())
-            && has_addresses(self.state.global_count(), objects.globals.len())
-            && has_addresses(self.state.element_count(), objects.elements.len())
-            && has_addresses(self.state.data_count(), objects.datas.len())
+            && has_addresses(self.state.table_count(), wanted.tables.len())
+            && has_addresses(self.state.memory_count(), wanted.memories.len())
+            && has_addresses(self.state.global_count(), wanted.globals.len())
+            && has_addresses(self.state.element_count(), wanted.elements.len())
+            && has_addresses(self.state.data_count(), wanted.datas.len())
     }
 
-    // The addresses of a module's functions and of these objects, behind those that are there.
-    fn new_addresses(
-        &self,
-        alloc: Global,
-        wanted: &Module,
-        objects: &Objects,
-    ) -> Result<Addresses, AllocError>
-        requires { HasRoom self.now wanted.now objects.now }
-        ensures { IfOk result
-            (λ addresses. lists_of addresses ≡ new_addresses (store_of self.now) wanted.now
-            objects.now) }
-    {
-        let functions = self.code.function_count() as u32;
-        let tables = self.state.table_count() as u32;
-        let memories = self.state.memory_count() as u32;
-        let globals = self.state.global_count() as u32;
-        let elements = self.state.element_count() as u32;
-        let datas = self.state.data_count() as u32;
-        Ok(Addresses {
-            functions: consecutive_addresses(alloc, functions, wanted.funcs.len() as u32)?,
-            tables: consecutive_addresses(alloc, tables, objects.tables.len() as u32)?,
-            memories: consecutive_addresses(alloc, memories, objects.memories.len() as u32)?,
-            globals: consecutive_addresses(alloc, globals, objects.globals.len() as u32)?,
-            elements: consecutive_addresses(alloc, elements, objects.elements.len() as u32)?,
-            datas: consecutive_addresses(alloc, datas, objects.datas.len() as u32)?,
-        })
-    }
-
-    /// Adds the functions of a module without imports, these objects, and an instance that has them, and answers the instance's
-    /// number. Where memory runs out, what the store holds is as before.
+    /// Adds the functions of a module, these objects, and an instance that has these addresses, and answers the instance's
+    /// number (Execution, Modules, Allocation). Where memory runs out, what the store holds is as before.
     pub fn append_module(
         &mut self,
         alloc: Global,
         loaded: Rc<LoadedModule>,
+        addresses: Addresses,
         objects: Objects,
     ) -> Result<u32, AllocError>
-        requires room { HasRoom self.old loaded.value objects }
+        requires room { HasRoom (store_of self.old) loaded.value }
         requires within { AreWithin self.old.state.bounds objects.tables objects.memories }
-        ensures number { IfOk result (λ number. number ≡ length self.old.code.instances) }
-        ensures appended { OnOk result
-            (store_of self.new ≡ with_module (store_of self.old) loaded.value objects) }
+        ensures number { IfOk result
+            (λ number. number ≡ length (store_of self.old).instances) }
+        ensures appended { OnOk result (store_of self.new ≡ with_module (store_of self.old)
+            (module_instance (lists_of addresses) loaded.value) loaded.value objects) }
         ensures unchanged { OnErr result (store_of self.new ≡ store_of self.old) }
     {
         let number = self.code.instance_count() as u32;
-        let addresses = self.new_addresses(alloc, loaded.as_ref().module(), &objects)?;
         self.state.reserve_all(&objects)?;
         self.code.append_instance(Instance { loaded, addresses })?;
         self.state.append_all(objects);

@@ -16,6 +16,7 @@ use Rattle.meaning.specs.execution.Instructions.{NotReady, Opens, call_function,
 use Rattle.meaning.specs.execution.Values.{default_of}
 use Rattle.meaning.specs.execution.Layers.{AroundFrame, AroundLabel, Layer, plug}
 use Rattle.meaning.specs.execution.Runs.{GotStuck, OutOfDepth, OutOfFuel, OutOfMemory, no_depth, opens}
+use Rattle.meaning.specs.execution.Modules.{code_of}
 use Rattle.meaning.specs.execution.Store.{FunctionInstance}
 use Rattle.meaning.proofs.lemmas.Layers.{if-at-most, if-more}
 use Rattle.exec.specs.declared.machine.Control.{Control}
@@ -31,7 +32,7 @@ use Rattle.exec.proofs.simulation.Instructions.{single_next}
 use Rattle.fuel.specs.Metering.{Metered}
 use Rattle.store.specs.Arguments.{TakesArguments}
 use Rattle.store.proofs.lemmas.Arguments.{length-typed}
-use Rattle.store.specs.Contents.{Contents, code_of, code_store, function_of, functions_in, store_with}
+use Rattle.store.specs.Contents.{Contents, code_store, function_of, functions_in, store_with}
 use Rattle.store.specs.State.{StateContents}
 
 -- At the end of code nothing is left.

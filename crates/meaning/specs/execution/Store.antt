@@ -48,6 +48,14 @@ pub record ModuleInstance : Type 0 where
   pub datas : List ℕ
   pub exports : List Export
 
+-- Objects that a run may change, a list a kind.
+pub record ObjectLists : Type 0 where
+  pub tables : List TableInstance
+  pub memories : List MemoryInstance
+  pub globals : List GlobalInstance
+  pub elements : List ElementInstance
+  pub datas : List DataInstance
+
 -- The objects of each kind by address, and how many pages a memory and how many entries a table may have, which is the
 -- embedding's.
 pub record Store : Type 0 where

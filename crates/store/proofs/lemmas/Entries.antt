@@ -2,7 +2,8 @@
 use Rattle.std.proofs.Common.{◌≡◌, ℕ, ◌+◌, List, [], ◌∷◌, ◌++◌, ap, sym, ◌∙◌, append_assoc, arith}
 use Rattle.std.proofs.lemmas.List.{map-append}
 use Rattle.store.specs.declared.instances.FunctionInstance.{FunctionInstance}
-use Rattle.store.specs.Contents.{consecutive, entries_of}
+use Rattle.meaning.specs.execution.Modules.{consecutive}
+use Rattle.store.specs.Contents.{entries_of}
 use Rattle.store.proofs.lemmas.Positions.{consecutive-next}
 
 pub entries-next : (instance k : ℕ) (before so_far after : List FunctionInstance) → so_far ≡ before ++ entries_of instance (consecutive 0 k) → after ≡ so_far ++ record { instance = instance; index = k } ∷ [] → after ≡ before ++ entries_of instance (consecutive 0 (k + 1))

@@ -4,10 +4,11 @@ use Rattle.std.specs.Prelude.{Option, Some, None, IsSome, unwrap_or, slice_get}
 use Rattle.std.proofs.lemmas.List.{map-append, length-map}
 use Rattle.core_types.specs.declared.module.Func.{Func}
 use Rattle.meaning.specs.validation.Modules.{IsValid, IsValidFunction}
+use Rattle.meaning.specs.execution.Modules.{consecutive, new_function}
 use Rattle.meaning.specs.execution.Store.{FunctionInstance as Function}
 use Rattle.store.specs.declared.instances.FunctionInstance.{FunctionInstance}
 use Rattle.store.specs.declared.instances.Instance.{Instance}
-use Rattle.store.specs.Contents.{AllFound, IsFound, consecutive, contents_of, entries_of, entry_function, function_at, functions_of, instance_function, module_function, functions_in, instances_in, module_instance_of, no_function, typed_function}
+use Rattle.store.specs.Contents.{AllFound, IsFound, contents_of, entries_of, entry_function, function_at, instance_function, module_function, functions_in, instances_in, module_instance_of, no_function, typed_function}
 use Rattle.store.proofs.lemmas.Positions.{slice_get-front, slice_get-seam, holds-at}
 
 -- An entry that finds its function finds it still when instances are added.
@@ -41,7 +42,7 @@ module _ (instances : List Instance) (i : Instance) (valid : IsValid i.loaded.va
   all = instances ++ i ∷ []
 
   abbrev named : Func → Function
-  named func = unwrap_or (typed_function (length instances) (slice_get i.loaded.value.types func.ty) func) no_function
+  named func = new_function (length instances) i.loaded.value func
 
   abbrev entry : ℕ → FunctionInstance
   entry k = record { instance = length instances; index = k }
@@ -52,6 +53,11 @@ module _ (instances : List Instance) (i : Instance) (valid : IsValid i.loaded.va
 
     IsFound-new : IsFound all (entry k)
     IsFound-new =
+        let v : IsValidFunction i.loaded.value func = holds-at (IsValidFunction i.loaded.value) i.loaded.value.funcs k func valid.bodies there in
+        rw (entry_function-new, v.has_type) refl
+
+    function_at-entry : function_at all (entry k) ≡ named func
+    function_at-entry =
         let v : IsValidFunction i.loaded.value func = holds-at (IsValidFunction i.loaded.value) i.loaded.value.funcs k func valid.bodies there in
         rw (entry_function-new, v.has_type) refl
 
@@ -70,10 +76,10 @@ module _ (instances : List Instance) (i : Instance) (valid : IsValid i.loaded.va
   AllFound-new before [] whole = tt
   AllFound-new before (func ∷ funcs) whole = (IsFound-new (length before) func (here before func funcs whole), rw (next before func funcs whole) at (AllFound-new (before ++ func ∷ []) funcs (onward before func funcs whole)))
 
-  function_at-new : (before funcs : List Func) → i.loaded.value.funcs ≡ before ++ funcs → map (function_at all) (entries_of (length instances) (consecutive (length before) (length funcs))) ≡ functions_of (length instances) i.loaded.value funcs
+  function_at-new : (before funcs : List Func) → i.loaded.value.funcs ≡ before ++ funcs → map (function_at all) (entries_of (length instances) (consecutive (length before) (length funcs))) ≡ map named funcs
   function_at-new before [] whole = refl
   function_at-new before (func ∷ funcs) whole =
-      let first : function_at all (entry (length before)) ≡ named func = ap (λ (found : Option Function). unwrap_or found no_function) (entry_function-new (length before) func (here before func funcs whole)) in
+      let first : function_at all (entry (length before)) ≡ named func = function_at-entry (length before) func (here before func funcs whole) in
       let others : map (function_at all) (entries_of (length instances) (consecutive (suc (length before)) (length funcs))) ≡ map named funcs = rw (next before func funcs whole) at (function_at-new (before ++ func ∷ []) funcs (onward before func funcs whole)) in
       cc
 
@@ -85,7 +91,7 @@ module _ (instances : List Instance) (i : Instance) (valid : IsValid i.loaded.va
     AllFound-added = subst (AllFound all) (sym behind) (AllFound-append all functions added (AllFound-behind instances (i ∷ []) functions found) (AllFound-new [] i.loaded.value.funcs refl))
 
     -- The functions are those before, with those of the module.
-    pub functions-added : functions_in (contents_of after all) ≡ functions_in (contents_of functions instances) ++ functions_of (length (instances_in (contents_of functions instances))) i.loaded.value i.loaded.value.funcs
+    pub functions-added : functions_in (contents_of after all) ≡ functions_in (contents_of functions instances) ++ map (new_function (length (instances_in (contents_of functions instances))) i.loaded.value) i.loaded.value.funcs
     functions-added =
         let old = map-append (function_at all) functions added in
         let before = function_at-behind instances (i ∷ []) functions found in

@@ -1,5 +1,6 @@
 use Rattle.std.proofs.Common.{◌≡◌, ◌++◌}
-use Rattle.store.specs.Contents.{consecutive, entries_of}
+use Rattle.meaning.specs.execution.Modules.{consecutive}
+use Rattle.store.specs.Contents.{entries_of}
 use Rattle.store.proofs.entries.push_entries.Given as goal
 
 abbrev pub invariant-loop-index : goal.invariant-loop-index

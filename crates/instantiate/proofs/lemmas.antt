@@ -1,0 +1,9 @@
+-- What the proofs of the calls rest on.
+pub mod Addresses
+pub mod Imports
+pub mod Instances
+pub mod Links
+pub mod Lists
+pub mod Objects
+pub mod Starts
+pub mod Tasks

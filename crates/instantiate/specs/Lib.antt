@@ -1,0 +1,4 @@
+pub mod Addresses
+pub mod Objects
+pub mod Tasks
+pub mod Links

@@ -1,0 +1,68 @@
+-- What a link answers and leaves.
+use Rattle.std.specs.Prelude.{◌≡◌, ℕ, ◌<◌, List, [], length, take, Option, Some, None, Result, Ok, Err}
+use Rattle.core_types.specs.declared.module.Module.{Module}
+use Rattle.core_types.specs.declared.outcome.Extern.{Extern}
+use Rattle.meaning.specs.execution.Modules.{AreGiven, HasNoValues, Instantiation, IsAllowed, IsWithinLimits, new_instance, new_objects, with_module}
+use Rattle.meaning.specs.execution.Runs.{NoHosts, State, WithValues}
+use Rattle.meaning.specs.execution.Store.{ObjectLists, Store}
+use Rattle.exec.specs.declared.machine.Outcome.{Outcome}
+use Rattle.exec.specs.declared.machine.Outcome.TheVariants.{Stuck}
+use Rattle.exec.specs.Simulation.{ending_of}
+use Rattle.instantiate.specs.declared.link_end.LinkEnd.{LinkEnd}
+use Rattle.instantiate.specs.declared.link_end.LinkEnd.TheVariants.{Refused, Ended}
+use Rattle.instantiate.specs.declared.link_end.LinkRefusal.{LinkRefusal}
+use Rattle.instantiate.specs.declared.link_end.LinkRefusal.TheVariants.{Limit, UnknownImport, IncompatibleImport, OutOfMemory}
+
+-- Why a link is refused. Memory may run out whatever the module asks for.
+abbrev pub IsCause : LinkRefusal → Store → Module → List Extern → Type 0
+IsCause UnknownImport store m externs = length externs < length m.imports
+IsCause IncompatibleImport store m externs =
+    (length externs < length m.imports → ⊥) × (AreGiven store m m.imports externs → ⊥)
+IsCause Limit store m externs = AreGiven store m m.imports externs × (IsWithinLimits store m → ⊥)
+IsCause OutOfMemory store m externs = Unit {0}
+
+-- What is given for the imports.
+abbrev pub given_to : Module → List Extern → List Extern
+given_to m externs = take (length m.imports) externs
+
+-- Nothing stands against a link, or this does.
+abbrev pub IsCauseOrAllowed : Option LinkRefusal → Store → Module → List Extern → Type 0
+IsCauseOrAllowed None store m externs = IsAllowed store m externs
+IsCauseOrAllowed (Some refusal) store m externs = IsCause refusal store m externs
+
+-- The module's objects, and its instance, are in the store.
+pub record IsAllocated (number : ℕ) (m : Module) (given : List Extern) (old new : Store) : Type 0 where
+  pub number_is : number ≡ length old.instances
+  pub objects : ObjectLists
+  pub objects_are : new_objects old (new_instance old m given) m ≡ Some objects
+  pub store_is : new ≡ with_module old (new_instance old m given) m objects
+
+-- They are, or nothing has changed: there was no memory, or a constant expression has no value.
+abbrev pub Allocates : Result ℕ LinkEnd → Module → List Extern → (old new : Store) → Type 0
+Allocates (Ok number) m given old new = IsAllocated number m given old new
+Allocates (Err (Refused refusal)) m given old new = (refusal ≡ OutOfMemory) × (new ≡ old)
+Allocates (Err (Ended o)) m given old new =
+    (o ≡ Stuck) × (new_objects old (new_instance old m given) m ≡ None) × (new ≡ old)
+
+-- The module is instantiated, as the instance of this number.
+pub record IsLinked (number bound : ℕ) (m : Module) (externs : List Extern) (old new : State ⊥) : Type 0 where
+  pub allowed : IsAllowed old.store m externs
+  pub number_is : number ≡ length old.store.instances
+  pub run : Instantiation NoHosts bound m (given_to m externs) old (WithValues []) new
+
+-- Its instantiation ended so.
+pub record IsEnded (o : Outcome) (bound : ℕ) (m : Module) (externs : List Extern) (old new : State ⊥) : Type 0 where
+  pub allowed : IsAllowed old.store m externs
+  pub no_values : HasNoValues (ending_of o)
+  pub run : Instantiation NoHosts bound m (given_to m externs) old (ending_of o) new
+
+-- Its link is refused, and nothing has changed.
+pub record IsRefused (refusal : LinkRefusal) (m : Module) (externs : List Extern) (old new : State ⊥) : Type 0 where
+  pub cause : IsCause refusal old.store m externs
+  pub unchanged : new ≡ old
+
+-- What a link answers, and what it leaves.
+abbrev pub Links : Result ℕ LinkEnd → (bound : ℕ) → Module → List Extern → (old new : State ⊥) → Type 0
+Links (Ok number) bound m externs old new = IsLinked number bound m externs old new
+Links (Err (Ended o)) bound m externs old new = IsEnded o bound m externs old new
+Links (Err (Refused refusal)) bound m externs old new = IsRefused refusal m externs old new

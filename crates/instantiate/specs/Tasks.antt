@@ -1,0 +1,97 @@
+-- What a link runs, in the terms of the definitions.
+use Rattle.std.specs.Prelude.{◌≡◌, ℕ, List, [], ◌++◌, Option, Some, None, Result, Ok, Err, slice_get}
+use Rattle.core_types.specs.declared.module.Module.{Module}
+use Rattle.core_types.specs.declared.op.MemoryOp.TheVariants.{DataDrop}
+use Rattle.core_types.specs.declared.op.PlainOp.{PlainOp}
+use Rattle.core_types.specs.declared.op.PlainOp.TheVariants.{Memory, Table}
+use Rattle.core_types.specs.declared.op.TableOp.TheVariants.{ElemDrop}
+use Rattle.core_types.specs.declared.outcome.Exhaustion.TheVariants as exhausted
+use Rattle.core_types.specs.declared.outcome.Val.{Val}
+use Rattle.core_types.specs.declared.outcome.Val.TheVariants.{I32, I64, FuncRef, ExternRef}
+use Rattle.meaning.specs.execution.Configurations.{Configuration, Frame}
+use Rattle.meaning.specs.execution.Modules.{HasNoValues, RunTasks, Task}
+use Rattle.meaning.specs.execution.Runs.{Ending, IsStep, NoHosts, Run, State, WithValues}
+use Rattle.meaning.specs.execution.Store.{ModuleInstance}
+use Rattle.exec.specs.declared.machine.Outcome.{Outcome}
+use Rattle.exec.specs.declared.machine.Outcome.TheVariants.{Exhausted, Stuck, Trap}
+use Rattle.exec.specs.Simulation.{ending_of, state, world_of}
+use Rattle.plain.specs.declared.progress.Progress.{Progress}
+use Rattle.plain.specs.declared.progress.Progress.TheVariants as progress
+use Rattle.store.specs.Contents.{AddressLists, Contents, instances_in, lists_of, module_instance}
+use Rattle.store.specs.State.{StateContents}
+use Rattle.instantiate.specs.declared.copies.Linked.{Linked}
+
+-- The state of a link over both parts of the store, with this fuel left.
+abbrev pub link_state : Contents → StateContents → (fuel : ℕ) → State ⊥
+link_state code s fuel = state (world_of code s) fuel
+
+-- The new instance.
+abbrev pub instance_in : Linked → ModuleInstance
+instance_in linked = module_instance (lists_of linked.addresses.now) linked.module_read.now
+
+-- There is an instance of this module under this number.
+abbrev pub HasInstance : Contents → (instance : ℕ) → Module → Type 0
+HasInstance code instance m =
+    (addresses : AddressLists) × (slice_get (instances_in code) instance ≡ Some (module_instance addresses m))
+
+-- Its frame, in which segments are copied.
+abbrev pub frame_in : Linked → Frame
+frame_in linked = record { instance = Some linked.instance; locals = [] }
+
+-- An instruction that drops a segment.
+pub data IsDrop : PlainOp → Type 0 where
+  drops_elements : (x : ℕ) → IsDrop (Table (ElemDrop x))
+  drops_data : (x : ℕ) → IsDrop (Memory (DataDrop x))
+
+-- There is no i32.
+abbrev pub HasNoI32 : Option Val → Type 0
+HasNoI32 None = Unit {0}
+HasNoI32 (Some (I32 n)) = ⊥
+HasNoI32 (Some (I64 n)) = Unit {0}
+HasNoI32 (Some (FuncRef a)) = Unit {0}
+HasNoI32 (Some (ExternRef n)) = Unit {0}
+
+-- How a link ends where this came of an instruction.
+abbrev pub IsEndOf : Outcome → Progress → Type 0
+IsEndOf (Trap trap) p = p ≡ progress.Trapped trap
+IsEndOf (Exhausted exhausted.Fuel) p = p ≡ progress.NoFuel
+IsEndOf (Exhausted exhausted.Memory) p = p ≡ progress.NoMemory
+IsEndOf Stuck p = p ≡ progress.NotReady
+IsEndOf o p = ⊥
+
+-- How it goes on.
+abbrev pub IsPassed : {U : Type 0} → Result U Outcome → Progress → Type 0
+IsPassed (Ok u) p = p ≡ progress.Done
+IsPassed (Err o) p = IsEndOf o p
+
+-- This outcome ends the run.
+pub record Ends (bound : ℕ) (frame : Frame) (old : State ⊥) (configuration : Configuration) (o : Outcome) (new : State ⊥) : Type 0 where
+  pub ends : Run NoHosts bound frame old configuration (ending_of o) new
+  pub no_values : HasNoValues (ending_of o)
+
+-- One step to this configuration, or another end of the run.
+abbrev pub StepsOrEnds : {U : Type 0} → Result U Outcome → (bound : ℕ) → Frame → (old : State ⊥) → Configuration → (new : State ⊥) → Configuration → Type 0
+StepsOrEnds (Ok u) bound frame old configuration new then = IsStep NoHosts bound frame old configuration new then
+StepsOrEnds (Err o) bound frame old configuration new then = Ends bound frame old configuration o new
+
+-- A run to values, or to another end.
+abbrev pub RunsTo : {U : Type 0} → Result U Outcome → (bound : ℕ) → Frame → (old : State ⊥) → Configuration → (new : State ⊥) → Type 0
+RunsTo (Ok u) bound frame old configuration new =
+    (values : List Val) × Run NoHosts bound frame old configuration (WithValues values) new
+RunsTo (Err o) bound frame old configuration new = Ends bound frame old configuration o new
+
+-- The tasks are done, and others may follow.
+abbrev pub DoneTasks : (bound instance : ℕ) → ModuleInstance → (old : State ⊥) → List Task → (new : State ⊥) → Type 0
+DoneTasks bound instance i old tasks new =
+    (further : List Task) (ending : Ending) (last : State ⊥)
+    → RunTasks NoHosts bound instance i new further ending last
+    → RunTasks NoHosts bound instance i old (tasks ++ further) ending last
+
+-- One of the tasks ended the link.
+pub record EndedTasks (bound instance : ℕ) (i : ModuleInstance) (old : State ⊥) (tasks : List Task) (o : Outcome) (new : State ⊥) : Type 0 where
+  pub ended : (further : List Task) → RunTasks NoHosts bound instance i old (tasks ++ further) (ending_of o) new
+  pub no_values : HasNoValues (ending_of o)
+
+abbrev pub RanTasks : {U : Type 0} → Result U Outcome → (bound instance : ℕ) → ModuleInstance → (old : State ⊥) → List Task → (new : State ⊥) → Type 0
+RanTasks (Ok u) bound instance i old tasks new = DoneTasks bound instance i old tasks new
+RanTasks (Err o) bound instance i old tasks new = EndedTasks bound instance i old tasks o new

@@ -1,0 +1,69 @@
+ghost use Rattle.std.specs.Prelude.{◌↔◌, ◌≤◌, length, IsTrue};
+ghost use Rattle.core_types.specs.declared.module.ImportDesc.TheVariants.{Func as FuncImport};
+ghost use Rattle.core_types.specs.declared.outcome.Extern.TheVariants.{Func as FuncValue};
+ghost use Rattle.meaning.specs.execution.Modules.{AreGiven, IsGiven, import_type};
+ghost use Rattle.store.specs.Contents.{store_of};
+
+use core_types::{Extern, ExternType, ImportDesc, Module};
+use matching::matches;
+use store::Store;
+
+// Whether the function at an address has the type of this index.
+fn is_function_given(store: &Store, address: u32, wanted: &Module, x: u32) -> bool
+    ensures { IsTrue result ↔ IsGiven (store_of store.now) (FuncValue address)
+        (import_type wanted.now (FuncImport x)) }
+{
+    match (
+        store.code().function(address),
+        wanted.types.as_slice().get(x as usize),
+    ) {
+        (Some(callee), Some(ty)) => callee.ty.is_same(ty),
+        _ => false,
+    }
+}
+
+// Whether an external value may be given for an import.
+fn is_given(store: &Store, value: Extern, wanted: &Module, desc: ImportDesc) -> bool
+    ensures { IsTrue result ↔ IsGiven (store_of store.now) value (import_type wanted.now desc) }
+{
+    match (value, desc) {
+        (Extern::Func(address), ImportDesc::Func(x)) => {
+            is_function_given(store, address, wanted, x)
+        }
+        (Extern::Table(address), ImportDesc::Table(ty)) => match store.state().table(address) {
+            Some(table) => matches(&ExternType::Table(table.ty()), &ExternType::Table(ty)),
+            None => false,
+        },
+        (Extern::Memory(address), ImportDesc::Memory(limits)) => {
+            match store.state().memory(address) {
+                Some(memory) => matches(
+                    &ExternType::Memory(memory.limits()),
+                    &ExternType::Memory(limits),
+                ),
+                None => false,
+            }
+        }
+        (Extern::Global(address), ImportDesc::Global(ty)) => match store.state().global(address) {
+            Some(variable) => {
+                matches(&ExternType::Global(variable.ty()), &ExternType::Global(ty))
+            }
+            None => false,
+        },
+        _ => false,
+    }
+}
+
+/// Whether each import of a module is given what it asks for, as far as the list goes (Execution, Modules, Instantiation).
+pub fn are_given(store: &Store, wanted: &Module, externs: &[Extern]) -> bool
+    requires { length wanted.now.imports ≤ length externs.now }
+    ensures { IsTrue result ↔ AreGiven (store_of store.now) wanted.now wanted.now.imports
+        externs.now }
+{
+    let imports = wanted.imports.as_slice();
+    for k in 0..imports.len() {
+        if !is_given(store, externs[k], wanted, imports[k].desc) {
+            return false;
+        }
+    }
+    true
+}

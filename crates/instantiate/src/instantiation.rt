@@ -1,0 +1,152 @@
+ghost use Rattle.std.specs.Prelude.{◌≡◌, ◌<◌, ◌^◌, ◌++◌, length, Some};
+ghost use Rattle.meaning.specs.execution.Modules.{IsWithinLimits, data_tasks, element_tasks, tasks_of};
+ghost use Rattle.meaning.specs.execution.Store.{instance_of};
+ghost use Rattle.exec.specs.Simulation.{state_of};
+ghost use Rattle.store.specs.Contents.{code_store, store_of};
+ghost use Rattle.instantiate.specs.Links.{Allocates, IsCauseOrAllowed, Links};
+ghost use Rattle.instantiate.specs.Tasks.{HasInstance, RanTasks, link_state};
+
+use crate::addresses::new_addresses;
+use crate::copies::Linked;
+use crate::imports::are_given;
+use crate::limits::is_within_limits;
+use crate::link_end::{LinkEnd, LinkRefusal};
+use crate::objects::{ObjectFault, new_objects};
+use crate::tasks::{run_data_segments, run_element_segments, run_start};
+use core_types::{Extern, Module};
+use exec::{HostTable, Outcome};
+use fuel::Meter;
+use std::alloc::Global;
+use std::rc::Rc;
+use store::{LoadedModule, Store};
+
+// Why a module may not be instantiated with these external values, if it may not.
+fn refusal_of(store: &Store, wanted: &Module, externs: &[Extern]) -> Option<LinkRefusal>
+    ensures { IsCauseOrAllowed result (store_of store.now) wanted.now externs.now }
+{
+    if externs.len() < wanted.imports.len() {
+        return Some(LinkRefusal::UnknownImport);
+    }
+    if !are_given(store, wanted, externs) {
+        return Some(LinkRefusal::IncompatibleImport);
+    }
+    if !is_within_limits(store, wanted) {
+        return Some(LinkRefusal::Limit);
+    }
+    None
+}
+
+// Adds the objects of a module and its instance to the store.
+fn allocate(
+    alloc: Global,
+    store: &mut Store,
+    loaded: &Rc<LoadedModule>,
+    given: &[Extern],
+) -> Result<u32, LinkEnd>
+    requires { IsWithinLimits (store_of store.old) loaded.now.value }
+    ensures { Allocates result loaded.now.value given.now (store_of store.old) (store_of store.new) }
+{
+    let addresses = new_addresses(alloc, store, loaded.as_ref().module(), given)?;
+    let objects = match new_objects(alloc, store, loaded, &addresses) {
+        Ok(objects) => objects,
+        Err(ObjectFault::NoValue) => return Err(LinkEnd::Ended(Outcome::Stuck)),
+        Err(ObjectFault::Memory) => return Err(LinkEnd::Refused(LinkRefusal::OutOfMemory)),
+    };
+    let shared = loaded.clone()?;
+    Ok(store.append_module(alloc, shared, addresses, objects)?)
+}
+
+// Copies and drops the segments of an instance of a module, in the module's order: the element segments, and then the data segments.
+fn run_segments(
+    alloc: Global,
+    store: &mut Store,
+    meter: &mut Meter,
+    instance: u32,
+    wanted: &Module,
+) -> Result<(), Outcome>
+    requires instance { HasInstance store.old.code instance wanted.now }
+    requires elements { length wanted.now.elements < 2 ^ 32 }
+    requires datas { length wanted.now.datas < 2 ^ 32 }
+    ensures ran { RanTasks result meter.old.bound instance
+        (instance_of (code_store store.old.code) (Some instance))
+        (link_state store.old.code store.old.state meter.old.left)
+        (element_tasks wanted.now.elements ++ data_tasks wanted.now.datas)
+        (link_state store.new.code store.new.state meter.new.left) }
+    ensures code { store.new.code ≡ store.old.code }
+    ensures bound { meter.new.bound ≡ meter.old.bound }
+    ensures frames { meter.new.frames ≡ meter.old.frames }
+{
+    let (code, state) = store.parts_mut();
+    let Some(found) = code.instance(instance) else {
+        unreachable!()
+    };
+    let linked = Linked {
+        code,
+        instance,
+        addresses: &found.addresses,
+        module_read: wanted,
+    };
+    run_element_segments(alloc, &linked, state, meter)?;
+    run_data_segments(alloc, &linked, state, meter)
+}
+
+// Runs what a link runs in an instance of a module: the segments, and then the start function.
+fn run_tasks(
+    alloc: Global,
+    store: &mut Store,
+    hosts: &mut HostTable,
+    meter: &mut Meter,
+    instance: u32,
+    wanted: &Module,
+) -> Result<(), Outcome>
+    requires instance { HasInstance store.old.code instance wanted.now }
+    requires elements { length wanted.now.elements < 2 ^ 32 }
+    requires datas { length wanted.now.datas < 2 ^ 32 }
+    requires closed { meter.old.frames ≡ 0 }
+    ensures ran { RanTasks result meter.old.bound instance
+        (instance_of (code_store store.old.code) (Some instance))
+        (state_of store.old hosts.old meter.old) (tasks_of wanted.now)
+        (state_of store.new hosts.new meter.new) }
+    ensures bound { meter.new.bound ≡ meter.old.bound }
+    ensures closed { meter.new.frames ≡ 0 }
+{
+    run_segments(alloc, store, meter, instance, wanted)?;
+    run_start(alloc, store, hosts, meter, instance, wanted.start)
+}
+
+/// Links a module with what is given for its imports, in their order, and answers the number of its instance (Execution, Modules,
+/// Instantiation).
+///
+/// Its objects and the instance are added to the store; then its active and declarative element segments are copied and dropped, its
+/// active data segments likewise, and its start function is called, all within the fuel that is left. What is given past the imports
+/// is not looked at. A module may be linked any number of times, and nothing of it is copied.
+///
+/// It is refused, and nothing has changed: with `UnknownImport` where less is given than is imported, then with
+/// `IncompatibleImport` where something does not match, then with `Limit` where a table or a memory would be larger than the
+/// embedding allows, or an address larger than 32 bits; with `OutOfMemory` where there is no memory. A trap or an exhaustion ends
+/// the link where it stands, and what was done stays. The caller owes a meter without an open frame; at the end no frame is open.
+pub fn instantiate(
+    alloc: Global,
+    store: &mut Store,
+    hosts: &mut HostTable,
+    meter: &mut Meter,
+    loaded: &Rc<LoadedModule>,
+    externs: &[Extern],
+) -> Result<u32, LinkEnd>
+    requires closed { meter.old.frames ≡ 0 }
+    ensures linked { Links result meter.old.bound loaded.now.value externs.now
+        (state_of store.old hosts.old meter.old) (state_of store.new hosts.new meter.new) }
+    ensures bound { meter.new.bound ≡ meter.old.bound }
+    ensures closed { meter.new.frames ≡ 0 }
+{
+    let wanted = loaded.as_ref().module();
+    if let Some(refusal) = refusal_of(store, wanted, externs) {
+        return Err(LinkEnd::Refused(refusal));
+    }
+    let given = &externs[..wanted.imports.len()];
+    let instance = allocate(alloc, store, loaded, given)?;
+    match run_tasks(alloc, store, hosts, meter, instance, wanted) {
+        Ok(()) => Ok(instance),
+        Err(ended) => Err(LinkEnd::Ended(ended)),
+    }
+}

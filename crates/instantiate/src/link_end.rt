@@ -1,0 +1,50 @@
+ghost use Rattle.std.specs.Prelude.{◌≡◌};
+ghost use Rattle.instantiate.specs.declared.link_end.LinkEnd.TheVariants.{Refused as RefusedEnd};
+ghost use Rattle.instantiate.specs.declared.link_end.LinkRefusal.TheVariants.{OutOfMemory as OutOfMemoryCause};
+
+use exec::Outcome;
+use std::alloc::{AllocError, AllocFailed};
+
+/// Why a module is not linked. Nothing has changed.
+#[derive(Clone, Copy, PartialEq, Eq)]
+pub enum LinkRefusal {
+    /// A limit of the embedding is passed.
+    Limit,
+    /// There is nothing for an import.
+    UnknownImport,
+    /// What is given for an import does not match.
+    IncompatibleImport,
+    /// There was no memory.
+    OutOfMemory,
+}
+
+/// How a link ends that does not come to its end.
+#[derive(Drop)]
+pub enum LinkEnd {
+    /// It is refused, and nothing has changed.
+    Refused(LinkRefusal),
+    /// A trap or an exhaustion ended it where it stood, and what was done stays. `Stuck` is a fault of the engine.
+    Ended(Outcome),
+}
+
+impl From<LinkRefusal> for LinkEnd {
+    fn from(refusal: LinkRefusal) -> LinkEnd {
+        LinkEnd::Refused(refusal)
+    }
+}
+
+impl From<AllocError> for LinkEnd {
+    ghost from_gives = { λ _ end. end ≡ RefusedEnd OutOfMemoryCause };
+
+    fn from(_error: AllocError) -> LinkEnd {
+        LinkEnd::Refused(LinkRefusal::OutOfMemory)
+    }
+}
+
+impl<T: Drop> From<AllocFailed<T>> for LinkEnd {
+    ghost from_gives = { λ _ end. end ≡ RefusedEnd OutOfMemoryCause };
+
+    fn from(_error: AllocFailed<T>) -> LinkEnd {
+        LinkEnd::Refused(LinkRefusal::OutOfMemory)
+    }
+}

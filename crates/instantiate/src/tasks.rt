@@ -1,0 +1,217 @@
+ghost use Rattle.std.specs.Prelude.{◌≡◌, ◌%◌, ◌<◌, ◌^◌, [], length, MatchOption, Some};
+ghost use Rattle.core_types.specs.declared.outcome.Val.TheVariants.{I32 as I32Value};
+ghost use Rattle.meaning.specs.execution.Modules.{constant_value as value_of, data_task, data_tasks, element_task, element_tasks, start_task};
+ghost use Rattle.meaning.specs.execution.Store.{instance_of};
+ghost use Rattle.store.specs.Contents.{code_store, store_with};
+ghost use Rattle.exec.specs.Simulation.{state_of};
+ghost use Rattle.meaning.specs.execution.Configurations.{Invoking, no_frame};
+ghost use Rattle.meaning.specs.execution.Modules.{item_count as count_of};
+ghost use Rattle.instantiate.specs.Tasks.{HasNoI32, RanTasks, RunsTo, instance_in, link_state};
+
+use crate::constants::constant_value;
+use crate::copies::{Linked, copy_bytes, copy_elements, drop_segment};
+use core_types::{
+    DataMode, DataSegment, ElementItems, ElementMode, ElementSegment, Op, PlainOp, TableOp, Val,
+};
+use exec::{HostTable, Outcome, invoke};
+use fuel::Meter;
+use plain::CopyOperands;
+use std::alloc::Global;
+use store::{State, Store, accepts};
+
+// The offset at which a segment is copied, if its constant expression has such a value.
+fn offset_of(code: &[Op], linked: &Linked<'_>, state: &State) -> Option<u32>
+    ensures { MatchOption result (HasNoI32 (value_of (store_with linked.now.code.now state.now)
+        (instance_in linked.now) code.now)) (λ n. value_of
+        (store_with linked.now.code.now state.now) (instance_in linked.now) code.now ≡ Some
+        (I32Value n)) }
+{
+    match constant_value(code, linked.addresses, state) {
+        Some(Val::I32(n)) => Some(n),
+        _ => None,
+    }
+}
+
+// How many references an element segment has.
+fn item_count(items: &ElementItems) -> usize
+    ensures { result ≡ count_of items.now }
+{
+    match items {
+        ElementItems::Functions(indices) => indices.len(),
+        ElementItems::Expressions(expressions) => expressions.len(),
+    }
+}
+
+// A number of items as the i32 by which they are copied (Structure, Conventions, Vectors: there are fewer than 2^32).
+fn count_operand(count: usize) -> u32
+    ensures { result ≡ count % 2 ^ 32 }
+{
+    (count % 4_294_967_296) as u32
+}
+
+// Copies the element segment of an index where it is active, and drops it where it is not passive.
+fn run_element_segment(
+    alloc: Global,
+    x: u32,
+    wanted: &ElementSegment,
+    linked: &Linked<'_>,
+    state: &mut State,
+    meter: &mut Meter,
+) -> Result<(), Outcome>
+    ensures ran { RanTasks result meter.old.bound linked.now.instance (instance_in linked.now)
+        (link_state linked.now.code.now state.old meter.old.left)
+        (element_task x wanted.now.items wanted.now.mode)
+        (link_state linked.now.code.now state.new meter.new.left) }
+    ensures bound { meter.new.bound ≡ meter.old.bound }
+    ensures frames { meter.new.frames ≡ meter.old.frames }
+{
+    match &wanted.mode {
+        ElementMode::Passive => Ok(()),
+        ElementMode::Declarative => {
+            let op = PlainOp::Table(TableOp::ElemDrop(x));
+            drop_segment(alloc, &op, linked, state, meter)
+        }
+        ElementMode::Active { table, offset } => {
+            let count = count_operand(item_count(&wanted.items));
+            match offset_of(offset.as_slice(), linked, state) {
+                Some(target) => {
+                    let given = CopyOperands {
+                        target,
+                        from: 0,
+                        count,
+                    };
+                    copy_elements(alloc, x, *table, given, linked, state, meter)
+                }
+                None => Err(Outcome::Stuck),
+            }
+        }
+    }
+}
+
+/// Copies and drops the element segments of an instance, in the order of the module (Execution, Modules, Instantiation).
+pub fn run_element_segments(
+    alloc: Global,
+    linked: &Linked<'_>,
+    state: &mut State,
+    meter: &mut Meter,
+) -> Result<(), Outcome>
+    requires { length linked.now.module_read.now.elements < 2 ^ 32 }
+    ensures ran { RanTasks result meter.old.bound linked.now.instance (instance_in linked.now)
+        (link_state linked.now.code.now state.old meter.old.left)
+        (element_tasks linked.now.module_read.now.elements)
+        (link_state linked.now.code.now state.new meter.new.left) }
+    ensures bound { meter.new.bound ≡ meter.old.bound }
+    ensures frames { meter.new.frames ≡ meter.old.frames }
+{
+    let elements = linked.module_read.elements.as_slice();
+    for k in 0..elements.len() {
+        run_element_segment(alloc, k as u32, &elements[k], linked, state, meter)?;
+    }
+    Ok(())
+}
+
+// Copies the data segment of an index where it is active, and drops it.
+fn run_data_segment(
+    alloc: Global,
+    x: u32,
+    wanted: &DataSegment,
+    linked: &Linked<'_>,
+    state: &mut State,
+    meter: &mut Meter,
+) -> Result<(), Outcome>
+    ensures ran { RanTasks result meter.old.bound linked.now.instance (instance_in linked.now)
+        (link_state linked.now.code.now state.old meter.old.left)
+        (data_task x wanted.now.bytes wanted.now.mode)
+        (link_state linked.now.code.now state.new meter.new.left) }
+    ensures bound { meter.new.bound ≡ meter.old.bound }
+    ensures frames { meter.new.frames ≡ meter.old.frames }
+{
+    match &wanted.mode {
+        DataMode::Passive => Ok(()),
+        DataMode::Active { offset, .. } => {
+            let count = count_operand(wanted.bytes.len());
+            match offset_of(offset.as_slice(), linked, state) {
+                Some(target) => {
+                    let given = CopyOperands {
+                        target,
+                        from: 0,
+                        count,
+                    };
+                    copy_bytes(alloc, x, given, linked, state, meter)
+                }
+                None => Err(Outcome::Stuck),
+            }
+        }
+    }
+}
+
+/// Copies and drops the data segments of an instance, in the order of the module (Execution, Modules, Instantiation).
+pub fn run_data_segments(
+    alloc: Global,
+    linked: &Linked<'_>,
+    state: &mut State,
+    meter: &mut Meter,
+) -> Result<(), Outcome>
+    requires { length linked.now.module_read.now.datas < 2 ^ 32 }
+    ensures ran { RanTasks result meter.old.bound linked.now.instance (instance_in linked.now)
+        (link_state linked.now.code.now state.old meter.old.left)
+        (data_tasks linked.now.module_read.now.datas)
+        (link_state linked.now.code.now state.new meter.new.left) }
+    ensures bound { meter.new.bound ≡ meter.old.bound }
+    ensures frames { meter.new.frames ≡ meter.old.frames }
+{
+    let datas = linked.module_read.datas.as_slice();
+    for k in 0..datas.len() {
+        run_data_segment(alloc, k as u32, &datas[k], linked, state, meter)?;
+    }
+    Ok(())
+}
+
+// Calls the function at an address, which takes nothing, from outside.
+fn call_start(
+    alloc: Global,
+    store: &mut Store,
+    hosts: &mut HostTable,
+    meter: &mut Meter,
+    address: u32,
+) -> Result<(), Outcome>
+    requires closed { meter.old.frames ≡ 0 }
+    ensures run { RunsTo result meter.old.bound no_frame (state_of store.old hosts.old meter.old)
+        (Invoking ([]) address) (state_of store.new hosts.new meter.new) }
+    ensures bound { meter.new.bound ≡ meter.old.bound }
+    ensures closed { meter.new.frames ≡ 0 }
+{
+    if !accepts(store, address, &[]) {
+        return Err(Outcome::Stuck);
+    }
+    match invoke(alloc, store, hosts, meter, address, &[]) {
+        Outcome::Values(_) => Ok(()),
+        ended => Err(ended),
+    }
+}
+
+/// Calls the start function of an instance, where its module has one (Execution, Modules, Instantiation).
+pub fn run_start(
+    alloc: Global,
+    store: &mut Store,
+    hosts: &mut HostTable,
+    meter: &mut Meter,
+    instance: u32,
+    start: Option<u32>,
+) -> Result<(), Outcome>
+    requires closed { meter.old.frames ≡ 0 }
+    ensures ran { RanTasks result meter.old.bound instance
+        (instance_of (code_store store.old.code) (Some instance))
+        (state_of store.old hosts.old meter.old) (start_task start)
+        (state_of store.new hosts.new meter.new) }
+    ensures bound { meter.new.bound ≡ meter.old.bound }
+    ensures closed { meter.new.frames ≡ 0 }
+{
+    match start {
+        None => Ok(()),
+        Some(x) => match store.code().function_address(instance, x) {
+            Some(address) => call_start(alloc, store, hosts, meter, address),
+            None => Err(Outcome::Stuck),
+        },
+    }
+}

@@ -1,0 +1,124 @@
+ghost use Rattle.std.specs.Prelude.{◌≡◌, ◌↔◌, IsSome, IsTrue, OnOk, OnErr, Err};
+ghost use Rattle.linker.specs.declared.refusals.NameRefusal.TheVariants.{NameTaken};
+ghost use Rattle.meaning.specs.embedding.Names.{HasHosts, host_of, no_names, registered_export, resolve_name, under};
+ghost use Rattle.meaning.specs.embedding.Names.{with_host, with_instance};
+ghost use Rattle.store.specs.Contents.{store_of};
+
+use crate::name_maps::{Numbers, put_number, put_under_both};
+use crate::refusals::NameRefusal;
+use core_types::Extern;
+use indexmap::IndexMap;
+use std::alloc::Global;
+use std::marker::Model;
+use store::Store;
+
+/// The names by which imports are found: host functions under the name of a module and a name in it, and instances that are
+/// registered under names.
+#[derive(Drop)]
+pub struct Names {
+    alloc: Global,
+    hosts: IndexMap<String, Numbers>,
+    registered: Numbers,
+}
+
+impl Model for Names {
+    ghost use Rattle.linker.specs.Contents.{names_of};
+    ghost use Rattle.meaning.specs.embedding.Names.{NamesContents};
+
+    ghost Value = { NamesContents };
+
+    ghost view = { λ names. names_of names.hosts names.registered };
+}
+
+impl Names {
+    /// No names. Takes no memory.
+    pub fn new(alloc: Global) -> Names
+        ensures { result ≡ no_names }
+    {
+        Names {
+            alloc,
+            hosts: IndexMap::new(alloc),
+            registered: IndexMap::new(alloc),
+        }
+    }
+
+    // The host function under two names, if there is one.
+    fn host(&self, module_name: &str, name: &str) -> Option<u32>
+        ensures { result ≡ host_of self.now module_name.now name.now }
+    {
+        self.hosts.get(module_name)?.get(name).copied()
+    }
+
+    // Whether a host function is defined under this name of a module.
+    fn has_hosts(&self, module_name: &str) -> bool
+        ensures { IsTrue result ↔ HasHosts self.now module_name.now }
+    {
+        self.hosts.contains_key(module_name)
+    }
+
+    /// Defines the host function at an address under the name of a module and a name in it.
+    ///
+    /// Answers `NameTaken` where a host function is defined under these two names, and `OutOfMemory` where there is no memory; then
+    /// the names are as before.
+    pub fn define_host(
+        &mut self,
+        module_name: &str,
+        name: &str,
+        func_addr: u32,
+    ) -> Result<(), NameRefusal>
+        ensures defined { OnOk result
+            (self.new ≡ with_host self.old module_name.now name.now func_addr) }
+        ensures taken { (result ≡ Err NameTaken) ↔ IsSome
+            (host_of self.old module_name.now name.now) }
+        ensures unchanged { OnErr result (self.new ≡ self.old) }
+    {
+        if self.host(module_name, name).is_some() {
+            return Err(NameRefusal::NameTaken);
+        }
+        put_under_both(self.alloc, &mut self.hosts, module_name, name, func_addr)?;
+        Ok(())
+    }
+
+    /// Registers an instance under a name, in the place of the instance that is registered under it.
+    ///
+    /// Answers `NameTaken` where a host function is defined under this name of a module, and `OutOfMemory` where there is no memory;
+    /// then the names are as before.
+    pub fn register(&mut self, name: &str, instance: u32) -> Result<(), NameRefusal>
+        ensures registered { OnOk result (self.new ≡ with_instance self.old name.now instance) }
+        ensures taken { (result ≡ Err NameTaken) ↔ HasHosts self.old name.now }
+        ensures unchanged { OnErr result (self.new ≡ self.old) }
+    {
+        if self.has_hosts(name) {
+            return Err(NameRefusal::NameTaken);
+        }
+        put_number(self.alloc, &mut self.registered, name, instance)?;
+        Ok(())
+    }
+
+    // The instance that is registered under a name, if there is one.
+    fn instance(&self, name: &str) -> Option<u32>
+        ensures { result ≡ under self.now.registered name.now }
+    {
+        self.registered.get(name).copied()
+    }
+
+    // What the instance that is registered under the name of a module exports under a name.
+    fn exported(&self, store: &Store, module_name: &str, name: &str) -> Option<Extern>
+        ensures { result ≡ registered_export (store_of store.now) self.now module_name.now
+            name.now }
+    {
+        let instance = self.instance(module_name)?;
+        store.code().export(instance, name)
+    }
+
+    /// What the name of a module and a name in it stand for: the host function that is defined under them, or else what the instance
+    /// that is registered under the name of the module exports under the name. Nothing where there is neither. Takes no memory.
+    pub fn resolve(&self, store: &Store, module_name: &str, name: &str) -> Option<Extern>
+        ensures { result ≡ resolve_name (store_of store.now) self.now module_name.now name.now }
+    {
+        if let Some(address) = self.host(module_name, name) {
+            return Some(Extern::Func(address));
+        }
+        self.exported(store, module_name, name)
+    }
+}

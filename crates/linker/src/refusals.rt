@@ -1,0 +1,21 @@
+ghost use Rattle.std.specs.Prelude.{◌≡◌};
+ghost use Rattle.linker.specs.declared.refusals.NameRefusal.TheVariants.{OutOfMemory};
+
+use std::alloc::AllocError;
+
+/// Why a name is not given.
+#[derive(Clone, Copy, PartialEq, Eq)]
+pub enum NameRefusal {
+    /// A host function has the name already.
+    NameTaken,
+    /// Out of memory.
+    OutOfMemory,
+}
+
+impl From<AllocError> for NameRefusal {
+    ghost from_gives = { λ _ refusal. refusal ≡ OutOfMemory };
+
+    fn from(_error: AllocError) -> NameRefusal {
+        NameRefusal::OutOfMemory
+    }
+}

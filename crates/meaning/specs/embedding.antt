@@ -1,0 +1,2 @@
+-- What surrounds the core (Appendix, Embedding).
+pub mod Names

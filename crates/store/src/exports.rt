@@ -1,0 +1,37 @@
+ghost use Rattle.std.specs.Prelude.{◌≡◌, Some, option_map, bytes_eq};
+ghost use Rattle.std.specs.List.{find};
+ghost use Rattle.core_types.specs.declared.module.Export.{Export as Exported};
+ghost use Rattle.meaning.specs.embedding.Names.{export_of};
+ghost use Rattle.meaning.specs.execution.Store.{instance_of};
+ghost use Rattle.store.specs.Contents.{code_store};
+
+use crate::instances::Code;
+use core_types::{Export, ExportDesc, Extern};
+
+// What the first export of a name stands for.
+fn export_under(exports: &[Export], name: &str) -> Option<ExportDesc>
+    ensures { result ≡ option_map (λ (e : Exported). e.desc)
+        (find (λ (e : Exported). bytes_eq e.name name.now) exports.now) }
+{
+    exports
+        .iter()
+        .find(|export| export.name.as_str() == name)
+        .map(|export| export.desc)
+}
+
+impl Code {
+    /// What an instance exports under a name, if there is such an instance and such an export (Execution, Runtime Structure, Export
+    /// Instances). Takes no memory.
+    pub fn export(&self, instance: u32, name: &str) -> Option<Extern>
+        ensures { result ≡ export_of (instance_of (code_store self.now) (Some instance)) name.now }
+    {
+        let found = self.instance(instance)?;
+        let exports = found.loaded.as_ref().module().exports.as_slice();
+        match export_under(exports, name)? {
+            ExportDesc::Func(x) => Some(Extern::Func(self.function_address(instance, x)?)),
+            ExportDesc::Table(x) => Some(Extern::Table(self.table_address(instance, x)?)),
+            ExportDesc::Memory(x) => Some(Extern::Memory(self.memory_address(instance, x)?)),
+            ExportDesc::Global(x) => Some(Extern::Global(self.global_address(instance, x)?)),
+        }
+    }
+}
