@@ -1,7 +1,7 @@
 ghost use Rattle.std.specs.Prelude.{◌≡◌, ◌<◌, Some, reverse, IfOk};
 ghost use Rattle.meaning.specs.execution.Configurations.{Invoking, Configuration, no_frame};
 ghost use Rattle.meaning.specs.execution.Runs.{NoHosts, Run};
-ghost use Rattle.store.specs.Arguments.{TakesArguments};
+ghost use Rattle.meaning.specs.soundness.Values.{TakesArguments};
 ghost use Rattle.store.specs.Contents.{store_of, store_with};
 ghost use Rattle.exec.specs.Frames.{enter_from_outside};
 ghost use Rattle.exec.specs.Representation.{RepresentsSome, Represents};

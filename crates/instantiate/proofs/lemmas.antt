@@ -3,7 +3,6 @@ pub mod Addresses
 pub mod Imports
 pub mod Instances
 pub mod Links
-pub mod Lists
 pub mod Objects
 pub mod Starts
 pub mod Tasks

@@ -1,5 +1,5 @@
 -- Why there are no objects.
-use Rattle.std.specs.Prelude.{◌≡◌, List, ◌++◌, Option, Some, None, Result, Ok, Err}
+use Rattle.std.specs.Prelude.{◌≡◌, Option, None, Result, Ok, Err}
 use Rattle.instantiate.specs.declared.objects.ObjectFault.{ObjectFault}
 use Rattle.instantiate.specs.declared.objects.ObjectFault.TheVariants.{NoValue, Memory}
 
@@ -8,8 +8,3 @@ abbrev pub OnNoValue : {T X : Type 0} → Result T ObjectFault → Option X → 
 OnNoValue (Ok found) wanted = Unit {0}
 OnNoValue (Err NoValue) wanted = wanted ≡ None
 OnNoValue (Err Memory) wanted = Unit {0}
-
--- Items before others, if there are others.
-abbrev pub prepended : {X : Type 0} → List X → Option (List X) → Option (List X)
-prepended items None = None
-prepended items (Some others) = Some (items ++ others)

@@ -1,2 +1,4 @@
 -- What surrounds the core (Appendix, Embedding).
 pub mod Names
+pub mod Commands
+pub mod Machine

@@ -2,6 +2,7 @@
 //! runs. A function here has an empty body, and its contract is a law of the definitions.
 #![tactic(auto)]
 
+mod embedding;
 mod execution;
 mod numerics;
 mod soundness;
@@ -9,6 +10,7 @@ mod storage;
 mod structure;
 mod validation;
 
+pub use embedding::fresh_embeddings_are_empty;
 pub use execution::{
     adding_one_and_two_costs_three, control_keeps_its_order, hosts_answer_calls,
     memories_change_in_runs, runs_agree, steps_lead_to_runs, tables_change_in_runs,

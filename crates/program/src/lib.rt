@@ -2,14 +2,15 @@
 #![tactic(auto)]
 
 mod args;
-mod engine;
+mod calls;
+mod faults;
 mod inputs;
 mod print;
 mod program;
-mod refusals;
 
 pub use args::{ArgsFault, read_args};
+pub use calls::Outcome;
+pub use faults::Fault;
 pub use inputs::{Files, ReadFault, System};
 pub use print::{print_end, print_fault};
-pub use program::{CallEnd, Fault, refuse_words, run};
-pub use refusals::Refusal;
+pub use program::{CallEnd, refuse_words, run};

@@ -2,10 +2,11 @@
 
 ghost use Rattle.program.specs.Statuses.{IsStatus};
 
-use crate::program::{CallEnd, Fault};
-use crate::refusals::Refusal;
+use crate::calls::Outcome;
+use crate::faults::Fault;
+use crate::program::CallEnd;
 use core_types::{Exhaustion, Trap, Val};
-use exec::Outcome;
+use embed::Refusal;
 use std::io::{self, Write};
 
 fn trap_text(trap: Trap) -> &'static str {
@@ -115,10 +116,14 @@ fn refusal_status(refusal: Refusal) -> u8
         Refusal::Unsupported => 5,
         Refusal::Limit => 5,
         Refusal::Invalid => 5,
+        Refusal::UnknownModule => 5,
         Refusal::UnknownImport => 5,
         Refusal::IncompatibleImport => 5,
+        Refusal::UnknownInstance => 5,
         Refusal::UnknownExport => 2,
         Refusal::WrongKind => 2,
+        Refusal::BadArguments => 2,
+        Refusal::NameTaken => 5,
         Refusal::OutOfMemory => 6,
     }
 }

@@ -1,23 +1,17 @@
 //! The program over its words, its files and its writers.
 
-ghost use Rattle.std.specs.Prelude.{◌≡◌};
 ghost use Rattle.program.specs.Statuses.{IsStatus};
 
-use crate::args::{ArgsFault, read_args};
-use crate::engine::{Engine, check};
+use crate::calls::{Outcome, call, check, new_embedding};
+use crate::faults::Fault;
 use crate::inputs::{Files, ReadFault};
 use crate::print::{print_end, print_fault, print_valid};
-use crate::refusals::Refusal;
-use command_line::{CallOrder, Order, WordsFault, read_words};
-use exec::Outcome;
-use fuel::Meter;
-use instantiate::LinkEnd;
+use command_line::{CallOrder, DEFAULT_DEPTH, DEFAULT_FUEL, Order, WordsFault, read_words};
+use embed::Refusal;
 use std::alloc::Global;
 use std::io::{self, Write};
-use std::rc::Rc;
-use store::LoadedModule;
 
-/// How a call ended.
+/// How a call ended, and the fuel that it left.
 #[derive(Drop)]
 pub struct CallEnd {
     pub outcome: Outcome,
@@ -33,43 +27,6 @@ pub enum End {
     Valid,
 }
 
-/// Why nothing was called, or no module found valid.
-#[derive(Clone, Copy)]
-pub enum Fault<'a> {
-    /// The words are not of the form that the program reads.
-    Usage,
-    /// The file at this path could not be read.
-    CannotRead(&'a str),
-    /// The engine refused.
-    Refused(Refusal),
-    /// The words for the arguments do not fit the function.
-    BadArguments,
-}
-
-impl From<WordsFault> for Fault<'_> {
-    fn from(fault: WordsFault) -> Self {
-        match fault {
-            WordsFault::Usage => Fault::Usage,
-            WordsFault::Memory => Fault::Refused(Refusal::OutOfMemory),
-        }
-    }
-}
-
-impl From<Refusal> for Fault<'_> {
-    fn from(refusal: Refusal) -> Self {
-        Fault::Refused(refusal)
-    }
-}
-
-impl From<ArgsFault> for Fault<'_> {
-    fn from(fault: ArgsFault) -> Self {
-        match fault {
-            ArgsFault::Unreadable => Fault::BadArguments,
-            ArgsFault::Memory => Fault::Refused(Refusal::OutOfMemory),
-        }
-    }
-}
-
 // The bytes of a file.
 fn read_file<'a, F: Files>(files: &mut F, path: &'a str) -> Result<Vec<u8>, Fault<'a>> {
     match files.read(path) {
@@ -79,61 +36,26 @@ fn read_file<'a, F: Files>(files: &mut F, path: &'a str) -> Result<Vec<u8>, Faul
     }
 }
 
-// The module in a file, if it is valid.
-fn load_file<'a, F: Files>(
-    engine: &Engine,
-    files: &mut F,
-    path: &'a str,
-) -> Result<Rc<LoadedModule>, Fault<'a>> {
-    let bytes = read_file(files, path)?;
-    Ok(engine.load(bytes.as_slice())?)
-}
-
-// Calls the function of an instance that the order names.
-fn call_in<'a>(
-    alloc: Global,
-    order: &CallOrder<'a>,
-    engine: &mut Engine,
-    meter: &mut Meter,
-    instance: u32,
-) -> Result<CallEnd, Fault<'a>>
-    requires closed { meter.old.frames ≡ 0 }
-{
-    let address = engine.exported_function(instance, order.export)?;
-    let args = read_args(alloc, engine.parameters(address), order.args.as_slice())?;
-    match engine.call(meter, address, args.as_slice()) {
-        Some(outcome) => Ok(CallEnd {
-            outcome,
-            fuel_left: meter.left(),
-        }),
-        None => Err(Fault::BadArguments),
-    }
-}
-
-// Links the module that the order names, and calls the function, both within the order's fuel. A trap or an exhaustion of the link is
-// the call's end.
-fn call<'a, F: Files>(
+// Calls the function that the order names, of the module in its file, within its fuel.
+fn call_in_file<'a, F: Files>(
     alloc: Global,
     order: &CallOrder<'a>,
     files: &mut F,
 ) -> Result<CallEnd, Fault<'a>> {
-    let mut engine = Engine::new(alloc);
-    let mut meter = Meter::new(order.fuel, order.depth);
-    let loaded = load_file(&engine, files, order.file)?;
-    match engine.link(&mut meter, &loaded) {
-        Ok(instance) => call_in(alloc, order, &mut engine, &mut meter, instance),
-        Err(LinkEnd::Refused(refusal)) => Err(Fault::Refused(Refusal::from(refusal))),
-        Err(LinkEnd::Ended(outcome)) => Ok(CallEnd {
-            outcome,
-            fuel_left: meter.left(),
-        }),
-    }
+    let mut embedding = new_embedding(alloc, order.fuel, order.depth)?;
+    let bytes = read_file(files, order.file)?;
+    let outcome = call(alloc, order, &mut embedding, bytes)?;
+    Ok(CallEnd {
+        outcome,
+        fuel_left: embedding.fuel_left(),
+    })
 }
 
-// Decodes and validates the module in a file.
+// Loads the module in a file.
 fn check_file<'a, F: Files>(alloc: Global, files: &mut F, path: &'a str) -> Result<(), Fault<'a>> {
+    let mut embedding = new_embedding(alloc, DEFAULT_FUEL, DEFAULT_DEPTH)?;
     let bytes = read_file(files, path)?;
-    Ok(check(alloc, bytes.as_slice())?)
+    check(&mut embedding, bytes)
 }
 
 // Reads the words and does what they ask for.
@@ -143,7 +65,7 @@ fn perform<'a, F: Files>(
     files: &mut F,
 ) -> Result<End, Fault<'a>> {
     match read_words(alloc, words)? {
-        Order::Call(order) => Ok(End::Called(call(alloc, &order, files)?)),
+        Order::Call(order) => Ok(End::Called(call_in_file(alloc, &order, files)?)),
         Order::Check(path) => {
             check_file(alloc, files, path)?;
             Ok(End::Valid)

@@ -1,4 +1,3 @@
-pub mod Arguments
 pub mod Ends
 pub mod LoadedModules
 pub mod Contents

@@ -1,6 +1,5 @@
 ghost use Rattle.std.specs.Prelude.{◌↔◌, IsTrue};
-ghost use Rattle.meaning.specs.soundness.Values.{ValueHasType, ValuesHaveTypes};
-ghost use Rattle.store.specs.Arguments.{TakesArguments};
+ghost use Rattle.meaning.specs.soundness.Values.{TakesArguments, ValueHasType, ValuesHaveTypes};
 ghost use Rattle.store.specs.Contents.{store_of};
 
 use crate::store::Store;

@@ -30,7 +30,7 @@ use Rattle.exec.specs.Simulation.{EndsWith, HasCode, MovesTo, StepsTo, World, ne
 use Rattle.exec.proofs.simulation.Configurations.{function_here, fuel_ends, memory_ends, stuck_ends, whole_depth, whole_next, whole_opens, whole_waits}
 use Rattle.exec.proofs.simulation.Instructions.{single_next}
 use Rattle.fuel.specs.Metering.{Metered}
-use Rattle.store.specs.Arguments.{TakesArguments}
+use Rattle.meaning.specs.soundness.Values.{TakesArguments}
 use Rattle.store.proofs.lemmas.Arguments.{length-typed}
 use Rattle.store.specs.Contents.{Contents, code_store, function_of, functions_in, store_with}
 use Rattle.store.specs.State.{StateContents}

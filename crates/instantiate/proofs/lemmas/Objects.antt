@@ -11,6 +11,7 @@ use Rattle.core_types.specs.declared.module.ElementSegment.{ElementSegment}
 use Rattle.core_types.specs.declared.module.Module.{Module}
 use Rattle.core_types.specs.declared.outcome.Val.{Val}
 use Rattle.core_types.specs.declared.types.Limits.{Limits}
+use Rattle.meaning.proofs.lemmas.Lists.{map-next}
 use Rattle.meaning.specs.validation.Modules.{IsValid, imported_memories}
 use Rattle.meaning.specs.validation.Types.{AreFewPages}
 use Rattle.meaning.specs.execution.Memories.{MemoryInstance, new_memory}
@@ -21,7 +22,6 @@ use Rattle.store.specs.Segments.{bytes_at, segment_bytes}
 use Rattle.instantiate.specs.declared.objects.ObjectFault.{ObjectFault}
 use Rattle.instantiate.specs.declared.objects.ObjectFault.TheVariants.{NoValue, Memory}
 use Rattle.instantiate.specs.Objects.{OnNoValue}
-use Rattle.instantiate.proofs.lemmas.Lists.{map-next}
 
 -- ---- faults
 

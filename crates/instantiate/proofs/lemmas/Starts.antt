@@ -9,7 +9,7 @@ use Rattle.meaning.specs.execution.Runs.{IsStuck}
 use Rattle.meaning.specs.execution.Store.{FunctionInstance, Store}
 use Rattle.meaning.specs.soundness.Values.{ValuesHaveTypes}
 use Rattle.meaning.proofs.lemmas.Layers.{if-more}
-use Rattle.store.specs.Arguments.{TakesArguments}
+use Rattle.meaning.specs.soundness.Values.{TakesArguments}
 
 pub start-refused : (store : Store) (address : ℕ) → (TakesArguments store address [] → ⊥) → IsStuck (next store no_frame (Invoking [] address))
 start-refused store address not = go (slice_get store.functions address) refl

@@ -1,10 +1,10 @@
 -- Typed values (Appendix, Soundness).
-use Rattle.std.specs.Prelude.{◌≡◌, ◌^◌, ◌<◌, ℕ, List, [], ◌∷◌, length, Option, Some, None}
+use Rattle.std.specs.Prelude.{◌≡◌, ◌^◌, ◌<◌, ℕ, List, [], ◌∷◌, length, Option, Some, None, slice_get}
 use Rattle.core_types.specs.declared.types.ValType.{ValType}
 use Rattle.core_types.specs.declared.types.ValType.TheVariants as ty
 use Rattle.core_types.specs.declared.outcome.Val.{Val}
 use Rattle.core_types.specs.declared.outcome.Val.TheVariants.{I32, I64, FuncRef, ExternRef}
-use Rattle.meaning.specs.execution.Store.{Store}
+use Rattle.meaning.specs.execution.Store.{FunctionInstance, Store}
 
 -- Null, or the address of a function in the store.
 abbrev pub IsFunctionAddress : Store → Option ℕ → Type 0
@@ -29,3 +29,8 @@ ValuesHaveTypes store [] [] = Unit {0}
 ValuesHaveTypes store [] (t ∷ ts) = ⊥
 ValuesHaveTypes store (v ∷ vs) [] = ⊥
 ValuesHaveTypes store (v ∷ vs) (t ∷ ts) = ValueHasType store v t × ValuesHaveTypes store vs ts
+
+-- There is a function at the address, and the arguments have its parameter types.
+abbrev pub TakesArguments : Store → (address : ℕ) → List Val → Type 0
+TakesArguments store address arguments =
+    (f : FunctionInstance) × (slice_get store.functions address ≡ Some f) × ValuesHaveTypes store arguments f.ty.params

@@ -4,7 +4,7 @@ use Rattle.core_types.specs.declared.op.PlainOp.TheVariants.{Reference}
 use Rattle.core_types.specs.declared.op.ReferenceOp.TheVariants.{Func}
 use Rattle.meaning.specs.execution.Modules.{constant}
 use Rattle.store.specs.Contents.{Contents, lists_of, module_instance, store_with}
-use Rattle.instantiate.proofs.lemmas.Lists.{map_all-end, map_all-next, map_all-none}
+use Rattle.meaning.proofs.lemmas.Lists.{map_all-end, map_all-next, map_all-none}
 use Rattle.instantiate.proofs.objects.function_references.Goals as goal
 
 pub returns-in-None-clause-none : goal.returns-in-None-clause-none

@@ -4,7 +4,7 @@ use Rattle.core_types.specs.declared.op.PlainOp.TheVariants.{Reference}
 use Rattle.core_types.specs.declared.op.ReferenceOp.TheVariants.{Func}
 use Rattle.meaning.specs.execution.Modules.{constant}
 use Rattle.store.specs.Contents.{Contents, lists_of, module_instance, store_with}
-use Rattle.instantiate.proofs.lemmas.Lists.{SoFar}
+use Rattle.meaning.proofs.lemmas.Lists.{SoFar}
 use Rattle.instantiate.proofs.objects.function_references.Given as goal
 
 abbrev pub invariant-loop-k : goal.invariant-loop-k

@@ -5,7 +5,7 @@ use Rattle.core_types.specs.declared.module.Module.{Module}
 use Rattle.meaning.specs.execution.Modules.{map_all, new_elements, references}
 use Rattle.meaning.specs.execution.Tables.{ElementInstance}
 use Rattle.store.specs.Contents.{Contents, lists_of, module_instance, store_with}
-use Rattle.instantiate.proofs.lemmas.Lists.{map_all-end, map_all-next, map_all-none}
+use Rattle.meaning.proofs.lemmas.Lists.{map_all-end, map_all-next, map_all-none}
 use Rattle.instantiate.proofs.lemmas.Objects.{fault-passed, new_elements-none, new_elements-some}
 use Rattle.instantiate.proofs.objects.new_element_segments.Goals as goal
 

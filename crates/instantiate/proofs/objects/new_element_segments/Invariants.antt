@@ -1,7 +1,7 @@
 use Rattle.core_types.specs.declared.module.Module.{Module}
 use Rattle.meaning.specs.execution.Modules.{new_elements}
 use Rattle.store.specs.Contents.{Contents, lists_of, module_instance, store_with}
-use Rattle.instantiate.proofs.lemmas.Lists.{SoFar}
+use Rattle.meaning.proofs.lemmas.Lists.{SoFar}
 use Rattle.instantiate.proofs.objects.new_element_segments.Given as goal
 
 abbrev pub invariant-loop-k : goal.invariant-loop-k

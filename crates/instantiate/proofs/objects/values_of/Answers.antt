@@ -2,7 +2,7 @@ use Rattle.std.proofs.Common.{◌∙◌, ap, sym}
 use Rattle.core_types.specs.declared.module.Module.{Module}
 use Rattle.meaning.specs.execution.Modules.{constant_value}
 use Rattle.store.specs.Contents.{Contents, lists_of, module_instance, store_with}
-use Rattle.instantiate.proofs.lemmas.Lists.{map_all-end, map_all-next, map_all-none}
+use Rattle.meaning.proofs.lemmas.Lists.{map_all-end, map_all-next, map_all-none}
 use Rattle.instantiate.proofs.objects.values_of.Goals as goal
 
 pub returns-in-None-clause-none : goal.returns-in-None-clause-none

@@ -1,0 +1,4 @@
+pub mod Setups
+pub mod Replies
+pub mod Causes
+pub mod Contents

@@ -1,0 +1,293 @@
+ghost use Rattle.std.specs.Prelude.{◌≡◌, ◌++◌, List, OnOk, OnErr, IfOk, MatchOption, length, map, slice_get, Some, None};
+ghost use Rattle.core_types.specs.declared.types.ExternType.{ExternType as AnyType};
+ghost use Rattle.meaning.specs.embedding.Machine.{Applies, AppliesAll, CallsAt, GetsAt, LinksAt, Loads, RegistersAt, SetsFuel};
+ghost use Rattle.meaning.specs.embedding.Machine.{as_function, as_global, export_at, export_type as type_at, fresh};
+ghost use Rattle.meaning.specs.execution.Runs.{NoHosts};
+ghost use Rattle.embed.specs.Contents.{embedding_of};
+ghost use Rattle.embed.specs.Replies.{command_of, found_or_refusal, reply_in, reply_of};
+ghost use Rattle.embed.specs.declared.commands.Reply.{Reply as Answer};
+
+use crate::commands::{Command, Reply};
+use crate::config::Config;
+use crate::imports::resolve_imports;
+use crate::modules::load_module;
+use crate::refusals::Refusal;
+use core_types::{Extern, ExternType, Val};
+use exec::{HostTable, invoke};
+use fuel::Meter;
+use instantiate::{LinkEnd, instantiate};
+use linker::Names;
+use std::alloc::{AllocError, Global};
+use std::marker::Model;
+use std::rc::Rc;
+use store::{LoadedModule, Store, accepts};
+
+/// Modules, instances of them over one store, names, and the fuel that is left.
+#[derive(Drop)]
+pub struct Embedding {
+    alloc: Global,
+    config: Config,
+    modules: Vec<Rc<LoadedModule>>,
+    instances: Vec<u32>,
+    names: Names,
+    store: Store,
+    hosts: HostTable,
+    meter: Meter,
+}
+
+impl Model for Embedding {
+    ghost use Rattle.std.specs.Prelude.{◌≡◌};
+    ghost use Rattle.embed.specs.Contents.{Contents, modules_in};
+
+    ghost Value = { Contents };
+
+    ghost view = { λ e. record { setup = e.config; modules = modules_in e.modules.items; instances = e.instances.items; names = e.names; store = e.store; fuel = e.meter.left } };
+
+    ghost invariant = { λ e. (e.meter.frames ≡ 0) × (e.meter.bound ≡ e.config.depth) };
+}
+
+// The number after those of these items, which count up from 0.
+fn next_number<T>(items: &[T]) -> u64
+    ensures { result ≡ length items.now }
+{
+    items.len() as u64
+}
+
+// The module of a number, if there is one.
+fn module_at(modules: &[Rc<LoadedModule>], number: u64) -> Option<&Rc<LoadedModule>>
+    ensures { MatchOption result (slice_get modules.now number ≡ None)
+        (λ loaded. slice_get modules.now number ≡ Some loaded.now) }
+{
+    modules.get(number as usize)
+}
+
+impl Embedding {
+    /// An embedding to which no command was given. Takes no memory.
+    pub fn new(alloc: Global, config: Config) -> Embedding
+        ensures { embedding_of result ≡ fresh config }
+    {
+        Embedding {
+            alloc,
+            modules: Vec::new(alloc),
+            instances: Vec::new(alloc),
+            names: Names::new(alloc),
+            store: Store::new(alloc, config.pages(), config.entries()),
+            hosts: HostTable::new(alloc),
+            meter: Meter::new(config.fuel(), config.depth()),
+            config,
+        }
+    }
+
+    /// What it was set up with.
+    pub fn config(&self) -> &Config
+        ensures { result.now ≡ self.now.setup }
+    {
+        &self.config
+    }
+
+    /// The fuel that is left.
+    pub fn fuel_left(&self) -> u64
+        ensures { result ≡ (embedding_of self.now).state.fuel }
+    {
+        self.meter.left()
+    }
+
+    // The address of the instance of a number, if there is one.
+    fn instance(&self, number: u64) -> Option<u32>
+        ensures { result ≡ slice_get self.now.instances number }
+    {
+        self.instances.get(number as usize).copied()
+    }
+
+    // What the instance of a number exports under a name.
+    fn export(&self, number: u64, name: &str) -> Result<Extern, Refusal>
+        ensures { found_or_refusal result ≡ export_at (embedding_of self.now) number name.now }
+    {
+        let Some(instance) = self.instance(number) else {
+            return Err(Refusal::UnknownInstance);
+        };
+        match self.store.code().export(instance, name) {
+            Some(found) => Ok(found),
+            None => Err(Refusal::UnknownExport),
+        }
+    }
+
+    // The address of the function that the instance of a number exports under a name.
+    fn exported_function(&self, number: u64, name: &str) -> Result<u32, Refusal>
+        ensures { found_or_refusal result ≡ as_function
+            (export_at (embedding_of self.now) number name.now) }
+    {
+        match self.export(number, name)? {
+            Extern::Func(address) => Ok(address),
+            _ => Err(Refusal::WrongKind),
+        }
+    }
+
+    // The address of the global that the instance of a number exports under a name.
+    fn exported_global(&self, number: u64, name: &str) -> Result<u32, Refusal>
+        ensures { found_or_refusal result ≡ as_global
+            (export_at (embedding_of self.now) number name.now) }
+    {
+        match self.export(number, name)? {
+            Extern::Global(address) => Ok(address),
+            _ => Err(Refusal::WrongKind),
+        }
+    }
+
+    /// The type of what the instance of a number exports under a name, that of a table or a memory with the present size as minimum;
+    /// none where there is no such instance or no such export. Fails where there is no memory for the types of a function.
+    pub fn export_type(&self, instance: u64, name: &str) -> Result<Option<ExternType>, AllocError>
+        ensures { IfOk result (λ ty. ty ≡ type_at (embedding_of self.now) instance name.now) }
+    {
+        let Ok(found) = self.export(instance, name) else {
+            return Ok(None);
+        };
+        if !self.store.has_extern(found) {
+            return Ok(None);
+        }
+        Ok(Some(self.store.extern_type(self.alloc, found)?))
+    }
+
+    // Loads the module that bytes spell.
+    fn load(&mut self, bytes: &[u8]) -> Result<Reply, Refusal>
+        ensures { Loads (embedding_of self.old) bytes.now (reply_in result)
+            (embedding_of self.new) }
+    {
+        let loaded = load_module(self.alloc, bytes)?;
+        let number = next_number(&self.modules);
+        self.modules.push(loaded)?;
+        Ok(Reply::Loaded(number))
+    }
+
+    // Links the module of a number.
+    fn link(&mut self, number: u64) -> Result<Reply, Refusal>
+        ensures { LinksAt NoHosts (embedding_of self.old) (slice_get self.old.modules number)
+            (reply_in result) (embedding_of self.new) }
+    {
+        let Some(loaded) = module_at(&self.modules, number) else {
+            return Err(Refusal::UnknownModule);
+        };
+        let imports = loaded.as_ref().module().imports.as_slice();
+        let externs = resolve_imports(self.alloc, &self.names, &self.store, imports)?;
+        self.instances.try_reserve(1)?;
+        match instantiate(
+            self.alloc,
+            &mut self.store,
+            &mut self.hosts,
+            &mut self.meter,
+            loaded,
+            &externs,
+        ) {
+            Ok(address) => {
+                let count = next_number(&self.instances);
+                self.instances.push(address).unwrap();
+                Ok(Reply::Linked(count))
+            }
+            Err(LinkEnd::Refused(refusal)) => Err(Refusal::from(refusal)),
+            Err(LinkEnd::Ended(outcome)) => Ok(Reply::from(outcome)),
+        }
+    }
+
+    // Registers the instance of a number under a name.
+    fn register(&mut self, number: u64, name: &str) -> Result<Reply, Refusal>
+        ensures { RegistersAt (embedding_of self.old) name.now (slice_get self.old.instances number)
+            (reply_in result) (embedding_of self.new) }
+    {
+        let Some(instance) = self.instance(number) else {
+            return Err(Refusal::UnknownInstance);
+        };
+        self.names.register(name, instance)?;
+        Ok(Reply::Done)
+    }
+
+    // Calls the function that the instance of a number exports under a name.
+    fn call(&mut self, number: u64, name: &str, args: &[Val]) -> Result<Reply, Refusal>
+        ensures { CallsAt NoHosts (embedding_of self.old)
+            (as_function (export_at (embedding_of self.old) number name.now)) args.now
+            (reply_in result) (embedding_of self.new) }
+    {
+        let address = self.exported_function(number, name)?;
+        if !accepts(&self.store, address, args) {
+            return Err(Refusal::BadArguments);
+        }
+        Ok(Reply::from(invoke(
+            self.alloc,
+            &mut self.store,
+            &mut self.hosts,
+            &mut self.meter,
+            address,
+            args,
+        )))
+    }
+
+    // Reads the global that the instance of a number exports under a name.
+    fn get_global(&self, number: u64, name: &str) -> Result<Reply, Refusal>
+        ensures { GetsAt (embedding_of self.now)
+            (as_global (export_at (embedding_of self.now) number name.now)) (reply_in result)
+            (embedding_of self.now) }
+    {
+        let address = self.exported_global(number, name)?;
+        let Some(variable) = self.store.state().global(address) else {
+            return Ok(Reply::Stuck);
+        };
+        let mut values = Vec::new(self.alloc);
+        values.push(variable.value())?;
+        Ok(Reply::Values(values))
+    }
+
+    // Sets the fuel.
+    fn set_fuel(&mut self, fuel: u64) -> Reply
+        ensures { SetsFuel (embedding_of self.old) fuel (reply_of result) (embedding_of self.new) }
+    {
+        self.meter.set(fuel);
+        Reply::Done
+    }
+
+    // Does what a command asks for, or says why it is refused.
+    fn perform(&mut self, command: &Command) -> Result<Reply, Refusal>
+        ensures { Applies NoHosts (embedding_of self.old) (command_of command.now)
+            (reply_in result) (embedding_of self.new) }
+    {
+        match command {
+            Command::Load(bytes) => self.load(bytes.as_slice()),
+            Command::Link(number) => self.link(*number),
+            Command::Register(number, name) => self.register(*number, name.as_str()),
+            Command::Call(number, name, args) => self.call(*number, name.as_str(), args),
+            Command::GetGlobal(number, name) => self.get_global(*number, name.as_str()),
+            Command::SetFuel(fuel) => Ok(self.set_fuel(*fuel)),
+        }
+    }
+
+    /// Applies a command. A refused one changes nothing, and of a link or a call that ends in a trap or an exhaustion what was done
+    /// stays.
+    pub fn apply(&mut self, command: &Command) -> Reply
+        ensures { Applies NoHosts (embedding_of self.old) (command_of command.now)
+            (reply_of result) (embedding_of self.new) }
+    {
+        match self.perform(command) {
+            Ok(reply) => reply,
+            Err(refusal) => Reply::Refused(refusal),
+        }
+    }
+
+    /// Applies all commands, in order, and appends one reply a command. There is room for all replies before the first command is
+    /// applied; where there is none, nothing has changed.
+    pub fn apply_all(
+        &mut self,
+        commands: &[Command],
+        replies: &mut Vec<Reply>,
+    ) -> Result<(), AllocError>
+        ensures applied { OnOk result ((answers : List Answer) × (replies.new.items ≡
+            replies.old.items ++ answers) × AppliesAll NoHosts (embedding_of self.old)
+            (map command_of commands.now) (map reply_of answers) (embedding_of self.new)) }
+        ensures unchanged { OnErr result ((self.new ≡ self.old) × (replies.new.items ≡
+            replies.old.items)) }
+    {
+        replies.try_reserve(commands.len())?;
+        for command in commands {
+            let reply = self.apply(command);
+            replies.push(reply).unwrap();
+        }
+        Ok(())
+    }
+}

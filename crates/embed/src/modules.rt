@@ -1,0 +1,23 @@
+ghost use Rattle.std.specs.Prelude.{IfOk, IfErr};
+ghost use Rattle.meaning.specs.embedding.Machine.{IsDecoded};
+ghost use Rattle.meaning.specs.validation.Modules.{IsValid};
+ghost use Rattle.embed.specs.Causes.{RefusesBytes};
+
+use crate::refusals::Refusal;
+use binary::decode;
+use std::alloc::Global;
+use std::rc::Rc;
+use store::LoadedModule;
+use validator::validate;
+
+/// The module that bytes spell, if it is valid.
+pub fn load_module(alloc: Global, bytes: &[u8]) -> Result<Rc<LoadedModule>, Refusal>
+    ensures decoded { IfOk result (λ loaded. IsDecoded bytes.now loaded.value) }
+    ensures valid { IfOk result (λ loaded. IsValid loaded.value) }
+    ensures refused { IfErr result (λ refusal. RefusesBytes bytes.now refusal) }
+{
+    let decoded = decode(alloc, bytes)?;
+    let validated = validate(alloc, decoded)?;
+    let loaded = LoadedModule::new(alloc, validated)?;
+    Ok(Rc::new(alloc, loaded)?)
+}

@@ -1,0 +1,261 @@
+//! Commands that follow one another, and their replies.
+
+use core_types::{Exhaustion, Trap, Val};
+use embed::{Command, Config, Embedding, Refusal, Reply};
+use std::alloc::Global;
+use testing::assemble;
+
+// What a command answers.
+#[derive(Clone, Copy)]
+enum Answer {
+    // The number of a module, or of an instance.
+    Number(u64),
+    Done,
+    Values(&'static [Val]),
+    Trapped(Trap),
+    Lacks(Exhaustion),
+    Refused(Refusal),
+}
+
+use Answer::{Done, Lacks, Number, Refused, Trapped, Values};
+
+// A command with its answer, or the fuel that is left then.
+#[derive(Clone, Copy)]
+enum Step {
+    // The bytes of a module.
+    LoadBytes(&'static [u8], Answer),
+    // The text of a module.
+    Load(&'static str, Answer),
+    Link(u64, Answer),
+    // A module that is linked so many times, whatever the answers are.
+    LinkTimes(u64, u64),
+    Register(u64, &'static str, Answer),
+    Call(u64, &'static str, &'static [Val], Answer),
+    GetGlobal(u64, &'static str, Answer),
+    SetFuel(u64),
+    Left(u64),
+}
+
+use Step::{Call, GetGlobal, Left, Link, LinkTimes, Load, LoadBytes, Register, SetFuel};
+
+// Steps that follow one another in a fresh embedding.
+struct Row {
+    name: &'static str,
+    steps: &'static [Step],
+}
+
+// One function, add, of type [i32 i32] -> [i32].
+const ADD: [u8; 41] = [
+    0x00, 0x61, 0x73, 0x6D, 0x01, 0x00, 0x00, 0x00, 0x01, 0x07, 0x01, 0x60, 0x02, 0x7F, 0x7F, 0x01,
+    0x7F, 0x03, 0x02, 0x01, 0x00, 0x07, 0x07, 0x01, 0x03, 0x61, 0x64, 0x64, 0x00, 0x00, 0x0A, 0x09,
+    0x01, 0x07, 0x00, 0x20, 0x00, 0x20, 0x01, 0x6A, 0x0B,
+];
+
+const EMPTY: [u8; 8] = [0x00, 0x61, 0x73, 0x6D, 0x01, 0x00, 0x00, 0x00];
+
+const ONE_AND_TWO: [Val; 2] = [Val::I32(1), Val::I32(2)];
+
+// A table of ten entries, and a function that calls them.
+const TEN: &str =
+    "(type (func (param i32) (result i32))) (type (func (result i32))) (table 10 funcref) (func (param i32) (result i32) local.get 0 call_indirect (type 1)) (export \"table\" (table 0)) (export \"call\" (func 0))";
+
+const PAST_THE_END: &str =
+    "(import \"ten\" \"table\" (table 10 funcref)) (func (result i32) i32.const 42) (elem (offset i32.const 0) func 0) (elem (offset i32.const 10) func 0)";
+
+const ENTRY_ONE: &str =
+    "(import \"ten\" \"table\" (table 10 funcref)) (func (result i32) i32.const 7) (elem (offset i32.const 1) func 0)";
+
+// Takes a reference to a function, and tells whether it is null.
+const TAKES_FUNCTION: &str =
+    "(func (param funcref) (result i32) local.get 0 ref.is_null) (export \"is_null\" (func 0))";
+
+// A function that adds, and a global of 666.
+const ADD_AND_GLOBAL: &str =
+    "(func (param i32 i32) (result i32) local.get 0 local.get 1 i32.add) (global i32 i32.const 666) (export \"add\" (func 0)) (export \"g\" (global 0))";
+
+const ONE: &str = "(func (result i32) i32.const 1) (export \"f\" (func 0))";
+
+const TWO: &str = "(func (result i32) i32.const 2) (export \"f\" (func 0))";
+
+const CALLS_F: &str =
+    "(import \"m\" \"f\" (func (result i32))) (func (result i32) call 0) (export \"g\" (func 1))";
+
+#[rattlefmt::skip]
+static ROWS: [Row; 16] = [
+    Row { name: "a module is loaded, linked and called", steps: &[
+        LoadBytes(&ADD, Number(0)), Link(0, Number(0)), SetFuel(10),
+        Call(0, "add", &ONE_AND_TWO, Values(&[Val::I32(3)])), Left(7),
+        Call(0, "add", &[Val::I32(1)], Refused(Refusal::BadArguments)),
+        Link(9, Refused(Refusal::UnknownModule)), Register(0, "m", Done), Left(7),
+    ] },
+    Row { name: "a module is linked twice", steps: &[LoadBytes(&ADD, Number(0)), Link(0, Number(0)), Link(0, Number(1))] },
+    Row { name: "a module with nothing in it", steps: &[
+        LoadBytes(&EMPTY, Number(0)), Link(0, Number(0)), Call(0, "add", &[], Refused(Refusal::UnknownExport)),
+    ] },
+    Row { name: "seven bytes", steps: &[
+        LoadBytes(&[0x00, 0x61, 0x73, 0x6D, 0x01, 0x00, 0x00], Refused(Refusal::Malformed)), LoadBytes(&EMPTY, Number(0)),
+    ] },
+    Row { name: "an invalid module", steps: &[
+        Load("(func (result i32) i64.const 1)", Refused(Refusal::Invalid)), LoadBytes(&EMPTY, Number(0)),
+    ] },
+    Row { name: "a start function that traps", steps: &[
+        SetFuel(10), Load("(func unreachable) (start 0)", Number(0)), Link(0, Trapped(Trap::Unreachable)), Left(9),
+        LoadBytes(&ADD, Number(1)), Link(1, Number(0)),
+    ] },
+    Row { name: "a missing import before one of a wrong type", steps: &[
+        Load(ONE, Number(0)), Link(0, Number(0)), Register(0, "m", Done),
+        Load("(import \"m\" \"missing\" (func (result i32))) (import \"m\" \"f\" (func (result i64)))", Number(1)),
+        Link(1, Refused(Refusal::UnknownImport)),
+    ] },
+    Row { name: "an import of a wrong type", steps: &[
+        Load(ONE, Number(0)), Link(0, Number(0)), Register(0, "m", Done),
+        Load("(import \"m\" \"f\" (func (result i64)))", Number(1)), Link(1, Refused(Refusal::IncompatibleImport)),
+    ] },
+    Row { name: "more pages than a memory may have", steps: &[
+        Load("(memory 1025)", Number(0)), Link(0, Refused(Refusal::Limit)), Load("(memory 1024)", Number(1)), Link(1, Number(0)),
+    ] },
+    Row { name: "an entry of a failed link stays", steps: &[
+        SetFuel(1000), Load(TEN, Number(0)), Link(0, Number(0)), Register(0, "ten", Done),
+        Load(PAST_THE_END, Number(1)), Link(1, Trapped(Trap::TableBounds)), Left(997),
+        Load(ENTRY_ONE, Number(2)), LinkTimes(2, 20), Left(957),
+        Call(0, "call", &[Val::I32(0)], Values(&[Val::I32(42)])), Call(0, "call", &[Val::I32(1)], Values(&[Val::I32(7)])), Left(951),
+    ] },
+    Row { name: "refused calls cost nothing", steps: &[
+        LoadBytes(&ADD, Number(0)), Link(0, Number(0)), SetFuel(5),
+        Call(0, "add", &[Val::I32(1)], Refused(Refusal::BadArguments)), Call(9, "add", &[], Refused(Refusal::UnknownInstance)),
+        Link(9, Refused(Refusal::UnknownModule)), Left(5),
+    ] },
+    Row { name: "a reference past the functions of the store", steps: &[
+        Load(TAKES_FUNCTION, Number(0)), Link(0, Number(0)),
+        Call(0, "is_null", &[Val::FuncRef(Some(1))], Refused(Refusal::BadArguments)),
+        Call(0, "is_null", &[Val::FuncRef(Some(0))], Values(&[Val::I32(0)])),
+        Call(0, "is_null", &[Val::FuncRef(None)], Values(&[Val::I32(1)])),
+    ] },
+    Row { name: "an exported function and an exported global", steps: &[
+        Load(ADD_AND_GLOBAL, Number(0)), Link(0, Number(0)), SetFuel(5),
+        GetGlobal(0, "g", Values(&[Val::I32(666)])), GetGlobal(0, "add", Refused(Refusal::WrongKind)),
+        Call(0, "g", &[], Refused(Refusal::WrongKind)), GetGlobal(0, "h", Refused(Refusal::UnknownExport)),
+        GetGlobal(1, "g", Refused(Refusal::UnknownInstance)), Left(5),
+    ] },
+    Row { name: "two instances under one name", steps: &[
+        Load(ONE, Number(0)), Load(TWO, Number(1)), Load(CALLS_F, Number(2)), Link(0, Number(0)), Link(1, Number(1)),
+        Register(0, "m", Done), Link(2, Number(2)), Register(1, "m", Done), Link(2, Number(3)),
+        Call(2, "g", &[], Values(&[Val::I32(1)])), Call(3, "g", &[], Values(&[Val::I32(2)])),
+        Register(4, "m", Refused(Refusal::UnknownInstance)), Link(2, Number(4)), Call(4, "g", &[], Values(&[Val::I32(2)])),
+    ] },
+    Row { name: "no fuel", steps: &[
+        LoadBytes(&ADD, Number(0)), Link(0, Number(0)), SetFuel(2), Call(0, "add", &ONE_AND_TWO, Lacks(Exhaustion::Fuel)), Left(0),
+        SetFuel(3), Call(0, "add", &ONE_AND_TWO, Values(&[Val::I32(3)])), Left(0),
+    ] },
+    Row { name: "the fuel at first", steps: &[Left(1_000_000_000)] },
+];
+
+// Whether a reply is this answer.
+fn is_answer(reply: &Reply, answer: Answer) -> bool {
+    match (reply, answer) {
+        (Reply::Loaded(number), Number(wanted)) => *number == wanted,
+        (Reply::Linked(number), Number(wanted)) => *number == wanted,
+        (Reply::Done, Done) => true,
+        (Reply::Values(values), Values(wanted)) => values.as_slice() == wanted,
+        (Reply::Trap(trap), Trapped(wanted)) => *trap == wanted,
+        (Reply::Exhausted(what), Lacks(wanted)) => *what == wanted,
+        (Reply::Refused(refusal), Refused(wanted)) => *refusal == wanted,
+        _ => false,
+    }
+}
+
+// Whether a command gets this answer.
+fn gets(at: &mut Embedding, command: &Command, answer: Answer) -> bool {
+    is_answer(&at.apply(command), answer)
+}
+
+// Whether a module is loaded with this answer.
+fn loads(alloc: Global, at: &mut Embedding, bytes: &[u8], answer: Answer) -> bool {
+    match Vec::from_slice(alloc, bytes) {
+        Ok(copied) => gets(at, &Command::Load(copied), answer),
+        Err(_) => false,
+    }
+}
+
+// Whether the module of a text is loaded with this answer.
+fn loads_text(alloc: Global, at: &mut Embedding, text: &str, answer: Answer) -> bool {
+    match assemble(alloc, text) {
+        Ok(bytes) => gets(at, &Command::Load(bytes), answer),
+        Err(_) => false,
+    }
+}
+
+// Links a module so many times.
+fn link_times(at: &mut Embedding, number: u64, times: u64) {
+    for _ in 0..times {
+        let _ = at.apply(&Command::Link(number));
+    }
+}
+
+// Whether an instance is registered with this answer.
+fn registers(alloc: Global, at: &mut Embedding, number: u64, name: &str, answer: Answer) -> bool {
+    match String::from_str(alloc, name) {
+        Ok(copied) => gets(at, &Command::Register(number, copied), answer),
+        Err(_) => false,
+    }
+}
+
+// Whether a call gets this answer.
+fn calls(
+    alloc: Global,
+    at: &mut Embedding,
+    (number, name): (u64, &str),
+    args: &[Val],
+    answer: Answer,
+) -> bool {
+    match (String::from_str(alloc, name), Vec::from_slice(alloc, args)) {
+        (Ok(copied), Ok(values)) => gets(at, &Command::Call(number, copied, values), answer),
+        _ => false,
+    }
+}
+
+// Whether a global is read with this answer.
+fn reads(alloc: Global, at: &mut Embedding, number: u64, name: &str, answer: Answer) -> bool {
+    match String::from_str(alloc, name) {
+        Ok(copied) => gets(at, &Command::GetGlobal(number, copied), answer),
+        Err(_) => false,
+    }
+}
+
+// Whether a step is as it says.
+fn is_so(alloc: Global, at: &mut Embedding, step: Step) -> bool {
+    match step {
+        LoadBytes(bytes, answer) => loads(alloc, at, bytes, answer),
+        Load(text, answer) => loads_text(alloc, at, text, answer),
+        Link(number, answer) => gets(at, &Command::Link(number), answer),
+        LinkTimes(number, times) => {
+            link_times(at, number, times);
+            true
+        }
+        Register(number, name, answer) => registers(alloc, at, number, name, answer),
+        Call(number, name, args, answer) => calls(alloc, at, (number, name), args, answer),
+        GetGlobal(number, name, answer) => reads(alloc, at, number, name, answer),
+        SetFuel(fuel) => gets(at, &Command::SetFuel(fuel), Done),
+        Left(fuel) => at.fuel_left() == fuel,
+    }
+}
+
+// Whether all steps are as they say, in a fresh embedding.
+fn all_are_so(alloc: Global, steps: &[Step]) -> bool {
+    let Some(config) = Config::new(1_000_000_000, 1_024, 1_024, 1_000_000) else {
+        return false;
+    };
+    let mut at = Embedding::new(alloc, config);
+    let mut all = true;
+    for step in steps {
+        all &= is_so(alloc, &mut at, *step);
+    }
+    all
+}
+
+#[test]
+fn commands_get_their_answers(rt: HostRuntime) {
+    for row in &ROWS {
+        assert!(rt; all_are_so(rt.alloc(), row.steps), "{}", row.name);
+    }
+}

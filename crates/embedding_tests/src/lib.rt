@@ -1,0 +1,13 @@
+//! Tests of the embedding: commands and their replies, setups, and the types of exports.
+#![tactic(auto)]
+
+#[cfg(test)]
+mod commands;
+#[cfg(test)]
+mod example;
+#[cfg(test)]
+mod exports;
+#[cfg(test)]
+mod lists;
+#[cfg(test)]
+mod setups;

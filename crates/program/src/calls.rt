@@ -1,0 +1,92 @@
+//! A call of a function that a module exports, and a check of a module: commands to an embedding.
+
+use crate::args::read_args;
+use crate::faults::Fault;
+use command_line::CallOrder;
+use core_types::{Exhaustion, ExternType, FuncType, Trap, Val};
+use embed::{Command, Config, Embedding, Refusal, Reply};
+use std::alloc::Global;
+
+// How many pages a memory may have at most.
+const PAGES: u32 = 1_024;
+
+// How many entries a table may have at most.
+const ENTRIES: u32 = 1_000_000;
+
+/// How a call ended, or the link before it.
+#[derive(Drop)]
+pub enum Outcome {
+    /// The results of the call.
+    Values(Vec<Val>),
+    Trap(Trap),
+    Exhausted(Exhaustion),
+    /// A fault of the engine.
+    Stuck,
+}
+
+// How a reply ends a call. One that neither a link nor a call has would be a fault of the engine.
+fn outcome_of<'a>(reply: Reply) -> Result<Outcome, Fault<'a>> {
+    match reply {
+        Reply::Values(values) => Ok(Outcome::Values(values)),
+        Reply::Trap(trap) => Ok(Outcome::Trap(trap)),
+        Reply::Exhausted(what) => Ok(Outcome::Exhausted(what)),
+        Reply::Refused(refusal) => Err(Fault::Refused(refusal)),
+        Reply::Loaded(_) | Reply::Linked(_) | Reply::Done | Reply::Stuck => Ok(Outcome::Stuck),
+    }
+}
+
+/// An embedding to which no command was given, with so much fuel and at most so many open frames.
+pub fn new_embedding<'a>(alloc: Global, fuel: u64, depth: u32) -> Result<Embedding, Fault<'a>> {
+    match Config::new(fuel, depth, PAGES, ENTRIES) {
+        Some(config) => Ok(Embedding::new(alloc, config)),
+        None => Err(Fault::Usage),
+    }
+}
+
+// The type of the function that an instance exports under a name.
+fn function_type(embedding: &Embedding, instance: u64, name: &str) -> Result<FuncType, Refusal> {
+    match embedding.export_type(instance, name)? {
+        Some(ExternType::Func(ty)) => Ok(ty),
+        Some(_) => Err(Refusal::WrongKind),
+        None => Err(Refusal::UnknownExport),
+    }
+}
+
+// Calls the function of an instance that the order names.
+fn call_export<'a>(
+    alloc: Global,
+    order: &CallOrder<'a>,
+    embedding: &mut Embedding,
+    instance: u64,
+) -> Result<Outcome, Fault<'a>> {
+    let ty = function_type(embedding, instance, order.export)?;
+    let args = read_args(alloc, ty.params.as_slice(), order.args.as_slice())?;
+    let name = String::from_str(alloc, order.export)?;
+    outcome_of(embedding.apply(&Command::Call(instance, name, args)))
+}
+
+/// Loads and links the module that bytes spell, and calls the function that the order names. A trap or an exhaustion of the link is
+/// the call's end.
+pub fn call<'a>(
+    alloc: Global,
+    order: &CallOrder<'a>,
+    embedding: &mut Embedding,
+    bytes: Vec<u8>,
+) -> Result<Outcome, Fault<'a>> {
+    let module = match embedding.apply(&Command::Load(bytes)) {
+        Reply::Loaded(module) => module,
+        reply => return outcome_of(reply),
+    };
+    match embedding.apply(&Command::Link(module)) {
+        Reply::Linked(instance) => call_export(alloc, order, embedding, instance),
+        reply => outcome_of(reply),
+    }
+}
+
+/// Loads the module that bytes spell.
+pub fn check<'a>(embedding: &mut Embedding, bytes: Vec<u8>) -> Result<(), Fault<'a>> {
+    match embedding.apply(&Command::Load(bytes)) {
+        Reply::Refused(refusal) => Err(Fault::Refused(refusal)),
+        _ => Ok(()),
+    }
+}
