@@ -52,7 +52,8 @@ case_at expected read others code bytes = if code == expected then read bytes el
 
 -- The cases up to this number, before the other cases.
 abbrev pub up_to : {V : Type 0} → ℕ → Cases V → Cases V → Cases V
-up_to last cases others code bytes = if nat_le code last then cases code bytes else others code bytes
+up_to last cases others code bytes =
+    if nat_le code last then cases code bytes else others code bytes
 
 -- Cases, turned into another value.
 abbrev pub mapped_case : {A B : Type 0} → (A → B) → Cases A → Cases B

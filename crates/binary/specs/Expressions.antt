@@ -32,7 +32,8 @@ unfoldable pub ops_at : ℕ → List OpenBody → List Op → Reading (List Op)
 ops_at zero bodies ops bytes = None
 ops_at (suc steps) bodies ops bytes = do
   op ← op_at bytes
-  on_next (next_bodies bodies op.0).0 (ops_at steps (next_bodies bodies op.0).1 (ops ++ op.0 ∷ []) op.1) (Some (ops, op.1))
+  on_next (next_bodies bodies op.0).0
+      (ops_at steps (next_bodies bodies op.0).1 (ops ++ op.0 ∷ []) op.1) (Some (ops, op.1))
 
 -- An expression: each operation takes a byte at least.
 unfoldable pub expression_at : Reading (List Op)

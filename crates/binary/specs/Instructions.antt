@@ -91,7 +91,8 @@ mem_arg_at bytes = mapped_at mem_arg (pair_at (unsigned_at 32) (unsigned_at 32))
 
 -- The operation of an opcode, in a row of opcodes from the first on.
 abbrev pub in_row : {X : Type 0} → ℕ → List (Option X) → ℕ → Option X
-in_row first row code = if nat_le first code then (slice_get row (code - first) >>= λ x. x) else None
+in_row first row code =
+    if nat_le first code then (slice_get row (code - first) >>= λ x. x) else None
 
 unfoldable pub load_at : Cases MemoryOp
 load_at code bytes = in_row 0x28 loads code >>= λ op. mapped_at (memory.Load op) mem_arg_at bytes
@@ -120,7 +121,8 @@ prefixed_memory_at number bytes =
 
 unfoldable pub prefixed_at : Cases PlainOp
 prefixed_at number bytes =
-    (up_to 11 (mapped_case Memory prefixed_memory_at) (mapped_case Table prefixed_table_at)) number bytes
+    (up_to 11 (mapped_case Memory prefixed_memory_at) (mapped_case Table prefixed_table_at)) number
+    bytes
 
 -- What a row has at an index.
 abbrev pub from_row : {X V : Type 0} → (X → V) → List X → ℕ → Option V
@@ -130,7 +132,8 @@ from_row into row index = slice_get row index >>= λ x. Some (into x)
 abbrev pub row_at : {X V : Type 0} → ℕ → List X → (X → V) → (ℕ → Option V) → ℕ → Option V
 row_at first row into others code =
     if nat_lt code first then others code
-    else (if nat_lt code (first + length row) then from_row into row (code - first) else others code)
+    else (if nat_lt code (first + length row) then from_row into row (code - first)
+    else others code)
 
 abbrev pub one_at : {V : Type 0} → ℕ → V → (ℕ → Option V) → ℕ → Option V
 one_at expected v others code = if code == expected then Some v else others code

@@ -26,9 +26,16 @@ abbrev pub then_at : {A B : Type 0} → Reading A → (A → Reading B) → Read
 then_at read next bytes = read bytes >>= λ a. next a.0 a.1 >>= λ b. Some ((a.0, b.0), b.1)
 
 -- What the start, element, data count, code and data sections hold, put into a record.
-abbrev pub contents_of : Option ℕ × (List ElementSegment × (Option ℕ × (List Function × (List DataSegment × Unit {0})))) → Contents
+abbrev pub contents_of : Option ℕ ×
+    (List ElementSegment × (Option ℕ × (List Function × (List DataSegment × Unit {0})))) → Contents
 contents_of w =
-    record { start = w.0; elements = w.1.0; count = w.1.1.0; funcs = w.1.1.1.0; datas = w.1.1.1.1.0 }
+    record {
+      start = w.0;
+      elements = w.1.0;
+      count = w.1.1.0;
+      funcs = w.1.1.1.0;
+      datas = w.1.1.1.1.0;
+    }
 
 -- The sections from the start section on, where the functions have types of these indices.
 unfoldable pub contents_at : List ℕ → Reading Contents
@@ -41,9 +48,16 @@ contents_at indices bytes =
     then_at (vector_section_at 11 data_at) (λ datas. end_at)))))) bytes
 
 -- What the table, memory, global and export sections hold, and those behind them, put into a record.
-abbrev pub definitions_of : List TableType × (List Limits × (List Global × (List Export × Contents))) → Definitions
+abbrev pub definitions_of : List TableType ×
+    (List Limits × (List Global × (List Export × Contents))) → Definitions
 definitions_of w =
-    record { tables = w.0; memories = w.1.0; globals = w.1.1.0; exports = w.1.1.1.0; contents = w.1.1.1.1 }
+    record {
+      tables = w.0;
+      memories = w.1.0;
+      globals = w.1.1.0;
+      exports = w.1.1.1.0;
+      contents = w.1.1.1.1;
+    }
 
 -- The sections from the table section on, where the functions have types of these indices.
 unfoldable pub definitions_at : List ℕ → Reading Definitions

@@ -123,11 +123,13 @@ target_at bytes = pair_at index_at expression_at bytes
 unfoldable pub functions_form_at : Cases ElementSegment
 functions_form_at form bytes =
     (case_at 0
-    (mapped_at (λ x. element FuncRef (Functions x.1) (Active 0 x.0)) (pair_at expression_at (vector_at index_at)))
+    (mapped_at (λ x. element FuncRef (Functions x.1) (Active 0 x.0))
+    (pair_at expression_at (vector_at index_at)))
     (case_at 1
     (mapped_at (λ x. element FuncRef (Functions x) Passive) kind_functions_at)
     (case_at 2
-    (mapped_at (λ x. element FuncRef (Functions x.1) (Active x.0.0 x.0.1)) (pair_at target_at kind_functions_at))
+    (mapped_at (λ x. element FuncRef (Functions x.1) (Active x.0.0 x.0.1))
+    (pair_at target_at kind_functions_at))
     (case_at 3
     (mapped_at (λ x. element FuncRef (Functions x) Declarative) kind_functions_at)
     no_case)))) form bytes
@@ -136,11 +138,13 @@ functions_form_at form bytes =
 unfoldable pub expressions_form_at : Cases ElementSegment
 expressions_form_at form bytes =
     (case_at 4
-    (mapped_at (λ x. element FuncRef (Expressions x.1) (Active 0 x.0)) (pair_at expression_at (vector_at expression_at)))
+    (mapped_at (λ x. element FuncRef (Expressions x.1) (Active 0 x.0))
+    (pair_at expression_at (vector_at expression_at)))
     (case_at 5
     (mapped_at (λ x. element x.0 (Expressions x.1) Passive) references_at)
     (case_at 6
-    (mapped_at (λ x. element x.1.0 (Expressions x.1.1) (Active x.0.0 x.0.1)) (pair_at target_at references_at))
+    (mapped_at (λ x. element x.1.0 (Expressions x.1.1) (Active x.0.0 x.0.1))
+    (pair_at target_at references_at))
     (case_at 7
     (mapped_at (λ x. element x.0 (Expressions x.1) Declarative) references_at)
     no_case)))) form bytes
@@ -191,7 +195,8 @@ after_customs bytes = customs_at (length bytes) bytes
 unfoldable pub section_at : {V : Type 0} → ℕ → Reading V → Option V → Reading V
 section_at id read absent bytes = do
   customs ← after_customs bytes
-  if begins_with id customs.1 then sized_at read (drop 1 customs.1) else (absent >>= λ v. Some (v, customs.1))
+  if begins_with id customs.1 then sized_at read (drop 1 customs.1)
+      else (absent >>= λ v. Some (v, customs.1))
 
 -- A section with a vector. Where it is absent, the vector is empty.
 abbrev pub vector_section_at : {V : Type 0} → ℕ → Reading V → Reading (List V)

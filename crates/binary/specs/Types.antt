@@ -27,7 +27,8 @@ unfoldable pub val_type_at : Reading ValType
 val_type_at bytes = chosen_at byte_at val_type_case bytes
 
 abbrev pub ref_type_case : ℕ → Reading RefType
-ref_type_case = case_at 0x70 (bare_at reference.FuncRef) (case_at 0x6F (bare_at reference.ExternRef) no_case)
+ref_type_case =
+    case_at 0x70 (bare_at reference.FuncRef) (case_at 0x6F (bare_at reference.ExternRef) no_case)
 
 unfoldable pub ref_type_at : Reading RefType
 ref_type_at bytes = chosen_at byte_at ref_type_case bytes
@@ -38,7 +39,8 @@ func_type lists = record { params = lists.0; results = lists.1 }
 unfoldable pub func_type_at : Reading FuncType
 func_type_at bytes =
     chosen_at byte_at
-    (case_at 0x60 (mapped_at func_type (pair_at (vector_at val_type_at) (vector_at val_type_at))) no_case) bytes
+    (case_at 0x60 (mapped_at func_type (pair_at (vector_at val_type_at) (vector_at val_type_at)))
+    no_case) bytes
 
 abbrev pub from_least : ℕ → Limits
 from_least min = record { min = min; max = None }

@@ -41,7 +41,8 @@ signed_at bits (byte ∷ bytes) =
     if nat_lt byte 128
     then last_byte_at bits byte bytes
     else (if nat_lt 7 bits
-    then (signed_at (bits - 7) bytes >>= λ rest. Some ((pos 128 *ℤ rest.0) +ℤ pos (byte - 128), rest.1))
+    then (signed_at (bits - 7) bytes >>= λ rest. Some
+    ((pos 128 *ℤ rest.0) +ℤ pos (byte - 128), rest.1))
     else None)
 
 -- A size, and that many bytes.

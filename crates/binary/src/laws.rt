@@ -6,5 +6,6 @@ ghost use Rattle.meaning.specs.binary.Modules.{SpellsModule};
 ///
 /// A law of the definitions (Binary Format, Modules), on which a caller of the decoder may rely; it does nothing.
 pub fn bytes_spell_one_module()
-    ensures { (bytes : List ℕ) (a b : Module) → SpellsModule bytes a → SpellsModule bytes b → a ≡ b }
+    ensures { (bytes : List ℕ) (a b : Module) → SpellsModule bytes a → SpellsModule bytes b
+        → a ≡ b }
 {}

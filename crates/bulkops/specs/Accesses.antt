@@ -13,7 +13,8 @@ number_from bytes offset count =
     else Err MemoryBounds
 
 -- It left what was wanted, or answered the trap and changed nothing.
-abbrev pub Wrote : {U X : Type 0} → Result U Trap → (old new : X) → (wanted : Result X Trap) → Type 0
+abbrev pub Wrote : {U X : Type 0} → Result U Trap → (old new : X) → (wanted : Result X Trap)
+    → Type 0
 Wrote (Ok u) old new wanted = wanted ≡ Ok new
 Wrote (Err trap) old new wanted = (wanted ≡ Err trap) × (new ≡ old)
 

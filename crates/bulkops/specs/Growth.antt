@@ -8,7 +8,8 @@ use Rattle.store.specs.State.{StateContents}
 
 -- The present size under these limits, if they allow so many more.
 abbrev pub size_to_grow : (bound most : ℕ) → Limits → (more : ℕ) → Option ℕ
-size_to_grow bound most limits more = if can_grow bound most limits more then Some limits.min else None
+size_to_grow bound most limits more =
+    if can_grow bound most limits more then Some limits.min else None
 
 -- What a growth costs that is to cost so much: as much as any instruction where it may not be.
 abbrev pub price_of_growth : Option ℕ → (cost : ℕ) → ℕ

@@ -6,6 +6,8 @@ use Rattle.store.specs.State.{StateContents, put_table, table_of}
 use Rattle.store.specs.Tables.{with_entries}
 
 -- The state with these entries in a table, or the trap.
-abbrev pub state_with_entries : StateContents → (address : ℕ) → Result (List Val) Trap → Result StateContents Trap
-state_with_entries s address (Ok entries) = Ok (put_table s address (with_entries (table_of s address) entries))
+abbrev pub state_with_entries : StateContents → (address : ℕ) → Result (List Val) Trap
+    → Result StateContents Trap
+state_with_entries s address (Ok entries) =
+    Ok (put_table s address (with_entries (table_of s address) entries))
 state_with_entries s address (Err trap) = Err trap

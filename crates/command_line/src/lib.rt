@@ -6,5 +6,6 @@ mod words;
 
 pub use digits::{number, short_number};
 pub use words::{
-    CallOrder, DEFAULT_DEPTH, DEFAULT_FUEL, LARGEST_DEPTH, Order, WordsFault, read_words,
+    CallOrder, DEFAULT_DEPTH, DEFAULT_FUEL, LARGEST_DEPTH, Order, ScriptOrder, WordsFault,
+    read_words,
 };

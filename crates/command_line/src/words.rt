@@ -8,7 +8,7 @@ use clap::error::ErrorKind;
 use clap::{Arg, ArgAction, ArgMatches, Command, Error};
 use std::alloc::{AllocError, Global};
 
-/// The fuel of a call where the words name none.
+/// The fuel of a call, and of each command of a script, where the words name none.
 pub const DEFAULT_FUEL: u64 = 1_000_000_000;
 
 /// How many frames a call may have open at once where the words name no number.
@@ -27,9 +27,19 @@ pub struct CallOrder<'a> {
     pub depth: u32,
 }
 
+/// The run of a script that the words ask for.
+#[derive(Clone, Copy)]
+pub struct ScriptOrder<'a> {
+    pub file: &'a str,
+    pub fuel: u64,
+    pub depth: u32,
+}
+
 /// What the words ask for.
 #[derive(Drop)]
 pub enum Order<'a> {
+    /// A run of a script.
+    Script(ScriptOrder<'a>),
     /// A call of an exported function.
     Call(CallOrder<'a>),
     /// A check of the module in the file at this path.
@@ -86,6 +96,13 @@ fn option<'a>(alloc: Global, name: &'a str) -> Arg<'a> {
     Arg::new(alloc, name).long(name).action(ArgAction::Set)
 }
 
+fn script_command<'a>(alloc: Global) -> Result<Command<'a>, AllocError> {
+    plain_command(alloc, "script")
+        .arg(required(alloc, "file"))?
+        .arg(option(alloc, "fuel"))?
+        .arg(option(alloc, "depth"))
+}
+
 fn call_command<'a>(alloc: Global) -> Result<Command<'a>, AllocError> {
     plain_command(alloc, "call")
         .arg(required(alloc, "file"))?
@@ -103,6 +120,7 @@ fn program_command<'a>(alloc: Global) -> Result<Command<'a>, AllocError> {
     plain_command(alloc, "wasmrun")
         .subcommand_required(true)
         .no_binary_name(true)
+        .subcommand(script_command(alloc)?)?
         .subcommand(call_command(alloc)?)?
         .subcommand(check_command(alloc)?)
 }
@@ -141,7 +159,8 @@ fn option_of(matches: &ArgMatches<'_>, name: &str) -> Result<Option<u64>, WordsF
 // The number of open frames that an option's number allows, if it is one.
 fn depth_of(given: Option<u64>) -> Option<u32>
     ensures default { given ≡ None → result ≡ Some 1024 }
-    ensures named { IfSome given (λ n. MatchOption result (IsNoDepth n) (λ depth. (depth ≡ n) × IsDepth n)) }
+    ensures named { IfSome given (λ n. MatchOption result (IsNoDepth n)
+        (λ depth. (depth ≡ n) × IsDepth n)) }
 {
     match given {
         None => Some(DEFAULT_DEPTH),
@@ -150,23 +169,43 @@ fn depth_of(given: Option<u64>) -> Option<u32>
     }
 }
 
+// The fuel that the words name, or the one of a call where they name none.
+fn fuel_in(matches: &ArgMatches<'_>) -> Result<u64, WordsFault> {
+    Ok(option_of(matches, "fuel")?.unwrap_or(DEFAULT_FUEL))
+}
+
+// The number of open frames that the words allow.
+fn depth_in(matches: &ArgMatches<'_>) -> Result<u32, WordsFault> {
+    match depth_of(option_of(matches, "depth")?) {
+        Some(depth) => Ok(depth),
+        None => Err(WordsFault::Usage),
+    }
+}
+
+fn script_order_of<'a>(matches: &ArgMatches<'a>) -> Result<ScriptOrder<'a>, WordsFault> {
+    Ok(ScriptOrder {
+        file: word_of(matches, "file")?,
+        fuel: fuel_in(matches)?,
+        depth: depth_in(matches)?,
+    })
+}
+
 fn call_order_of<'a>(alloc: Global, matches: &ArgMatches<'a>) -> Result<CallOrder<'a>, WordsFault> {
-    let fuel = option_of(matches, "fuel")?;
-    let Some(depth) = depth_of(option_of(matches, "depth")?) else {
-        return Err(WordsFault::Usage);
-    };
     Ok(CallOrder {
         file: word_of(matches, "file")?,
         export: word_of(matches, "export")?,
         args: words_of(alloc, matches, "args")?,
-        fuel: fuel.unwrap_or(DEFAULT_FUEL),
-        depth,
+        fuel: fuel_in(matches)?,
+        depth: depth_in(matches)?,
     })
 }
 
 /// What the words after the program's name ask for.
 pub fn read_words<'a>(alloc: Global, words: &'a [String]) -> Result<Order<'a>, WordsFault> {
     let matches = program_command(alloc)?.try_get_matches_from(words)?;
+    if let Some(found) = matches.subcommand_matches("script") {
+        return Ok(Order::Script(script_order_of(found)?));
+    }
     if let Some(found) = matches.subcommand_matches("call") {
         return Ok(Order::Call(call_order_of(alloc, found)?));
     }

@@ -35,7 +35,8 @@ impl<T> Stack<T> {
 
     /// Takes the topmost element off. Takes no memory.
     pub fn pop(&mut self) -> Option<T>
-        ensures { MatchOption result ((self.old ≡ []) × (self.new ≡ [])) (λ x. self.old ≡ x ∷ self.new) }
+        ensures { MatchOption result ((self.old ≡ []) × (self.new ≡ []))
+            (λ x. self.old ≡ x ∷ self.new) }
     {
         self.items.pop()
     }

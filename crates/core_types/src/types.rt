@@ -1,6 +1,7 @@
-ghost use Rattle.std.specs.Prelude.{◌≡◌, ◌↔◌, IsTrue};
+ghost use Rattle.std.specs.Prelude.{◌≡◌, ◌↔◌, IfOk, IsTrue};
 
 use crate::items::Items;
+use std::alloc::{AllocError, Global};
 
 /// A type of values (Structure, Types, Value Types).
 #[derive(Clone, Copy, PartialEq, Eq)]
@@ -55,6 +56,18 @@ impl FuncType {
     {
         are_same_types(self.params.as_slice(), other.params.as_slice())
             && are_same_types(self.results.as_slice(), other.results.as_slice())
+    }
+
+    /// The same type, with lists of its own.
+    pub fn copy(&self, alloc: Global) -> Result<FuncType, AllocError>
+        ensures { IfOk result (λ copied. copied ≡ self.now) }
+    {
+        let params = Vec::from_slice(alloc, self.params.as_slice())?;
+        let results = Vec::from_slice(alloc, self.results.as_slice())?;
+        Ok(FuncType {
+            params: Items::from_vec(params),
+            results: Items::from_vec(results),
+        })
     }
 }
 

@@ -2,3 +2,5 @@
 pub mod Runs
 pub mod Causes
 pub mod Steps
+pub mod Definitions
+pub mod Funcrefs

@@ -37,10 +37,13 @@ name_refusal name.OutOfMemory = OutOfMemory
 
 -- Why bytes are refused.
 pub data RefusesBytes (bytes : List ℕ) (refusal : Refusal) : Type 0 where
-  malformed : ((m : Module) → IsDecoded bytes m → ⊥) → refusal ≡ Malformed → RefusesBytes bytes refusal
-  unsupported : ((m : Module) → IsDecoded bytes m → ⊥) → refusal ≡ Unsupported → RefusesBytes bytes refusal
+  malformed : ((m : Module) → IsDecoded bytes m → ⊥) → refusal ≡ Malformed
+      → RefusesBytes bytes refusal
+  unsupported : ((m : Module) → IsDecoded bytes m → ⊥) → refusal ≡ Unsupported
+      → RefusesBytes bytes refusal
   limit : ((m : Module) → IsDecoded bytes m → ⊥) → refusal ≡ Limit → RefusesBytes bytes refusal
-  invalid : (m : Module) → IsDecoded bytes m → (IsValid m → ⊥) → refusal ≡ Invalid → RefusesBytes bytes refusal
+  invalid : (m : Module) → IsDecoded bytes m → (IsValid m → ⊥) → refusal ≡ Invalid
+      → RefusesBytes bytes refusal
   no_memory : refusal ≡ OutOfMemory → RefusesBytes bytes refusal
 
 -- Why there is nothing to link imports to.

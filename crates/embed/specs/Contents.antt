@@ -2,30 +2,23 @@
 use Rattle.std.specs.Prelude.{ℕ, List, map}
 use Rattle.std.specs.declared.rc.Rc.{Rc}
 use Rattle.core_types.specs.declared.module.Module.{Module}
-use Rattle.meaning.specs.embedding.Machine.{Embedding, Setup}
-use Rattle.meaning.specs.embedding.Names.{NamesContents}
-use Rattle.exec.specs.Simulation.{state, world_of}
-use Rattle.store.specs.Contents.{BothParts}
+use Rattle.meaning.specs.embedding.Machine.{Embedding}
+use Rattle.exec.specs.Simulation.{run_state}
+use Rattle.hostfunc.specs.declared.host_object.HostObject.{HostObject}
+use Rattle.store.specs.Contents.{store_of}
+use Rattle.embed.specs.declared.embedding.Embedding.{Embedding as Kept}
 
 -- The modules that are shared.
 abbrev pub modules_in : {Z : Type 0} → List (Rc Module Z) → List Module
 modules_in shared = map (λ (r : Rc Module _). r.value) shared
 
--- What is kept.
-pub record Contents : Type 0 where
-  pub setup : Setup
-  pub modules : List Module
-  pub instances : List ℕ
-  pub names : NamesContents
-  pub store : BothParts
-  pub fuel : ℕ
-
--- The embedding that is kept.
-abbrev pub embedding_of : Contents → Embedding ⊥
-embedding_of c = record {
-  setup = c.setup;
-  modules = c.modules;
-  instances = c.instances;
-  names = c.names;
-  state = state (world_of c.store.code c.store.state) c.fuel;
-}
+module _ {I : Type 0} {F : I → Type 0} where
+  -- The embedding that is kept.
+  abbrev pub embedding_of : Kept I F → Embedding (HostObject I F)
+  embedding_of e = record {
+    setup = e.config;
+    modules = modules_in e.modules.items;
+    instances = e.instances.items;
+    names = e.names;
+    state = run_state (store_of e.store) e.hosts.objects.items e.meter.left;
+  }

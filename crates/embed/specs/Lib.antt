@@ -1,4 +1,6 @@
 pub mod Setups
 pub mod Replies
 pub mod Causes
+pub mod Definitions
 pub mod Contents
+pub mod Created

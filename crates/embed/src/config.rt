@@ -24,7 +24,12 @@ impl Model for Config {
 
     ghost Value = { Setup };
 
-    ghost view = { λ c. record { fuel = c.fuel; depth = c.depth; pages = c.pages; entries = c.entries } };
+    ghost view = { λ c. record {
+      fuel = c.fuel;
+      depth = c.depth;
+      pages = c.pages;
+      entries = c.entries;
+    } };
 }
 
 impl Config {

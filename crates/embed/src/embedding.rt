@@ -1,28 +1,31 @@
-ghost use Rattle.std.specs.Prelude.{◌≡◌, ◌++◌, List, OnOk, OnErr, IfOk, MatchOption, length, map, slice_get, Some, None};
+ghost use Rattle.std.specs.Prelude.{◌≡◌, ◌++◌, ◌∷◌, [], ◌+◌, ◌<◌, ◌≤◌, ◌^◌, List, OnOk, OnErr, IfOk, MatchOption, length, map, slice_get, vec_len, vec_capacity, Some, None};
+ghost use Rattle.std.proofs.Props.{props};
 ghost use Rattle.core_types.specs.declared.types.ExternType.{ExternType as AnyType};
+ghost use Rattle.meaning.specs.embedding.Creation.{Creates};
 ghost use Rattle.meaning.specs.embedding.Machine.{Applies, AppliesAll, CallsAt, GetsAt, LinksAt, Loads, RegistersAt, SetsFuel};
-ghost use Rattle.meaning.specs.embedding.Machine.{as_function, as_global, export_at, export_type as type_at, fresh};
-ghost use Rattle.meaning.specs.execution.Runs.{NoHosts};
-ghost use Rattle.embed.specs.Contents.{embedding_of};
-ghost use Rattle.embed.specs.Replies.{command_of, found_or_refusal, reply_in, reply_of};
-ghost use Rattle.embed.specs.declared.commands.Reply.{Reply as Answer};
+ghost use Rattle.meaning.specs.embedding.Machine.{as_function, as_global, export_at, export_type as type_at};
+ghost use Rattle.hostfunc.specs.Boxes.{HaveHosts, HostStep, type_of_host};
+ghost use Rattle.store.specs.Contents.{store_of};
 
 use crate::commands::{Command, Reply};
 use crate::config::Config;
+use crate::definitions::define_hosts;
+use crate::host_definitions::HostDef;
 use crate::imports::resolve_imports;
 use crate::modules::load_module;
+use crate::new_fault::NewFault;
 use crate::refusals::Refusal;
 use core_types::{Extern, ExternType, Val};
-use exec::{HostTable, invoke};
+use exec::invoke;
 use fuel::Meter;
+use hostfunc::{HostFn, HostTable};
 use instantiate::{LinkEnd, instantiate};
 use linker::Names;
 use std::alloc::{AllocError, Global};
-use std::marker::Model;
 use std::rc::Rc;
 use store::{LoadedModule, Store, accepts};
 
-/// Modules, instances of them over one store, names, and the fuel that is left.
+/// Modules, instances of them over one store, names, host functions, and the fuel that is left.
 #[derive(Drop)]
 pub struct Embedding {
     alloc: Global,
@@ -33,17 +36,9 @@ pub struct Embedding {
     store: Store,
     hosts: HostTable,
     meter: Meter,
-}
-
-impl Model for Embedding {
-    ghost use Rattle.std.specs.Prelude.{◌≡◌};
-    ghost use Rattle.embed.specs.Contents.{Contents, modules_in};
-
-    ghost Value = { Contents };
-
-    ghost view = { λ e. record { setup = e.config; modules = modules_in e.modules.items; instances = e.instances.items; names = e.names; store = e.store; fuel = e.meter.left } };
-
-    ghost invariant = { λ e. (e.meter.frames ≡ 0) × (e.meter.bound ≡ e.config.depth) };
+    ghost closed: { meter.frames ≡ 0 },
+    ghost bound: { meter.bound ≡ config.depth },
+    ghost have_hosts: { HaveHosts (store_of store) hosts.objects.items } by { Prim.hlevel props },
 }
 
 // The number after those of these items, which count up from 0.
@@ -51,6 +46,16 @@ fn next_number<T>(items: &[T]) -> u64
     ensures { result ≡ length items.now }
 {
     items.len() as u64
+}
+
+// Appends an item, where there is room for it.
+fn append<T: Drop>(items: &mut Vec<T>, item: T)
+    requires room { vec_len items.old < vec_capacity items.old }
+    ensures appended { items.new.items ≡ items.old.items ++ item ∷ [] }
+    ensures len { vec_len items.new ≡ vec_len items.old + 1 }
+    ensures capacity { vec_capacity items.old ≤ vec_capacity items.new }
+{
+    let _ = items.push(item);
 }
 
 // The module of a number, if there is one.
@@ -62,25 +67,38 @@ fn module_at(modules: &[Rc<LoadedModule>], number: u64) -> Option<&Rc<LoadedModu
 }
 
 impl Embedding {
-    /// An embedding to which no command was given. Takes no memory.
-    pub fn new(alloc: Global, config: Config) -> Embedding
-        ensures { embedding_of result ≡ fresh config }
+    ghost use Rattle.embed.specs.Contents.{embedding_of};
+    ghost use Rattle.embed.specs.Created.{created};
+    ghost use Rattle.embed.specs.Definitions.{definition_of};
+    ghost use Rattle.embed.specs.Replies.{command_of, found_or_refusal, reply_in, reply_of};
+    ghost use Rattle.embed.specs.declared.commands.Reply.{Reply as Answer};
+
+    /// An embedding with these host functions, to which no command was given. At most 2^32 - 1 may be given.
+    ///
+    /// The definitions are taken in order, and the first at fault is refused: with `HostFuncRef` where a funcref is among the results
+    /// that it declares, then with `NameTaken` where one before has the same names; with `OutOfMemory` at any of them where there is no
+    /// memory. A refused call drops all host functions.
+    pub fn new(alloc: Global, config: Config, hosts: Vec<HostDef>) -> Result<Embedding, NewFault>
+        requires { length hosts.items < 2 ^ 32 }
+        ensures { Creates type_of_host config
+            (map (definition_of ⟦<dyn HostFn as HostFn>⟧) hosts.items) (created result) }
     {
-        Embedding {
+        let defined = define_hosts(alloc, &config, hosts)?;
+        Ok(Embedding {
             alloc,
             modules: Vec::new(alloc),
             instances: Vec::new(alloc),
-            names: Names::new(alloc),
-            store: Store::new(alloc, config.pages(), config.entries()),
-            hosts: HostTable::new(alloc),
+            names: defined.names,
+            store: defined.store,
+            hosts: defined.hosts,
             meter: Meter::new(config.fuel(), config.depth()),
             config,
-        }
+        })
     }
 
     /// What it was set up with.
     pub fn config(&self) -> &Config
-        ensures { result.now ≡ self.now.setup }
+        ensures { result.now ≡ (embedding_of self.now).setup }
     {
         &self.config
     }
@@ -94,7 +112,7 @@ impl Embedding {
 
     // The address of the instance of a number, if there is one.
     fn instance(&self, number: u64) -> Option<u32>
-        ensures { result ≡ slice_get self.now.instances number }
+        ensures { result ≡ slice_get (embedding_of self.now).instances number }
     {
         self.instances.get(number as usize).copied()
     }
@@ -161,7 +179,8 @@ impl Embedding {
 
     // Links the module of a number.
     fn link(&mut self, number: u64) -> Result<Reply, Refusal>
-        ensures { LinksAt NoHosts (embedding_of self.old) (slice_get self.old.modules number)
+        ensures { LinksAt (HostStep ⟦<dyn HostFn as HostFn>⟧) (embedding_of self.old)
+            (slice_get (embedding_of self.old).modules number)
             (reply_in result) (embedding_of self.new) }
     {
         let Some(loaded) = module_at(&self.modules, number) else {
@@ -180,7 +199,7 @@ impl Embedding {
         ) {
             Ok(address) => {
                 let count = next_number(&self.instances);
-                self.instances.push(address).unwrap();
+                append(&mut self.instances, address);
                 Ok(Reply::Linked(count))
             }
             Err(LinkEnd::Refused(refusal)) => Err(Refusal::from(refusal)),
@@ -190,7 +209,8 @@ impl Embedding {
 
     // Registers the instance of a number under a name.
     fn register(&mut self, number: u64, name: &str) -> Result<Reply, Refusal>
-        ensures { RegistersAt (embedding_of self.old) name.now (slice_get self.old.instances number)
+        ensures { RegistersAt (embedding_of self.old) name.now
+            (slice_get (embedding_of self.old).instances number)
             (reply_in result) (embedding_of self.new) }
     {
         let Some(instance) = self.instance(number) else {
@@ -202,7 +222,7 @@ impl Embedding {
 
     // Calls the function that the instance of a number exports under a name.
     fn call(&mut self, number: u64, name: &str, args: &[Val]) -> Result<Reply, Refusal>
-        ensures { CallsAt NoHosts (embedding_of self.old)
+        ensures { CallsAt (HostStep ⟦<dyn HostFn as HostFn>⟧) (embedding_of self.old)
             (as_function (export_at (embedding_of self.old) number name.now)) args.now
             (reply_in result) (embedding_of self.new) }
     {
@@ -245,7 +265,8 @@ impl Embedding {
 
     // Does what a command asks for, or says why it is refused.
     fn perform(&mut self, command: &Command) -> Result<Reply, Refusal>
-        ensures { Applies NoHosts (embedding_of self.old) (command_of command.now)
+        ensures { Applies (HostStep ⟦<dyn HostFn as HostFn>⟧) (embedding_of self.old)
+            (command_of command.now)
             (reply_in result) (embedding_of self.new) }
     {
         match command {
@@ -261,7 +282,19 @@ impl Embedding {
     /// Applies a command. A refused one changes nothing, and of a link or a call that ends in a trap or an exhaustion what was done
     /// stays.
     pub fn apply(&mut self, command: &Command) -> Reply
-        ensures { Applies NoHosts (embedding_of self.old) (command_of command.now)
+        ensures { Applies (HostStep ⟦<dyn HostFn as HostFn>⟧) (embedding_of self.old)
+            (command_of command.now)
+            (reply_of result) (embedding_of self.new) }
+    {
+        self.apply_lent(command)
+    }
+
+    /// The same as `apply`, for a function of another library to which the embedding was lent: the prover accepts there only calls
+    /// with a `requires`. This one asks nothing.
+    pub fn apply_lent(&mut self, command: &Command) -> Reply
+        requires nothing { Unit {0} }
+        ensures { Applies (HostStep ⟦<dyn HostFn as HostFn>⟧) (embedding_of self.old)
+            (command_of command.now)
             (reply_of result) (embedding_of self.new) }
     {
         match self.perform(command) {
@@ -278,15 +311,35 @@ impl Embedding {
         replies: &mut Vec<Reply>,
     ) -> Result<(), AllocError>
         ensures applied { OnOk result ((answers : List Answer) × (replies.new.items ≡
-            replies.old.items ++ answers) × AppliesAll NoHosts (embedding_of self.old)
+            replies.old.items ++ answers) ×
+            AppliesAll (HostStep ⟦<dyn HostFn as HostFn>⟧) (embedding_of self.old)
             (map command_of commands.now) (map reply_of answers) (embedding_of self.new)) }
-        ensures unchanged { OnErr result ((self.new ≡ self.old) × (replies.new.items ≡
+        ensures unchanged { OnErr result
+            ((embedding_of self.new ≡ embedding_of self.old) × (replies.new.items ≡
+            replies.old.items)) }
+    {
+        self.apply_all_lent(commands, replies)
+    }
+
+    /// The same as `apply_all`, for a function of another library to which the embedding was lent, as `apply_lent` is.
+    pub fn apply_all_lent(
+        &mut self,
+        commands: &[Command],
+        replies: &mut Vec<Reply>,
+    ) -> Result<(), AllocError>
+        requires nothing { Unit {0} }
+        ensures applied { OnOk result ((answers : List Answer) × (replies.new.items ≡
+            replies.old.items ++ answers) ×
+            AppliesAll (HostStep ⟦<dyn HostFn as HostFn>⟧) (embedding_of self.old)
+            (map command_of commands.now) (map reply_of answers) (embedding_of self.new)) }
+        ensures unchanged { OnErr result
+            ((embedding_of self.new ≡ embedding_of self.old) × (replies.new.items ≡
             replies.old.items)) }
     {
         replies.try_reserve(commands.len())?;
         for command in commands {
-            let reply = self.apply(command);
-            replies.push(reply).unwrap();
+            let reply = self.apply_lent(command);
+            append(replies, reply);
         }
         Ok(())
     }

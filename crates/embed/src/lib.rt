@@ -3,12 +3,17 @@
 
 mod commands;
 mod config;
+mod definitions;
 mod embedding;
+mod host_definitions;
 mod imports;
 mod modules;
+mod new_fault;
 mod refusals;
 
 pub use commands::{Command, Reply};
 pub use config::Config;
 pub use embedding::Embedding;
+pub use host_definitions::HostDef;
+pub use new_fault::NewFault;
 pub use refusals::Refusal;

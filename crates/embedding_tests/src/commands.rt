@@ -5,9 +5,9 @@ use embed::{Command, Config, Embedding, Refusal, Reply};
 use std::alloc::Global;
 use testing::assemble;
 
-// What a command answers.
+/// What a command answers.
 #[derive(Clone, Copy)]
-enum Answer {
+pub enum Answer {
     // The number of a module, or of an instance.
     Number(u64),
     Done,
@@ -19,9 +19,9 @@ enum Answer {
 
 use Answer::{Done, Lacks, Number, Refused, Trapped, Values};
 
-// A command with its answer, or the fuel that is left then.
+/// A command with its answer, or the fuel that is left then.
 #[derive(Clone, Copy)]
-enum Step {
+pub enum Step {
     // The bytes of a module.
     LoadBytes(&'static [u8], Answer),
     // The text of a module.
@@ -240,17 +240,24 @@ fn is_so(alloc: Global, at: &mut Embedding, step: Step) -> bool {
     }
 }
 
-// Whether all steps are as they say, in a fresh embedding.
+/// Whether all steps are as they say.
+pub fn steps_hold(alloc: Global, at: &mut Embedding, steps: &[Step]) -> bool {
+    let mut all = true;
+    for step in steps {
+        all &= is_so(alloc, at, *step);
+    }
+    all
+}
+
+// Whether all steps are as they say, in an embedding without host functions.
 fn all_are_so(alloc: Global, steps: &[Step]) -> bool {
     let Some(config) = Config::new(1_000_000_000, 1_024, 1_024, 1_000_000) else {
         return false;
     };
-    let mut at = Embedding::new(alloc, config);
-    let mut all = true;
-    for step in steps {
-        all &= is_so(alloc, &mut at, *step);
-    }
-    all
+    let Ok(mut at) = Embedding::new(alloc, config, Vec::new(alloc)) else {
+        return false;
+    };
+    steps_hold(alloc, &mut at, steps)
 }
 
 #[test]

@@ -61,7 +61,7 @@ fn is_type(found: &Option<ExternType>, wanted: Type) -> bool {
 
 // An embedding with an instance of the module, whose memory is grown.
 fn grown(alloc: Global) -> Option<Embedding> {
-    let mut at = Embedding::new(alloc, Config::new(10_000, 10, 10, 10)?);
+    let mut at = Embedding::new(alloc, Config::new(10_000, 10, 10, 10)?, Vec::new(alloc)).ok()?;
     let bytes = assemble(alloc, TEXT).ok()?;
     let _ = at.apply(&Command::Load(bytes));
     let _ = at.apply(&Command::Link(0));

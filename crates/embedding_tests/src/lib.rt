@@ -8,6 +8,9 @@ mod example;
 #[cfg(test)]
 mod exports;
 #[cfg(test)]
+mod hosts;
+pub mod kinds;
+#[cfg(test)]
 mod lists;
 #[cfg(test)]
 mod setups;

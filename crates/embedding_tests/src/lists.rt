@@ -46,7 +46,9 @@ fn list_is_answered(alloc: Global) -> bool {
     let (Some(config), Some(list)) = (Config::new(10, 1, 1, 1), commands(alloc)) else {
         return false;
     };
-    let mut at = Embedding::new(alloc, config);
+    let Ok(mut at) = Embedding::new(alloc, config, Vec::new(alloc)) else {
+        return false;
+    };
     let mut replies = Vec::new(alloc);
     let first = at.apply_all(&[Command::SetFuel(20)], &mut replies).is_ok();
     let second = at.apply_all(&list, &mut replies).is_ok();

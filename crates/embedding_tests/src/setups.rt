@@ -26,7 +26,9 @@ static ROWS: [Row; 8] = [
 
 // Whether an embedding has this setup, and the fuel of it.
 fn is_set_up(alloc: Global, config: Config, row: &Row) -> bool {
-    let at = Embedding::new(alloc, config);
+    let Ok(at) = Embedding::new(alloc, config, Vec::new(alloc)) else {
+        return false;
+    };
     let kept = at.config();
     at.fuel_left() == 7
         && kept.fuel() == 7

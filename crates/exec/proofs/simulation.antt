@@ -1,4 +1,5 @@
 -- That the machine simulates the reduction: by control form, and what they share.
+pub mod Arguments
 pub mod Blocks
 pub mod Branches
 pub mod Calls
@@ -8,9 +9,12 @@ pub mod Controls
 pub mod Effects
 pub mod Ends
 pub mod Fuel
+pub mod HostCalls
 pub mod Instructions
 pub mod IndirectCalls
 pub mod Labels
+pub mod Lending
 pub mod Positions
 pub mod Returns
 pub mod Runs
+pub mod Stops

@@ -39,7 +39,12 @@ enter control code results m = record {
   locals = m.locals;
   controls =
       InLabel
-      (record { arity = results; base = length m.operands.below; outside = length m.operands.below; target = length code.body.now }) ∷
+      (record {
+        arity = results;
+        base = length m.operands.below;
+        outside = length m.operands.below;
+        target = length code.body.now;
+      }) ∷
       (control ∷ m.controls);
   outer = suc (length m.controls);
 }

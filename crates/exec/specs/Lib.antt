@@ -1,5 +1,7 @@
 pub mod Positions
 pub mod Representation
 pub mod Frames
+pub mod HostCalls
 pub mod Simulation
+pub mod Stops
 pub mod IndirectCalls

@@ -15,7 +15,10 @@ after_end parts = record { here = first_part parts; around = other_parts parts }
 -- What a branch goes on with, where these bodies lie around: the continuation, and then what is left behind the label.
 abbrev pub continue_at : Continuation → List Part → Rests
 continue_at continuation parts = record {
-  here = record { body = continue_with continuation (first_part parts).body; other = (first_part parts).other };
+  here = record {
+    body = continue_with continuation (first_part parts).body;
+    other = (first_part parts).other;
+  };
   around = other_parts parts;
 }
 

@@ -25,12 +25,14 @@ label_of label continuation values rest =
     record { arity = label.arity; continuation = continuation; values = values; rest = rest }
 
 -- A label represents a layer, over the operands and the bodies that lie around it.
-pub record RepresentsLabel (code : List Op) (label : Label) (below : List Val) (around : List Part) (layers : List Layer) (Further : List Val → List Layer → Type 0) : Type 0 where
+pub record RepresentsLabel (code : List Op) (label : Label) (below : List Val) (around : List Part)
+    (layers : List Layer) (Further : List Val → List Layer → Type 0) : Type 0 where
   pub values : List Val
   pub lower : List Val
   pub continuation : Continuation
   pub further_layers : List Layer
-  pub layers_are : layers ≡ AroundLabel (label_of label continuation values (first_part around).body) ∷ further_layers
+  pub layers_are : layers ≡ AroundLabel (label_of label continuation values
+      (first_part around).body) ∷ further_layers
   pub below_is : below ≡ values ++ lower
   pub base : length (values ++ lower) ≡ label.base
   pub outside : length lower ≡ label.outside
@@ -50,13 +52,15 @@ abbrev pub activation_of : (arity : ℕ) → List Val → Body → Activation
 activation_of arity values rest = record { arity = arity; values = values; rest = rest }
 
 -- A frame from within code represents a layer, over the operands and the locals of its caller.
-pub record RepresentsFrame (c : Caller) (below locals_below : List Val) (layers : List Layer) (Further : List Val → List Val → List Layer → Type 0) : Type 0 where
+pub record RepresentsFrame (c : Caller) (below locals_below : List Val) (layers : List Layer)
+    (Further : List Val → List Val → List Layer → Type 0) : Type 0 where
   pub values : List Val
   pub lower : List Val
   pub own : List Val
   pub lower_locals : List Val
   pub further_layers : List Layer
-  pub layers_are : layers ≡ AroundFrame (activation_of c.arity values (caller_rests c).here.body) (caller_frame c own) ∷ further_layers
+  pub layers_are : layers ≡ AroundFrame (activation_of c.arity values (caller_rests c).here.body)
+      (caller_frame c own) ∷ further_layers
   pub ends : HasEnds c.code.body.now c.code.ends.now
   pub below_is : below ≡ values ++ lower
   pub base : length (values ++ lower) ≡ c.base
@@ -66,23 +70,27 @@ pub record RepresentsFrame (c : Caller) (below locals_below : List Val) (layers 
   pub further : Further lower lower_locals further_layers
 
 -- The frame of the call from outside represents a layer around everything.
-pub record RepresentsOutermost (arity : ℕ) (below locals_below : List Val) (layers : List Layer) : Type 0 where
+pub record RepresentsOutermost (arity : ℕ) (below locals_below : List Val)
+    (layers : List Layer) : Type 0 where
   pub layers_are : layers ≡ AroundFrame (activation_of arity [] Empty) no_frame ∷ []
   pub below_is : below ≡ []
   pub locals_are : locals_below ≡ []
 
 -- What is open represents these layers, over the operands below the innermost label, the locals below the innermost frame, and
 -- the bodies around the one that runs; `outer` is how many controls there are up to the frame.
-abbrev pub RepresentsControls : List Op → ℕ → List Control → List Val → List Val → List Part → List Layer
+abbrev pub RepresentsControls : List Op → ℕ → List Control → List Val → List Val → List Part
+    → List Layer
     → Type 0
 RepresentsControls code outer [] below locals_below around layers = ⊥
 RepresentsControls code outer (InLabel label ∷ controls) below locals_below around layers =
     RepresentsLabel code label below around layers
-    (λ lower further_layers. RepresentsControls code outer controls lower locals_below (other_parts around) further_layers)
+    (λ lower further_layers. RepresentsControls code outer controls lower locals_below
+    (other_parts around) further_layers)
 RepresentsControls code outer (InFrame c ∷ controls) below locals_below around layers =
     (outer ≡ suc (length controls))
     × RepresentsFrame c below locals_below layers
-    (λ lower lower_locals further_layers. RepresentsControls c.code.body.now c.outer controls lower lower_locals (caller_rests c).around further_layers)
+    (λ lower lower_locals further_layers. RepresentsControls c.code.body.now c.outer controls lower
+    lower_locals (caller_rests c).around further_layers)
 RepresentsControls code outer (FromOutside arity ∷ controls) below locals_below around layers =
     (outer ≡ 1) × (controls ≡ []) × RepresentsOutermost arity below locals_below layers
 
@@ -102,7 +110,8 @@ redex_of m = Running m.operands.own (rests_of m).here.body
 pub record RepresentsAt (m : Machine) (frames : ℕ) (redex whole : Configuration) : Type 0 where
   pub layers : List Layer
   pub ends : HasEnds m.code.body.now m.code.ends.now
-  pub fits : RepresentsControls m.code.body.now m.outer m.controls m.operands.below m.locals.below (rests_of m).around layers
+  pub fits : RepresentsControls m.code.body.now m.outer m.controls m.operands.below m.locals.below
+      (rests_of m).around layers
   pub deep : count_frames layers ≡ frames
   pub whole_is : whole ≡ plug layers (frame_of m) redex
 

@@ -25,8 +25,9 @@ fn step_plain<'a>(
 ) -> Step
     requires sound { RepresentsSome machine.old meter.old.frames }
     requires position { machine.old.position + 1 < 2 ^ 64 }
-    ensures simulates { IsBefore machine.old (Plain op.now) → Simulates (world_of code.now
-        state.old) machine.old meter.old result (world_of code.now state.new) machine.new meter.new }
+    ensures simulates { IsBefore machine.old (Plain op.now)
+        → Simulates (world_of code.now state.old) machine.old meter.old result
+        (world_of code.now state.new) machine.new meter.new }
     ensures falls { IfGoes result (measure machine.new meter.new < measure machine.old meter.old) }
     ensures stays { IfStays result (machine.new.code ≡ machine.old.code) }
     ensures bound { meter.new.bound ≡ meter.old.bound }

@@ -1,28 +1,65 @@
-ghost use Rattle.std.specs.Prelude.{◌≡◌, ◌<◌, Some, reverse, IfOk};
+ghost use Rattle.std.specs.Prelude.{◌≡◌, ◌+◌, ◌<◌, ℕ, [], Err, Some, length, map, reverse, slice_get, IfOk, IfErr, MatchOption, None};
+ghost use Rattle.core_types.specs.declared.types.FuncType.{FuncType};
+ghost use Rattle.meaning.specs.structure.Bodies.{rests};
 ghost use Rattle.meaning.specs.execution.Configurations.{Invoking, Configuration, no_frame};
-ghost use Rattle.meaning.specs.execution.Runs.{NoHosts, Run};
+ghost use Rattle.meaning.specs.execution.Hosts.{memory_lent};
+ghost use Rattle.meaning.specs.execution.Runs.{HostTrap, IsEnd, IsStep, Results, Run};
+ghost use Rattle.meaning.specs.execution.Store.{Store as AnyStore};
+ghost use Rattle.meaning.specs.execution.Values.{type_of};
 ghost use Rattle.meaning.specs.soundness.Values.{TakesArguments};
-ghost use Rattle.store.specs.Contents.{store_of, store_with};
+ghost use Rattle.hostfunc.specs.Boxes.{HaveHosts, HostStep, IsHost};
+ghost use Rattle.hostfunc.specs.declared.host_function.HostFault.TheVariants.{Trap as TrapFault, Memory as MemoryFault};
+ghost use Rattle.store.specs.Contents.{code_store, function_of, functions_in, host_function, store_of, store_with};
+ghost use Rattle.store.specs.Ends.{HasEnds};
 ghost use Rattle.exec.specs.Frames.{enter_from_outside};
+ghost use Rattle.exec.specs.HostCalls.{WaitsForHost, first_memory};
 ghost use Rattle.exec.specs.Representation.{RepresentsSome, Represents};
-ghost use Rattle.exec.specs.Simulation.{RunsTo, ending_of, state_of, world_of};
+ghost use Rattle.exec.specs.Simulation.{ending_of, run_state, world_of};
+ghost use Rattle.exec.specs.Stops.{StopsAt};
 
 use crate::control::calls::{code_of, enter_function};
-use crate::host_table::HostTable;
 use crate::instructions::step;
 use crate::machine::{Control, FunctionCode, Machine, Outcome, Step};
-use core_types::{Exhaustion, Stack, Val};
+use core_types::{Exhaustion, Items, Stack, Trap, Val};
 use fuel::Meter;
+use hostfunc::{HostFault, HostFn, HostTable};
 use stacks::{FrameLocals, Operands};
 use std::alloc::{AllocError, Global};
-use store::{Callee, Code, State, Store};
+use store::{Callee, Code, ModuleFunction, State, Store};
 
-// Runs a machine to the end of its call.
-fn run<'a>(code: &'a Code, state: &mut State, machine: Machine<'a>, meter: &mut Meter) -> Outcome
+/// Where a run stops.
+#[derive(Clone, Copy)]
+pub enum Stop {
+    /// The call from outside is over, and the operands are its results.
+    Over,
+    /// The run ends with a trap.
+    Traps(Trap),
+    /// The next step wants fuel, depth or memory that is not there.
+    Lacks(Exhaustion),
+    /// The next step is a call of the host function of this number.
+    CallsHost(u32),
+    /// There is no next step.
+    Stuck,
+}
+
+// A machine that has stopped.
+#[derive(Drop)]
+struct Stopped<'a> {
+    machine: Machine<'a>,
+    stop: Stop,
+}
+
+// Runs a machine to the end of its call, or up to a call of a host function.
+fn run_code<'a>(
+    code: &'a Code,
+    state: &mut State,
+    machine: Machine<'a>,
+    meter: &mut Meter,
+) -> Stopped<'a>
     requires sound { RepresentsSome machine meter.old.frames }
-    ensures run { (whole : Configuration) → Represents machine.entry meter.old.frames whole → RunsTo
-        meter.old.bound (world_of code.now state.old) meter.old.left whole (ending_of result)
-        (world_of code.now state.new) meter.new.left }
+    ensures stops { (whole : Configuration) → Represents machine.entry meter.old.frames whole →
+        StopsAt meter.old.bound (world_of code.now state.old) meter.old.left whole result.stop
+        (world_of code.now state.new) result.machine meter.new }
     ensures bound { meter.new.bound ≡ meter.old.bound }
 {
     let mut machine = machine;
@@ -31,10 +68,161 @@ fn run<'a>(code: &'a Code, state: &mut State, machine: Machine<'a>, meter: &mut 
         match step(code, state, current.body, current.ends, &mut machine, meter) {
             Step::Goes => {}
             Step::Crosses => current = machine.code,
-            Step::Over => return Outcome::Values(machine.operands.into_items()),
-            Step::Traps(trap) => return Outcome::Trap(trap),
-            Step::Lacks(what) => return Outcome::Exhausted(what),
-            Step::Stuck => return Outcome::Stuck,
+            Step::Over => return Stopped {
+                machine,
+                stop: Stop::Over,
+            },
+            Step::Traps(trap) => return Stopped {
+                machine,
+                stop: Stop::Traps(trap),
+            },
+            Step::Lacks(what) => return Stopped {
+                machine,
+                stop: Stop::Lacks(what),
+            },
+            Step::CallsHost(number) => return Stopped {
+                machine,
+                stop: Stop::CallsHost(number),
+            },
+            Step::Stuck => return Stopped {
+                machine,
+                stop: Stop::Stuck,
+            },
+        }
+    }
+}
+
+// The address of the memory that an instance has, if it has one and that is there.
+fn memory_to_lend(code: &Code, state: &State, instance: u32) -> Option<u32>
+    ensures { MatchOption result (memory_lent (store_with code.now state.now)
+        (first_memory (code_store code.now) instance) ≡ None) (λ address.
+        (first_memory (code_store code.now) instance ≡ Some address)
+        × (address < length state.now.contents.memories)) }
+{
+    let address = code.memory_address(instance, 0)?;
+    match state.memory(address) {
+        Some(_) => Some(address),
+        None => None,
+    }
+}
+
+// Calls the host function of a number, which is lent the memory of an instance, or no bytes where that has none.
+fn call_lent(
+    code: &Code,
+    state: &mut State,
+    hosts: &mut HostTable,
+    instance: u32,
+    number: u32,
+    args: &[Val],
+) -> Result<Vec<Val>, HostFault>
+    requires there { (t : FuncType) × IsHost hosts.old.objects.items number t
+        × (map type_of args.now ≡ t.params) }
+    ensures answered { IfOk result
+        (λ values. HostStep ⟦<dyn HostFn as HostFn>⟧ hosts.old.objects.items number
+        (first_memory (code_store code.now) instance) args.now (store_with code.now state.old)
+        (Results values.items) (store_with code.now state.new) hosts.new.objects.items) }
+    ensures trapped { (why : ℕ) → result ≡ Err (TrapFault why) → HostStep ⟦<dyn HostFn as HostFn>⟧
+        hosts.old.objects.items number (first_memory (code_store code.now) instance) args.now
+        (store_with code.now state.old) (HostTrap why) (store_with code.now state.new)
+        hosts.new.objects.items }
+    ensures unchanged { result ≡ Err MemoryFault → (hosts.new.objects.items ≡
+        hosts.old.objects.items) × (store_with code.now state.new ≡ store_with code.now state.old) }
+{
+    match memory_to_lend(code, state, instance) {
+        Some(address) => hosts.call(number, args, state.memory_mut(address)),
+        None => hosts.call(number, args, &mut []),
+    }
+}
+
+// Calls the host function of a number for a machine that waits for it, and puts its results in the place of its arguments.
+fn call_host(
+    code: &Code,
+    state: &mut State,
+    hosts: &mut HostTable,
+    number: u32,
+    machine: &mut Machine<'_>,
+    meter: &mut Meter,
+) -> Result<(), Outcome>
+    requires waits { (whole : Configuration) × WaitsForHost number (store_with code.now state.old)
+        whole meter.old.left meter.old.frames machine.old }
+    requires hosts { HaveHosts (store_with code.now state.old)
+        hosts.old.objects.items }
+    ensures answered { IfOk result (λ done. (whole : Configuration) → WaitsForHost number
+        (store_with code.now state.old) whole meter.old.left meter.old.frames machine.old →
+        (then : Configuration) × IsStep (HostStep ⟦<dyn HostFn as HostFn>⟧) meter.old.bound no_frame
+        (run_state (store_with code.now state.old) hosts.old.objects.items meter.old.left) whole
+        (run_state (store_with code.now state.new) hosts.new.objects.items meter.new.left) then
+        × Represents machine.new meter.new.frames then) }
+    ensures ended { IfErr result (λ outcome. (whole : Configuration) → WaitsForHost number
+        (store_with code.now state.old) whole meter.old.left meter.old.frames machine.old → IsEnd
+        (HostStep ⟦<dyn HostFn as HostFn>⟧) meter.old.bound no_frame
+        (run_state (store_with code.now state.old) hosts.old.objects.items meter.old.left) whole
+        (ending_of outcome)
+        (run_state (store_with code.now state.new) hosts.new.objects.items meter.new.left)) }
+    ensures hosts { HaveHosts (store_with code.now state.new)
+        hosts.new.objects.items }
+    ensures left { IfOk result (λ done. meter.new.left + 1 ≡ meter.old.left) }
+    ensures bound { (meter.new.bound ≡ meter.old.bound) × (meter.new.frames ≡ meter.old.frames) }
+{
+    let ty = hosts.ty(number);
+    let params = ty.params.len();
+    let results = ty.results.len();
+    let kept = machine.operands.len() - params;
+    let Ok(()) = machine.operands.make_room(results) else {
+        return Err(Outcome::Exhausted(Exhaustion::Memory));
+    };
+    let args = machine.operands.under_top(results, params);
+    match call_lent(code, state, hosts, machine.code.instance, number, args) {
+        Ok(values) => {
+            let count = machine.operands.len() - kept;
+            machine.operands.replace_top(count, &values);
+            machine.position += 1;
+            let _ = meter.try_spend(1);
+            Ok(())
+        }
+        Err(HostFault::Trap(why)) => {
+            let _ = meter.try_spend(1);
+            Err(Outcome::Trap(Trap::Host(why)))
+        }
+        Err(HostFault::Memory) => Err(Outcome::Exhausted(Exhaustion::Memory)),
+    }
+}
+
+// Runs a machine to the end of its call.
+fn run<'a>(
+    code: &'a Code,
+    state: &mut State,
+    hosts: &mut HostTable,
+    machine: Machine<'a>,
+    meter: &mut Meter,
+) -> Outcome
+    requires sound { RepresentsSome machine meter.old.frames }
+    requires hosts { HaveHosts (store_with code.now state.old)
+        hosts.old.objects.items }
+    ensures run { (whole : Configuration) → Represents machine.entry meter.old.frames whole → Run
+        (HostStep ⟦<dyn HostFn as HostFn>⟧) meter.old.bound no_frame
+        (run_state (store_with code.now state.old) hosts.old.objects.items meter.old.left) whole
+        (ending_of result)
+        (run_state (store_with code.now state.new) hosts.new.objects.items meter.new.left) }
+    ensures hosts { HaveHosts (store_with code.now state.new)
+        hosts.new.objects.items }
+    ensures bound { meter.new.bound ≡ meter.old.bound }
+{
+    let mut machine = machine;
+    loop {
+        let stopped = run_code(code, state, machine, meter);
+        machine = stopped.machine;
+        match stopped.stop {
+            Stop::Over => return Outcome::Values(machine.operands.into_items()),
+            Stop::Traps(trap) => return Outcome::Trap(trap),
+            Stop::Lacks(what) => return Outcome::Exhausted(what),
+            Stop::CallsHost(number) => {
+                match call_host(code, state, hosts, number, &mut machine, meter) {
+                    Ok(()) => {}
+                    Err(outcome) => return outcome,
+                }
+            }
+            Stop::Stuck => return Outcome::Stuck,
         }
     }
 }
@@ -42,7 +230,7 @@ fn run<'a>(code: &'a Code, state: &mut State, machine: Machine<'a>, meter: &mut 
 // A machine at the start of a call from outside.
 fn open_machine<'a>(
     alloc: Global,
-    callee: &Callee<'a>,
+    callee: &ModuleFunction<'a>,
     code: FunctionCode<'a>,
     args: &[Val],
 ) -> Result<Machine<'a>, AllocError>
@@ -64,42 +252,71 @@ fn open_machine<'a>(
     Ok(machine)
 }
 
-// Calls the function at an address from outside, over both parts of a store.
-fn call_from_outside(
+// Calls a function of a module from outside, over both parts of a store.
+fn call_code_from_outside<'a>(
     alloc: Global,
-    code: &Code,
+    code: &'a Code,
     state: &mut State,
+    hosts: &mut HostTable,
     meter: &mut Meter,
-    address: u32,
+    callee: &ModuleFunction<'a>,
     args: &[Val],
 ) -> Outcome
-    requires arguments { TakesArguments (store_with code.now state.old) address args.now }
+    requires there { (address : ℕ) × (slice_get (functions_in code.now) address ≡ Some (function_of
+        callee.now.ty.now callee.now.instance callee.now.func.now)) }
+    requires arguments { length args.now ≡ length callee.now.ty.now.params }
+    requires ends { HasEnds callee.now.func.now.body callee.now.ends.now }
+    requires whole { (rests callee.now.func.now.body).around ≡ [] }
+    requires hosts { HaveHosts (store_with code.now state.old)
+        hosts.old.objects.items }
     requires closed { meter.old.frames ≡ 0 }
-    ensures run { RunsTo meter.old.bound (world_of code.now state.old) meter.old.left
-        (Invoking (reverse args.now) address) (ending_of result) (world_of code.now state.new)
-        meter.new.left }
+    ensures run { (address : ℕ) → slice_get (functions_in code.now) address ≡ Some (function_of
+        callee.now.ty.now callee.now.instance callee.now.func.now) → Run
+        (HostStep ⟦<dyn HostFn as HostFn>⟧) meter.old.bound no_frame
+        (run_state (store_with code.now state.old) hosts.old.objects.items meter.old.left)
+        (Invoking (reverse args.now) address) (ending_of result)
+        (run_state (store_with code.now state.new) hosts.new.objects.items meter.new.left) }
+    ensures hosts { HaveHosts (store_with code.now state.new)
+        hosts.new.objects.items }
     ensures bound { meter.new.bound ≡ meter.old.bound }
     ensures closed { meter.new.frames ≡ 0 }
 {
-    let Some(callee) = code.function(address) else {
-        unreachable!()
-    };
     if !meter.enter() {
         return Outcome::Exhausted(Exhaustion::Depth);
     }
-    let outcome = match open_machine(alloc, &callee, code_of(&callee), args) {
-        Ok(machine) => run(code, state, machine, meter),
+    let outcome = match open_machine(alloc, callee, code_of(callee), args) {
+        Ok(machine) => run(code, state, hosts, machine, meter),
         Err(_) => Outcome::Exhausted(Exhaustion::Memory),
     };
     meter.leave_all();
     outcome
 }
 
+// Calls a host function from outside, which is lent no bytes.
+fn call_host_from_outside(hosts: &mut HostTable, number: u32, args: &[Val]) -> Outcome
+    requires there { (t : FuncType) × IsHost hosts.old.objects.items number t
+        × (map type_of args.now ≡ t.params) }
+    ensures run { (store : AnyStore) (bound fuel address : ℕ) (t : FuncType) →
+        slice_get store.functions address ≡ Some (host_function number t) → map type_of args.now ≡
+        t.params → Run (HostStep ⟦<dyn HostFn as HostFn>⟧) bound no_frame
+        (run_state store hosts.old.objects.items fuel) (Invoking (reverse args.now) address)
+        (ending_of result) (run_state store hosts.new.objects.items fuel) }
+    ensures hosts { (store : AnyStore) → HaveHosts store
+        hosts.old.objects.items → HaveHosts store hosts.new.objects.items }
+{
+    match hosts.call(number, args, &mut []) {
+        Ok(values) => Outcome::Values(Items::from_vec(values)),
+        Err(HostFault::Trap(why)) => Outcome::Trap(Trap::Host(why)),
+        Err(HostFault::Memory) => Outcome::Exhausted(Exhaustion::Memory),
+    }
+}
+
 /// Calls the function at an address from outside, and runs it to its end within the fuel that is left and the depth bound.
 ///
-/// The caller owes a function at the address, arguments of its parameter types (`accepts` is the test of both) and a meter without
-/// an open frame; at the end no frame is open. A refused step charges nothing. `Stuck` is answered only where the run came to a
-/// configuration that is neither an end nor ready (Execution, Modules, Invocation).
+/// The caller owes a function at the address, arguments of its parameter types (`accepts` is the test of both), for each host function
+/// of the store an object of its type, and a meter without an open frame; at the end no frame is open. A refused step charges
+/// nothing. `Stuck` is answered only where the run came to a configuration that is neither an end nor ready (Execution, Modules,
+/// Invocation).
 pub fn invoke(
     alloc: Global,
     store: &mut Store,
@@ -109,14 +326,22 @@ pub fn invoke(
     args: &[Val],
 ) -> Outcome
     requires arguments { TakesArguments (store_of store.old) address args.now }
+    requires hosts { HaveHosts (store_of store.old) hosts.old.objects.items }
     requires closed { meter.old.frames ≡ 0 }
-    ensures run { Run NoHosts meter.old.bound no_frame (state_of store.old hosts.old meter.old)
+    ensures run { Run (HostStep ⟦<dyn HostFn as HostFn>⟧) meter.old.bound no_frame
+        (run_state (store_of store.old) hosts.old.objects.items meter.old.left)
         (Invoking (reverse args.now) address) (ending_of result)
-        (state_of store.new hosts.new meter.new) }
+        (run_state (store_of store.new) hosts.new.objects.items meter.new.left) }
+    ensures hosts { HaveHosts (store_of store.new) hosts.new.objects.items }
     ensures bound { meter.new.bound ≡ meter.old.bound }
     ensures closed { meter.new.frames ≡ 0 }
 {
-    let _ = hosts;
     let (code, state) = store.parts_mut();
-    call_from_outside(alloc, code, state, meter, address, args)
+    match code.function(address) {
+        Some(Callee::InModule(callee)) => {
+            call_code_from_outside(alloc, code, state, hosts, meter, &callee, args)
+        }
+        Some(Callee::InHost(callee)) => call_host_from_outside(hosts, callee.number, args),
+        None => unreachable!(),
+    }
 }

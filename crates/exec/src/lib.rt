@@ -3,12 +3,12 @@
 
 mod control;
 mod effects;
-mod host_table;
+mod hosts;
 mod instructions;
 mod invocation;
 mod machine;
 mod positions;
 
-pub use host_table::HostTable;
+pub use hosts::have_hosts;
 pub use invocation::invoke;
 pub use machine::Outcome;

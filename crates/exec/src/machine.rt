@@ -81,6 +81,8 @@ pub enum Step {
     Traps(Trap),
     /// The next step wants fuel, depth or memory that is not there.
     Lacks(Exhaustion),
+    /// The next step is a call of the host function of this number, for which there is fuel.
+    CallsHost(u32),
     /// There is no next step.
     Stuck,
 }

@@ -1,8 +1,9 @@
 //! Modules from text, and stores of them.
 
 use binary::decode;
-use exec::HostTable;
+use exec::have_hosts;
 use fuel::Meter;
+use hostfunc::HostTable;
 use instantiate::instantiate;
 use std::alloc::Global;
 use std::rc::Rc;
@@ -52,6 +53,9 @@ pub fn empty_store(alloc: Global) -> Store {
 /// Links a module without imports, and answers the number of its instance; none where the link does not come to its end.
 pub fn append(alloc: Global, store: &mut Store, loaded: &Rc<LoadedModule>) -> Option<u32> {
     let mut hosts = HostTable::new(alloc);
+    if !have_hosts(store, &hosts) {
+        return None;
+    }
     let mut meter = Meter::new(FUEL, DEPTH);
     instantiate(alloc, store, &mut hosts, &mut meter, loaded, &[]).ok()
 }

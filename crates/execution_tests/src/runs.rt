@@ -2,8 +2,9 @@
 
 use crate::modules::store_with;
 use core_types::{Exhaustion, Trap, Val};
-use exec::{HostTable, Outcome, invoke};
+use exec::{Outcome, have_hosts, invoke};
 use fuel::Meter;
+use hostfunc::HostTable;
 use std::alloc::{AllocError, Global};
 use store::{Store, accepts};
 
@@ -252,6 +253,9 @@ pub fn calls_so(
         return false;
     }
     let mut hosts = HostTable::new(alloc);
+    if !have_hosts(store, &hosts) {
+        return false;
+    }
     let mut meter = Meter::new(fuel, depth);
     let outcome = invoke(alloc, store, &mut hosts, &mut meter, address, args);
     ends_so(alloc, &outcome, ends) && meter.left() == left

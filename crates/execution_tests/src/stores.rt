@@ -71,8 +71,8 @@ fn keeps_ends(alloc: Global) -> bool {
     let text = "(func i32.const 0 if block end else end)";
     match store_with(alloc, &[text]) {
         Some(store) => {
-            store.code().function(0).map(|callee| callee.ends)
-                == Some([6, 6, 4, 3, 4, 5, 6].as_slice())
+            matches!(store.code().function(0), Some(Callee::InModule(function))
+                if function.ends == [6, 6, 4, 3, 4, 5, 6].as_slice())
         }
         None => false,
     }
@@ -86,7 +86,7 @@ fn keeps_the_ends_of_bodies(rt: HostRuntime) {
 // Whether the instance at a number has the function at that address, which takes no arguments.
 fn is_kept(store: &Store, address: u32) -> bool {
     let code = store.code();
-    code.function(address).map(|callee| callee.instance) == Some(address)
+    matches!(code.function(address), Some(Callee::InModule(function)) if function.instance == address)
         && code
             .instance(address)
             .map(|instance| instance.addresses.functions.as_slice())
@@ -159,12 +159,15 @@ static FUNCTIONS: [(u32, u32, u32); 4] = [(0, 0, 10), (1, 1, 20), (2, 1, 21), (3
 
 // Whether a function of the instance gives an i32, by a body of this constant alone.
 fn gives(callee: Callee<'_>, instance: u32, number: u32) -> bool {
-    let is_constant = match callee.func.body.as_slice() {
+    let Callee::InModule(function) = callee else {
+        return false;
+    };
+    let is_constant = match function.func.body.as_slice() {
         [Op::Plain(PlainOp::I32Const(n))] => *n == number,
         _ => false,
     };
-    let results = callee.ty.results.as_slice();
-    callee.instance == instance && results == [ValType::I32].as_slice() && is_constant
+    let results = function.ty.results.as_slice();
+    function.instance == instance && results == [ValType::I32].as_slice() && is_constant
 }
 
 // Whether the function at an address is such a one, in a store of the three modules.

@@ -2,8 +2,9 @@
 use Rattle.std.specs.Prelude.{◌≡◌, ℕ, ◌<◌, List, [], length, take, Option, Some, None, Result, Ok, Err}
 use Rattle.core_types.specs.declared.module.Module.{Module}
 use Rattle.core_types.specs.declared.outcome.Extern.{Extern}
+use Rattle.core_types.specs.declared.outcome.Val.{Val}
 use Rattle.meaning.specs.execution.Modules.{AreGiven, HasNoValues, Instantiation, IsAllowed, IsWithinLimits, new_instance, new_objects, with_module}
-use Rattle.meaning.specs.execution.Runs.{NoHosts, State, WithValues}
+use Rattle.meaning.specs.execution.Runs.{Answer, State, WithValues}
 use Rattle.meaning.specs.execution.Store.{ObjectLists, Store}
 use Rattle.exec.specs.declared.machine.Outcome.{Outcome}
 use Rattle.exec.specs.declared.machine.Outcome.TheVariants.{Stuck}
@@ -31,11 +32,12 @@ IsCauseOrAllowed None store m externs = IsAllowed store m externs
 IsCauseOrAllowed (Some refusal) store m externs = IsCause refusal store m externs
 
 -- The module's objects, and its instance, are in the store.
-pub record IsAllocated (number : ℕ) (m : Module) (given : List Extern) (old new : Store) : Type 0 where
-  pub number_is : number ≡ length old.instances
-  pub objects : ObjectLists
-  pub objects_are : new_objects old (new_instance old m given) m ≡ Some objects
-  pub store_is : new ≡ with_module old (new_instance old m given) m objects
+pub record IsAllocated (number : ℕ) (m : Module) (given : List Extern) (old new : Store) : Type 0
+  where
+    pub number_is : number ≡ length old.instances
+    pub objects : ObjectLists
+    pub objects_are : new_objects old (new_instance old m given) m ≡ Some objects
+    pub store_is : new ≡ with_module old (new_instance old m given) m objects
 
 -- They are, or nothing has changed: there was no memory, or a constant expression has no value.
 abbrev pub Allocates : Result ℕ LinkEnd → Module → List Extern → (old new : Store) → Type 0
@@ -44,25 +46,33 @@ Allocates (Err (Refused refusal)) m given old new = (refusal ≡ OutOfMemory) ×
 Allocates (Err (Ended o)) m given old new =
     (o ≡ Stuck) × (new_objects old (new_instance old m given) m ≡ None) × (new ≡ old)
 
--- The module is instantiated, as the instance of this number.
-pub record IsLinked (number bound : ℕ) (m : Module) (externs : List Extern) (old new : State ⊥) : Type 0 where
-  pub allowed : IsAllowed old.store m externs
-  pub number_is : number ≡ length old.store.instances
-  pub run : Instantiation NoHosts bound m (given_to m externs) old (WithValues []) new
+module _ {H : Type 0} (HostStep : List H → ℕ → Option ℕ → List Val → Store → Answer → Store
+    → List H → Type 0) where
+  -- The module is instantiated, as the instance of this number.
+  pub record IsLinked (number bound : ℕ) (m : Module) (externs : List Extern)
+      (old new : State H) : Type 0 where
+    pub allowed : IsAllowed old.store m externs
+    pub number_is : number ≡ length old.store.instances
+    pub run : Instantiation HostStep bound m (given_to m externs) old (WithValues []) new
 
--- Its instantiation ended so.
-pub record IsEnded (o : Outcome) (bound : ℕ) (m : Module) (externs : List Extern) (old new : State ⊥) : Type 0 where
-  pub allowed : IsAllowed old.store m externs
-  pub no_values : HasNoValues (ending_of o)
-  pub run : Instantiation NoHosts bound m (given_to m externs) old (ending_of o) new
+  -- Its instantiation ended so.
+  pub record IsEnded (o : Outcome) (bound : ℕ) (m : Module) (externs : List Extern)
+      (old new : State H) : Type 0 where
+    pub allowed : IsAllowed old.store m externs
+    pub no_values : HasNoValues (ending_of o)
+    pub run : Instantiation HostStep bound m (given_to m externs) old (ending_of o) new
 
 -- Its link is refused, and nothing has changed.
-pub record IsRefused (refusal : LinkRefusal) (m : Module) (externs : List Extern) (old new : State ⊥) : Type 0 where
+pub record IsRefused {H : Type 0} (refusal : LinkRefusal) (m : Module) (externs : List Extern)
+    (old new : State H) : Type 0 where
   pub cause : IsCause refusal old.store m externs
   pub unchanged : new ≡ old
 
 -- What a link answers, and what it leaves.
-abbrev pub Links : Result ℕ LinkEnd → (bound : ℕ) → Module → List Extern → (old new : State ⊥) → Type 0
-Links (Ok number) bound m externs old new = IsLinked number bound m externs old new
-Links (Err (Ended o)) bound m externs old new = IsEnded o bound m externs old new
-Links (Err (Refused refusal)) bound m externs old new = IsRefused refusal m externs old new
+abbrev pub Links : {H : Type 0}
+    (HostStep : List H → ℕ → Option ℕ → List Val → Store → Answer → Store → List H → Type 0)
+    → Result ℕ LinkEnd → (bound : ℕ) → Module → List Extern → (old new : State H) → Type 0
+Links HostStep (Ok number) bound m externs old new =
+    IsLinked HostStep number bound m externs old new
+Links HostStep (Err (Ended o)) bound m externs old new = IsEnded HostStep o bound m externs old new
+Links HostStep (Err (Refused refusal)) bound m externs old new = IsRefused refusal m externs old new

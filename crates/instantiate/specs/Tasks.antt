@@ -10,8 +10,8 @@ use Rattle.core_types.specs.declared.outcome.Val.{Val}
 use Rattle.core_types.specs.declared.outcome.Val.TheVariants.{I32, I64, FuncRef, ExternRef}
 use Rattle.meaning.specs.execution.Configurations.{Configuration, Frame}
 use Rattle.meaning.specs.execution.Modules.{HasNoValues, RunTasks, Task}
-use Rattle.meaning.specs.execution.Runs.{Ending, IsStep, NoHosts, Run, State, WithValues}
-use Rattle.meaning.specs.execution.Store.{ModuleInstance}
+use Rattle.meaning.specs.execution.Runs.{Answer, Ending, IsStep, Run, State, WithValues}
+use Rattle.meaning.specs.execution.Store.{ModuleInstance, Store}
 use Rattle.exec.specs.declared.machine.Outcome.{Outcome}
 use Rattle.exec.specs.declared.machine.Outcome.TheVariants.{Exhausted, Stuck, Trap}
 use Rattle.exec.specs.Simulation.{ending_of, state, world_of}
@@ -32,7 +32,8 @@ instance_in linked = module_instance (lists_of linked.addresses.now) linked.modu
 -- There is an instance of this module under this number.
 abbrev pub HasInstance : Contents → (instance : ℕ) → Module → Type 0
 HasInstance code instance m =
-    (addresses : AddressLists) × (slice_get (instances_in code) instance ≡ Some (module_instance addresses m))
+    (addresses : AddressLists) × (slice_get (instances_in code) instance ≡
+    Some (module_instance addresses m))
 
 -- Its frame, in which segments are copied.
 abbrev pub frame_in : Linked → Frame
@@ -64,34 +65,45 @@ abbrev pub IsPassed : {U : Type 0} → Result U Outcome → Progress → Type 0
 IsPassed (Ok u) p = p ≡ progress.Done
 IsPassed (Err o) p = IsEndOf o p
 
--- This outcome ends the run.
-pub record Ends (bound : ℕ) (frame : Frame) (old : State ⊥) (configuration : Configuration) (o : Outcome) (new : State ⊥) : Type 0 where
-  pub ends : Run NoHosts bound frame old configuration (ending_of o) new
-  pub no_values : HasNoValues (ending_of o)
+module _ {H : Type 0} (HostStep : List H → ℕ → Option ℕ → List Val → Store → Answer → Store
+    → List H → Type 0) where
+  -- This outcome ends the run.
+  pub record Ends (bound : ℕ) (frame : Frame) (old : State H) (configuration : Configuration)
+      (o : Outcome) (new : State H) : Type 0 where
+    pub ends : Run HostStep bound frame old configuration (ending_of o) new
+    pub no_values : HasNoValues (ending_of o)
 
--- One step to this configuration, or another end of the run.
-abbrev pub StepsOrEnds : {U : Type 0} → Result U Outcome → (bound : ℕ) → Frame → (old : State ⊥) → Configuration → (new : State ⊥) → Configuration → Type 0
-StepsOrEnds (Ok u) bound frame old configuration new then = IsStep NoHosts bound frame old configuration new then
-StepsOrEnds (Err o) bound frame old configuration new then = Ends bound frame old configuration o new
+  -- One step to this configuration, or another end of the run.
+  abbrev pub StepsOrEnds : {U : Type 0} → Result U Outcome → (bound : ℕ) → Frame → (old : State H)
+      → Configuration → (new : State H) → Configuration → Type 0
+  StepsOrEnds (Ok u) bound frame old configuration new then =
+      IsStep HostStep bound frame old configuration new then
+  StepsOrEnds (Err o) bound frame old configuration new then =
+      Ends bound frame old configuration o new
 
--- A run to values, or to another end.
-abbrev pub RunsTo : {U : Type 0} → Result U Outcome → (bound : ℕ) → Frame → (old : State ⊥) → Configuration → (new : State ⊥) → Type 0
-RunsTo (Ok u) bound frame old configuration new =
-    (values : List Val) × Run NoHosts bound frame old configuration (WithValues values) new
-RunsTo (Err o) bound frame old configuration new = Ends bound frame old configuration o new
+  -- A run to values, or to another end.
+  abbrev pub RunsTo : {U : Type 0} → Result U Outcome → (bound : ℕ) → Frame → (old : State H)
+      → Configuration → (new : State H) → Type 0
+  RunsTo (Ok u) bound frame old configuration new =
+      (values : List Val) × Run HostStep bound frame old configuration (WithValues values) new
+  RunsTo (Err o) bound frame old configuration new = Ends bound frame old configuration o new
 
--- The tasks are done, and others may follow.
-abbrev pub DoneTasks : (bound instance : ℕ) → ModuleInstance → (old : State ⊥) → List Task → (new : State ⊥) → Type 0
-DoneTasks bound instance i old tasks new =
-    (further : List Task) (ending : Ending) (last : State ⊥)
-    → RunTasks NoHosts bound instance i new further ending last
-    → RunTasks NoHosts bound instance i old (tasks ++ further) ending last
+  -- The tasks are done, and others may follow.
+  abbrev pub DoneTasks : (bound instance : ℕ) → ModuleInstance → (old : State H) → List Task
+      → (new : State H) → Type 0
+  DoneTasks bound instance i old tasks new =
+      (further : List Task) (ending : Ending) (last : State H)
+      → RunTasks HostStep bound instance i new further ending last
+      → RunTasks HostStep bound instance i old (tasks ++ further) ending last
 
--- One of the tasks ended the link.
-pub record EndedTasks (bound instance : ℕ) (i : ModuleInstance) (old : State ⊥) (tasks : List Task) (o : Outcome) (new : State ⊥) : Type 0 where
-  pub ended : (further : List Task) → RunTasks NoHosts bound instance i old (tasks ++ further) (ending_of o) new
-  pub no_values : HasNoValues (ending_of o)
+  -- One of the tasks ended the link.
+  pub record EndedTasks (bound instance : ℕ) (i : ModuleInstance) (old : State H)
+      (tasks : List Task) (o : Outcome) (new : State H) : Type 0 where
+    pub ended : (further : List Task)
+        → RunTasks HostStep bound instance i old (tasks ++ further) (ending_of o) new
+    pub no_values : HasNoValues (ending_of o)
 
-abbrev pub RanTasks : {U : Type 0} → Result U Outcome → (bound instance : ℕ) → ModuleInstance → (old : State ⊥) → List Task → (new : State ⊥) → Type 0
-RanTasks (Ok u) bound instance i old tasks new = DoneTasks bound instance i old tasks new
-RanTasks (Err o) bound instance i old tasks new = EndedTasks bound instance i old tasks o new
+  abbrev pub RanTasks : {U : Type 0} → Result U Outcome → (bound instance : ℕ) → ModuleInstance
+      → (old : State H) → List Task → (new : State H) → Type 0
+  RanTasks (Ok u) bound instance i old tasks new = DoneTasks bound instance i old tasks new
+  RanTasks (Err o) bound instance i old tasks new = EndedTasks bound instance i old tasks o new

@@ -5,6 +5,7 @@ ghost use Rattle.core_types.specs.declared.op.TableOp.TheVariants.{ElemDrop as E
 ghost use Rattle.core_types.specs.declared.outcome.Val.TheVariants.{I32 as I32Value};
 ghost use Rattle.meaning.specs.structure.Bodies.{Body, Empty, Then};
 ghost use Rattle.meaning.specs.execution.Configurations.{Running};
+ghost use Rattle.meaning.specs.execution.Runs.{NoHosts};
 ghost use Rattle.instantiate.specs.Tasks.{IsDrop, IsPassed, RunsTo, StepsOrEnds, frame_in, link_state};
 
 use core_types::{Exhaustion, MemoryOp, Module, PlainOp, TableOp};
@@ -46,7 +47,7 @@ pub fn drop_segment(
     meter: &mut Meter,
 ) -> Result<(), Outcome>
     requires { IsDrop op.now }
-    ensures run { RunsTo result meter.old.bound (frame_in linked.now)
+    ensures run { RunsTo NoHosts result meter.old.bound (frame_in linked.now)
         (link_state linked.now.code.now state.old meter.old.left) (Running ([])
         (Then op.now Empty)) (link_state linked.now.code.now state.new meter.new.left) }
     ensures bound { meter.new.bound ≡ meter.old.bound }
@@ -67,7 +68,7 @@ fn init_elements(
     state: &mut State,
     meter: &mut Meter,
 ) -> Result<(), Outcome>
-    ensures step { (rest : Body) → StepsOrEnds result meter.old.bound (frame_in linked.now)
+    ensures step { (rest : Body) → StepsOrEnds NoHosts result meter.old.bound (frame_in linked.now)
         (link_state linked.now.code.now state.old meter.old.left) (Running
         (I32Value given.count ∷ I32Value given.from ∷ I32Value given.target ∷ [])
         (Then (TableForm (TableInitForm segment table)) rest))
@@ -89,7 +90,7 @@ pub fn copy_elements(
     state: &mut State,
     meter: &mut Meter,
 ) -> Result<(), Outcome>
-    ensures run { RunsTo result meter.old.bound (frame_in linked.now)
+    ensures run { RunsTo NoHosts result meter.old.bound (frame_in linked.now)
         (link_state linked.now.code.now state.old meter.old.left) (Running
         (I32Value given.count ∷ I32Value given.from ∷ I32Value given.target ∷ [])
         (Then (TableForm (TableInitForm segment table))
@@ -111,7 +112,7 @@ fn init_bytes(
     state: &mut State,
     meter: &mut Meter,
 ) -> Result<(), Outcome>
-    ensures step { (rest : Body) → StepsOrEnds result meter.old.bound (frame_in linked.now)
+    ensures step { (rest : Body) → StepsOrEnds NoHosts result meter.old.bound (frame_in linked.now)
         (link_state linked.now.code.now state.old meter.old.left) (Running
         (I32Value given.count ∷ I32Value given.from ∷ I32Value given.target ∷ [])
         (Then (MemoryForm (MemoryInitForm segment)) rest))
@@ -132,7 +133,7 @@ pub fn copy_bytes(
     state: &mut State,
     meter: &mut Meter,
 ) -> Result<(), Outcome>
-    ensures run { RunsTo result meter.old.bound (frame_in linked.now)
+    ensures run { RunsTo NoHosts result meter.old.bound (frame_in linked.now)
         (link_state linked.now.code.now state.old meter.old.left) (Running
         (I32Value given.count ∷ I32Value given.from ∷ I32Value given.target ∷ [])
         (Then (MemoryForm (MemoryInitForm segment))

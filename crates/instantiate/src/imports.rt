@@ -17,7 +17,7 @@ fn is_function_given(store: &Store, address: u32, wanted: &Module, x: u32) -> bo
         store.code().function(address),
         wanted.types.as_slice().get(x as usize),
     ) {
-        (Some(callee), Some(ty)) => callee.ty.is_same(ty),
+        (Some(callee), Some(ty)) => callee.ty().is_same(ty),
         _ => false,
     }
 }

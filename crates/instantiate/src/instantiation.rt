@@ -1,7 +1,9 @@
 ghost use Rattle.std.specs.Prelude.{◌≡◌, ◌<◌, ◌^◌, ◌++◌, length, Some};
 ghost use Rattle.meaning.specs.execution.Modules.{IsWithinLimits, data_tasks, element_tasks, tasks_of};
 ghost use Rattle.meaning.specs.execution.Store.{instance_of};
-ghost use Rattle.exec.specs.Simulation.{state_of};
+ghost use Rattle.meaning.specs.execution.Runs.{NoHosts};
+ghost use Rattle.hostfunc.specs.Boxes.{HaveHosts, HostStep};
+ghost use Rattle.exec.specs.Simulation.{run_state};
 ghost use Rattle.store.specs.Contents.{code_store, store_of};
 ghost use Rattle.instantiate.specs.Links.{Allocates, IsCauseOrAllowed, Links};
 ghost use Rattle.instantiate.specs.Tasks.{HasInstance, RanTasks, link_state};
@@ -14,8 +16,9 @@ use crate::link_end::{LinkEnd, LinkRefusal};
 use crate::objects::{ObjectFault, new_objects};
 use crate::tasks::{run_data_segments, run_element_segments, run_start};
 use core_types::{Extern, Module};
-use exec::{HostTable, Outcome};
+use exec::Outcome;
 use fuel::Meter;
+use hostfunc::{HostFn, HostTable};
 use std::alloc::Global;
 use std::rc::Rc;
 use store::{LoadedModule, Store};
@@ -44,7 +47,8 @@ fn allocate(
     given: &[Extern],
 ) -> Result<u32, LinkEnd>
     requires { IsWithinLimits (store_of store.old) loaded.now.value }
-    ensures { Allocates result loaded.now.value given.now (store_of store.old) (store_of store.new) }
+    ensures { Allocates result loaded.now.value given.now (store_of store.old)
+        (store_of store.new) }
 {
     let addresses = new_addresses(alloc, store, loaded.as_ref().module(), given)?;
     let objects = match new_objects(alloc, store, loaded, &addresses) {
@@ -67,7 +71,7 @@ fn run_segments(
     requires instance { HasInstance store.old.code instance wanted.now }
     requires elements { length wanted.now.elements < 2 ^ 32 }
     requires datas { length wanted.now.datas < 2 ^ 32 }
-    ensures ran { RanTasks result meter.old.bound instance
+    ensures ran { RanTasks NoHosts result meter.old.bound instance
         (instance_of (code_store store.old.code) (Some instance))
         (link_state store.old.code store.old.state meter.old.left)
         (element_tasks wanted.now.elements ++ data_tasks wanted.now.datas)
@@ -102,11 +106,14 @@ fn run_tasks(
     requires instance { HasInstance store.old.code instance wanted.now }
     requires elements { length wanted.now.elements < 2 ^ 32 }
     requires datas { length wanted.now.datas < 2 ^ 32 }
+    requires hosts { HaveHosts (store_of store.old) hosts.old.objects.items }
     requires closed { meter.old.frames ≡ 0 }
-    ensures ran { RanTasks result meter.old.bound instance
+    ensures ran { RanTasks (HostStep ⟦<dyn HostFn as HostFn>⟧) result meter.old.bound instance
         (instance_of (code_store store.old.code) (Some instance))
-        (state_of store.old hosts.old meter.old) (tasks_of wanted.now)
-        (state_of store.new hosts.new meter.new) }
+        (run_state (store_of store.old) hosts.old.objects.items meter.old.left)
+        (tasks_of wanted.now)
+        (run_state (store_of store.new) hosts.new.objects.items meter.new.left) }
+    ensures hosts { HaveHosts (store_of store.new) hosts.new.objects.items }
     ensures bound { meter.new.bound ≡ meter.old.bound }
     ensures closed { meter.new.frames ≡ 0 }
 {
@@ -124,7 +131,8 @@ fn run_tasks(
 /// It is refused, and nothing has changed: with `UnknownImport` where less is given than is imported, then with
 /// `IncompatibleImport` where something does not match, then with `Limit` where a table or a memory would be larger than the
 /// embedding allows, or an address larger than 32 bits; with `OutOfMemory` where there is no memory. A trap or an exhaustion ends
-/// the link where it stands, and what was done stays. The caller owes a meter without an open frame; at the end no frame is open.
+/// the link where it stands, and what was done stays. The caller owes for each host function of the store an object of its type, and
+/// a meter without an open frame; at the end no frame is open.
 pub fn instantiate(
     alloc: Global,
     store: &mut Store,
@@ -133,9 +141,13 @@ pub fn instantiate(
     loaded: &Rc<LoadedModule>,
     externs: &[Extern],
 ) -> Result<u32, LinkEnd>
+    requires hosts { HaveHosts (store_of store.old) hosts.old.objects.items }
     requires closed { meter.old.frames ≡ 0 }
-    ensures linked { Links result meter.old.bound loaded.now.value externs.now
-        (state_of store.old hosts.old meter.old) (state_of store.new hosts.new meter.new) }
+    ensures linked { Links (HostStep ⟦<dyn HostFn as HostFn>⟧) result meter.old.bound
+        loaded.now.value externs.now
+        (run_state (store_of store.old) hosts.old.objects.items meter.old.left)
+        (run_state (store_of store.new) hosts.new.objects.items meter.new.left) }
+    ensures hosts { HaveHosts (store_of store.new) hosts.new.objects.items }
     ensures bound { meter.new.bound ≡ meter.old.bound }
     ensures closed { meter.new.frames ≡ 0 }
 {

@@ -109,7 +109,8 @@ fn function_references(
     addresses: &Addresses,
     state: &State,
 ) -> Result<Vec<Val>, ObjectFault>
-    ensures values { IfOk result (λ found. (code : Contents) (m : AnyModule) → map_all (λ x. constant
+    ensures values { IfOk result (λ found. (code : Contents) (m : AnyModule)
+        → map_all (λ x. constant
         (store_with code state.now) (module_instance (lists_of addresses.now) m)
         (ReferenceForm (FuncForm x))) indices.now ≡ Some found.items) }
     ensures none { (code : Contents) (m : AnyModule) → OnNoValue result (map_all (λ x. constant

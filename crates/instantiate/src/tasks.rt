@@ -2,8 +2,10 @@ ghost use Rattle.std.specs.Prelude.{◌≡◌, ◌%◌, ◌<◌, ◌^◌, [], le
 ghost use Rattle.core_types.specs.declared.outcome.Val.TheVariants.{I32 as I32Value};
 ghost use Rattle.meaning.specs.execution.Modules.{constant_value as value_of, data_task, data_tasks, element_task, element_tasks, start_task};
 ghost use Rattle.meaning.specs.execution.Store.{instance_of};
-ghost use Rattle.store.specs.Contents.{code_store, store_with};
-ghost use Rattle.exec.specs.Simulation.{state_of};
+ghost use Rattle.meaning.specs.execution.Runs.{NoHosts};
+ghost use Rattle.store.specs.Contents.{code_store, store_of, store_with};
+ghost use Rattle.hostfunc.specs.Boxes.{HaveHosts, HostStep};
+ghost use Rattle.exec.specs.Simulation.{run_state};
 ghost use Rattle.meaning.specs.execution.Configurations.{Invoking, no_frame};
 ghost use Rattle.meaning.specs.execution.Modules.{item_count as count_of};
 ghost use Rattle.instantiate.specs.Tasks.{HasNoI32, RanTasks, RunsTo, instance_in, link_state};
@@ -13,8 +15,9 @@ use crate::copies::{Linked, copy_bytes, copy_elements, drop_segment};
 use core_types::{
     DataMode, DataSegment, ElementItems, ElementMode, ElementSegment, Op, PlainOp, TableOp, Val,
 };
-use exec::{HostTable, Outcome, invoke};
+use exec::{Outcome, invoke};
 use fuel::Meter;
+use hostfunc::{HostFn, HostTable};
 use plain::CopyOperands;
 use std::alloc::Global;
 use store::{State, Store, accepts};
@@ -58,7 +61,8 @@ fn run_element_segment(
     state: &mut State,
     meter: &mut Meter,
 ) -> Result<(), Outcome>
-    ensures ran { RanTasks result meter.old.bound linked.now.instance (instance_in linked.now)
+    ensures ran { RanTasks NoHosts result meter.old.bound linked.now.instance
+        (instance_in linked.now)
         (link_state linked.now.code.now state.old meter.old.left)
         (element_task x wanted.now.items wanted.now.mode)
         (link_state linked.now.code.now state.new meter.new.left) }
@@ -96,7 +100,8 @@ pub fn run_element_segments(
     meter: &mut Meter,
 ) -> Result<(), Outcome>
     requires { length linked.now.module_read.now.elements < 2 ^ 32 }
-    ensures ran { RanTasks result meter.old.bound linked.now.instance (instance_in linked.now)
+    ensures ran { RanTasks NoHosts result meter.old.bound linked.now.instance
+        (instance_in linked.now)
         (link_state linked.now.code.now state.old meter.old.left)
         (element_tasks linked.now.module_read.now.elements)
         (link_state linked.now.code.now state.new meter.new.left) }
@@ -119,7 +124,8 @@ fn run_data_segment(
     state: &mut State,
     meter: &mut Meter,
 ) -> Result<(), Outcome>
-    ensures ran { RanTasks result meter.old.bound linked.now.instance (instance_in linked.now)
+    ensures ran { RanTasks NoHosts result meter.old.bound linked.now.instance
+        (instance_in linked.now)
         (link_state linked.now.code.now state.old meter.old.left)
         (data_task x wanted.now.bytes wanted.now.mode)
         (link_state linked.now.code.now state.new meter.new.left) }
@@ -153,7 +159,8 @@ pub fn run_data_segments(
     meter: &mut Meter,
 ) -> Result<(), Outcome>
     requires { length linked.now.module_read.now.datas < 2 ^ 32 }
-    ensures ran { RanTasks result meter.old.bound linked.now.instance (instance_in linked.now)
+    ensures ran { RanTasks NoHosts result meter.old.bound linked.now.instance
+        (instance_in linked.now)
         (link_state linked.now.code.now state.old meter.old.left)
         (data_tasks linked.now.module_read.now.datas)
         (link_state linked.now.code.now state.new meter.new.left) }
@@ -175,9 +182,13 @@ fn call_start(
     meter: &mut Meter,
     address: u32,
 ) -> Result<(), Outcome>
+    requires hosts { HaveHosts (store_of store.old) hosts.old.objects.items }
     requires closed { meter.old.frames ≡ 0 }
-    ensures run { RunsTo result meter.old.bound no_frame (state_of store.old hosts.old meter.old)
-        (Invoking ([]) address) (state_of store.new hosts.new meter.new) }
+    ensures run { RunsTo (HostStep ⟦<dyn HostFn as HostFn>⟧) result meter.old.bound no_frame
+        (run_state (store_of store.old) hosts.old.objects.items meter.old.left)
+        (Invoking ([]) address)
+        (run_state (store_of store.new) hosts.new.objects.items meter.new.left) }
+    ensures hosts { HaveHosts (store_of store.new) hosts.new.objects.items }
     ensures bound { meter.new.bound ≡ meter.old.bound }
     ensures closed { meter.new.frames ≡ 0 }
 {
@@ -199,11 +210,13 @@ pub fn run_start(
     instance: u32,
     start: Option<u32>,
 ) -> Result<(), Outcome>
+    requires hosts { HaveHosts (store_of store.old) hosts.old.objects.items }
     requires closed { meter.old.frames ≡ 0 }
-    ensures ran { RanTasks result meter.old.bound instance
+    ensures ran { RanTasks (HostStep ⟦<dyn HostFn as HostFn>⟧) result meter.old.bound instance
         (instance_of (code_store store.old.code) (Some instance))
-        (state_of store.old hosts.old meter.old) (start_task start)
-        (state_of store.new hosts.new meter.new) }
+        (run_state (store_of store.old) hosts.old.objects.items meter.old.left) (start_task start)
+        (run_state (store_of store.new) hosts.new.objects.items meter.new.left) }
+    ensures hosts { HaveHosts (store_of store.new) hosts.new.objects.items }
     ensures bound { meter.new.bound ≡ meter.old.bound }
     ensures closed { meter.new.frames ≡ 0 }
 {

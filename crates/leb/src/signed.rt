@@ -38,7 +38,8 @@ fn signed_front(bytes: &[u8], bits: u32) -> Option<(i64, usize)>
     requires at_most { bits ≤ 64 }
     ensures size { IfSome result (λ f. (0 < f.1) × (f.1 ≤ length bytes.now)) }
     ensures range { IfSome result (λ f. IsInRange bits f.0) }
-    ensures found { IfSome result (λ f. Reads (SpellsSigned bits) bytes.now f.0 (drop f.1 bytes.now)) }
+    ensures found { IfSome result
+        (λ f. Reads (SpellsSigned bits) bytes.now f.0 (drop f.1 bytes.now)) }
     ensures none { IfNone result (NoFront (SpellsSigned bits) bytes.now) }
 {
     let (byte, rest) = bytes.split_first()?;
@@ -61,7 +62,8 @@ fn signed_front(bytes: &[u8], bits: u32) -> Option<(i64, usize)>
 pub fn read_s32(bytes: &[u8], at: usize) -> Option<(i32, usize)>
     requires { at ≤ length bytes.now }
     ensures within { IfSome result (λ f. (at < f.1) × (f.1 ≤ length bytes.now)) }
-    ensures found { IfSome result (λ f. Reads (SpellsSigned 32) (drop at bytes.now) f.0 (drop f.1 bytes.now)) }
+    ensures found { IfSome result
+        (λ f. Reads (SpellsSigned 32) (drop at bytes.now) f.0 (drop f.1 bytes.now)) }
     ensures none { IfNone result (NoFront (SpellsSigned 32) (drop at bytes.now)) }
 {
     let (value, size) = signed_front(&bytes[at..], 32)?;
@@ -75,7 +77,8 @@ pub fn read_s32(bytes: &[u8], at: usize) -> Option<(i32, usize)>
 pub fn read_s33(bytes: &[u8], at: usize) -> Option<(i64, usize)>
     requires { at ≤ length bytes.now }
     ensures within { IfSome result (λ f. (at < f.1) × (f.1 ≤ length bytes.now)) }
-    ensures found { IfSome result (λ f. Reads (SpellsSigned 33) (drop at bytes.now) f.0 (drop f.1 bytes.now)) }
+    ensures found { IfSome result
+        (λ f. Reads (SpellsSigned 33) (drop at bytes.now) f.0 (drop f.1 bytes.now)) }
     ensures range { IfSome result (λ f. f.0 <ℤ pos (2 ^ 32)) }
     ensures none { IfNone result (NoFront (SpellsSigned 33) (drop at bytes.now)) }
 {
@@ -90,7 +93,8 @@ pub fn read_s33(bytes: &[u8], at: usize) -> Option<(i64, usize)>
 pub fn read_s64(bytes: &[u8], at: usize) -> Option<(i64, usize)>
     requires { at ≤ length bytes.now }
     ensures within { IfSome result (λ f. (at < f.1) × (f.1 ≤ length bytes.now)) }
-    ensures found { IfSome result (λ f. Reads (SpellsSigned 64) (drop at bytes.now) f.0 (drop f.1 bytes.now)) }
+    ensures found { IfSome result
+        (λ f. Reads (SpellsSigned 64) (drop at bytes.now) f.0 (drop f.1 bytes.now)) }
     ensures none { IfNone result (NoFront (SpellsSigned 64) (drop at bytes.now)) }
 {
     let (value, size) = signed_front(&bytes[at..], 64)?;

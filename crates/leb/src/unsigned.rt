@@ -9,7 +9,8 @@ fn unsigned_front(bytes: &[u8], bits: u32) -> Option<(u64, usize)>
     requires { bits ≤ 64 }
     ensures size { IfSome result (λ f. (0 < f.1) × (f.1 ≤ length bytes.now)) }
     ensures range { IfSome result (λ f. f.0 < 2 ^ bits) }
-    ensures found { IfSome result (λ f. Reads (SpellsUnsigned bits) bytes.now f.0 (drop f.1 bytes.now)) }
+    ensures found { IfSome result
+        (λ f. Reads (SpellsUnsigned bits) bytes.now f.0 (drop f.1 bytes.now)) }
     ensures none { IfNone result (NoFront (SpellsUnsigned bits) bytes.now) }
 {
     let (byte, rest) = bytes.split_first()?;
@@ -34,7 +35,8 @@ fn unsigned_front(bytes: &[u8], bits: u32) -> Option<(u64, usize)>
 pub fn read_u32(bytes: &[u8], at: usize) -> Option<(u32, usize)>
     requires { at ≤ length bytes.now }
     ensures within { IfSome result (λ f. (at < f.1) × (f.1 ≤ length bytes.now)) }
-    ensures found { IfSome result (λ f. Reads (SpellsUnsigned 32) (drop at bytes.now) f.0 (drop f.1 bytes.now)) }
+    ensures found { IfSome result
+        (λ f. Reads (SpellsUnsigned 32) (drop at bytes.now) f.0 (drop f.1 bytes.now)) }
     ensures none { IfNone result (NoFront (SpellsUnsigned 32) (drop at bytes.now)) }
 {
     let (value, size) = unsigned_front(&bytes[at..], 32)?;

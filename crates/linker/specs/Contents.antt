@@ -13,9 +13,11 @@ module _ {Z S : Type 0} where
   numbers_in m = named (λ n. n) m.entries
 
   -- The numbers under two names.
-  abbrev pub maps_in : IndexMap (String Z) (IndexMap (String Z) ℕ S) S → List (List ℕ × List (List ℕ × ℕ))
+  abbrev pub maps_in : IndexMap (String Z) (IndexMap (String Z) ℕ S) S
+      → List (List ℕ × List (List ℕ × ℕ))
   maps_in m = named numbers_in m.entries
 
   -- The names that are kept.
-  abbrev pub names_of : IndexMap (String Z) (IndexMap (String Z) ℕ S) S → IndexMap (String Z) ℕ S → NamesContents
+  abbrev pub names_of : IndexMap (String Z) (IndexMap (String Z) ℕ S) S → IndexMap (String Z) ℕ S
+      → NamesContents
   names_of hosts registered = record { hosts = maps_in hosts; registered = numbers_in registered }

@@ -2,8 +2,9 @@
 
 use crate::modules::{DEPTH, ENTRIES, PAGES, link, loaded_module};
 use core_types::{Exhaustion, Extern, Trap, Val};
-use exec::{HostTable, Outcome, invoke};
+use exec::{Outcome, have_hosts, invoke};
 use fuel::Meter;
+use hostfunc::HostTable;
 use instantiate::{LinkEnd, LinkRefusal};
 use std::alloc::Global;
 use store::{Store, accepts};
@@ -210,6 +211,9 @@ fn calls_so(
         return false;
     }
     let mut hosts = HostTable::new(alloc);
+    if !have_hosts(store, &hosts) {
+        return false;
+    }
     let mut meter = Meter::new(fuel, DEPTH);
     let outcome = invoke(alloc, store, &mut hosts, &mut meter, address, args);
     outcome_is(&outcome, end) && meter.left() == left

@@ -2,8 +2,9 @@
 
 use binary::decode;
 use core_types::Extern;
-use exec::HostTable;
+use exec::{Outcome, have_hosts};
 use fuel::Meter;
+use hostfunc::HostTable;
 use instantiate::{LinkEnd, instantiate};
 use std::alloc::Global;
 use std::rc::Rc;
@@ -46,6 +47,9 @@ pub fn link(
     fuel: u64,
 ) -> (Result<u32, LinkEnd>, u64) {
     let mut hosts = HostTable::new(alloc);
+    if !have_hosts(store, &hosts) {
+        return (Err(LinkEnd::Ended(Outcome::Stuck)), fuel);
+    }
     let mut meter = Meter::new(fuel, DEPTH);
     let answer = instantiate(alloc, store, &mut hosts, &mut meter, loaded, given);
     (answer, meter.left())

@@ -1,5 +1,7 @@
 pub mod Contexts
 pub mod Formulas
+pub mod Hosts
+pub mod HostSteps
 pub mod Layers
 pub mod OperatorRanges
 pub mod Runs

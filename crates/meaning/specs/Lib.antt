@@ -4,3 +4,4 @@ pub mod validation
 pub mod execution
 pub mod soundness
 pub mod embedding
+pub mod scripts

@@ -2,3 +2,4 @@
 pub mod Names
 pub mod Commands
 pub mod Machine
+pub mod Creation

@@ -10,5 +10,6 @@ pub mod Effects
 pub mod Instructions
 pub mod Layers
 pub mod Runs
+pub mod Hosts
 pub mod Modules
 pub mod Rows

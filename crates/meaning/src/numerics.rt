@@ -24,7 +24,8 @@ pub fn integers_stand_for_signed_numbers()
 pub fn counts_are_of_digits_and_bits()
     ensures digits_suffice { (k a : ℕ) → a < 2 ^ k → a < 2 ^ digits k a }
     ensures no_fewer { (k a j : ℕ) → a < 2 ^ j → digits k a ≤ j }
-    ensures twos_divide { (k a : ℕ) → 0 < a → a < 2 ^ k → (m : ℕ) × (a ≡ (2 * m + 1) * 2 ^ twos k a) }
+    ensures twos_divide { (k a : ℕ) → 0 < a → a < 2 ^ k
+        → (m : ℕ) × (a ≡ (2 * m + 1) * 2 ^ twos k a) }
     ensures twos_of_zero { (k : ℕ) → twos k 0 ≡ k }
     ensures no_bits { (a : ℕ) → sum_of_bits 0 a ≡ 0 }
     ensures one_more_bit { (k a : ℕ) → sum_of_bits (suc k) a ≡ sum_of_bits k a + bit_at a k }
@@ -58,5 +59,6 @@ pub fn results_have_their_width()
     ensures comparison { (bits : ℕ) (op : Comparison) (a b : ℕ) → comparison_operator bits op a b ≤
         1 }
     ensures wrap { (a : ℕ) → conversion_operator I32WrapI64 a < 2 ^ 32 }
-    ensures conversion { (op : Conversion) (a : ℕ) → a < 2 ^ 64 → conversion_operator op a < 2 ^ 64 }
+    ensures conversion { (op : Conversion) (a : ℕ) → a < 2 ^ 64
+        → conversion_operator op a < 2 ^ 64 }
 {}

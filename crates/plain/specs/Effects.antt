@@ -64,9 +64,11 @@ price_of Lacks = 0
 -- The effect leads to this store, these locals and these values, and its cost is paid.
 abbrev pub LeadsTo : Effect → Store → (locals values : List Val) → (fuel left : ℕ) → Type 0
 LeadsTo (Done cost store locals values) store' locals' values' fuel left =
-    (store ≡ store') × (locals ≡ locals') × (values ≡ values') × (cost ≤ fuel) × (left ≡ fuel - cost)
+    (store ≡ store') × (locals ≡ locals') × (values ≡ values') × (cost ≤ fuel) ×
+    (left ≡ fuel - cost)
 LeadsTo (Grown cost store locals values) store' locals' values' fuel left =
-    (store ≡ store') × (locals ≡ locals') × (values ≡ values') × (cost ≤ fuel) × (left ≡ fuel - cost)
+    (store ≡ store') × (locals ≡ locals') × (values ≡ values') × (cost ≤ fuel) ×
+    (left ≡ fuel - cost)
 LeadsTo (Fails trap) store' locals' values' fuel left = ⊥
 LeadsTo Lacks store' locals' values' fuel left = ⊥
 
@@ -74,7 +76,8 @@ LeadsTo Lacks store' locals' values' fuel left = ⊥
 abbrev pub TrapsWith : Effect → Trap → (fuel left : ℕ) → Type 0
 TrapsWith (Done cost store locals values) trap fuel left = ⊥
 TrapsWith (Grown cost store locals values) trap fuel left = ⊥
-TrapsWith (Fails trap') trap fuel left = (trap' ≡ trap) × (instruction_cost ≤ fuel) × (left ≡ fuel - instruction_cost)
+TrapsWith (Fails trap') trap fuel left =
+    (trap' ≡ trap) × (instruction_cost ≤ fuel) × (left ≡ fuel - instruction_cost)
 TrapsWith Lacks trap fuel left = ⊥
 
 -- The fuel reaches for the effect, which is no trap.
@@ -86,7 +89,8 @@ IsAffordable Lacks fuel = ⊥
 
 -- What came of an effect: all of it, from this store and fuel to those, with these locals and operands; or a trap; or nothing,
 -- for want of fuel or memory, or as no case applies.
-abbrev pub HasEffect : Progress → Effect → (old : Store) → (fuel : ℕ) → (new : Store) → (locals : List Val) → OperandStack → (left : ℕ) → (below : List Val) → Type 0
+abbrev pub HasEffect : Progress → Effect → (old : Store) → (fuel : ℕ) → (new : Store)
+    → (locals : List Val) → OperandStack → (left : ℕ) → (below : List Val) → Type 0
 HasEffect progress.Done e old fuel new locals operands left below =
     LeadsTo e new locals operands.own fuel left × (operands.below ≡ below)
 HasEffect (progress.Trapped trap) e old fuel new locals operands left below =

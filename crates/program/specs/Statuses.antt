@@ -1,5 +1,5 @@
 -- The exit statuses of the program.
-use Rattle.std.specs.Prelude.{◌≡◌, ◌≤◌, ◌⊎◌, ℕ}
+use Rattle.std.specs.Prelude.{◌≤◌, ℕ}
 
 abbrev pub IsStatus : ℕ → Type 0
-IsStatus status = (status ≤ 3) ⊎ (status ≡ 5) ⊎ (status ≡ 6)
+IsStatus status = status ≤ 6

@@ -1,19 +1,28 @@
-//! Why nothing was called, or no module found valid.
+//! Why no script was run to its end, nothing called, or no module found valid.
 
 use crate::args::ArgsFault;
 use command_line::WordsFault;
-use embed::Refusal;
-use std::alloc::AllocError;
+use embed::{NewFault, Refusal};
+use scripts::ScriptFault;
+use std::alloc::{AllocError, AllocFailed};
 
-/// Why nothing was called, or no module found valid.
-#[derive(Clone, Copy)]
+/// Why no script was run to its end, nothing called, or no module found valid.
+#[derive(Drop)]
 pub enum Fault<'a> {
     /// The words are not of the form that the program reads.
     Usage,
     /// The file at this path could not be read.
     CannotRead(&'a str),
+    /// The file at this path, which a script names, could not be read.
+    CannotReadNamed(String),
+    /// A script was not read, or not run to its end.
+    Script(ScriptFault),
     /// The embedding refused a command.
     Refused(Refusal),
+    /// A host function is defined under names that are taken.
+    HostNameTaken,
+    /// A host function has a funcref result.
+    HostFuncRef,
     /// The words for the arguments do not fit the function.
     BadArguments,
 }
@@ -27,6 +36,18 @@ impl From<Refusal> for Fault<'_> {
 impl From<AllocError> for Fault<'_> {
     fn from(_error: AllocError) -> Self {
         Fault::Refused(Refusal::OutOfMemory)
+    }
+}
+
+impl<T: Drop> From<AllocFailed<T>> for Fault<'_> {
+    fn from(_error: AllocFailed<T>) -> Self {
+        Fault::Refused(Refusal::OutOfMemory)
+    }
+}
+
+impl From<ScriptFault> for Fault<'_> {
+    fn from(fault: ScriptFault) -> Self {
+        Fault::Script(fault)
     }
 }
 
@@ -44,6 +65,16 @@ impl From<ArgsFault> for Fault<'_> {
         match fault {
             ArgsFault::Unreadable => Fault::BadArguments,
             ArgsFault::Memory => Fault::Refused(Refusal::OutOfMemory),
+        }
+    }
+}
+
+impl From<NewFault> for Fault<'_> {
+    fn from(fault: NewFault) -> Self {
+        match fault {
+            NewFault::HostFuncRef => Fault::HostFuncRef,
+            NewFault::NameTaken => Fault::HostNameTaken,
+            NewFault::OutOfMemory => Fault::Refused(Refusal::OutOfMemory),
         }
     }
 }

@@ -6,11 +6,16 @@ mod calls;
 mod faults;
 mod inputs;
 mod print;
+mod prints;
 mod program;
+mod script_files;
+mod spectest;
 
 pub use args::{ArgsFault, read_args};
 pub use calls::Outcome;
 pub use faults::Fault;
 pub use inputs::{Files, ReadFault, System};
-pub use print::{print_end, print_fault};
+pub use print::{print_end, print_fault, print_report};
+pub use prints::{Print, Printed, define_prints};
 pub use program::{CallEnd, refuse_words, run};
+pub use spectest::SPECTEST;

@@ -7,6 +7,7 @@ use crate::faults::Fault;
 use crate::program::CallEnd;
 use core_types::{Exhaustion, Trap, Val};
 use embed::Refusal;
+use scripts::{Report, ScriptFault};
 use std::io::{self, Write};
 
 fn trap_text(trap: Trap) -> &'static str {
@@ -93,6 +94,30 @@ pub fn print_end<W: Write>(out: &mut W, end: &CallEnd) -> u8
     }
 }
 
+fn print_failures<W: Write>(out: &mut W, lines: &[u64]) -> io::Result<()> {
+    for line in lines {
+        writeln!(out, "line {line}: failed")?;
+    }
+    Ok(())
+}
+
+fn print_report_lines<W: Write>(out: &mut W, report: &Report) -> io::Result<()> {
+    let (passed, failed, skipped) = (report.passed, report.failed, report.skipped);
+    print_failures(out, report.failures.as_slice())?;
+    writeln!(out, "passed {passed} failed {failed} skipped {skipped}")?;
+    out.flush()
+}
+
+/// Prints what a script has come to, and answers the exit status: 1 where a command or the writer fails.
+pub fn print_report<W: Write>(out: &mut W, report: &Report) -> u8
+    ensures { IsStatus result }
+{
+    match print_report_lines(out, report) {
+        Ok(()) if report.failed == 0 => 0,
+        _ => 1,
+    }
+}
+
 fn print_valid_line<W: Write>(out: &mut W) -> io::Result<()> {
     writeln!(out, "valid")?;
     out.flush()
@@ -128,14 +153,39 @@ fn refusal_status(refusal: Refusal) -> u8
     }
 }
 
+fn script_fault_status(fault: &ScriptFault) -> u8
+    ensures { IsStatus result }
+{
+    match fault {
+        ScriptFault::NotJson => 4,
+        ScriptFault::BadCommand(_) => 4,
+        ScriptFault::MissingFile(_) => 3,
+        ScriptFault::OutOfMemory => 6,
+    }
+}
+
 fn fault_status(fault: &Fault<'_>) -> u8
     ensures { IsStatus result }
 {
     match fault {
         Fault::Usage => 2,
         Fault::CannotRead(_) => 3,
+        Fault::CannotReadNamed(_) => 3,
+        Fault::Script(fault) => script_fault_status(fault),
         Fault::Refused(refusal) => refusal_status(*refusal),
+        Fault::HostNameTaken => 5,
+        Fault::HostFuncRef => 5,
         Fault::BadArguments => 2,
+    }
+}
+
+fn print_script_fault<E: Write>(err: &mut E, fault: &ScriptFault) -> io::Result<()> {
+    let number = fault.number();
+    match fault {
+        ScriptFault::NotJson => writeln!(err, "refused {number} NotJson"),
+        ScriptFault::BadCommand(index) => writeln!(err, "refused {number} BadCommand({index})"),
+        ScriptFault::MissingFile(index) => writeln!(err, "refused {number} MissingFile({index})"),
+        ScriptFault::OutOfMemory => writeln!(err, "refused {number} OutOfMemory"),
     }
 }
 
@@ -143,7 +193,11 @@ fn print_fault_line<E: Write>(err: &mut E, fault: &Fault<'_>) -> io::Result<()> 
     match fault {
         Fault::Usage => writeln!(err, "usage"),
         Fault::CannotRead(path) => writeln!(err, "cannot read {path}"),
+        Fault::CannotReadNamed(path) => writeln!(err, "cannot read {path}"),
+        Fault::Script(fault) => print_script_fault(err, fault),
         Fault::Refused(refusal) => writeln!(err, "refused {} {}", refusal.number(), refusal.name()),
+        Fault::HostNameTaken => writeln!(err, "refused 12 NameTaken"),
+        Fault::HostFuncRef => writeln!(err, "refused 14 HostFuncRef"),
         Fault::BadArguments => writeln!(err, "bad arguments"),
     }
 }

@@ -1,13 +1,18 @@
 //! The program over its words, its files and its writers.
 
+ghost use Rattle.std.specs.Prelude.{◌<◌, ◌^◌, length};
 ghost use Rattle.program.specs.Statuses.{IsStatus};
 
-use crate::calls::{Outcome, call, check, new_embedding};
+use crate::calls::{Outcome, add_spectest, call, check, new_embedding};
 use crate::faults::Fault;
 use crate::inputs::{Files, ReadFault};
-use crate::print::{print_end, print_fault, print_valid};
-use command_line::{CallOrder, DEFAULT_DEPTH, DEFAULT_FUEL, Order, WordsFault, read_words};
-use embed::Refusal;
+use crate::print::{print_end, print_fault, print_report, print_valid};
+use crate::script_files::read_named;
+use command_line::{
+    CallOrder, DEFAULT_DEPTH, DEFAULT_FUEL, Order, ScriptOrder, WordsFault, read_words,
+};
+use embed::{HostDef, Refusal};
+use scripts::{Report, read_script, run_script_lent};
 use std::alloc::Global;
 use std::io::{self, Write};
 
@@ -21,6 +26,8 @@ pub struct CallEnd {
 /// How the program did what it was asked for.
 #[derive(Drop)]
 pub enum End {
+    /// The script was run.
+    Ran(Report),
     /// The function was called.
     Called(CallEnd),
     /// The module is valid.
@@ -36,14 +43,35 @@ fn read_file<'a, F: Files>(files: &mut F, path: &'a str) -> Result<Vec<u8>, Faul
     }
 }
 
-// Calls the function that the order names, of the module in its file, within its fuel.
+// Runs the script in the file that the order names, each command within its fuel. Modules may import the stored one.
+fn run_script_in_file<'a, F: Files>(
+    alloc: Global,
+    order: &ScriptOrder<'a>,
+    files: &mut F,
+    hosts: Vec<HostDef>,
+) -> Result<Report, Fault<'a>>
+    requires { length hosts.items < 2 ^ 32 }
+{
+    let bytes = read_file(files, order.file)?;
+    let script = read_script(alloc, bytes.as_slice())?;
+    let named = read_named(alloc, files, order.file, script.filenames())?;
+    let mut embedding = new_embedding(alloc, order.fuel, order.depth, hosts)?;
+    add_spectest(alloc, &mut embedding)?;
+    Ok(run_script_lent(alloc, &script, named.as_slice(), &mut embedding)?)
+}
+
+// Calls the function that the order names, of the module in its file, within its fuel. The module may import the stored one.
 fn call_in_file<'a, F: Files>(
     alloc: Global,
     order: &CallOrder<'a>,
     files: &mut F,
-) -> Result<CallEnd, Fault<'a>> {
-    let mut embedding = new_embedding(alloc, order.fuel, order.depth)?;
+    hosts: Vec<HostDef>,
+) -> Result<CallEnd, Fault<'a>>
+    requires { length hosts.items < 2 ^ 32 }
+{
     let bytes = read_file(files, order.file)?;
+    let mut embedding = new_embedding(alloc, order.fuel, order.depth, hosts)?;
+    add_spectest(alloc, &mut embedding)?;
     let outcome = call(alloc, order, &mut embedding, bytes)?;
     Ok(CallEnd {
         outcome,
@@ -52,9 +80,16 @@ fn call_in_file<'a, F: Files>(
 }
 
 // Loads the module in a file.
-fn check_file<'a, F: Files>(alloc: Global, files: &mut F, path: &'a str) -> Result<(), Fault<'a>> {
-    let mut embedding = new_embedding(alloc, DEFAULT_FUEL, DEFAULT_DEPTH)?;
+fn check_file<'a, F: Files>(
+    alloc: Global,
+    files: &mut F,
+    path: &'a str,
+    hosts: Vec<HostDef>,
+) -> Result<(), Fault<'a>>
+    requires { length hosts.items < 2 ^ 32 }
+{
     let bytes = read_file(files, path)?;
+    let mut embedding = new_embedding(alloc, DEFAULT_FUEL, DEFAULT_DEPTH, hosts)?;
     check(&mut embedding, bytes)
 }
 
@@ -63,27 +98,35 @@ fn perform<'a, F: Files>(
     alloc: Global,
     words: &'a [String],
     files: &mut F,
-) -> Result<End, Fault<'a>> {
+    hosts: Vec<HostDef>,
+) -> Result<End, Fault<'a>>
+    requires { length hosts.items < 2 ^ 32 }
+{
     match read_words(alloc, words)? {
-        Order::Call(order) => Ok(End::Called(call_in_file(alloc, &order, files)?)),
+        Order::Script(order) => Ok(End::Ran(run_script_in_file(alloc, &order, files, hosts)?)),
+        Order::Call(order) => Ok(End::Called(call_in_file(alloc, &order, files, hosts)?)),
         Order::Check(path) => {
-            check_file(alloc, files, path)?;
+            check_file(alloc, files, path, hosts)?;
             Ok(End::Valid)
         }
     }
 }
 
-/// Runs the program over the words after its name, and answers its exit status.
+/// Runs the program over the words after its name, with the host functions that modules may import (the three prints), and answers
+/// its exit status. At most 2^32 - 1 host functions may be given.
 pub fn run<F: Files, W: Write, E: Write>(
     alloc: Global,
     words: &[String],
     files: &mut F,
+    hosts: Vec<HostDef>,
     out: &mut W,
     err: &mut E,
 ) -> u8
+    requires { length hosts.items < 2 ^ 32 }
     ensures { IsStatus result }
 {
-    match perform(alloc, words, files) {
+    match perform(alloc, words, files, hosts) {
+        Ok(End::Ran(report)) => print_report(out, &report),
         Ok(End::Called(end)) => print_end(out, &end),
         Ok(End::Valid) => print_valid(out),
         Err(fault) => print_fault(err, &fault),
@@ -99,7 +142,7 @@ fn words_fault(error: &io::Error) -> Fault<'static> {
     }
 }
 
-/// Prints why the words after the program's name cannot be had, and answers the exit status.
+/// Prints why the words after the program's name, or the prints, cannot be had, and answers the exit status.
 pub fn refuse_words<E: Write>(error: &io::Error, err: &mut E) -> u8
     ensures { IsStatus result }
 {

@@ -11,7 +11,7 @@ struct Run {
 }
 
 #[rattlefmt::skip]
-static RUN: [Run; 30] = [
+static RUN: [Run; 32] = [
     Run {
         name: "i32.eqz",
         sections: "0105016000017F 03020100 07050101660000 0A070105004100450B",
@@ -156,6 +156,16 @@ static RUN: [Run; 30] = [
         name: "a passive element segment",
         sections: "0105016000017F 03020100 07050101660000 09050101000100 0A0601040041070B",
         out: "i32 7\nfuel left 99\n",
+    },
+    Run {
+        name: "an import of a global of the stored module",
+        sections: "0105016000017F 0218010873706563746573740A676C6F62616C5F693332037F00 03020100 07050101660000 0A0601040023000B",
+        out: "i32 666\nfuel left 99\n",
+    },
+    Run {
+        name: "imports of the memory and the table of the stored module",
+        sections: "0105016000017F 022902087370656374657374066D656D6F727902010103087370656374657374057461626C650170010A14 03020100 07050101660000 0A0A0108003F00FC10006A0B",
+        out: "i32 11\nfuel left 97\n",
     },
     Run {
         name: "a start function",

@@ -12,12 +12,21 @@ struct File {
 }
 
 #[rattlefmt::skip]
-static FILES: [File; 13] = [
+static FILES: [File; 15] = [
+    // {"commands":[]}
+    File { path: "empty.json", bytes: Some("7B22636F6D6D616E6473223A5B5D7D") },
     // (func (export "add") (param i32 i32) (result i32) local.get 0 local.get 1 i32.add)
     File {
         path: "m1.wasm",
         bytes: Some(
             "0061736D01000000 010701 60027F7F017F 03020100 07070103 616464 0000 0A09010700 20002001 6A 0B",
+        ),
+    },
+    // (import "spectest" "print_i32" (func (param i32))) (export "p" (func 0))
+    File {
+        path: "q.wasm",
+        bytes: Some(
+            "0061736D01000000 01050160017F00 0216010873706563746573740970 72696E745F6933320000 07050101700000",
         ),
     },
     // The same with i32.sub in place of i32.add.

@@ -24,6 +24,10 @@ mod printing;
 #[cfg(test)]
 mod runs;
 #[cfg(test)]
+mod script_runs;
+#[cfg(test)]
 mod tables;
 #[cfg(test)]
 mod usage;
+#[cfg(test)]
+mod writers;

@@ -42,7 +42,7 @@ static ROWS: [Row; 22] = [
         sections: "0105016000017F 03020100 0606017F0141050B 07050101660000 0A0D010B0023004106240023006A0B" },
     Row { name: "an i64 global", words: "call module.wasm f --fuel 100", ending: Out("i64 18446744073709551615\nfuel left 99\n", 0),
         sections: "0105016000017E 03020100 060B027F0041050B7E00427F0B 07050101660000 0A0601040023010B" },
-    Row { name: "globals of references", words: "call module.wasm f --fuel 100", ending: Out("funcref 0\nfuncref null\nexternref null\nfuel left 97\n", 0),
+    Row { name: "globals of references", words: "call module.wasm f --fuel 100", ending: Out("funcref 3\nfuncref null\nexternref null\nfuel left 97\n", 0),
         sections: "01070160000370706F 03020100 0610037000D2000B7000D0700B6F00D06F0B 07050101660000 0A0A0108002300230123020B" },
     Row { name: "a memory of 1024 pages", words: "call module.wasm f --fuel 100", ending: Out("i32 1024\nfuel left 99\n", 0),
         sections: "0105016000017F 03020100 050401008008 07050101660000 0A060104003F000B" },

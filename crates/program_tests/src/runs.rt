@@ -1,6 +1,7 @@
 //! Runs of the program over files and writers in memory.
 
 use crate::files::OneModule;
+use crate::writers::{Failing, prints_to};
 use program::{Files, run};
 use std::alloc::{AllocError, Global};
 
@@ -35,11 +36,22 @@ struct Printed {
     status: u8,
 }
 
-fn run_in_memory<F: Files>(alloc: Global, words: &[String], files: &mut F) -> Printed {
+// Prints that are not read.
+const UNREAD: Failing = Failing {
+    writes: u32::MAX,
+    flushes: true,
+};
+
+fn run_in_memory<F: Files>(
+    alloc: Global,
+    words: &[String],
+    files: &mut F,
+) -> Result<Printed, AllocError> {
     let mut out = Vec::new(alloc);
     let mut err = Vec::new(alloc);
-    let status = run(alloc, words, files, &mut out, &mut err);
-    Printed { out, err, status }
+    let hosts = prints_to(alloc, UNREAD)?;
+    let status = run(alloc, words, files, hosts, &mut out, &mut err);
+    Ok(Printed { out, err, status })
 }
 
 fn is_printed(got: &Printed, out: &str, err: &str, status: u8) -> bool {
@@ -55,7 +67,9 @@ pub fn ends_so<F: Files>(
     files: &mut F,
     ending: Ending<'_>,
 ) -> bool {
-    let got = run_in_memory(alloc, words, files);
+    let Ok(got) = run_in_memory(alloc, words, files) else {
+        return false;
+    };
     match ending {
         Ending::Out(text, status) => is_printed(&got, text, "", status),
         Ending::Err(text, status) => is_printed(&got, "", text, status),
@@ -64,7 +78,9 @@ pub fn ends_so<F: Files>(
 
 /// Whether a run over these words and files prints a text that begins so, and ends with status 0.
 pub fn begins_so<F: Files>(alloc: Global, words: &[String], files: &mut F, text: &str) -> bool {
-    let got = run_in_memory(alloc, words, files);
+    let Ok(got) = run_in_memory(alloc, words, files) else {
+        return false;
+    };
     got.out.as_slice().starts_with(text.as_bytes()) && got.err.is_empty() && got.status == 0
 }
 

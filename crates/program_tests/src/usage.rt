@@ -20,10 +20,17 @@ fn is_no_form(alloc: Global, text: &str) -> Result<bool, AllocError> {
 }
 
 #[rattlefmt::skip]
-static OTHER_WORDS: [&str; 38] = [
+static OTHER_WORDS: [&str; 45] = [
     "",
     "frob",
     "''",
+    "script",
+    "script empty.json empty.json",
+    "script empty.json --fuel x",
+    "script empty.json --fuel 3 --fuel 3",
+    "script missing.json --depth 0",
+    "script --help",
+    "--fuel 3 script empty.json",
     "call",
     "call m1.wasm",
     "call m1.wasm add 1 2 --fuel 3 --fuel 3",

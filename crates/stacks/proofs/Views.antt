@@ -1,6 +1,6 @@
 -- The operands, kept from the bottom and seen from the top, in two parts.
 use Rattle.std.proofs.Common.{◌≡◌, ℕ, suc, ◌+◌, ◌-◌, ◌≤◌, List, [], ◌∷◌, ◌++◌, length, slice_set, reverse, take, drop, sym, ap, ap₂, ◌∙◌, append_assoc, take-append-drop, take_at, drop_at, take_all, arith}
-use Rattle.std.proofs.lemmas.List.{reverse-append, reverse-reverse, length-reverse, length-append, length-take-le, length-drop, take-append-le, drop-append-le, drop_all, set_split}
+use Rattle.std.proofs.lemmas.List.{reverse-append, reverse-reverse, length-reverse, length-append, length-take-le, length-drop, take-append-le, drop-append-le, drop-take, drop_all, set_split}
 use Rattle.std.proofs.lemmas.List.Edits.{take-paste}
 use Rattle.std.specs.List.{copy_within}
 use Rattle.std.proofs.Math.Seq.{paste}
@@ -40,8 +40,15 @@ module _ (xs : List Val) (floor : ℕ) (s : OperandStack) (within : floor ≤ le
   height =
       ap (λ (t : OperandStack). length t.below) (sym is) ∙ length-reverse (take floor xs) ∙ length-take-le floor xs within
 
-  size : length xs ≡ length s.own + floor
+  pub size : length xs ≡ length s.own + floor
   size = omega (arith, length-whole xs s.own s.below whole, height)
+
+  -- values more on top
+  pub heightened : (added ys : List Val) → ys ≡ xs ++ added → from_top floor ys ≡ operand_stack (reverse added ++ s.own) s.below
+  heightened added ys e =
+      from_top-is ys (reverse added ++ s.own) s.below floor
+      (ap reverse e ∙ reverse-append xs added ∙ ap (λ (t : List Val). reverse added ++ t) whole ∙ sym (append_assoc (reverse added) s.own s.below))
+      height
 
   -- the values up to a height in the lower part
   from_below : (base : ℕ) (gone values : List Val) → s.below ≡ gone ++ values → length values ≡ base → reverse (take base xs) ≡ values
@@ -68,6 +75,20 @@ module _ (xs : List Val) (floor : ℕ) (s : OperandStack) (within : floor ≤ le
       (ap reverse (split ∙ ap (λ (t : List Val). take (len - 1) xs ++ v ∷ t) none) ∙ reverse-append (take (len - 1) xs) (v ∷ []) ∙ ap (λ (t : List Val). v ∷ t) others)
       height
 
+  -- the topmost values under some
+  pub under-is : (m n len : ℕ) → m + n ≤ length s.own → len ≡ length xs → take (len - m - (len - m - n)) (drop (len - m - n) xs) ≡ reverse (take n (drop m s.own))
+  under-is m n len few is_len =
+      let lower = take (len - m) xs in
+      let size_of : length lower ≡ len - m = length-take-le (len - m) xs (omega (arith, is_len)) in
+      let start : len - m - n + n ≡ len - m = omega (arith, size) in
+      let count : len - m - (len - m - n) ≡ n = omega (arith, size) in
+      let cut : drop (len - m - n) lower ≡ take n (drop (len - m - n) xs) = ap (λ (k : ℕ). drop (len - m - n) (take k xs)) (sym start) ∙ drop-take (len - m - n) n xs in
+      let turned : take n (reverse lower) ≡ reverse (drop (len - m - n) lower) = take-reverse lower (len - m - n) n (start ∙ sym size_of) in
+      let rest : reverse lower ≡ drop m s.own ++ s.below = sym (drop-reverse xs (len - m) m (omega (arith, size, is_len))) ∙ ap (drop m) whole ∙ drop-append-le m s.own s.below (omega arith) in
+      let front : take n (drop m s.own ++ s.below) ≡ take n (drop m s.own) = take-append-le n (drop m s.own) s.below (omega (arith, length-drop m s.own)) in
+      ap (λ (k : ℕ). take k (drop (len - m - n) xs)) count
+      ∙ sym cut ∙ sym (reverse-reverse (drop (len - m - n) lower)) ∙ ap reverse (sym turned ∙ ap (take n) rest ∙ front)
+
   module _ (n len : ℕ) (few : n ≤ length s.own) (is_len : len ≡ length xs) where
     upper : reverse (drop (len - n) xs) ≡ take n s.own
     upper =
@@ -80,6 +101,14 @@ module _ (xs : List Val) (floor : ℕ) (s : OperandStack) (within : floor ≤ le
     dropped ys e =
         from_top-is ys (drop n s.own) s.below floor
         (ap reverse e ∙ sym (drop-reverse xs (len - n) n (omega (arith, size))) ∙ ap (drop n) whole ∙ drop-append-le n s.own s.below few)
+        height
+
+    -- values in the place of the topmost ones
+    pub exchanged : (values ys : List Val) → ys ≡ take (len - n) xs ++ values → from_top floor ys ≡ operand_stack (reverse values ++ drop n s.own) s.below
+    exchanged values ys e =
+        let lower : reverse (take (len - n) xs) ≡ drop n s.own ++ s.below = sym (drop-reverse xs (len - n) n (omega (arith, size))) ∙ ap (drop n) whole ∙ drop-append-le n s.own s.below few in
+        from_top-is ys (reverse values ++ drop n s.own) s.below floor
+        (ap reverse e ∙ reverse-append (take (len - n) xs) values ∙ ap (λ (t : List Val). reverse values ++ t) lower ∙ sym (append_assoc (reverse values) (drop n s.own) s.below))
         height
 
     pub nested : from_top (len - n) xs ≡ operand_stack (take n s.own) (drop n s.own ++ s.below)

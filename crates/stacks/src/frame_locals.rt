@@ -42,7 +42,8 @@ fn default_value(ty: ValType) -> Val
 fn add_locals(values: &mut Vec<Val>, args: &[Val], types: &Locals) -> Result<(), AllocError>
     ensures added { OnOk result (values.new.items ≡ values.old.items ++ (args.now ++ map default_of
         types.now)) }
-    ensures kept { OnErr result (take (length values.old.items) values.new.items ≡ values.old.items) }
+    ensures kept { OnErr result (take (length values.old.items) values.new.items ≡
+        values.old.items) }
 {
     values.extend_from_slice(args)?;
     for index in 0..types.len() {

@@ -1,4 +1,4 @@
-ghost use Rattle.std.specs.Prelude.{◌≡◌, ◌≤◌, List, [], ◌∷◌, ◌++◌, length, reverse, take, drop, OnOk, OnErr, MatchOption};
+ghost use Rattle.std.specs.Prelude.{◌≡◌, ◌≤◌, ◌+◌, List, [], ◌∷◌, ◌++◌, length, reverse, take, drop, OnOk, OnErr, MatchOption};
 ghost use Rattle.core_types.specs.declared.outcome.Val.{Val as AnyVal};
 ghost use Rattle.stacks.specs.Stacked.{operand_stack};
 
@@ -23,6 +23,14 @@ impl Model for Operands {
     ghost view = { λ s. from_top s.floor s.items.items };
 
     ghost invariant = { λ s. s.floor ≤ length s.items.items };
+}
+
+// Puts values over the items from an index on.
+fn overwrite(items: &mut [Val], start: usize, values: &[Val])
+    requires { start + length values.now ≤ length items.old }
+    ensures { take (start + length values.now) items.new ≡ take start items.old ++ values.now }
+{
+    items[start..start + values.len()].copy_from_slice(values);
 }
 
 impl Operands {
@@ -95,6 +103,40 @@ impl Operands {
         ensures { self.new ≡ operand_stack (drop count self.old.own) (self.old.below) }
     {
         self.items.truncate(self.items.len() - count);
+    }
+
+    /// Puts `count` zeros on top, to make room. Where memory runs out, the stack is as before.
+    pub fn make_room(&mut self, count: usize) -> Result<(), AllocError>
+        ensures pushed { OnOk result ((added : List AnyVal) × (length added ≡ count) × (self.new ≡
+            operand_stack (added ++ self.old.own) (self.old.below))) }
+        ensures unchanged { OnErr result (self.new ≡ self.old) }
+    {
+        let Some(height) = self.items.len().checked_add(count) else {
+            return Err(AllocError);
+        };
+        self.items.resize(height, Val::I32(0))?;
+        Ok(())
+    }
+
+    /// The topmost `count` operands below the topmost `skipped` ones, the topmost one last.
+    pub fn under_top(&self, skipped: usize, count: usize) -> &[Val]
+        requires { skipped + count ≤ length self.now.own }
+        ensures { result.now ≡ reverse (take count (drop skipped self.now.own)) }
+    {
+        let end = self.items.len() - skipped;
+        &self.items[end - count..end]
+    }
+
+    /// Puts values in the place of the topmost `count` operands, which are not fewer, the topmost one last. Takes no memory.
+    pub fn replace_top(&mut self, count: usize, values: &[Val])
+        requires count { count ≤ length self.old.own }
+        requires values { length values.now ≤ count }
+        ensures { self.new ≡ operand_stack (reverse values.now ++ drop count self.old.own)
+            (self.old.below) }
+    {
+        let start = self.items.len() - count;
+        overwrite(&mut self.items, start, values);
+        self.items.truncate(start + values.len());
     }
 
     /// Opens a label that has the topmost `count` operands inside. Takes no memory.

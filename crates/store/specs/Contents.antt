@@ -1,23 +1,33 @@
 -- What the store holds, in the terms of the definitions.
-use Rattle.std.specs.Prelude.{ℕ, List, [], ◌∷◌, map, Option, Some, None, IsSome, unwrap_or, slice_get}
+use Rattle.std.specs.Prelude.{◌≡◌, ℕ, List, [], ◌∷◌, ◌++◌, map, Option, Some, None, IsSome, option_map, unwrap_or, slice_get}
 use Rattle.core_types.specs.declared.types.FuncType.{FuncType}
 use Rattle.core_types.specs.declared.module.Func.{Func}
 use Rattle.core_types.specs.declared.module.Module.{Module}
-use Rattle.meaning.specs.structure.Bodies.{Empty}
+use Rattle.meaning.specs.structure.Bodies.{Empty, rests}
 use Rattle.meaning.specs.execution.Modules.{code_of}
-use Rattle.meaning.specs.execution.Store.{FunctionInstance as Function, InCode, ModuleInstance, Store}
+use Rattle.meaning.specs.execution.Store.{FunctionInstance as Function, InCode, InHost as InHostNumber, ModuleInstance, Store}
 use Rattle.store.specs.declared.instances.Addresses.{Addresses}
+use Rattle.store.specs.declared.instances.Callee.{Callee}
+use Rattle.store.specs.declared.instances.Callee.TheVariants as callee
 use Rattle.store.specs.declared.instances.FunctionInstance.{FunctionInstance}
+use Rattle.store.specs.declared.instances.FunctionInstance.TheVariants.{InModule, InHost}
 use Rattle.store.specs.declared.instances.Instance.{Instance}
+use Rattle.store.specs.Ends.{HasEnds}
 use Rattle.store.specs.State.{StateContents}
 
--- The functions and the instances, as they are kept.
+-- The functions, the instances and the types of the host functions, as they are kept.
 pub record Contents : Type 0 where
   pub functions : List FunctionInstance
   pub instances : List Instance
+  pub hosts : List FuncType
 
-abbrev pub contents_of : List FunctionInstance → List Instance → Contents
-contents_of functions instances = record { functions = functions; instances = instances }
+abbrev pub contents_of : List FunctionInstance → List Instance → List FuncType → Contents
+contents_of functions instances hosts =
+    record { functions = functions; instances = instances; hosts = hosts }
+
+-- The host function of a number, of this type.
+abbrev pub host_function : (number : ℕ) → FuncType → Function
+host_function number t = record { ty = t; implementation = InHostNumber number }
 
 -- A function of a module, of this type, in this instance.
 abbrev pub function_of : FuncType → ℕ → Func → Function
@@ -31,23 +41,26 @@ abbrev pub module_function : ℕ → Module → Option Func → Option Function
 module_function instance m None = None
 module_function instance m (Some f) = typed_function instance (slice_get m.types f.ty) f
 
-abbrev pub instance_function : FunctionInstance → Option Instance → Option Function
-instance_function f None = None
-instance_function f (Some i) =
-    module_function f.instance i.loaded.value (slice_get i.loaded.value.funcs f.index)
+abbrev pub instance_function : (instance index : ℕ) → Option Instance → Option Function
+instance_function instance index None = None
+instance_function instance index (Some i) =
+    module_function instance i.loaded.value (slice_get i.loaded.value.funcs index)
 
 -- The function that an entry represents.
-abbrev pub entry_function : List Instance → FunctionInstance → Option Function
-entry_function instances f = instance_function f (slice_get instances f.instance)
+abbrev pub entry_function : List FuncType → List Instance → FunctionInstance → Option Function
+entry_function hosts instances (InModule instance index) =
+    instance_function instance index (slice_get instances instance)
+entry_function hosts instances (InHost number) =
+    option_map (host_function number) (slice_get hosts number)
 
 -- An entry finds its function.
-abbrev pub IsFound : List Instance → FunctionInstance → Type 0
-IsFound instances f = IsSome (entry_function instances f)
+abbrev pub IsFound : List FuncType → List Instance → FunctionInstance → Type 0
+IsFound hosts instances f = IsSome (entry_function hosts instances f)
 
 -- What a store keeps to.
-abbrev pub AllFound : List Instance → List FunctionInstance → Type 0
-AllFound instances [] = Unit {0}
-AllFound instances (f ∷ fs) = IsFound instances f × AllFound instances fs
+abbrev pub AllFound : List FuncType → List Instance → List FunctionInstance → Type 0
+AllFound hosts instances [] = Unit {0}
+AllFound hosts instances (f ∷ fs) = IsFound hosts instances f × AllFound hosts instances fs
 
 -- What an entry would represent that finds nothing. A store has none.
 abbrev pub no_function : Function
@@ -56,8 +69,19 @@ no_function = record {
   implementation = InCode 0 (record { locals = []; body = Empty });
 }
 
-abbrev pub function_at : List Instance → FunctionInstance → Function
-function_at instances f = unwrap_or (entry_function instances f) no_function
+abbrev pub function_at : List FuncType → List Instance → FunctionInstance → Function
+function_at hosts instances f = unwrap_or (entry_function hosts instances f) no_function
+
+-- The function that is read.
+abbrev pub callee_function : Callee → Function
+callee_function (callee.InModule f) = function_of f.ty.now f.instance f.func.now
+callee_function (callee.InHost f) = host_function f.number f.ty.now
+
+-- The code of a function of a module comes with the positions at which its bodies end, and nothing is around it.
+abbrev pub HasWholeCode : Callee → Type 0
+HasWholeCode (callee.InModule f) =
+    HasEnds f.func.now.body f.ends.now × ((rests f.func.now.body).around ≡ [])
+HasWholeCode (callee.InHost f) = Unit {0}
 
 -- The addresses of what an instance has, a list a kind.
 pub record AddressLists : Type 0 where
@@ -96,7 +120,7 @@ module_instance_of i = module_instance (lists_of i.addresses) i.loaded.value
 
 -- The functions and the instances that are kept.
 abbrev pub functions_in : Contents → List Function
-functions_in s = map (function_at s.instances) s.functions
+functions_in s = map (function_at s.hosts s.instances) s.functions
 
 abbrev pub instances_in : Contents → List ModuleInstance
 instances_in s = map module_instance_of s.instances
@@ -140,4 +164,8 @@ store_of s = store_with s.code s.state
 
 -- The entries of an instance's functions of these indices.
 abbrev pub entries_of : (instance : ℕ) → (indices : List ℕ) → List FunctionInstance
-entries_of instance indices = map (λ (k : ℕ). record { instance = instance; index = k }) indices
+entries_of instance indices = map (λ (k : ℕ). InModule instance k) indices
+
+-- The store with one function more.
+abbrev pub with_function : Store → Function → Store
+with_function store f = record store { functions = store.functions ++ f ∷ [] }

@@ -16,4 +16,5 @@ abbrev pub LendsMemory : MutBor StateContents → ℕ → MutBor (List ℕ) → 
 LendsMemory s address r = Lends state_row (Array u8 0) s r (with_lent s.now address)
 
 abbrev pub LendsState : MutBor BothParts → MutBor StateContents → Fml
-LendsState s r = Lends store_row state_row s r (λ (state : StateContents). record { code = s.now.code; state = state })
+LendsState s r = Lends store_row state_row s r
+    (λ (state : StateContents). record { code = s.now.code; state = state })

@@ -9,4 +9,5 @@ abbrev pub HaveEnds : List Func → List BodyEnds → Type 0
 HaveEnds [] [] = Unit {0}
 HaveEnds [] (ends ∷ others) = ⊥
 HaveEnds (func ∷ funcs) [] = ⊥
-HaveEnds (func ∷ funcs) (ends ∷ others) = HasEnds func.body ends.positions.items × HaveEnds funcs others
+HaveEnds (func ∷ funcs) (ends ∷ others) =
+    HasEnds func.body ends.positions.items × HaveEnds funcs others

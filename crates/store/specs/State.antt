@@ -37,7 +37,8 @@ IsTableWithin entries table = table.ty.limits.min ≤ entries
 abbrev pub IsMemoryWithin : (pages : ℕ) → MemoryInstance → Type 0
 IsMemoryWithin pages memory = memory.limits.min ≤ pages
 
-pub record AreWithin (bounds : Bounds) (tables : List TableInstance) (memories : List MemoryInstance) : Type 0 where
+pub record AreWithin (bounds : Bounds) (tables : List TableInstance)
+    (memories : List MemoryInstance) : Type 0 where
   pub few_entries : All (IsTableWithin bounds.entries) tables
   pub few_pages : All (IsMemoryWithin bounds.pages) memories
 
@@ -65,7 +66,10 @@ append_objects old new = record {
 -- ---- objects by address, which must be there
 
 abbrev pub no_table : TableInstance
-no_table = record { ty = record { element = ref.FuncRef; limits = record { min = 0; max = None } }; entries = [] }
+no_table = record {
+  ty = record { element = ref.FuncRef; limits = record { min = 0; max = None } };
+  entries = [];
+}
 
 abbrev pub table_of : StateContents → (address : ℕ) → TableInstance
 table_of s address = slice_index_or s.contents.tables address no_table
@@ -99,18 +103,25 @@ put_table s address table =
 
 abbrev pub put_memory : StateContents → (address : ℕ) → MemoryInstance → StateContents
 put_memory s address memory =
-    record s { contents = record s.contents { memories = slice_set s.contents.memories address memory } }
+    record s {
+      contents = record s.contents
+          { memories = slice_set s.contents.memories address memory };
+    }
 
 abbrev pub put_global : StateContents → (address : ℕ) → Val → StateContents
 put_global s address value = record s {
   contents = record s.contents {
-    globals = slice_set s.contents.globals address (record { ty = (global_of s address).ty; value = value });
+    globals = slice_set s.contents.globals address
+        (record { ty = (global_of s address).ty; value = value });
   };
 }
 
 abbrev pub put_elements : StateContents → (address : ℕ) → ElementInstance → StateContents
 put_elements s address segment =
-    record s { contents = record s.contents { elements = slice_set s.contents.elements address segment } }
+    record s {
+      contents = record s.contents
+          { elements = slice_set s.contents.elements address segment };
+    }
 
 abbrev pub put_data : StateContents → (address : ℕ) → DataInstance → StateContents
 put_data s address segment =

@@ -42,7 +42,7 @@ pub fn accepts(store: &Store, address: u32, args: &[Val]) -> bool
     ensures { IsTrue result ↔ TakesArguments (store_of store.now) address args.now }
 {
     match store.code().function(address) {
-        Some(callee) => values_have_types(store, args, callee.ty.params.as_slice()),
+        Some(callee) => values_have_types(store, args, callee.ty().params.as_slice()),
         None => false,
     }
 }

@@ -17,7 +17,7 @@ pub fn push_entries(
 {
     let before = functions.len();
     for index in 0..count {
-        match functions.push(FunctionInstance { instance, index }) {
+        match functions.push(FunctionInstance::InModule { instance, index }) {
             Ok(()) => {}
             Err(_) => {
                 functions.truncate(before);

@@ -3,20 +3,8 @@ ghost use Rattle.meaning.specs.execution.Store.{extern_type as type_of};
 ghost use Rattle.store.specs.Contents.{store_of};
 
 use crate::store::Store;
-use core_types::{Extern, ExternType, FuncType, Items};
+use core_types::{Extern, ExternType};
 use std::alloc::{AllocError, Global};
-
-// The type of a function, with lists of its own.
-fn copy_type(alloc: Global, ty: &FuncType) -> Result<FuncType, AllocError>
-    ensures { IfOk result (λ copied. copied ≡ ty.now) }
-{
-    let params = Vec::from_slice(alloc, ty.params.as_slice())?;
-    let results = Vec::from_slice(alloc, ty.results.as_slice())?;
-    Ok(FuncType {
-        params: Items::from_vec(params),
-        results: Items::from_vec(results),
-    })
-}
 
 impl Store {
     /// Whether an external value is in the store.
@@ -39,7 +27,7 @@ impl Store {
     {
         match value {
             Extern::Func(address) => match self.code().function(address) {
-                Some(callee) => Ok(ExternType::Func(copy_type(alloc, callee.ty)?)),
+                Some(callee) => Ok(ExternType::Func(callee.ty().copy(alloc)?)),
                 None => unreachable!(),
             },
             Extern::Table(address) => match self.state().table(address) {

@@ -1,9 +1,9 @@
-ghost use Rattle.std.specs.Prelude.{◌≡◌, [], ◌∷◌, ◌++◌, ◌+◌, ◌<◌, ◌^◌, length, map, slice_get, option_copied, IfSome, OnOk, OnErr, MatchOption, Some, None};
+ghost use Rattle.std.specs.Prelude.{◌≡◌, [], ◌∷◌, ◌++◌, ◌+◌, ◌<◌, ◌^◌, length, map, slice_get, option_copied, IfSome, IfOk, OnOk, OnErr, MatchOption, Some, None};
 ghost use Rattle.meaning.specs.structure.Bodies.{rests};
 ghost use Rattle.meaning.specs.execution.Modules.{new_function};
 ghost use Rattle.meaning.specs.execution.Store.{instance_of};
 ghost use Rattle.store.specs.Ends.{HasEnds};
-ghost use Rattle.store.specs.Contents.{code_store, contents_of, functions_in, function_of, instances_in, lists_of, module_instance};
+ghost use Rattle.store.specs.Contents.{callee_function, code_store, contents_of, functions_in, function_of, host_function, HasWholeCode, instance_function, instances_in, lists_of, module_instance};
 
 use crate::entries::push_entries;
 use crate::loaded_modules::LoadedModule;
@@ -13,11 +13,13 @@ use std::alloc::{AllocError, Global};
 use std::marker::Model;
 use std::rc::Rc;
 
-/// A function of the store: the number of its instance, and its index in the instance's module.
+/// A function of the store (Execution, Runtime Structure, Function Instances).
 #[derive(Clone, Copy)]
-pub struct FunctionInstance {
-    pub instance: u32,
-    pub index: u32,
+pub enum FunctionInstance {
+    /// One of a module: the number of its instance, and its index in the instance's module.
+    InModule { instance: u32, index: u32 },
+    /// One of the host, by its number.
+    InHost(u32),
 }
 
 /// The addresses of what an instance has of each kind, by index.
@@ -38,14 +40,40 @@ pub struct Instance {
     pub addresses: Addresses,
 }
 
-/// A function of the store, for reading: its type, its code, the positions at which the bodies of its code end, and the number
-/// of its instance.
+/// A function of a module, for reading: its type, its code, the positions at which the bodies of its code end, and the number of
+/// its instance.
 #[derive(Clone, Copy)]
-pub struct Callee<'a> {
+pub struct ModuleFunction<'a> {
     pub ty: &'a FuncType,
     pub func: &'a Func,
     pub ends: &'a [usize],
     pub instance: u32,
+}
+
+/// A function of the host, for reading: its type and its number.
+#[derive(Clone, Copy)]
+pub struct HostFunction<'a> {
+    pub ty: &'a FuncType,
+    pub number: u32,
+}
+
+/// A function of the store, for reading.
+#[derive(Clone, Copy)]
+pub enum Callee<'a> {
+    InModule(ModuleFunction<'a>),
+    InHost(HostFunction<'a>),
+}
+
+impl<'a> Callee<'a> {
+    /// Its type.
+    pub fn ty(&self) -> &'a FuncType
+        ensures { result.now ≡ (callee_function self.now).ty }
+    {
+        match self {
+            Callee::InModule(function) => function.ty,
+            Callee::InHost(function) => function.ty,
+        }
+    }
 }
 
 /// What a run does not change of the store: functions and module instances by address (Execution, Runtime Structure, Store).
@@ -53,6 +81,7 @@ pub struct Callee<'a> {
 pub struct Code {
     functions: Vec<FunctionInstance>,
     instances: Vec<Instance>,
+    hosts: Vec<FuncType>,
 }
 
 impl Model for Code {
@@ -60,9 +89,9 @@ impl Model for Code {
 
     ghost Value = { Contents };
 
-    ghost view = { λ s. contents_of s.functions.items s.instances.items };
+    ghost view = { λ s. contents_of s.functions.items s.instances.items s.hosts.items };
 
-    ghost invariant = { λ s. AllFound s.instances.items s.functions.items };
+    ghost invariant = { λ s. AllFound s.hosts.items s.instances.items s.functions.items };
 }
 
 // Adds an instance. Where memory runs out, the list is as before.
@@ -77,11 +106,12 @@ fn push_instance(instances: &mut Vec<Instance>, instance: Instance) -> Result<()
 impl Code {
     /// No functions and no instances. Takes no memory.
     pub fn new(alloc: Global) -> Code
-        ensures { result ≡ contents_of ([]) ([]) }
+        ensures { result ≡ contents_of ([]) ([]) ([]) }
     {
         Code {
             functions: Vec::new(alloc),
             instances: Vec::new(alloc),
+            hosts: Vec::new(alloc),
         }
     }
 
@@ -167,23 +197,66 @@ impl Code {
         found.addresses.datas.get(x as usize).copied()
     }
 
-    /// The function at an address, if there is one.
-    pub fn function(&self, address: u32) -> Option<Callee<'_>>
-        ensures found { MatchOption result (slice_get (functions_in self.now) address ≡ None)
-            (λ callee. slice_get (functions_in self.now) address ≡ Some
-            (function_of callee.ty.now callee.instance callee.func.now)) }
-        ensures ends { IfSome result (λ callee. HasEnds callee.func.now.body callee.ends.now) }
-        ensures whole { IfSome result (λ callee. (rests callee.func.now.body).around ≡ []) }
+    // The function of a module that an instance has under an index, if it is there.
+    fn module_function(&self, instance: u32, index: u32) -> Option<ModuleFunction<'_>>
+        ensures found { MatchOption result
+            (instance_function instance index (slice_get self.now.instances instance) ≡ None)
+            (λ found. instance_function instance index (slice_get self.now.instances instance) ≡
+            Some
+            (function_of found.ty.now found.instance found.func.now)) }
+        ensures ends { IfSome result (λ found. HasEnds found.func.now.body found.ends.now) }
+        ensures whole { IfSome result (λ found. (rests found.func.now.body).around ≡ []) }
     {
-        let entry = item(&self.functions, address)?;
-        let instance = item(&self.instances, entry.instance)?;
-        let found = instance.loaded.as_ref().function(entry.index)?;
-        Some(Callee {
+        let holder = item(&self.instances, instance)?;
+        let found = holder.loaded.as_ref().function(index)?;
+        Some(ModuleFunction {
             ty: found.ty,
             func: found.func,
             ends: found.ends,
-            instance: entry.instance,
+            instance,
         })
+    }
+
+    /// The function at an address, if there is one.
+    pub fn function(&self, address: u32) -> Option<Callee<'_>>
+        ensures found { MatchOption result (slice_get (functions_in self.now) address ≡ None)
+            (λ callee. slice_get (functions_in self.now) address ≡ Some (callee_function callee)) }
+        ensures whole { IfSome result HasWholeCode }
+    {
+        match item(&self.functions, address)? {
+            FunctionInstance::InModule { instance, index } => {
+                Some(Callee::InModule(self.module_function(*instance, *index)?))
+            }
+            FunctionInstance::InHost(number) => {
+                let ty = item(&self.hosts, *number)?;
+                Some(Callee::InHost(HostFunction {
+                    ty,
+                    number: *number,
+                }))
+            }
+        }
+    }
+
+    /// Adds a host function of a type, and answers its number. Where memory runs out, nothing has changed.
+    pub(crate) fn append_host(&mut self, ty: FuncType) -> Result<u32, AllocError>
+        requires functions { length self.old.functions + 1 < 2 ^ 32 }
+        requires hosts { length self.old.hosts + 1 < 2 ^ 32 }
+        ensures number { IfOk result (λ number. number ≡ length self.old.hosts) }
+        ensures functions { OnOk result
+            (functions_in self.new ≡ functions_in self.old ++
+            host_function (length self.old.hosts) ty
+            ∷ []) }
+        ensures instances { OnOk result (instances_in self.new ≡ instances_in self.old) }
+        ensures hosts { OnOk result (self.new.hosts ≡ self.old.hosts ++ ty ∷ []) }
+        ensures unchanged { OnErr result (self.new ≡ self.old) }
+    {
+        let number = self.hosts.len() as u32;
+        self.functions.try_reserve(1)?;
+        self.hosts.push(ty)?;
+        self.functions
+            .push(FunctionInstance::InHost(number))
+            .unwrap();
+        Ok(number)
     }
 
     /// Adds the functions of a module without imports and an instance of it with these addresses. Where memory runs out, nothing

@@ -20,7 +20,9 @@ mod tables;
 pub use arguments::accepts;
 pub use ends::ends_of;
 pub use globals::GlobalVariable;
-pub use instances::{Addresses, Callee, Code, FunctionInstance, Instance};
+pub use instances::{
+    Addresses, Callee, Code, FunctionInstance, HostFunction, Instance, ModuleFunction,
+};
 pub use loaded_modules::LoadedModule;
 pub use memories::Memory;
 pub use segments::{DataSegment, ElementSegment};

@@ -31,7 +31,13 @@ impl Model for Objects {
 
     ghost Value = { ObjectLists };
 
-    ghost view = { λ o. record { tables = o.tables.items; memories = o.memories.items; globals = o.globals.items; elements = o.elements.items; datas = o.datas.items } };
+    ghost view = { λ o. record {
+      tables = o.tables.items;
+      memories = o.memories.items;
+      globals = o.globals.items;
+      elements = o.elements.items;
+      datas = o.datas.items;
+    } };
 }
 
 /// What a run may change of the store: tables, memories, globals and segments by address.
@@ -54,12 +60,25 @@ impl Model for State {
     ghost Value = { StateContents };
 
     ghost view = { λ s. record {
-      contents = record { tables = s.tables.items; memories = s.memories.items; globals = s.globals.items; elements = s.elements.items; datas = s.datas.items };
-      room = record { tables = vec_capacity s.tables - vec_len s.tables; memories = vec_capacity s.memories - vec_len s.memories; globals = vec_capacity s.globals - vec_len s.globals; elements = vec_capacity s.elements - vec_len s.elements; datas = vec_capacity s.datas - vec_len s.datas };
+      contents = record {
+        tables = s.tables.items;
+        memories = s.memories.items;
+        globals = s.globals.items;
+        elements = s.elements.items;
+        datas = s.datas.items;
+      };
+      room = record {
+        tables = vec_capacity s.tables - vec_len s.tables;
+        memories = vec_capacity s.memories - vec_len s.memories;
+        globals = vec_capacity s.globals - vec_len s.globals;
+        elements = vec_capacity s.elements - vec_len s.elements;
+        datas = vec_capacity s.datas - vec_len s.datas;
+      };
       bounds = record { entries = s.entries; pages = s.pages };
     } };
 
-    ghost invariant = { λ s. AreWithin (record { entries = s.entries; pages = s.pages }) s.tables.items s.memories.items };
+    ghost invariant = { λ s. AreWithin (record { entries = s.entries; pages = s.pages })
+        s.tables.items s.memories.items };
 }
 
 impl State {

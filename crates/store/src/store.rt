@@ -1,14 +1,14 @@
 ghost use Rattle.std.specs.Prelude.{◌≡◌, ◌↔◌, [], ◌+◌, ◌<◌, ◌^◌, length, IsTrue, IfOk, OnOk, OnErr};
 ghost use Rattle.std.specs.Borrow.{sem};
 ghost use Rattle.meaning.specs.execution.Modules.{HasRoom, with_module};
-ghost use Rattle.store.specs.Contents.{contents_of, lists_of, module_instance, store_of};
+ghost use Rattle.store.specs.Contents.{contents_of, host_function, lists_of, module_instance, store_of, with_function};
 ghost use Rattle.store.specs.Lending.{LendsState};
 ghost use Rattle.store.specs.State.{AreWithin, no_objects};
 
 use crate::instances::{Addresses, Code, Instance};
 use crate::loaded_modules::LoadedModule;
 use crate::state::{Objects, State};
-use core_types::Module;
+use core_types::{FuncType, Module};
 use std::alloc::{AllocError, Global};
 use std::marker::Model;
 use std::rc::Rc;
@@ -39,7 +39,7 @@ impl Store {
     /// A store with nothing in it, in which a memory may have this many pages and a table this many entries at most. Takes no
     /// memory.
     pub fn new(alloc: Global, pages: u32, entries: u32) -> Store
-        ensures code { result.code ≡ contents_of ([]) ([]) }
+        ensures code { result.code ≡ contents_of ([]) ([]) ([]) }
         ensures contents { result.state.contents ≡ no_objects }
         ensures bounds { result.state.bounds ≡ record { entries = entries; pages = pages } }
     {
@@ -107,5 +107,20 @@ impl Store {
         self.code.append_instance(Instance { loaded, addresses })?;
         self.state.append_all(objects);
         Ok(number)
+    }
+
+    /// Adds a host function of a type, and answers its number, the next one. Where memory runs out, nothing has changed (Execution,
+    /// Runtime Structure, Function Instances).
+    pub fn append_host(&mut self, ty: FuncType) -> Result<u32, AllocError>
+        requires functions { length (store_of self.old).functions + 1 < 2 ^ 32 }
+        requires hosts { length (self.old.code.hosts) + 1 < 2 ^ 32 }
+        ensures number { IfOk result (λ number. number ≡ length (self.old.code.hosts)) }
+        ensures appended { OnOk result (store_of self.new ≡ with_function (store_of self.old)
+            (host_function (length (self.old.code.hosts)) ty)) }
+        ensures counted { OnOk result
+            (length (self.new.code.hosts) ≡ length (self.old.code.hosts) + 1) }
+        ensures unchanged { OnErr result (self.new ≡ self.old) }
+    {
+        self.code.append_host(ty)
     }
 }

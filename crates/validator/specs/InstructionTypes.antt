@@ -27,7 +27,8 @@ abbrev pub lent_func_type : LentFuncType → FuncType
 lent_func_type t = function_type t.params.now t.results.now
 
 -- In each context that is described, with these labels, the instruction has the type and no other.
-pub record IsTypeOf (lent : BodyContext) (labels : List (List ValType)) (op : PlainOp) (t : FuncType)
+pub record IsTypeOf (lent : BodyContext) (labels : List (List ValType)) (op : PlainOp)
+    (t : FuncType)
     : Type 0 where
   pub rule : (context : Context) → Describes lent context
       → Rule (record context { labels = labels }) op (known t.params) (known t.results)

@@ -46,7 +46,8 @@ unfoldable pub IsElementModeIn : IndexSpaces → ConstantContext → RefType →
 IsElementModeIn s context t Passive = Unit {0}
 IsElementModeIn s context t Declarative = Unit {0}
 IsElementModeIn s context t (Active x offset) =
-    (ty : TableType) × (slice_get s.tables.items x ≡ Some ty) × (ty.element ≡ t) × IsConstantIn context offset I32
+    (ty : TableType) × (slice_get s.tables.items x ≡ Some ty) × (ty.element ≡ t) ×
+    IsConstantIn context offset I32
 
 abbrev pub IsElementIn : IndexSpaces → ConstantContext → ElementSegment → Type 0
 IsElementIn s context e = AreItemsIn s context e.ty e.items × IsElementModeIn s context e.ty e.mode

@@ -32,7 +32,8 @@ pub record HasValidDeclarations (m : Module) : Type 0 where
 -- Where the types of the functions exist.
 pub record HasValidParts (m : Module) : Type 0 where
   pub one_memory : length (memories_of m) ≤ 1
-  pub globals : All (λ (g : Global). IsConstantExpression (constant_context m) g.init g.ty.value) m.globals
+  pub globals : All (λ (g : Global). IsConstantExpression (constant_context m) g.init g.ty.value)
+      m.globals
   pub elements : All (IsValidElement m) m.elements
   pub datas : All (λ (d : DataSegment). HasDataMode m d.mode) m.datas
   pub start : IsValidStart m m.start

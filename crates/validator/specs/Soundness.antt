@@ -25,7 +25,8 @@ Admits false own target = target ≡ own
 Admits true own target = (any : List OperandType) × (target ≡ any ++ own)
 
 -- The body leads, from the types at its start, to all that the operands admit.
-pub record Reaches (context : Context) (body : Body) (start_types : List ValType) (unreachable : Bool)
+pub record Reaches (context : Context) (body : Body) (start_types : List ValType)
+    (unreachable : Bool)
     (own : List OperandType) : Type 0 where
   pub each : (target : List OperandType) → Admits unreachable own target
       → HasType context body (known start_types) target
@@ -52,16 +53,20 @@ FrameStart context Loop s outer before =
 FrameStart context If s outer before =
     (t : BlockType) × (before ≡ outer ++ op.If t ∷ []) × (block_type context.types t ≡ Some s)
 FrameStart context Else s outer before =
-    (t : BlockType) × (first : Body) × (before ≡ outer ++ (op.If t ∷ (writing first ++ op.Else ∷ [])))
-    × (block_type context.types t ≡ Some s) × HasType context first (known s.params) (known s.results)
+    (t : BlockType) × (first : Body) ×
+    (before ≡ outer ++ (op.If t ∷ (writing first ++ op.Else ∷ [])))
+    × (block_type context.types t ≡ Some s) ×
+    HasType context first (known s.params) (known s.results)
 
 -- The frames around a frame, from the inside out; the outermost is the function's.
-abbrev pub AroundRead : Context → ControlFrame → List ControlFrame → List OperandType → List Op → Type 0
+abbrev pub AroundRead : Context → ControlFrame → List ControlFrame → List OperandType → List Op
+    → Type 0
 AroundRead context l [] under before =
     (l.kind ≡ Function) × (l.start_types.now ≡ []) × (context.results ≡ Some l.end_types.now)
     × (under ≡ []) × (before ≡ [])
 AroundRead context l (m ∷ ms) under before =
-    (outer : List Op) × FrameStart (inside context (l ∷ m ∷ ms)) l.kind (signature_of l) outer before
+    (outer : List Op) × FrameStart (inside context (l ∷ m ∷ ms)) l.kind (signature_of l) outer
+    before
     × (lower : List OperandType) × (earlier : List Op)
     × HereRead (inside context (m ∷ ms)) m under (hand_of l) outer lower earlier
     × AroundRead context m ms lower earlier

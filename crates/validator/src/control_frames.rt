@@ -51,7 +51,8 @@ pub fn find_label<'a>(
     outer: &[ControlFrame<'a>],
     index: u32,
 ) -> Option<&'a [ValType]>
-    ensures some { IfSome result (λ types. IsLabelAt innermost.now outer.now index (Some types.now)) }
+    ensures some { IfSome result (λ types. IsLabelAt innermost.now outer.now index
+        (Some types.now)) }
     ensures none { IfNone result (IsLabelAt innermost.now outer.now index None) }
 {
     let index = index as usize;

@@ -27,7 +27,8 @@ pub fn are_valid_datas(
     context: &ConstantContext<'_>,
     datas: &[DataSegment],
 ) -> bool
-    ensures { IsTrue result ↔ All (λ (d : Data). IsDataModeIn spaces.now context.now d.mode) datas.now }
+    ensures { IsTrue result ↔ All (λ (d : Data). IsDataModeIn spaces.now context.now d.mode)
+        datas.now }
 {
     datas.iter().all(|segment| is_valid_data_mode(spaces, context, &segment.mode))
 }

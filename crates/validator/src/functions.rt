@@ -85,7 +85,8 @@ pub fn validate_functions(
     requires spaces { AreIndexSpaces decoded.now spaces.now }
     requires marks { HasMarks decoded.now spaces.now }
     ensures valid { OnOk result (HasValidBodies decoded.now) }
-    ensures invalid { IfErr result (λ error. (error ≡ OutOfMemory) ⊎ (¬ HasValidBodies decoded.now)) }
+    ensures invalid { IfErr result
+        (λ error. (error ≡ OutOfMemory) ⊎ (¬ HasValidBodies decoded.now)) }
     ensures no_section { IfErr result (λ error. (id : ℕ) → error ≢ Invalid (Section id)) }
 {
     for (index, func) in decoded.funcs.as_slice().iter().enumerate() {

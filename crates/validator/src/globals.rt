@@ -8,7 +8,8 @@ use core_types::Global as ModuleGlobal;
 // Whether the first value of each global is constant and of the global's type (Validation,
 // Globals).
 pub fn are_valid_globals(context: &ConstantContext<'_>, globals: &[ModuleGlobal]) -> bool
-    ensures { IsTrue result ↔ All (λ (g : OwnGlobal). IsConstantIn context.now g.init g.ty.value) globals.now }
+    ensures { IsTrue result ↔ All (λ (g : OwnGlobal). IsConstantIn context.now g.init g.ty.value)
+        globals.now }
 {
     globals.iter().all(|global| is_constant(context, global.init.as_slice(), global.ty.value))
 }

@@ -21,7 +21,8 @@ fn is_valid_import(types: usize, desc: ImportDesc) -> bool
 
 // Whether the type of each import is valid.
 pub fn are_valid_imports(types: usize, imports: &[Import]) -> bool
-    ensures { IsTrue result ↔ All (λ (import : Imported). IsValidImport types import.desc) imports.now }
+    ensures { IsTrue result ↔ All (λ (import : Imported). IsValidImport types import.desc)
+        imports.now }
 {
     imports
         .iter()

@@ -70,7 +70,8 @@ fn validate_parts(
     requires marks { HasMarks decoded.now spaces.now }
     requires declarations { HasValidDeclarations decoded.now }
     ensures valid { OnOk result (HasValidParts decoded.now) }
-    ensures invalid { IfErr result (λ error. (error ≡ OutOfMemory) ⊎ (¬ HasValidParts decoded.now)) }
+    ensures invalid { IfErr result
+        (λ error. (error ≡ OutOfMemory) ⊎ (¬ HasValidParts decoded.now)) }
 {
     let exports = decoded.exports.as_slice();
     let context = constant_context(decoded, spaces);

@@ -20,7 +20,8 @@ pub fn fits(given: OperandType, wanted: OperandType) -> bool
 
 // Pops the topmost operand of the frame, or an unknown one where it has none and is unreachable.
 pub fn pop(operands: &mut Vec<OperandType>, frame: &ControlFrame<'_>) -> Option<OperandType>
-    ensures some { IfSome result (λ t. TakesOff frame.now operands.old.items (t ∷ []) operands.new.items) }
+    ensures some { IfSome result (λ t. TakesOff frame.now operands.old.items (t ∷ [])
+        operands.new.items) }
     ensures none { IfNone result (IsDry frame.now.unreachable frame.now.height operands.old.items) }
 {
     if operands.len() <= frame.height {
@@ -78,7 +79,8 @@ pub fn take_operands(
     frame: &ControlFrame<'_>,
     count: usize,
 ) -> Result<Vec<OperandType>, Fault>
-    ensures took { IfOk result (λ given. TakesOff frame.now operands.old.items given.items operands.new.items) }
+    ensures took { IfOk result (λ given. TakesOff frame.now operands.old.items given.items
+        operands.new.items) }
     ensures count { IfOk result (λ given. length given.items ≡ count) }
     ensures refused { IfErr result (OnInvalid (RefusesCountOf frame.now operands.old.items count)) }
 {

@@ -2,14 +2,15 @@
 use Rattle.std.proofs.Common.{◌≡◌, ℕ, ◌+◌, ◌<◌, ◌≤◌, refl, ap, sym, subst, ◌∙◌, add-zero}
 use Rattle.core_types.specs.declared.op.BlockType.{BlockType}
 use Rattle.core_types.specs.declared.outcome.Trap.{Trap}
+use Rattle.core_types.specs.declared.outcome.Val.{Val}
 use Rattle.meaning.specs.execution.Configurations.{Frame, Configuration, depth, no_frame}
-use Rattle.meaning.specs.execution.Instructions.{Next, Goes, Grows, Opens, Traps, NotReady, function_at, next, type_of_block}
+use Rattle.meaning.specs.execution.Instructions.{Next, CallsHost, Goes, Grows, Opens, Traps, NotReady, function_at, next, type_of_block}
 use Rattle.meaning.specs.execution.Layers.{outermost, plug, count_frames}
 use Rattle.meaning.specs.execution.Runs.{no_fuel, no_memory, stuck, OutOfFuel, OutOfMemory, GotStuck, IsReady, IsStuck, IsWithinBound, price}
 use Rattle.meaning.specs.execution.Store.{FunctionInstance, ModuleInstance, Store, item_at, no_instance}
 use Rattle.meaning.specs.validation.Types.{block_type}
-use Rattle.meaning.proofs.lemmas.Layers.{plugged-depth, plugged-goes, plugged-grows, plugged-opens, plugged-traps, plugged-waits}
-use Rattle.std.specs.Prelude.{List, slice_get, unwrap_or}
+use Rattle.meaning.proofs.lemmas.Layers.{plugged-calls, plugged-depth, plugged-goes, plugged-grows, plugged-opens, plugged-traps, plugged-waits}
+use Rattle.std.specs.Prelude.{List, Option, slice_get, unwrap_or}
 use Rattle.exec.specs.declared.machine.Machine.{Machine}
 use Rattle.exec.specs.Representation.{RepresentsAt, frame_of, rests_of}
 use Rattle.exec.specs.Simulation.{EndsWith, HasCode, World, next_in, world_of}
@@ -40,6 +41,9 @@ module _ (w : World) (m : Machine) (frames : ℕ) (redex whole : Configuration) 
 
   pub whole_traps : (cost : ℕ) (trap : Trap) → next_in w m redex ≡ Traps cost trap → whole_next w whole ≡ Traps cost trap
   whole_traps cost trap e = from_redex (Traps cost trap) (plugged-traps w.store h.layers (frame_of m) cost trap redex e)
+
+  pub whole_calls : (cost number : ℕ) (lent : Option ℕ) (arguments : List Val) (y : Configuration) → next_in w m redex ≡ CallsHost cost number lent arguments y → whole_next w whole ≡ CallsHost cost number lent arguments (plug h.layers (frame_of m) y)
+  whole_calls cost number lent arguments y e = from_redex (CallsHost cost number lent arguments (plug h.layers (frame_of m) y)) (plugged-calls w.store h.layers (frame_of m) cost number lent arguments redex y e)
 
   pub whole_waits : next_in w m redex ≡ NotReady → whole_next w whole ≡ NotReady
   whole_waits e = from_redex NotReady (plugged-waits w.store h.layers (frame_of m) redex e)

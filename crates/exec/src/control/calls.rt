@@ -1,23 +1,24 @@
-ghost use Rattle.std.specs.Prelude.{◌≡◌, ◌+◌, ◌-◌, ◌<◌, ◌≤◌, ◌^◌, ℕ, [], OnOk, Option, Some, length};
+ghost use Rattle.std.specs.Prelude.{◌≡◌, ◌+◌, ◌-◌, ◌<◌, ◌≤◌, ◌^◌, ℕ, [], OnOk, Option, Some, length, slice_get};
 ghost use Rattle.core_types.specs.declared.op.ControlOp.TheVariants.{Call, Return};
 ghost use Rattle.core_types.specs.declared.op.Op.TheVariants.{Plain};
 ghost use Rattle.core_types.specs.declared.op.PlainOp.{PlainOp as AnyPlainOp};
 ghost use Rattle.core_types.specs.declared.op.PlainOp.TheVariants.{Control as ControlPlain};
 ghost use Rattle.meaning.specs.execution.Configurations.{Configuration, depth};
-ghost use Rattle.meaning.specs.execution.Instructions.{call_function};
-ghost use Rattle.store.specs.Contents.{function_of};
+ghost use Rattle.meaning.specs.execution.Instructions.{call_function, lent_memory};
+ghost use Rattle.store.specs.Contents.{HasWholeCode, callee_function, function_of};
 ghost use Rattle.store.specs.Ends.{HasEnds};
 ghost use Rattle.meaning.specs.structure.Bodies.{rests};
 ghost use Rattle.exec.specs.Frames.{ReturnsTo, enter, enter_callee};
 ghost use Rattle.exec.specs.Positions.{after_end, rests_at};
-ghost use Rattle.exec.specs.Representation.{IsAtEnd, IsBefore, IsRepresentation, rests_of};
+ghost use Rattle.exec.specs.Representation.{IsAtEnd, IsBefore, IsRepresentation, frame_of, rests_of};
 ghost use Rattle.exec.specs.Simulation.{HasCode, Simulates, SimulatesAt, IfGoes, IfStays, World, next_in, measure};
 
+use crate::control::host_calls::wait_for_host;
 use crate::machine::{Caller, Control, FunctionCode, Label, Machine, Step};
 use core_types::Exhaustion;
 use fuel::Meter;
 use std::alloc::AllocError;
-use store::{Callee, Code};
+use store::{Callee, Code, ModuleFunction};
 
 // Goes on in the caller of a frame that is left.
 #[inline(always)]
@@ -105,7 +106,7 @@ pub fn step_return(machine: &mut Machine<'_>, meter: &mut Meter) -> Step
 
 /// The code of a function that was found.
 #[inline(always)]
-pub fn code_of<'a>(callee: &Callee<'a>) -> FunctionCode<'a>
+pub fn code_of<'a>(callee: &ModuleFunction<'a>) -> FunctionCode<'a>
     ensures { (result.body.now ≡ callee.now.func.now.body) × (result.ends ≡ callee.now.ends) ×
         (result.instance ≡ callee.now.instance) }
 {
@@ -144,7 +145,7 @@ pub fn enter_function<'a>(
 // The frame of a call from within code, with the topmost operands as arguments.
 #[inline(always)]
 fn open_frame<'a>(
-    callee: &Callee<'a>,
+    callee: &ModuleFunction<'a>,
     code: FunctionCode<'a>,
     machine: &mut Machine<'a>,
 ) -> Result<(), AllocError>
@@ -174,9 +175,9 @@ fn open_frame<'a>(
     enter_function(Control::InFrame(caller), code, results, machine)
 }
 
-/// A call of a function that was found, with the topmost operands as arguments.
+// A call of a function of a module, with the topmost operands as arguments.
 #[inline(always)]
-pub fn call<'a>(callee: &Callee<'a>, machine: &mut Machine<'a>, meter: &mut Meter) -> Step
+fn call_code<'a>(callee: &ModuleFunction<'a>, machine: &mut Machine<'a>, meter: &mut Meter) -> Step
     requires position { machine.old.position + 1 < 2 ^ 64 }
     requires ends { HasEnds callee.now.func.now.body callee.now.ends.now }
     requires whole { (rests callee.now.func.now.body).around ≡ [] }
@@ -206,6 +207,28 @@ pub fn call<'a>(callee: &Callee<'a>, machine: &mut Machine<'a>, meter: &mut Mete
             let _ = meter.try_spend(1);
             Step::Crosses
         }
+    }
+}
+
+/// A call of a function that was found, with the topmost operands as arguments.
+#[inline(always)]
+pub fn call<'a>(callee: &Callee<'a>, machine: &mut Machine<'a>, meter: &mut Meter) -> Step
+    requires position { machine.old.position + 1 < 2 ^ 64 }
+    requires whole { HasWholeCode callee.now }
+    ensures simulates { (w : World) (address : ℕ) (redex : Configuration) (op : AnyPlainOp) →
+        slice_get w.store.functions address ≡ Some (callee_function callee.now) → IsBefore
+        machine.old (Plain op) → depth redex ≡ 0 → next_in w machine.old redex ≡ call_function 1
+        w.store (lent_memory w.store (frame_of machine.old)) (Some (callee_function callee.now))
+        machine.old.operands.own (rests_at machine.old.code.body.now
+        (machine.old.position + 1)).here.body → SimulatesAt redex w machine.old meter.old result w
+        machine.new meter.new }
+    ensures falls { IfGoes result (measure machine.new meter.new < measure machine.old meter.old) }
+    ensures stays { IfStays result (machine.new.code ≡ machine.old.code) }
+    ensures bound { meter.new.bound ≡ meter.old.bound }
+{
+    match callee {
+        Callee::InModule(function) => call_code(function, machine, meter),
+        Callee::InHost(function) => wait_for_host(function, machine, meter),
     }
 }
 

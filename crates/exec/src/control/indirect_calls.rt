@@ -8,9 +8,9 @@ ghost use Rattle.meaning.specs.structure.Bodies.{Body};
 ghost use Rattle.meaning.specs.execution.Instructions.{call_entry, call_of_type, call_through};
 ghost use Rattle.meaning.specs.execution.Store.{instance_of, locate};
 ghost use Rattle.meaning.specs.validation.Types.{is_same_function_type};
-ghost use Rattle.store.specs.Contents.{store_with};
+ghost use Rattle.store.specs.Contents.{functions_in, store_with};
 ghost use Rattle.store.specs.State.{StateContents};
-ghost use Rattle.exec.specs.IndirectCalls.{GoesOnWith, HasWholeCode};
+ghost use Rattle.exec.specs.IndirectCalls.{GoesOnWith, IsAmong};
 ghost use Rattle.exec.specs.Representation.{IsBefore, IsRepresentation};
 ghost use Rattle.exec.specs.Simulation.{Simulates, IfGoes, IfStays, measure, world_of};
 
@@ -42,11 +42,11 @@ fn find_function<'a>(code: &'a Code, wanted: &FuncType, address: u32) -> Found<'
         → GoesOnWith result (store_with code.now state) lent values rest
         (call_of_type (store_with code.now state) lent wanted.now
         (slice_get (store_with code.now state).functions address) values rest) }
-    ensures whole { HasWholeCode result }
+    ensures among { IsAmong result (functions_in code.now) }
 {
     match code.function(address) {
         Some(callee) => {
-            if is_same_type(callee.ty, wanted) {
+            if is_same_type(callee.ty(), wanted) {
                 Found::Function(callee)
             } else {
                 Found::Trap(Trap::IndirectType)
@@ -61,7 +61,7 @@ fn find_entry<'a>(code: &'a Code, wanted: &FuncType, entry: Option<Val>) -> Foun
     ensures found { (state : StateContents) (lent : Option ℕ) (values : List AnyVal) (rest : Body)
         → GoesOnWith result (store_with code.now state) lent values rest
         (call_entry (store_with code.now state) lent wanted.now entry values rest) }
-    ensures whole { HasWholeCode result }
+    ensures among { IsAmong result (functions_in code.now) }
 {
     match entry {
         None => Found::Trap(Trap::UndefinedElement),
@@ -87,7 +87,7 @@ fn find_through<'a>(
         (locate state.now.contents.tables
         (slice_get (instance_of (store_with code.now state.now) (Some instance)).tables table))
         (I32 offset ∷ values) rest) }
-    ensures whole { HasWholeCode result }
+    ensures among { IsAmong result (functions_in code.now) }
 {
     let Some(wanted) = code.type_at(instance, ty) else {
         return Found::Nothing;

@@ -7,22 +7,22 @@ use Rattle.std.proofs.lemmas.List.Elements.{All-map}
 use Rattle.core_types.specs.declared.module.Import.{Import}
 use Rattle.core_types.specs.declared.module.Module.{Module}
 use Rattle.core_types.specs.declared.outcome.Extern.{Extern}
+use Rattle.core_types.specs.declared.outcome.Val.{Val}
 use Rattle.core_types.specs.declared.types.Limits.{Limits}
 use Rattle.core_types.specs.declared.types.TableType.{TableType}
 use Rattle.meaning.specs.execution.Memories.{new_memory}
 use Rattle.meaning.specs.execution.Modules.{AreGiven, Instantiation, RunTasks, Task, all_done, allocated, map_all, new_elements, new_global, new_instance, new_objects, objects_with, tasks_of, with_module}
-use Rattle.meaning.specs.execution.Runs.{Ending, NoHosts, State, WithValues}
+use Rattle.meaning.specs.execution.Runs.{Answer, Ending, State, WithValues}
 use Rattle.meaning.specs.execution.Store.{GlobalInstance, ModuleInstance, ObjectLists, Store, instance_of, no_instance}
 use Rattle.meaning.specs.execution.Tables.{ElementInstance, new_table}
 use Rattle.exec.specs.declared.machine.Outcome.{Outcome}
-use Rattle.exec.specs.Simulation.{ending_of}
+use Rattle.exec.specs.Simulation.{ending_of, run_state}
 use Rattle.store.proofs.lemmas.Positions.{slice_get-seam}
 use Rattle.store.specs.Contents.{Contents, code_store, store_with}
 use Rattle.store.specs.State.{AreWithin, Bounds, IsMemoryWithin, IsTableWithin, StateContents}
 use Rattle.instantiate.specs.Links.{IsAllocated}
 use Rattle.instantiate.specs.Tasks.{DoneTasks, EndedTasks, HasInstance}
 use Rattle.instantiate.proofs.lemmas.Instances.{addresses_in}
-use Rattle.instantiate.proofs.lemmas.Tasks.{at}
 
 -- Each import is given something.
 pub given-enough : (store : Store) (m : Module) (imports : List Import) (externs : List Extern) → AreGiven store m imports externs → length imports ≤ length externs
@@ -57,18 +57,18 @@ module _ (number : ℕ) (m : Module) (given : List Extern) (old : Store) (code :
   allocated-instance = (addresses_in (new_instance old m given), numbered)
 
   -- What runs in it is the instantiation.
-  module _ (bound fuel : ℕ) where
-    ran-links : (ending : Ending) (last : State ⊥) → RunTasks NoHosts bound number (instance_of (code_store code) (Some number)) (at (store_with code s) fuel) (tasks_of m) ending last → Instantiation NoHosts bound m given (at old fuel) ending last
+  module _ {H : Type 0} (HostStep : List H → ℕ → Option ℕ → List Val → Store → Answer → Store → List H → Type 0) (hosts : List H) (bound fuel : ℕ) where
+    ran-links : (ending : Ending) (last : State H) → RunTasks HostStep bound number (instance_of (code_store code) (Some number)) (run_state (store_with code s) hosts fuel) (tasks_of m) ending last → Instantiation HostStep bound m given (run_state old hosts fuel) ending last
     ran-links ending last ran =
         let instance_is : instance_of (code_store code) (Some number) ≡ new_instance old m given = ap (λ (o : Option ModuleInstance). unwrap_or o no_instance) numbered in
-        allocated a.objects_are (subst (λ (n : ℕ). RunTasks NoHosts bound n (new_instance old m given) (at (with_module old (new_instance old m given) m a.objects) fuel) (tasks_of m) ending last) a.number_is (subst (λ (i : ModuleInstance). RunTasks NoHosts bound number i (at (with_module old (new_instance old m given) m a.objects) fuel) (tasks_of m) ending last) instance_is (subst (λ (store : Store). RunTasks NoHosts bound number (instance_of (code_store code) (Some number)) (at store fuel) (tasks_of m) ending last) a.store_is ran)))
+        allocated a.objects_are (subst (λ (n : ℕ). RunTasks HostStep bound n (new_instance old m given) (run_state (with_module old (new_instance old m given) m a.objects) hosts fuel) (tasks_of m) ending last) a.number_is (subst (λ (i : ModuleInstance). RunTasks HostStep bound number i (run_state (with_module old (new_instance old m given) m a.objects) hosts fuel) (tasks_of m) ending last) instance_is (subst (λ (store : Store). RunTasks HostStep bound number (instance_of (code_store code) (Some number)) (run_state store hosts fuel) (tasks_of m) ending last) a.store_is ran)))
 
-    pub done-links : (last : State ⊥) → DoneTasks bound number (instance_of (code_store code) (Some number)) (at (store_with code s) fuel) (tasks_of m) last → Instantiation NoHosts bound m given (at old fuel) (WithValues []) last
+    pub done-links : (last : State H) → DoneTasks HostStep bound number (instance_of (code_store code) (Some number)) (run_state (store_with code s) hosts fuel) (tasks_of m) last → Instantiation HostStep bound m given (run_state old hosts fuel) (WithValues []) last
     done-links last before = ran-links (WithValues []) last (before-all (before [] (WithValues []) last all_done))
       where
-        before-all : RunTasks NoHosts bound number (instance_of (code_store code) (Some number)) (at (store_with code s) fuel) (tasks_of m ++ []) (WithValues []) last → RunTasks NoHosts bound number (instance_of (code_store code) (Some number)) (at (store_with code s) fuel) (tasks_of m) (WithValues []) last
-        before-all = subst (λ (ts : List Task). RunTasks NoHosts bound number (instance_of (code_store code) (Some number)) (at (store_with code s) fuel) ts (WithValues []) last) (append-nil (tasks_of m))
+        before-all : RunTasks HostStep bound number (instance_of (code_store code) (Some number)) (run_state (store_with code s) hosts fuel) (tasks_of m ++ []) (WithValues []) last → RunTasks HostStep bound number (instance_of (code_store code) (Some number)) (run_state (store_with code s) hosts fuel) (tasks_of m) (WithValues []) last
+        before-all = subst (λ (ts : List Task). RunTasks HostStep bound number (instance_of (code_store code) (Some number)) (run_state (store_with code s) hosts fuel) ts (WithValues []) last) (append-nil (tasks_of m))
 
-    pub ended-links : (o : Outcome) (last : State ⊥) → EndedTasks bound number (instance_of (code_store code) (Some number)) (at (store_with code s) fuel) (tasks_of m) o last → Instantiation NoHosts bound m given (at old fuel) (ending_of o) last
+    pub ended-links : (o : Outcome) (last : State H) → EndedTasks HostStep bound number (instance_of (code_store code) (Some number)) (run_state (store_with code s) hosts fuel) (tasks_of m) o last → Instantiation HostStep bound m given (run_state old hosts fuel) (ending_of o) last
     ended-links o last before =
-        ran-links (ending_of o) last (subst (λ (ts : List Task). RunTasks NoHosts bound number (instance_of (code_store code) (Some number)) (at (store_with code s) fuel) ts (ending_of o) last) (append-nil (tasks_of m)) (before.ended []))
+        ran-links (ending_of o) last (subst (λ (ts : List Task). RunTasks HostStep bound number (instance_of (code_store code) (Some number)) (run_state (store_with code s) hosts fuel) ts (ending_of o) last) (append-nil (tasks_of m)) (before.ended []))

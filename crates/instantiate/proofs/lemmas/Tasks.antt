@@ -18,7 +18,7 @@ use Rattle.meaning.specs.execution.Effects.{Effect, Done, Fails, Grown, Lacks, d
 use Rattle.meaning.specs.execution.Instructions.{Goes, Grows, NotReady, continue_after, next, with_locals}
 use Rattle.meaning.specs.execution.Memories.{MemoryInstance}
 use Rattle.meaning.specs.execution.Modules.{Activity, Copies, Drops, RunTasks, Starts, Task, activity, constant_value, done, ended, in_instance, lost, tasks_by}
-use Rattle.meaning.specs.execution.Runs.{Ending, GotStuck, IsEnd, IsStep, IsStuck, NoHosts, OutOfFuel, OutOfMemory, Run, State, WithTrap, WithValues, end, goes, grows, no_fuel, no_memory, step, stuck, trapped, values_left}
+use Rattle.meaning.specs.execution.Runs.{Answer, Ending, GotStuck, IsEnd, IsStep, IsStuck, NoHosts, OutOfFuel, OutOfMemory, Run, State, WithTrap, WithValues, end, goes, grows, no_fuel, no_memory, step, stuck, trapped, values_left}
 use Rattle.meaning.specs.execution.Store.{DataInstance, ModuleInstance, Store, instance_of, locate}
 use Rattle.meaning.specs.execution.Tables.{ElementInstance, TableInstance}
 use Rattle.exec.specs.declared.machine.Outcome.{Outcome}
@@ -86,7 +86,7 @@ module _ (bound instance : ℕ) (old : Store) (fuel : ℕ) (configuration : Conf
       Had p = HasEffect p e old fuel new locals operands left below
 
       -- What did not let it go on ends the run.
-      passed-ends : (o : Outcome) (p : Progress) → IsEndOf o p → Had p → Ends bound (frame_of instance) (at old fuel) configuration o (at new left)
+      passed-ends : (o : Outcome) (p : Progress) → IsEndOf o p → Had p → Ends NoHosts bound (frame_of instance) (at old fuel) configuration o (at new left)
       passed-ends (Values values) p passed had = absurd passed
       passed-ends (Trap trap) p passed had =
           let h = rw passed at had in record { ends = end (effect-traps e is trap h.0 h.1); no_values = tt }
@@ -105,14 +105,14 @@ module _ (bound instance : ℕ) (old : Store) (fuel : ℕ) (configuration : Conf
           effect-steps e is operands.own (subst (λ (ls : List Val). LeadsTo e new ls operands.own fuel left) (none h.0) h.0)
 
       -- What came of it is a step, or an end of the run.
-      pub passed : {U : Type 0} (r : Result U Outcome) (p : Progress) → IsPassed r p → Had p → (LeadsTo e new locals operands.own fuel left → locals ≡ []) → StepsOrEnds r bound (frame_of instance) (at old fuel) configuration (at new left) (Running operands.own rest)
+      pub passed : {U : Type 0} (r : Result U Outcome) (p : Progress) → IsPassed r p → Had p → (LeadsTo e new locals operands.own fuel left → locals ≡ []) → StepsOrEnds NoHosts r bound (frame_of instance) (at old fuel) configuration (at new left) (Running operands.own rest)
       passed (Ok u) p is_passed had none = passed-steps p is_passed had none
       passed (Err o) p is_passed had none = passed-ends o p is_passed had
 
 -- ---- runs
 
 -- A step before a run.
-pub step-runs : {U : Type 0} (r : Result U Outcome) (bound : ℕ) (frame : Frame) (old mid new : State ⊥) (first second : Configuration) → IsStep NoHosts bound frame old first mid second → RunsTo r bound frame mid second new → RunsTo r bound frame old first new
+pub step-runs : {U : Type 0} (r : Result U Outcome) (bound : ℕ) (frame : Frame) (old mid new : State ⊥) (first second : Configuration) → IsStep NoHosts bound frame old first mid second → RunsTo NoHosts r bound frame mid second new → RunsTo NoHosts r bound frame old first new
 step-runs (Ok u) bound frame old mid new first second s run = (run.0, step s run.1)
 step-runs (Err o) bound frame old mid new first second s run = record { ends = step s run.ends; no_values = run.no_values }
 
@@ -144,90 +144,90 @@ module _ (bound instance : ℕ) (old new : Store) (fuel left : ℕ) (op : PlainO
   abbrev Dropped : Effect
   Dropped = effect old (frame_of instance) op []
 
-  pub drops : {U : Type 0} (r : Result U Outcome) (p : Progress) (locals below : List Val) (operands : OperandStack) → IsPassed r p → HasEffect p Dropped old fuel new locals operands left below → RunsTo r bound (frame_of instance) (at old fuel) (Running [] (Then op Empty)) (at new left)
+  pub drops : {U : Type 0} (r : Result U Outcome) (p : Progress) (locals below : List Val) (operands : OperandStack) → IsPassed r p → HasEffect p Dropped old fuel new locals operands left below → RunsTo NoHosts r bound (frame_of instance) (at old fuel) (Running [] (Then op Empty)) (at new left)
   drops r p locals below operands is_passed had = go r stepped
     where
-      stepped : StepsOrEnds r bound (frame_of instance) (at old fuel) (Running [] (Then op Empty)) (at new left) (Running operands.own Empty)
+      stepped : StepsOrEnds NoHosts r bound (frame_of instance) (at old fuel) (Running [] (Then op Empty)) (at new left) (Running operands.own Empty)
       stepped = passed bound instance old fuel (Running [] (Then op Empty)) Empty new left Dropped (drop-next op is_drop old (frame_of instance) [] Empty) locals operands below r p is_passed had (drop-keeps op is_drop old new (frame_of instance) [] locals operands.own fuel left)
 
-      go : {U : Type 0} (r : Result U Outcome) → StepsOrEnds r bound (frame_of instance) (at old fuel) (Running [] (Then op Empty)) (at new left) (Running operands.own Empty) → RunsTo r bound (frame_of instance) (at old fuel) (Running [] (Then op Empty)) (at new left)
+      go : {U : Type 0} (r : Result U Outcome) → StepsOrEnds NoHosts r bound (frame_of instance) (at old fuel) (Running [] (Then op Empty)) (at new left) (Running operands.own Empty) → RunsTo NoHosts r bound (frame_of instance) (at old fuel) (Running [] (Then op Empty)) (at new left)
       go (Ok u) s = (reverse operands.own, step-over bound (frame_of instance) (at old fuel) (at new left) (Running [] (Then op Empty)) operands.own s)
       go (Err o) ends = ends
 
 -- ---- tasks
 
-module _ (bound instance : ℕ) (i : ModuleInstance) where
-  ran-one : {U : Type 0} (r : Result U Outcome) (old new : State ⊥) (task : Task) (a : Activity) → activity old.store instance i task ≡ Some a → RunsTo r bound a.frame old a.configuration new → RanTasks r bound instance i old (task ∷ []) new
+module _ {H : Type 0} (HostStep : List H → ℕ → Option ℕ → List Val → Store → Answer → Store → List H → Type 0) (bound instance : ℕ) (i : ModuleInstance) where
+  ran-one : {U : Type 0} (r : Result U Outcome) (old new : State H) (task : Task) (a : Activity) → activity old.store instance i task ≡ Some a → RunsTo HostStep r bound a.frame old a.configuration new → RanTasks HostStep r bound instance i old (task ∷ []) new
   ran-one (Ok u) old new task a is run = λ further ending last more. done is run.1 more
   ran-one (Err o) old new task a is run = record { ended = λ further. ended is run.ends run.no_values; no_values = run.no_values }
 
-  lost-one : (old : State ⊥) (task : Task) → activity old.store instance i task ≡ None → EndedTasks bound instance i old (task ∷ []) Stuck old
+  lost-one : (old : State H) (task : Task) → activity old.store instance i task ≡ None → EndedTasks HostStep bound instance i old (task ∷ []) Stuck old
   lost-one old task none = record { ended = λ further. lost none; no_values = tt }
 
   -- All of a segment is copied.
-  pub copied : {U : Type 0} (r : Result U Outcome) (old new : State ⊥) (offset : List Op) (count target : ℕ) (init drop : PlainOp) → constant_value old.store i offset ≡ Some (I32 target) → RunsTo r bound (frame_of instance) old (Running (I32 (count % 2 ^ 32) ∷ (I32 0 ∷ (I32 target ∷ []))) (Then init (Then drop Empty))) new → RanTasks r bound instance i old (Copies offset count init drop ∷ []) new
+  pub copied : {U : Type 0} (r : Result U Outcome) (old new : State H) (offset : List Op) (count target : ℕ) (init drop : PlainOp) → constant_value old.store i offset ≡ Some (I32 target) → RunsTo HostStep r bound (frame_of instance) old (Running (I32 (count % 2 ^ 32) ∷ (I32 0 ∷ (I32 target ∷ []))) (Then init (Then drop Empty))) new → RanTasks HostStep r bound instance i old (Copies offset count init drop ∷ []) new
   copied r old new offset count target init drop has run =
       ran-one r old new (Copies offset count init drop) (in_instance instance (Running (I32 (count % 2 ^ 32) ∷ (I32 0 ∷ (I32 target ∷ []))) (Then init (Then drop Empty)))) (rw has refl) run
 
   -- A segment is dropped.
-  pub dropped : {U : Type 0} (r : Result U Outcome) (old new : State ⊥) (drop : PlainOp) → RunsTo r bound (frame_of instance) old (Running [] (Then drop Empty)) new → RanTasks r bound instance i old (Drops drop ∷ []) new
+  pub dropped : {U : Type 0} (r : Result U Outcome) (old new : State H) (drop : PlainOp) → RunsTo HostStep r bound (frame_of instance) old (Running [] (Then drop Empty)) new → RanTasks HostStep r bound instance i old (Drops drop ∷ []) new
   dropped r old new drop run = ran-one r old new (Drops drop) (in_instance instance (Running [] (Then drop Empty))) refl run
 
   -- The start function is called.
-  pub started : {U : Type 0} (r : Result U Outcome) (old new : State ⊥) (x address : ℕ) → slice_get i.functions x ≡ Some address → RunsTo r bound no_frame old (Invoking [] address) new → RanTasks r bound instance i old (Starts x ∷ []) new
+  pub started : {U : Type 0} (r : Result U Outcome) (old new : State H) (x address : ℕ) → slice_get i.functions x ≡ Some address → RunsTo HostStep r bound no_frame old (Invoking [] address) new → RanTasks HostStep r bound instance i old (Starts x ∷ []) new
   started r old new x address has run =
       ran-one r old new (Starts x) (record { frame = no_frame; configuration = Invoking [] address }) (rw has refl) run
 
   -- There is none under the index.
-  pub not-started : (old : State ⊥) (x : ℕ) → slice_get i.functions x ≡ None → EndedTasks bound instance i old (Starts x ∷ []) Stuck old
+  pub not-started : (old : State H) (x : ℕ) → slice_get i.functions x ≡ None → EndedTasks HostStep bound instance i old (Starts x ∷ []) Stuck old
   not-started old x none = lost-one old (Starts x) (rw none refl)
 
-  pub ran-then : {U : Type 0} (r : Result U Outcome) (old mid new : State ⊥) (first second : List Task) → DoneTasks bound instance i old first mid → RanTasks r bound instance i mid second new → RanTasks r bound instance i old (first ++ second) new
+  pub ran-then : {U : Type 0} (r : Result U Outcome) (old mid new : State H) (first second : List Task) → DoneTasks HostStep bound instance i old first mid → RanTasks HostStep r bound instance i mid second new → RanTasks HostStep r bound instance i old (first ++ second) new
   ran-then (Ok u) old mid new first second before after =
-      λ further ending last more. subst (λ (ts : List Task). RunTasks NoHosts bound instance i old ts ending last) (sym (append_assoc first second further)) (before (second ++ further) ending last (after further ending last more))
+      λ further ending last more. subst (λ (ts : List Task). RunTasks HostStep bound instance i old ts ending last) (sym (append_assoc first second further)) (before (second ++ further) ending last (after further ending last more))
   ran-then (Err o) old mid new first second before after = record {
-    ended = λ further. subst (λ (ts : List Task). RunTasks NoHosts bound instance i old ts (ending_of o) new) (sym (append_assoc first second further)) (before (second ++ further) (ending_of o) new (after.ended further));
+    ended = λ further. subst (λ (ts : List Task). RunTasks HostStep bound instance i old ts (ending_of o) new) (sym (append_assoc first second further)) (before (second ++ further) (ending_of o) new (after.ended further));
     no_values = after.no_values;
   }
 
-  pub ended-then : (old new : State ⊥) (first second : List Task) (o : Outcome) → EndedTasks bound instance i old first o new → EndedTasks bound instance i old (first ++ second) o new
+  pub ended-then : (old new : State H) (first second : List Task) (o : Outcome) → EndedTasks HostStep bound instance i old first o new → EndedTasks HostStep bound instance i old (first ++ second) o new
   ended-then old new first second o before = record {
-    ended = λ further. subst (λ (ts : List Task). RunTasks NoHosts bound instance i old ts (ending_of o) new) (sym (append_assoc first second further)) (before.ended (second ++ further));
+    ended = λ further. subst (λ (ts : List Task). RunTasks HostStep bound instance i old ts (ending_of o) new) (sym (append_assoc first second further)) (before.ended (second ++ further));
     no_values = before.no_values;
   }
 
   -- ---- the tasks of items, one after the other
 
-  module _ {A : Type 0} (task : ℕ → A → List Task) (items : List A) (start : State ⊥) where
+  module _ {A : Type 0} (task : ℕ → A → List Task) (items : List A) (start : State H) where
     -- What runs the rest of them from here runs all from the start.
-    abbrev pub SoFar : (now : State ⊥) → ℕ → Type 0
+    abbrev pub SoFar : (now : State H) → ℕ → Type 0
     SoFar now k =
-        (further : List Task) (ending : Ending) (last : State ⊥)
-        → RunTasks NoHosts bound instance i now (tasks_by task k (drop k items) ++ further) ending last
-        → RunTasks NoHosts bound instance i start (tasks_by task 0 items ++ further) ending last
+        (further : List Task) (ending : Ending) (last : State H)
+        → RunTasks HostStep bound instance i now (tasks_by task k (drop k items) ++ further) ending last
+        → RunTasks HostStep bound instance i start (tasks_by task 0 items ++ further) ending last
 
     rest-is : (k : ℕ) (d : A) → k < length items → (further : List Task) → tasks_by task k (drop k items) ++ further ≡ task k (get_or items k d) ++ (tasks_by task (k + 1) (drop (k + 1) items) ++ further)
     rest-is k d inside further =
         let next : suc k ≡ k + 1 = omega arith in
         ap (λ (rest : List A). tasks_by task k rest ++ further) (drop_more items k d inside) ∙ ap (λ (n : ℕ). (task k (get_or items k d) ++ tasks_by task n (drop (k + 1) items)) ++ further) next ∙ append_assoc (task k (get_or items k d)) (tasks_by task (k + 1) (drop (k + 1) items)) further
 
-    pub tasks-next : (now new : State ⊥) (k : ℕ) (d : A) → k < length items → SoFar now k → DoneTasks bound instance i now (task k (get_or items k d)) new → SoFar new (k + 1)
+    pub tasks-next : (now new : State H) (k : ℕ) (d : A) → k < length items → SoFar now k → DoneTasks HostStep bound instance i now (task k (get_or items k d)) new → SoFar new (k + 1)
     tasks-next now new k d inside so_far before =
-        λ further ending last more. so_far further ending last (subst (λ (ts : List Task). RunTasks NoHosts bound instance i now ts ending last) (sym (rest-is k d inside further)) (before (tasks_by task (k + 1) (drop (k + 1) items) ++ further) ending last more))
+        λ further ending last more. so_far further ending last (subst (λ (ts : List Task). RunTasks HostStep bound instance i now ts ending last) (sym (rest-is k d inside further)) (before (tasks_by task (k + 1) (drop (k + 1) items) ++ further) ending last more))
 
-    pub tasks-ended : (now new : State ⊥) (k : ℕ) (d : A) → k < length items → SoFar now k → (o : Outcome) → EndedTasks bound instance i now (task k (get_or items k d)) o new → EndedTasks bound instance i start (tasks_by task 0 items) o new
+    pub tasks-ended : (now new : State H) (k : ℕ) (d : A) → k < length items → SoFar now k → (o : Outcome) → EndedTasks HostStep bound instance i now (task k (get_or items k d)) o new → EndedTasks HostStep bound instance i start (tasks_by task 0 items) o new
     tasks-ended now new k d inside so_far o before = record {
-      ended = λ further. so_far further (ending_of o) new (subst (λ (ts : List Task). RunTasks NoHosts bound instance i now ts (ending_of o) new) (sym (rest-is k d inside further)) (before.ended (tasks_by task (k + 1) (drop (k + 1) items) ++ further)));
+      ended = λ further. so_far further (ending_of o) new (subst (λ (ts : List Task). RunTasks HostStep bound instance i now ts (ending_of o) new) (sym (rest-is k d inside further)) (before.ended (tasks_by task (k + 1) (drop (k + 1) items) ++ further)));
       no_values = before.no_values;
     }
 
-    pub tasks-done : (now : State ⊥) (k : ℕ) → length items ≤ k → SoFar now k → DoneTasks bound instance i start (tasks_by task 0 items) now
+    pub tasks-done : (now : State H) (k : ℕ) → length items ≤ k → SoFar now k → DoneTasks HostStep bound instance i start (tasks_by task 0 items) now
     tasks-done now k past so_far =
-        λ further ending last more. so_far further ending last (subst (λ (rest : List A). RunTasks NoHosts bound instance i now (tasks_by task k rest ++ further) ending last) (sym (drop_of_length-le items past)) more)
+        λ further ending last more. so_far further ending last (subst (λ (rest : List A). RunTasks HostStep bound instance i now (tasks_by task k rest ++ further) ending last) (sym (drop_of_length-le items past)) more)
 
   -- ---- a copy whose offset is no i32
 
-  module _ (old : State ⊥) (count : ℕ) where
+  module _ (old : State H) (count : ℕ) where
     abbrev Lacking : (init : PlainOp) → Type 0
     Lacking init = (v : Val) → HasNoI32 (Some v) → (rest : Body) → next old.store (frame_of instance) (Running (I32 count ∷ (I32 0 ∷ (v ∷ []))) (Then init rest)) ≡ NotReady
 
@@ -257,19 +257,19 @@ module _ (bound instance : ℕ) (i : ModuleInstance) where
         go (Some (a, m)) = bytes-lack a m (data_at old.store (frame_of instance) segment) v none rest
 
   -- A copy is stuck whose offset is no i32.
-  module _ (old : State ⊥) (offset : List Op) (count : ℕ) (init drop : PlainOp) (lacking : Lacking old (count % 2 ^ 32) init) where
-    stuck-copy : HasNoI32 (constant_value old.store i offset) → EndedTasks bound instance i old (Copies offset count init drop ∷ []) Stuck old
+  module _ (old : State H) (offset : List Op) (count : ℕ) (init drop : PlainOp) (lacking : Lacking old (count % 2 ^ 32) init) where
+    stuck-copy : HasNoI32 (constant_value old.store i offset) → EndedTasks HostStep bound instance i old (Copies offset count init drop ∷ []) Stuck old
     stuck-copy none = go (constant_value old.store i offset) refl none
       where
-        go : (found : Option Val) → constant_value old.store i offset ≡ found → HasNoI32 found → EndedTasks bound instance i old (Copies offset count init drop ∷ []) Stuck old
+        go : (found : Option Val) → constant_value old.store i offset ≡ found → HasNoI32 found → EndedTasks HostStep bound instance i old (Copies offset count init drop ∷ []) Stuck old
         go None e none = lost-one old (Copies offset count init drop) (rw e refl)
         go (Some v) e none = record {
           ended = λ further. ended (rw e refl) (end {configuration = Running (I32 (count % 2 ^ 32) ∷ (I32 0 ∷ (v ∷ []))) (Then init (Then drop Empty))} (stuck (subst IsStuck (sym (lacking v none (Then drop Empty))) tt) refl refl)) tt;
           no_values = tt;
         }
 
-  pub stuck-elements : (old : State ⊥) (offset : List Op) (count segment table : ℕ) (drop : PlainOp) → HasNoI32 (constant_value old.store i offset) → EndedTasks bound instance i old (Copies offset count (Table (InitTable segment table)) drop ∷ []) Stuck old
+  pub stuck-elements : (old : State H) (offset : List Op) (count segment table : ℕ) (drop : PlainOp) → HasNoI32 (constant_value old.store i offset) → EndedTasks HostStep bound instance i old (Copies offset count (Table (InitTable segment table)) drop ∷ []) Stuck old
   stuck-elements old offset count segment table drop none = stuck-copy old offset count (Table (InitTable segment table)) drop (table-lacks old (count % 2 ^ 32) segment table) none
 
-  pub stuck-bytes : (old : State ⊥) (offset : List Op) (count segment : ℕ) (drop : PlainOp) → HasNoI32 (constant_value old.store i offset) → EndedTasks bound instance i old (Copies offset count (Memory (InitMemory segment)) drop ∷ []) Stuck old
+  pub stuck-bytes : (old : State H) (offset : List Op) (count segment : ℕ) (drop : PlainOp) → HasNoI32 (constant_value old.store i offset) → EndedTasks HostStep bound instance i old (Copies offset count (Memory (InitMemory segment)) drop ∷ []) Stuck old
   stuck-bytes old offset count segment drop none = stuck-copy old offset count (Memory (InitMemory segment)) drop (memory-lacks old (count % 2 ^ 32) segment) none

@@ -1,12 +1,12 @@
 -- What a configuration does inside of labels and frames is what the whole does.
 use Rattle.std.proofs.Common.{◌≡◌, ℕ, zero, ◌+◌, ◌<◌, ◌≤◌, List, [], ◌∷◌, ◌++◌, length, take, refl, ap, sym, ◌∙◌, add-suc, add-zero, suc-add, zero-add, arith}
 use Rattle.std.proofs.lemmas.Bool.{le-leb, leb-true}
-use Rattle.std.specs.Prelude.{Bool, true, false, if◌then◌else◌, nat_le}
+use Rattle.std.specs.Prelude.{Bool, Option, true, false, if◌then◌else◌, nat_le}
 use Rattle.core_types.specs.declared.outcome.Trap.{Trap}
 use Rattle.core_types.specs.declared.outcome.Val.{Val}
-use Rattle.meaning.specs.execution.Configurations.{Activation, Configuration, Frame, InFrame, InLabel, Label, Running, continue_with, depth}
+use Rattle.meaning.specs.execution.Configurations.{Activation, Configuration, Frame, InFrame, InLabel, Label, Running, answered, continue_with, depth}
 use Rattle.meaning.specs.execution.Effects.{instruction_cost}
-use Rattle.meaning.specs.execution.Instructions.{Branches, Goes, Grows, NotReady, Opens, Returns, Traps, next, step_in_frame, step_in_label}
+use Rattle.meaning.specs.execution.Instructions.{Branches, CallsHost, Goes, Grows, NotReady, Opens, Returns, Traps, next, step_in_frame, step_in_label}
 use Rattle.meaning.specs.execution.Layers.{AroundFrame, AroundLabel, Layer, count_frames, outermost, plug}
 use Rattle.meaning.specs.execution.Store.{Store}
 
@@ -44,10 +44,21 @@ module _ (store : Store) where
   plugged-traps (AroundLabel label ∷ layers) frame cost trap x e = plugged-traps layers frame cost trap (InLabel label x) (ap (step_in_label store frame label) e)
   plugged-traps (AroundFrame activation outer ∷ layers) frame cost trap x e = plugged-traps layers outer cost trap (InFrame activation frame x) (ap (step_in_frame store outer activation frame) e)
 
+  pub plugged-calls : (layers : List Layer) (frame : Frame) (cost number : ℕ) (lent : Option ℕ) (arguments : List Val) (x y : Configuration) → next store frame x ≡ CallsHost cost number lent arguments y → next store (outermost layers frame) (plug layers frame x) ≡ CallsHost cost number lent arguments (plug layers frame y)
+  plugged-calls [] frame cost number lent arguments x y e = e
+  plugged-calls (AroundLabel label ∷ layers) frame cost number lent arguments x y e = plugged-calls layers frame cost number lent arguments (InLabel label x) (InLabel label y) (ap (step_in_label store frame label) e)
+  plugged-calls (AroundFrame activation outer ∷ layers) frame cost number lent arguments x y e = plugged-calls layers outer cost number lent arguments (InFrame activation frame x) (InFrame activation frame y) (ap (step_in_frame store outer activation frame) e)
+
   pub plugged-waits : (layers : List Layer) (frame : Frame) (x : Configuration) → next store frame x ≡ NotReady → next store (outermost layers frame) (plug layers frame x) ≡ NotReady
   plugged-waits [] frame x e = e
   plugged-waits (AroundLabel label ∷ layers) frame x e = plugged-waits layers frame (InLabel label x) (ap (step_in_label store frame label) e)
   plugged-waits (AroundFrame activation outer ∷ layers) frame x e = plugged-waits layers outer (InFrame activation frame x) (ap (step_in_frame store outer activation frame) e)
+
+-- Results of a host function are put inside of the layers.
+pub plugged-answered : (layers : List Layer) (frame : Frame) (results : List Val) (x : Configuration) → answered results (plug layers frame x) ≡ plug layers frame (answered results x)
+plugged-answered [] frame results x = refl
+plugged-answered (AroundLabel label ∷ layers) frame results x = plugged-answered layers frame results (InLabel label x)
+plugged-answered (AroundFrame activation outer ∷ layers) frame results x = plugged-answered layers outer results (InFrame activation frame x)
 
 -- The frames of the layers, and those inside of them.
 pub plugged-depth : (layers : List Layer) (frame : Frame) (x : Configuration) → depth (plug layers frame x) ≡ count_frames layers + depth x

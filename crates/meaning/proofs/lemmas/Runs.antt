@@ -27,6 +27,20 @@ module _ {H : Type 0} (HostStep : List H → ℕ → Option ℕ → List Val →
   Steps-join before none = before
   Steps-join before (one_more more last) = one_more (Steps-join before more) last
 
+  -- Steps leave no more fuel than there was.
+  step-fuel : {old new : State H} {first second : Configuration} → IsStep HostStep bound outside old first new second → new.fuel ≤ old.fuel
+  step-fuel (goes is le f h) = omega (arith, f)
+  step-fuel (grows is le f h) = omega (arith, f)
+  step-fuel (opens is le f h lt) = omega (arith, f)
+  step-fuel (calls is le f host c) = omega (arith, f)
+
+  pub Steps-fuel : {old new : State H} {first second : Configuration} → Steps HostStep bound outside old first new second → new.fuel ≤ old.fuel
+  Steps-fuel {old} none = omega arith
+  Steps-fuel (one_more before last) =
+      let first = Steps-fuel before in
+      let second = step-fuel last in
+      omega (arith, first, second)
+
   -- ---- what may come of what is next
 
   module _ (at : State H) (frames : ℕ) where

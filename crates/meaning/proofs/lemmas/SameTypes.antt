@@ -44,6 +44,15 @@ same-function-type t u h =
 pub function-type-same : (t : FuncType) → is_same_function_type t t ≡ true
 function-type-same t = and_from (are_same_types t.params t.params) (are_same_types t.results t.results) (types-same t.params) (types-same t.results)
 
+-- What tells whether two lists of types are equal is whether they are the same.
+pub types_decided : (b : Bool) (ts us : List ValType) → (IsTrue b ↔ (ts ≡ us)) → are_same_types ts us ≡ b
+types_decided true ts us h = rw (h.0 refl) (types-same us)
+types_decided false ts us h = go (are_same_types ts us) refl
+  where
+    go : (d : Bool) → are_same_types ts us ≡ d → d ≡ false
+    go true e = absurd (let no = h.1 (same-types ts us e) in cc)
+    go false e = refl
+
 -- What tells whether two types of functions are equal is whether they are the same.
 pub function_type_decided : (b : Bool) (t u : FuncType) → (IsTrue b ↔ (t ≡ u)) → is_same_function_type t u ≡ b
 function_type_decided true t u h = rw (h.0 refl) (function-type-same u)

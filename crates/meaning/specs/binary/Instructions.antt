@@ -49,7 +49,8 @@ SpellsStored bits bytes n = (z : ℤ) × SpellsSigned bits bytes z × (n ≡ sto
 
 -- The byte FC, an unsigned number, and a spelling behind them.
 abbrev pub SpellsPrefixed : {V : Type 0} → ℕ → (List ℕ → V → Type 0) → List ℕ → V → Type 0
-SpellsPrefixed {V} n Spells bytes v = SpellsTagged 0xFC (SpellsPair (SpellsUnsigned 32) Spells) bytes (n, v)
+SpellsPrefixed {V} n Spells bytes v =
+    SpellsTagged 0xFC (SpellsPair (SpellsUnsigned 32) Spells) bytes (n, v)
 
 -- These bytes and nothing more.
 abbrev pub SpellsExactly : List ℕ → List ℕ → Unit {0} → Type 0
@@ -69,7 +70,8 @@ SpellsControl bytes (Call x) = SpellsTagged 0x10 SpellsIndex bytes x
 SpellsControl bytes (CallIndirect ty x) = SpellsTagged 0x11 SpellsTwoIndices bytes (ty, x)
 
 abbrev pub SpellsBranchTable : List ℕ → BranchTable → Type 0
-SpellsBranchTable bytes t = SpellsBoth (SpellsVector SpellsIndex) SpellsIndex bytes t.labels t.default
+SpellsBranchTable bytes t =
+    SpellsBoth (SpellsVector SpellsIndex) SpellsIndex bytes t.labels t.default
 
 -- Reference Instructions.
 abbrev pub SpellsReference : List ℕ → ReferenceOp → Type 0
@@ -96,28 +98,33 @@ SpellsTable bytes (table.Get x) = SpellsTagged 0x25 SpellsIndex bytes x
 SpellsTable bytes (table.Set x) = SpellsTagged 0x26 SpellsIndex bytes x
 SpellsTable bytes (table.Init segment x) = SpellsPrefixed 12 SpellsTwoIndices bytes (segment, x)
 SpellsTable bytes (table.ElemDrop segment) = SpellsPrefixed 13 SpellsIndex bytes segment
-SpellsTable bytes (table.Copy target source) = SpellsPrefixed 14 SpellsTwoIndices bytes (target, source)
+SpellsTable bytes (table.Copy target source) =
+    SpellsPrefixed 14 SpellsTwoIndices bytes (target, source)
 SpellsTable bytes (table.Grow x) = SpellsPrefixed 15 SpellsIndex bytes x
 SpellsTable bytes (table.Size x) = SpellsPrefixed 16 SpellsIndex bytes x
 SpellsTable bytes (table.Fill x) = SpellsPrefixed 17 SpellsIndex bytes x
 
 -- One byte, the opcode that x has in a row of opcodes from the first on.
 abbrev pub IsOpcode : {X : Type 0} → ℕ → List (Option X) → X → ℕ → Type 0
-IsOpcode {X} first row x code = (place : ℕ) × (slice_get row place ≡ Some (Some x)) × (code ≡ first + place)
+IsOpcode {X} first row x code =
+    (place : ℕ) × (slice_get row place ≡ Some (Some x)) × (code ≡ first + place)
 
 -- The loads by opcode, from 28 on. Where there is none, there is an instruction on floating-point numbers.
 abbrev pub loads : List (Option LoadOp)
 loads =
     Some (load.Whole W32) ∷ Some (load.Whole W64) ∷ None ∷ None
-    ∷ Some (load.Bits8 W32 Signed) ∷ Some (load.Bits8 W32 Unsigned) ∷ Some (load.Bits16 W32 Signed) ∷ Some (load.Bits16 W32 Unsigned)
-    ∷ Some (load.Bits8 W64 Signed) ∷ Some (load.Bits8 W64 Unsigned) ∷ Some (load.Bits16 W64 Signed) ∷ Some (load.Bits16 W64 Unsigned)
+    ∷ Some (load.Bits8 W32 Signed) ∷ Some (load.Bits8 W32 Unsigned) ∷
+    Some (load.Bits16 W32 Signed) ∷ Some (load.Bits16 W32 Unsigned)
+    ∷ Some (load.Bits8 W64 Signed) ∷ Some (load.Bits8 W64 Unsigned) ∷
+    Some (load.Bits16 W64 Signed) ∷ Some (load.Bits16 W64 Unsigned)
     ∷ Some (load.Bits32 Signed) ∷ Some (load.Bits32 Unsigned) ∷ []
 
 -- The stores by opcode, from 36 on, in the same way.
 abbrev pub stores : List (Option StoreOp)
 stores =
     Some (store.Whole W32) ∷ Some (store.Whole W64) ∷ None ∷ None
-    ∷ Some (store.Bits8 W32) ∷ Some (store.Bits16 W32) ∷ Some (store.Bits8 W64) ∷ Some (store.Bits16 W64) ∷ Some store.Bits32 ∷ []
+    ∷ Some (store.Bits8 W32) ∷ Some (store.Bits16 W32) ∷ Some (store.Bits8 W64) ∷
+    Some (store.Bits16 W64) ∷ Some store.Bits32 ∷ []
 
 -- The alignment, and the offset.
 abbrev pub SpellsMemArg : List ℕ → MemArg → Type 0
@@ -145,14 +152,16 @@ abbrev pub bit_counts : List UnaryOp
 bit_counts = Clz ∷ Ctz ∷ Popcnt ∷ []
 
 abbrev pub binary_ops : List BinaryOp
-binary_ops = Add ∷ Sub ∷ Mul ∷ DivS ∷ DivU ∷ RemS ∷ RemU ∷ And ∷ Or ∷ Xor ∷ Shl ∷ ShrS ∷ ShrU ∷ Rotl ∷ Rotr ∷ []
+binary_ops = Add ∷ Sub ∷ Mul ∷ DivS ∷ DivU ∷ RemS ∷ RemU ∷ And ∷ Or ∷ Xor ∷ Shl ∷ ShrS ∷ ShrU ∷
+    Rotl ∷ Rotr ∷ []
 
 abbrev pub sign_extensions : List UnaryOp
 sign_extensions = Extend8S ∷ Extend16S ∷ []
 
 -- One byte, that of x in a row of opcodes from the first on.
 abbrev pub IsInRow : {X : Type 0} → ℕ → List X → X → List ℕ → Type 0
-IsInRow {X} first row x bytes = (place : ℕ) × (slice_get row place ≡ Some x) × (bytes ≡ (first + place) ∷ [])
+IsInRow {X} first row x bytes =
+    (place : ℕ) × (slice_get row place ≡ Some x) × (bytes ≡ (first + place) ∷ [])
 
 -- Numeric Instructions without an immediate.
 abbrev pub SpellsNumeric : List ℕ → NumericOp → Type 0
@@ -160,8 +169,10 @@ SpellsNumeric bytes (Eqz W32) = bytes ≡ 0x45 ∷ []
 SpellsNumeric bytes (Eqz W64) = bytes ≡ 0x50 ∷ []
 SpellsNumeric bytes (Compare W32 op) = IsInRow 0x46 comparisons op bytes
 SpellsNumeric bytes (Compare W64 op) = IsInRow 0x51 comparisons op bytes
-SpellsNumeric bytes (Unary W32 op) = IsInRow 0x67 bit_counts op bytes ⊎ IsInRow 0xC0 sign_extensions op bytes
-SpellsNumeric bytes (Unary W64 op) = IsInRow 0x79 bit_counts op bytes ⊎ IsInRow 0xC2 sign_extensions op bytes
+SpellsNumeric bytes (Unary W32 op) =
+    IsInRow 0x67 bit_counts op bytes ⊎ IsInRow 0xC0 sign_extensions op bytes
+SpellsNumeric bytes (Unary W64 op) =
+    IsInRow 0x79 bit_counts op bytes ⊎ IsInRow 0xC2 sign_extensions op bytes
 SpellsNumeric bytes (Binary W32 op) = IsInRow 0x6A binary_ops op bytes
 SpellsNumeric bytes (Binary W64 op) = IsInRow 0x7C binary_ops op bytes
 SpellsNumeric bytes (Convert I32WrapI64) = bytes ≡ 0xA7 ∷ []
@@ -193,12 +204,15 @@ opcode_of IfKind = 0x04
 abbrev pub SpellsBody : List ℕ → Body → Type 0
 SpellsBody bytes Empty = bytes ≡ []
 SpellsBody bytes (Then op rest) =
-    (first others : List ℕ) × (bytes ≡ first ++ others) × SpellsPlain first op × SpellsBody others rest
+    (first others : List ℕ) × (bytes ≡ first ++ others) × SpellsPlain first op ×
+    SpellsBody others rest
 SpellsBody bytes (Nested kind type inner rest) =
     (begin inside others : List ℕ) × (bytes ≡ begin ++ (inside ++ (0x0B ∷ others)))
-    × SpellsTagged (opcode_of kind) SpellsBlockType begin type × SpellsBody inside inner × SpellsBody others rest
+    × SpellsTagged (opcode_of kind) SpellsBlockType begin type × SpellsBody inside inner ×
+    SpellsBody others rest
 SpellsBody bytes (IfElse type inner other rest) =
-    (begin inside second others : List ℕ) × (bytes ≡ begin ++ (inside ++ (0x05 ∷ (second ++ (0x0B ∷ others)))))
+    (begin inside second others : List ℕ) ×
+    (bytes ≡ begin ++ (inside ++ (0x05 ∷ (second ++ (0x0B ∷ others)))))
     × SpellsTagged 0x04 SpellsBlockType begin type
     × SpellsBody inside inner × SpellsBody second other × SpellsBody others rest
 

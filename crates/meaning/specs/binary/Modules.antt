@@ -39,7 +39,8 @@ SpellsImportDesc bytes (import.Global t) = SpellsTagged 0x03 SpellsGlobalType by
 -- The name of a module, a name in it, and what is imported.
 abbrev pub SpellsImport : List ℕ → Import → Type 0
 SpellsImport bytes i =
-    SpellsBoth (SpellsPair SpellsName SpellsName) SpellsImportDesc bytes (i.module_name, i.name) i.desc
+    SpellsBoth (SpellsPair SpellsName SpellsName) SpellsImportDesc bytes (i.module_name, i.name)
+    i.desc
 
 -- Global Section: a type, and an expression for the first value.
 abbrev pub SpellsGlobal : List ℕ → Global → Type 0
@@ -66,7 +67,8 @@ SpellsFunctions bytes indices = SpellsTagged 0x00 (SpellsVector SpellsIndex) byt
 
 -- A reference type, and expressions.
 abbrev pub SpellsReferences : List ℕ → RefType × List (List Op) → Type 0
-SpellsReferences bytes references = SpellsPair SpellsRefType (SpellsVector SpellsFlat) bytes references
+SpellsReferences bytes references =
+    SpellsPair SpellsRefType (SpellsVector SpellsFlat) bytes references
 
 abbrev pub element : RefType → ElementItems → ElementMode → ElementSegment
 element ty items mode = record { ty = ty; items = items; mode = mode }
@@ -79,7 +81,8 @@ pub data SpellsElement : List ℕ → ElementSegment → Type 0 where
   form_1 : {bytes indices : List ℕ} → SpellsForm 1 SpellsFunctions bytes indices
       → SpellsElement bytes (element FuncRef (Functions indices) Passive)
   form_2 : {bytes indices : List ℕ} {x : ℕ} {offset : List Op}
-      → SpellsForm 2 (SpellsPair (SpellsPair SpellsIndex SpellsFlat) SpellsFunctions) bytes ((x, offset), indices)
+      → SpellsForm 2 (SpellsPair (SpellsPair SpellsIndex SpellsFlat) SpellsFunctions) bytes
+      ((x, offset), indices)
       → SpellsElement bytes (element FuncRef (Functions indices) (Active x offset))
   form_3 : {bytes indices : List ℕ} → SpellsForm 3 SpellsFunctions bytes indices
       → SpellsElement bytes (element FuncRef (Functions indices) Declarative)
@@ -90,7 +93,8 @@ pub data SpellsElement : List ℕ → ElementSegment → Type 0 where
       → SpellsForm 5 SpellsReferences bytes (ty, expressions)
       → SpellsElement bytes (element ty (Expressions expressions) Passive)
   form_6 : {bytes : List ℕ} {x : ℕ} {offset : List Op} {ty : RefType} {expressions : List (List Op)}
-      → SpellsForm 6 (SpellsPair (SpellsPair SpellsIndex SpellsFlat) SpellsReferences) bytes ((x, offset), (ty, expressions))
+      → SpellsForm 6 (SpellsPair (SpellsPair SpellsIndex SpellsFlat) SpellsReferences) bytes
+      ((x, offset), (ty, expressions))
       → SpellsElement bytes (element ty (Expressions expressions) (Active x offset))
   form_7 : {bytes : List ℕ} {ty : RefType} {expressions : List (List Op)}
       → SpellsForm 7 SpellsReferences bytes (ty, expressions)
@@ -108,7 +112,8 @@ types_of (group ∷ groups) = replicate group.0 group.1 ++ types_of groups
 -- Groups of locals, of which there are fewer than 2 ^ 32 in all.
 abbrev pub SpellsLocals : List ℕ → List ValType → Type 0
 SpellsLocals bytes locals =
-    (groups : List (ℕ × ValType)) × SpellsVector SpellsLocalGroup bytes groups × (locals ≡ types_of groups)
+    (groups : List (ℕ × ValType)) × SpellsVector SpellsLocalGroup bytes groups ×
+    (locals ≡ types_of groups)
     × (length locals < 2 ^ 32)
 
 -- The locals and the body of a function.
@@ -133,7 +138,8 @@ pub data SpellsData : List ℕ → DataSegment → Type 0 where
   data_1 : {bytes content : List ℕ} → SpellsForm 1 SpellsBytes bytes content
       → SpellsData bytes (data_segment content data_mode.Passive)
   data_2 : {bytes content : List ℕ} {x : ℕ} {offset : List Op}
-      → SpellsForm 2 (SpellsPair (SpellsPair SpellsIndex SpellsFlat) SpellsBytes) bytes ((x, offset), content)
+      → SpellsForm 2 (SpellsPair (SpellsPair SpellsIndex SpellsFlat) SpellsBytes) bytes
+      ((x, offset), content)
       → SpellsData bytes (data_segment content (data_mode.Active x offset))
 
 -- A section: its id, and its content behind its size (Sections).
@@ -146,11 +152,13 @@ SpellsCustom bytes name = (text unread : List ℕ) × (bytes ≡ text ++ unread)
 
 -- Any number of custom sections.
 abbrev pub IsCustomSections : List ℕ → Type 0
-IsCustomSections bytes = (names : List (List ℕ)) × SpellsEach (SpellsSection 0 SpellsCustom) bytes names
+IsCustomSections bytes =
+    (names : List (List ℕ)) × SpellsEach (SpellsSection 0 SpellsCustom) bytes names
 
 -- A section with a vector; one that is absent represents the empty one.
 abbrev pub HasVector : {V : Type 0} → ℕ → (List ℕ → V → Type 0) → List V → List ℕ → Type 0
-HasVector {V} id Spells vs bytes = SpellsSection id (SpellsVector Spells) bytes vs ⊎ ((bytes ≡ []) × (vs ≡ []))
+HasVector {V} id Spells vs bytes =
+    SpellsSection id (SpellsVector Spells) bytes vs ⊎ ((bytes ≡ []) × (vs ≡ []))
 
 -- A section with one value, or none.
 abbrev pub HasValue : {V : Type 0} → ℕ → (List ℕ → V → Type 0) → Option V → List ℕ → Type 0
@@ -161,7 +169,8 @@ HasValue {V} id Spells (Some v) bytes = SpellsSection id Spells bytes v
 infixr 5 ◌▷◌
 abbrev pub ◌▷◌ : (List ℕ → Type 0) → (List ℕ → Type 0) → List ℕ → Type 0
 (Section ▷ Following) bytes =
-    (customs section rest : List ℕ) × (bytes ≡ customs ++ (section ++ rest)) × IsCustomSections customs
+    (customs section rest : List ℕ) × (bytes ≡ customs ++ (section ++ rest)) ×
+    IsCustomSections customs
     × Section section × Following rest
 
 -- The sections in their order. The function section has a type index for each function whose code the code section has.

@@ -30,7 +30,8 @@ SpellsRefType bytes reference.ExternRef = bytes ≡ 0x6F ∷ []
 -- Function Types: the parameters, and then the results.
 abbrev pub SpellsFuncType : List ℕ → FuncType → Type 0
 SpellsFuncType bytes t =
-    SpellsTagged 0x60 (SpellsPair (SpellsVector SpellsValType) (SpellsVector SpellsValType)) bytes (t.params, t.results)
+    SpellsTagged 0x60 (SpellsPair (SpellsVector SpellsValType) (SpellsVector SpellsValType)) bytes
+    (t.params, t.results)
 
 -- A least number, and a greatest one that may be missing.
 abbrev pub SpellsBounds : List ℕ → ℕ → Option ℕ → Type 0

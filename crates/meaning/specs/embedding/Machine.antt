@@ -38,29 +38,6 @@ pub record Embedding (H : Type 0) : Type 0 where
   pub names : NamesContents
   pub state : State H
 
-abbrev pub empty_store : (pages entries : ℕ) → Store
-empty_store pages entries = record {
-  functions = [];
-  instances = [];
-  tables = [];
-  memories = [];
-  globals = [];
-  elements = [];
-  datas = [];
-  pages = pages;
-  entries = entries;
-}
-
--- An embedding to which no command was given.
-abbrev pub fresh : Setup → Embedding ⊥
-fresh setup = record {
-  setup = setup;
-  modules = [];
-  instances = [];
-  names = no_names;
-  state = record { store = empty_store setup.pages setup.entries; hosts = []; fuel = setup.fuel };
-}
-
 -- ---- modules and imports
 
 -- The bytes spell the module, and it is within the limits.
@@ -76,7 +53,8 @@ pub data IsOfBytes : Refusal → Type 0 where
 
 -- What the names of imports stand for, in their order, if those of each stand for something.
 abbrev pub resolve_imports : Store → NamesContents → List Import → Option (List Extern)
-resolve_imports store names imports = map_all (λ (i : Import). resolve_name store names i.module_name i.name) imports
+resolve_imports store names imports =
+    map_all (λ (i : Import). resolve_name store names i.module_name i.name) imports
 
 -- ---- exports
 
@@ -87,7 +65,8 @@ export_in (Some e) = Ok e
 
 abbrev pub export_from : Store → (name : List ℕ) → (instance : Option ℕ) → Result Extern Refusal
 export_from store name None = Err UnknownInstance
-export_from store name (Some instance) = export_in (export_of (instance_of store (Some instance)) name)
+export_from store name (Some instance) =
+    export_in (export_of (instance_of store (Some instance)) name)
 
 -- The address of the function that is exported.
 abbrev pub as_function : Result Extern Refusal → Result ℕ Refusal
@@ -122,30 +101,39 @@ module _ {H : Type 0} where
   Refuses old refusal reply new = (reply ≡ Refused refusal) × (new ≡ old)
 
   -- The module that bytes spell gets the next number.
-  pub data Loads (old : Embedding H) (bytes : List ℕ) (reply : Reply) (new : Embedding H) : Type 0 where
-    loaded : {m : Module} → IsDecoded bytes m → IsValid m → reply ≡ Loaded (length old.modules)
-        → new ≡ record old { modules = old.modules ++ (m ∷ []) } → Loads old bytes reply new
-    no_module : {refusal : Refusal} → ((m : Module) → IsDecoded bytes m → ⊥) → IsOfBytes refusal
-        → Refuses old refusal reply new → Loads old bytes reply new
-    not_valid : {m : Module} → IsDecoded bytes m → (IsValid m → ⊥) → Refuses old Invalid reply new → Loads old bytes reply new
-    no_memory : Refuses old OutOfMemory reply new → Loads old bytes reply new
+  pub data Loads (old : Embedding H) (bytes : List ℕ) (reply : Reply) (new : Embedding H) : Type 0
+    where
+      loaded : {m : Module} → IsDecoded bytes m → IsValid m → reply ≡ Loaded (length old.modules)
+          → new ≡ record old { modules = old.modules ++ (m ∷ []) } → Loads old bytes reply new
+      no_module : {refusal : Refusal} → ((m : Module) → IsDecoded bytes m → ⊥) → IsOfBytes refusal
+          → Refuses old refusal reply new → Loads old bytes reply new
+      not_valid : {m : Module} → IsDecoded bytes m → (IsValid m → ⊥) → Refuses old Invalid reply new
+          → Loads old bytes reply new
+      no_memory : Refuses old OutOfMemory reply new → Loads old bytes reply new
 
   -- The instance at an address is registered under a name, in the place of the one that was.
-  pub data Registers (old : Embedding H) (name : List ℕ) (instance : ℕ) (reply : Reply) (new : Embedding H) : Type 0 where
+  pub data Registers (old : Embedding H) (name : List ℕ) (instance : ℕ) (reply : Reply)
+      (new : Embedding H) : Type 0 where
     registered : (HasHosts old.names name → ⊥) → reply ≡ Done
-        → new ≡ record old { names = with_instance old.names name instance } → Registers old name instance reply new
-    taken : HasHosts old.names name → Refuses old NameTaken reply new → Registers old name instance reply new
-    no_memory : (HasHosts old.names name → ⊥) → Refuses old OutOfMemory reply new → Registers old name instance reply new
+        → new ≡ record old { names = with_instance old.names name instance }
+        → Registers old name instance reply new
+    taken : HasHosts old.names name → Refuses old NameTaken reply new
+        → Registers old name instance reply new
+    no_memory : (HasHosts old.names name → ⊥) → Refuses old OutOfMemory reply new
+        → Registers old name instance reply new
 
-  abbrev pub RegistersAt : Embedding H → (name : List ℕ) → (instance : Option ℕ) → Reply → Embedding H → Type 0
+  abbrev pub RegistersAt : Embedding H → (name : List ℕ) → (instance : Option ℕ) → Reply
+      → Embedding H → Type 0
   RegistersAt old name None reply new = Refuses old UnknownInstance reply new
   RegistersAt old name (Some instance) reply new = Registers old name instance reply new
 
   -- The value of the global at an address, which the typing of stores puts there.
   pub data Gets (old : Embedding H) (address : ℕ) (reply : Reply) (new : Embedding H) : Type 0 where
-    got : {g : GlobalInstance} → slice_get old.state.store.globals address ≡ Some g → reply ≡ Ended (WithValues (g.value ∷ []))
+    got : {g : GlobalInstance} → slice_get old.state.store.globals address ≡ Some g
+        → reply ≡ Ended (WithValues (g.value ∷ []))
         → new ≡ old → Gets old address reply new
-    lost : slice_get old.state.store.globals address ≡ None → reply ≡ Ended GotStuck → new ≡ old → Gets old address reply new
+    lost : slice_get old.state.store.globals address ≡ None → reply ≡ Ended GotStuck → new ≡ old
+        → Gets old address reply new
     no_memory : Refuses old OutOfMemory reply new → Gets old address reply new
 
   abbrev pub GetsAt : Embedding H → Result ℕ Refusal → Reply → Embedding H → Type 0
@@ -158,23 +146,35 @@ module _ {H : Type 0} where
   abbrev pub SetsFuel : Embedding H → (fuel : ℕ) → Reply → Embedding H → Type 0
   SetsFuel old fuel reply new = (reply ≡ Done) × (new ≡ with_fuel old fuel)
 
-module _ {H : Type 0} (HostStep : List H → ℕ → Option ℕ → List Val → Store → Answer → Store → List H → Type 0) where
+module _ {H : Type 0} (HostStep : List H → ℕ → Option ℕ → List Val → Store → Answer → Store
+    → List H → Type 0) where
   -- A module is instantiated with what the names of its imports stand for, and the instance gets the next number if its link ends
   -- with values. Imports that stand for nothing come first, then those that do not match, and then the limits.
   pub data Links (old : Embedding H) (m : Module) (reply : Reply) (new : Embedding H) : Type 0 where
-    linked : {externs : List Extern} {state : State H} → resolve_imports old.state.store old.names m.imports ≡ Some externs
-        → IsAllowed old.state.store m externs → Instantiation HostStep old.setup.depth m externs old.state (WithValues []) state
+    linked : {externs : List Extern} {state : State H}
+        → resolve_imports old.state.store old.names m.imports ≡ Some externs
+        → IsAllowed old.state.store m externs
+        → Instantiation HostStep old.setup.depth m externs old.state (WithValues []) state
         → reply ≡ Linked (length old.instances)
-        → new ≡ record old { instances = old.instances ++ (length old.state.store.instances ∷ []); state = state }
+        → new ≡ record old {
+          instances = old.instances ++ (length old.state.store.instances ∷ []);
+          state = state;
+        }
         → Links old m reply new
     ended : {externs : List Extern} {ending : Ending} {state : State H}
         → resolve_imports old.state.store old.names m.imports ≡ Some externs
-        → IsAllowed old.state.store m externs → Instantiation HostStep old.setup.depth m externs old.state ending state
-        → HasNoValues ending → reply ≡ Ended ending → new ≡ record old { state = state } → Links old m reply new
-    unknown : resolve_imports old.state.store old.names m.imports ≡ None → Refuses old UnknownImport reply new → Links old m reply new
-    incompatible : {externs : List Extern} → resolve_imports old.state.store old.names m.imports ≡ Some externs
-        → (AreGiven old.state.store m m.imports externs → ⊥) → Refuses old IncompatibleImport reply new → Links old m reply new
-    too_large : {externs : List Extern} → resolve_imports old.state.store old.names m.imports ≡ Some externs
+        → IsAllowed old.state.store m externs
+        → Instantiation HostStep old.setup.depth m externs old.state ending state
+        → HasNoValues ending → reply ≡ Ended ending → new ≡ record old { state = state }
+        → Links old m reply new
+    unknown : resolve_imports old.state.store old.names m.imports ≡ None
+        → Refuses old UnknownImport reply new → Links old m reply new
+    incompatible : {externs : List Extern}
+        → resolve_imports old.state.store old.names m.imports ≡ Some externs
+        → (AreGiven old.state.store m m.imports externs → ⊥)
+        → Refuses old IncompatibleImport reply new → Links old m reply new
+    too_large : {externs : List Extern}
+        → resolve_imports old.state.store old.names m.imports ≡ Some externs
         → AreGiven old.state.store m m.imports externs → (IsWithinLimits old.state.store m → ⊥)
         → Refuses old Limit reply new → Links old m reply new
     no_memory : Refuses old OutOfMemory reply new → Links old m reply new
@@ -184,14 +184,19 @@ module _ {H : Type 0} (HostStep : List H → ℕ → Option ℕ → List Val →
   LinksAt old (Some m) reply new = Links old m reply new
 
   -- The function at an address is called from outside, within the fuel that is left.
-  pub data Calls (old : Embedding H) (address : ℕ) (arguments : List Val) (reply : Reply) (new : Embedding H) : Type 0 where
+  pub data Calls (old : Embedding H) (address : ℕ) (arguments : List Val) (reply : Reply)
+      (new : Embedding H) : Type 0 where
     called : {ending : Ending} {state : State H} → TakesArguments old.state.store address arguments
-        → Run HostStep old.setup.depth no_frame old.state (Invoking (reverse arguments) address) ending state
-        → reply ≡ Ended ending → new ≡ record old { state = state } → Calls old address arguments reply new
-    bad_arguments : (TakesArguments old.state.store address arguments → ⊥) → Refuses old BadArguments reply new
+        → Run HostStep old.setup.depth no_frame old.state (Invoking (reverse arguments) address)
+        ending state
+        → reply ≡ Ended ending → new ≡ record old { state = state }
+        → Calls old address arguments reply new
+    bad_arguments : (TakesArguments old.state.store address arguments → ⊥)
+        → Refuses old BadArguments reply new
         → Calls old address arguments reply new
 
-  abbrev pub CallsAt : Embedding H → Result ℕ Refusal → (arguments : List Val) → Reply → Embedding H → Type 0
+  abbrev pub CallsAt : Embedding H → Result ℕ Refusal → (arguments : List Val) → Reply
+      → Embedding H → Type 0
   CallsAt old (Ok address) arguments reply new = Calls old address arguments reply new
   CallsAt old (Err refusal) arguments reply new = Refuses old refusal reply new
 
@@ -199,14 +204,18 @@ module _ {H : Type 0} (HostStep : List H → ℕ → Option ℕ → List Val →
   abbrev pub Applies : Embedding H → Command → Reply → Embedding H → Type 0
   Applies old (Load bytes) reply new = Loads old bytes reply new
   Applies old (Link number) reply new = LinksAt old (slice_get old.modules number) reply new
-  Applies old (Register number name) reply new = RegistersAt old name (slice_get old.instances number) reply new
-  Applies old (Call number name arguments) reply new = CallsAt old (as_function (export_at old number name)) arguments reply new
-  Applies old (GetGlobal number name) reply new = GetsAt old (as_global (export_at old number name)) reply new
+  Applies old (Register number name) reply new =
+      RegistersAt old name (slice_get old.instances number) reply new
+  Applies old (Call number name arguments) reply new =
+      CallsAt old (as_function (export_at old number name)) arguments reply new
+  Applies old (GetGlobal number name) reply new =
+      GetsAt old (as_global (export_at old number name)) reply new
   Applies old (SetFuel fuel) reply new = SetsFuel old fuel reply new
 
   -- What commands in a row answer, one reply a command, and what they leave.
   pub data AppliesAll : Embedding H → List Command → List Reply → Embedding H → Type 0 where
     none : {at : Embedding H} → AppliesAll at [] [] at
-    then_on : {old between last : Embedding H} {command : Command} {commands : List Command} {reply : Reply} {replies : List Reply}
+    then_on : {old between last : Embedding H} {command : Command} {commands : List Command}
+        {reply : Reply} {replies : List Reply}
         → Applies old command reply between → AppliesAll between commands replies last
         → AppliesAll old (command ∷ commands) (reply ∷ replies) last

@@ -52,7 +52,8 @@ with_host names module_name name address = record names {
 
 -- The names with an instance registered under a name, in the place of the one that was.
 abbrev pub with_instance : NamesContents → (name : List ℕ) → (instance : ℕ) → NamesContents
-with_instance names name instance = record names { registered = put_under names.registered name instance }
+with_instance names name instance =
+    record names { registered = put_under names.registered name instance }
 
 -- ---- exports
 
@@ -66,14 +67,17 @@ extern_of instance (export.Global x) = option_map value.Global (slice_get instan
 -- What an instance exports under a name, if it exports something; the names of its exports differ.
 abbrev pub export_of : ModuleInstance → (name : List ℕ) → Option Extern
 export_of instance name =
-    option_and_then (λ (e : Export). extern_of instance e.desc) (find (λ (e : Export). bytes_eq e.name name) instance.exports)
+    option_and_then (λ (e : Export). extern_of instance e.desc)
+    (find (λ (e : Export). bytes_eq e.name name) instance.exports)
 
 -- What the instance that is registered under the name of a module exports under a name.
 abbrev pub registered_export : Store → NamesContents → (module_name name : List ℕ) → Option Extern
 registered_export store names module_name name =
-    option_and_then (λ instance. export_of (instance_of store (Some instance)) name) (under names.registered module_name)
+    option_and_then (λ instance. export_of (instance_of store (Some instance)) name)
+    (under names.registered module_name)
 
 -- What two names stand for: the host function under them, or else what the registered instance exports.
 abbrev pub resolve_name : Store → NamesContents → (module_name name : List ℕ) → Option Extern
 resolve_name store names module_name name =
-    option_or (option_map value.Func (host_of names module_name name)) (registered_export store names module_name name)
+    option_or (option_map value.Func (host_of names module_name name))
+    (registered_export store names module_name name)

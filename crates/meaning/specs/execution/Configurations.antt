@@ -56,5 +56,6 @@ depth (Invoking arguments address) = 0
 abbrev pub answered : List Val → Configuration → Configuration
 answered results (Running values rest) = Running (reverse results ++ values) rest
 answered results (InLabel label inside) = InLabel label (answered results inside)
-answered results (InFrame activation frame inside) = InFrame activation frame (answered results inside)
+answered results (InFrame activation frame inside) =
+    InFrame activation frame (answered results inside)
 answered results (Invoking arguments address) = Invoking arguments address

@@ -16,8 +16,8 @@ use Rattle.meaning.specs.execution.Configurations.{Frame, Continuation, Onward, 
 use Rattle.meaning.specs.execution.Effects.{Effect, Done, Grown, Fails, Lacks, effect, instruction_cost, table_at}
 use Rattle.meaning.specs.execution.Store.{Code, FunctionInstance, Implementation, InCode, InHost, Store, instance_of, item_at}
 use Rattle.meaning.specs.execution.Tables.{TableInstance}
-use Rattle.meaning.specs.execution.Values.{default_of}
-use Rattle.meaning.specs.validation.Types.{block_type, is_same_function_type, label_types}
+use Rattle.meaning.specs.execution.Values.{default_of, type_of}
+use Rattle.meaning.specs.validation.Types.{are_same_types, block_type, is_same_function_type, label_types}
 
 -- What a configuration does next.
 pub data Next : Type 0 where
@@ -29,7 +29,8 @@ pub data Next : Type 0 where
   Opens : (cost : ℕ) (store : Store) (configuration : Configuration) → Next
   -- a call of the host function of a number, which is lent the memory at an address, if there is one; the configuration takes
   -- its results
-  CallsHost : (cost number : ℕ) (lent : Option ℕ) (arguments : List Val) (configuration : Configuration) → Next
+  CallsHost : (cost number : ℕ) (lent : Option ℕ) (arguments : List Val)
+      (configuration : Configuration) → Next
   -- a step to a trap
   Traps : (cost : ℕ) (trap : Trap) → Next
   -- a branch to the label of this number, counted from here outward, with the values over which it is
@@ -62,7 +63,10 @@ topmost types values = reverse (take (length types) values)
 -- The frame of a call, whose arguments are the topmost values (Invocation of Function Instances).
 abbrev pub frame_of : FuncType → (instance : ℕ) → Code → List Val → Frame
 frame_of t instance code values =
-    record { instance = Some instance; locals = topmost t.params values ++ map default_of code.locals }
+    record {
+      instance = Some instance;
+      locals = topmost t.params values ++ map default_of code.locals;
+    }
 
 -- The inside of a fresh frame: a label around the body.
 abbrev pub function_body : FuncType → Code → Configuration
@@ -74,21 +78,32 @@ function_body t code =
 abbrev pub enter_function : ℕ → Store → FuncType → (instance : ℕ) → Code → List Val → Body → Next
 enter_function cost store t instance code values rest =
     Opens cost store
-    (InFrame (record { arity = length t.results; values = drop (length t.params) values; rest = rest }) (frame_of t instance code values) (function_body t code))
+    (InFrame (record {
+      arity = length t.results;
+      values = drop (length t.params) values;
+      rest = rest;
+    }) (frame_of t instance code values) (function_body t code))
 
--- A call of a host function, whose results take the place of the arguments (Host Functions).
+-- A call of a host function, whose arguments have to have the types of its parameters, and whose results take their place (Host
+-- Functions).
 abbrev pub call_host : ℕ → (number : ℕ) → (lent : Option ℕ) → FuncType → List Val → Body → Next
 call_host cost number lent t values rest =
-    CallsHost cost number lent (topmost t.params values) (Running (drop (length t.params) values) rest)
+    if are_same_types (map type_of (topmost t.params values)) t.params
+    then CallsHost cost number lent (topmost t.params values)
+    (Running (drop (length t.params) values) rest)
+    else NotReady
 
-abbrev pub call_implementation : ℕ → Store → (lent : Option ℕ) → FuncType → Implementation → List Val → Body
+abbrev pub call_implementation : ℕ → Store → (lent : Option ℕ) → FuncType → Implementation
+    → List Val → Body
     → Next
 call_implementation cost store lent t (InCode instance code) values rest =
     enter_function cost store t instance code values rest
-call_implementation cost store lent t (InHost number) values rest = call_host cost number lent t values rest
+call_implementation cost store lent t (InHost number) values rest =
+    call_host cost number lent t values rest
 
 -- A call of a function, which takes its arguments from the values (Calls).
-abbrev pub call_function : ℕ → Store → (lent : Option ℕ) → Option FunctionInstance → List Val → Body → Next
+abbrev pub call_function : ℕ → Store → (lent : Option ℕ) → Option FunctionInstance → List Val
+    → Body → Next
 call_function cost store lent None values rest = NotReady
 call_function cost store lent (Some f) values rest =
     if nat_le (length f.ty.params) (length values)
@@ -104,7 +119,8 @@ abbrev pub function_at : Store → Frame → ℕ → Option FunctionInstance
 function_at store frame x = item_at store.functions (instance_of store frame.instance).functions x
 
 -- A call of a function that has to be of this type (call_indirect).
-abbrev pub call_of_type : Store → (lent : Option ℕ) → FuncType → Option FunctionInstance → List Val → Body → Next
+abbrev pub call_of_type : Store → (lent : Option ℕ) → FuncType → Option FunctionInstance → List Val
+    → Body → Next
 call_of_type store lent t None values rest = NotReady
 call_of_type store lent t (Some f) values rest =
     if is_same_function_type f.ty t
@@ -113,15 +129,18 @@ call_of_type store lent t (Some f) values rest =
 
 -- A call of the function that an entry of a table refers to: there has to be an entry, it has to be no null, and the function
 -- has to be of this type, in this order (call_indirect).
-abbrev pub call_entry : Store → (lent : Option ℕ) → FuncType → (entry : Option Val) → List Val → Body → Next
+abbrev pub call_entry : Store → (lent : Option ℕ) → FuncType → (entry : Option Val) → List Val
+    → Body → Next
 call_entry store lent t None values rest = Traps instruction_cost UndefinedElement
-call_entry store lent t (Some (FuncRef None)) values rest = Traps instruction_cost UninitializedElement
+call_entry store lent t (Some (FuncRef None)) values rest =
+    Traps instruction_cost UninitializedElement
 call_entry store lent t (Some (FuncRef (Some address))) values rest =
     call_of_type store lent t (slice_get store.functions address) values rest
 call_entry store lent t (Some v) values rest = NotReady
 
 -- call_indirect: the i32 on top is the offset of the entry.
-abbrev pub call_through : Store → (lent : Option ℕ) → Option FuncType → Option (ℕ × TableInstance) → List Val → Body → Next
+abbrev pub call_through : Store → (lent : Option ℕ) → Option FuncType → Option (ℕ × TableInstance)
+    → List Val → Body → Next
 call_through store lent (Some t) (Some (address, table)) (I32 i ∷ values) rest =
     call_entry store lent t (slice_get table.entries i) values rest
 call_through store lent t found values rest = NotReady
@@ -130,7 +149,8 @@ call_through store lent t found values rest = NotReady
 
 -- br_if: a branch where the i32 is not zero.
 abbrev pub branch_if : Store → Frame → ℕ → List Val → Body → Next
-branch_if store frame label (I32 zero ∷ values) rest = Goes instruction_cost store frame (Running values rest)
+branch_if store frame label (I32 zero ∷ values) rest =
+    Goes instruction_cost store frame (Running values rest)
 branch_if store frame label (I32 (suc n) ∷ values) rest = Branches label values
 branch_if store frame label values rest = NotReady
 
@@ -142,14 +162,19 @@ branch_by_table table values = NotReady
 -- An instruction without a body.
 abbrev pub step_instruction : Store → Frame → PlainOp → List Val → Body → Next
 step_instruction store frame (Control (Br label)) values rest = Branches label values
-step_instruction store frame (Control (BrIf label)) values rest = branch_if store frame label values rest
+step_instruction store frame (Control (BrIf label)) values rest =
+    branch_if store frame label values rest
 step_instruction store frame (BrTable table) values rest = branch_by_table table values
 step_instruction store frame (Control Return) values rest = Returns values
 step_instruction store frame (Control (Call x)) values rest =
-    call_function instruction_cost store (lent_memory store frame) (function_at store frame x) values rest
+    call_function instruction_cost store (lent_memory store frame) (function_at store frame x)
+    values rest
 step_instruction store frame (Control (CallIndirect type x)) values rest =
-    call_through store (lent_memory store frame) (slice_get (instance_of store frame.instance).types type) (table_at store frame x) values rest
-step_instruction store frame op values rest = continue_after frame (effect store frame op values) rest
+    call_through store (lent_memory store frame)
+    (slice_get (instance_of store frame.instance).types type) (table_at store frame x) values
+    rest
+step_instruction store frame op values rest =
+    continue_after frame (effect store frame op values) rest
 
 -- The type of a block, by the types of the frame's instance.
 abbrev pub type_of_block : Store → Frame → BlockType → Option FuncType
@@ -170,12 +195,14 @@ label_of kind type t inside values rest = record {
 }
 
 -- A label with the topmost values and a body inside.
-abbrev pub enter_label : Store → Frame → Kind → BlockType → Option FuncType → Body → List Val → Body → Next
+abbrev pub enter_label : Store → Frame → Kind → BlockType → Option FuncType → Body → List Val
+    → Body → Next
 enter_label store frame kind type None inside values rest = NotReady
 enter_label store frame kind type (Some t) inside values rest =
     if nat_le (length t.params) (length values)
     then Goes instruction_cost store frame
-    (InLabel (label_of kind type t inside values rest) (Running (take (length t.params) values) inside))
+    (InLabel (label_of kind type t inside values rest)
+    (Running (take (length t.params) values) inside))
     else NotReady
 
 -- if: the first body where the i32 is not zero, and else the second.
@@ -213,7 +240,8 @@ step_in_label store frame label (Goes cost store' frame' inside) =
     Goes cost store' frame' (InLabel label inside)
 step_in_label store frame label (Grows cost store' frame' inside) =
     Grows cost store' frame' (InLabel label inside)
-step_in_label store frame label (Opens cost store' inside) = Opens cost store' (InLabel label inside)
+step_in_label store frame label (Opens cost store' inside) =
+    Opens cost store' (InLabel label inside)
 step_in_label store frame label (CallsHost cost number lent arguments inside) =
     CallsHost cost number lent arguments (InLabel label inside)
 step_in_label store frame label (Traps cost trap) = Traps cost trap
@@ -244,7 +272,8 @@ step_in_frame store outer activation own (CallsHost cost number lent arguments i
     CallsHost cost number lent arguments (InFrame activation own inside)
 step_in_frame store outer activation own (Traps cost trap) = Traps cost trap
 step_in_frame store outer activation own (Branches label kept) = NotReady
-step_in_frame store outer activation own (Returns kept) = return_from_frame store outer activation kept
+step_in_frame store outer activation own (Returns kept) =
+    return_from_frame store outer activation kept
 step_in_frame store outer activation own (Over results) =
     Goes 0 store outer (Running (results ++ activation.values) activation.rest)
 step_in_frame store outer activation own NotReady = NotReady

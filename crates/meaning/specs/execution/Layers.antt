@@ -10,7 +10,8 @@ pub data Layer : Type 0 where
 -- A configuration inside of these layers, the innermost first, of which the innermost frame has this state.
 abbrev pub plug : List Layer → Frame → Configuration → Configuration
 plug [] frame configuration = configuration
-plug (AroundLabel label ∷ layers) frame configuration = plug layers frame (InLabel label configuration)
+plug (AroundLabel label ∷ layers) frame configuration =
+    plug layers frame (InLabel label configuration)
 plug (AroundFrame activation outer ∷ layers) frame configuration =
     plug layers outer (InFrame activation frame configuration)
 

@@ -116,7 +116,8 @@ is_within (Some max) size = nat_le size max
 -- bound of the embedding.
 abbrev pub can_grow : (bound most : ℕ) → Limits → (more : ℕ) → Bool
 can_grow bound most limits more =
-    nat_le (limits.min + more) bound && (nat_le (limits.min + more) most && is_within limits.max (limits.min + more))
+    nat_le (limits.min + more) bound &&
+    (nat_le (limits.min + more) most && is_within limits.max (limits.min + more))
 
 -- The limits with so many more as the present size.
 abbrev pub raised : Limits → (more : ℕ) → Limits

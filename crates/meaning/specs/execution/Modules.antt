@@ -54,7 +54,8 @@ import_type m (import.Global g) = Some (type.Global g)
 -- The external value may be given where this type is wanted.
 abbrev pub IsGiven : Store → Extern → (wanted : Option ExternType) → Type 0
 IsGiven store e wanted =
-    (given ty : ExternType) × (extern_type store e ≡ Some given) × (wanted ≡ Some ty) × Matches given ty
+    (given ty : ExternType) × (extern_type store e ≡ Some given) × (wanted ≡ Some ty) ×
+    Matches given ty
 
 -- Each of these imports is given what it asks for. What is given beyond them is not looked at.
 abbrev pub AreGiven : Store → Module → List Import → List Extern → Type 0
@@ -102,10 +103,14 @@ given_addresses address_of (e ∷ es) = before (address_of e) (given_addresses a
 abbrev pub new_instance : Store → Module → (given : List Extern) → ModuleInstance
 new_instance store m given = record {
   types = m.types;
-  functions = given_addresses function_address given ++ consecutive (length store.functions) (length m.funcs);
-  tables = given_addresses table_address given ++ consecutive (length store.tables) (length m.tables);
-  memories = given_addresses memory_address given ++ consecutive (length store.memories) (length m.memories);
-  globals = given_addresses global_address given ++ consecutive (length store.globals) (length m.globals);
+  functions = given_addresses function_address given ++
+      consecutive (length store.functions) (length m.funcs);
+  tables =
+      given_addresses table_address given ++ consecutive (length store.tables) (length m.tables);
+  memories = given_addresses memory_address given ++
+      consecutive (length store.memories) (length m.memories);
+  globals = given_addresses global_address given ++
+      consecutive (length store.globals) (length m.globals);
   elements = consecutive (length store.elements) (length m.elements);
   datas = consecutive (length store.datas) (length m.datas);
   exports = m.exports;
@@ -117,7 +122,8 @@ code_of f = record { locals = f.locals; body = body_of f.body }
 
 -- A function of a module, in the instance at an address (Functions).
 abbrev pub new_function : (instance : ℕ) → Module → Function → FunctionInstance
-new_function instance m f = record { ty = type_at m.types f.ty; implementation = InCode instance (code_of f) }
+new_function instance m f =
+    record { ty = type_at m.types f.ty; implementation = InCode instance (code_of f) }
 
 -- ---- constant expressions (Instantiation)
 
@@ -126,8 +132,10 @@ abbrev pub constant : Store → ModuleInstance → PlainOp → Option Val
 constant store i (I32Const n) = Some (I32 n)
 constant store i (I64Const n) = Some (I64 n)
 constant store i (Reference (reference.Null t)) = Some (null_of t)
-constant store i (Reference (reference.Func x)) = option_map (λ (a : ℕ). FuncRef (Some a)) (slice_get i.functions x)
-constant store i (Variable (GlobalGet x)) = option_map (λ (g : GlobalInstance). g.value) (item_at store.globals i.globals x)
+constant store i (Reference (reference.Func x)) =
+    option_map (λ (a : ℕ). FuncRef (Some a)) (slice_get i.functions x)
+constant store i (Variable (GlobalGet x)) =
+    option_map (λ (g : GlobalInstance). g.value) (item_at store.globals i.globals x)
 constant store i op = None
 
 -- The value of a constant expression, which is one instruction.
@@ -148,22 +156,26 @@ map_all f (x ∷ xs) = cons (f x) (map_all f xs)
 
 -- A global, with the value of its constant expression (Globals).
 abbrev pub new_global : Store → ModuleInstance → Global → Option GlobalInstance
-new_global store i g = option_map (λ (v : Val). record { ty = g.ty; value = v }) (constant_value store i g.init)
+new_global store i g =
+    option_map (λ (v : Val). record { ty = g.ty; value = v }) (constant_value store i g.init)
 
 -- The references of an element segment; a function index represents the ref.func of it.
 abbrev pub references : Store → ModuleInstance → ElementItems → Option (List Val)
-references store i (Functions indices) = map_all (λ (x : ℕ). constant store i (Reference (reference.Func x))) indices
+references store i (Functions indices) =
+    map_all (λ (x : ℕ). constant store i (Reference (reference.Func x))) indices
 references store i (Expressions expressions) = map_all (constant_value store i) expressions
 
 -- An element segment (Element Segments).
 abbrev pub new_elements : Store → ModuleInstance → ElementSegment → Option ElementInstance
-new_elements store i e = option_map (λ (vs : List Val). record { ty = e.ty; references = vs }) (references store i e.items)
+new_elements store i e = option_map (λ (vs : List Val). record { ty = e.ty; references = vs })
+    (references store i e.items)
 
 -- A data segment (Data Segments).
 abbrev pub new_data : DataSegment → DataInstance
 new_data d = record { bytes = d.bytes }
 
-abbrev pub objects_with : Module → Option (List GlobalInstance) → Option (List ElementInstance) → Option ObjectLists
+abbrev pub objects_with : Module → Option (List GlobalInstance) → Option (List ElementInstance)
+    → Option ObjectLists
 objects_with m (Some globals) (Some elements) = Some (record {
   tables = map new_table m.tables;
   memories = map new_memory m.memories;
@@ -175,7 +187,8 @@ objects_with m globals elements = None
 
 -- The new objects, if all constant expressions have values.
 abbrev pub new_objects : Store → ModuleInstance → Module → Option ObjectLists
-new_objects store i m = objects_with m (map_all (new_global store i) m.globals) (map_all (new_elements store i) m.elements)
+new_objects store i m = objects_with m (map_all (new_global store i) m.globals)
+    (map_all (new_elements store i) m.elements)
 
 -- The store with the module's functions, this instance and these objects behind what there is (Modules).
 abbrev pub with_module : Store → ModuleInstance → Module → ObjectLists → Store
@@ -232,7 +245,8 @@ abbrev pub element_task : (x : ℕ) → ElementItems → ElementMode → List Ta
 element_task x items Passive = []
 element_task x items Declarative = Drops (Table (table_op.ElemDrop x)) ∷ []
 element_task x items (Active table offset) =
-    Copies offset (item_count items) (Table (table_op.Init x table)) (Table (table_op.ElemDrop x)) ∷ []
+    Copies offset (item_count items) (Table (table_op.Init x table))
+    (Table (table_op.ElemDrop x)) ∷ []
 
 -- A data segment of this mode under an index: an active one is copied into the memory and dropped.
 abbrev pub data_task : (x : ℕ) → (bytes : List ℕ) → DataMode → List Task
@@ -267,16 +281,22 @@ pub record Activity : Type 0 where
 -- In the frame of the instance at an address.
 abbrev pub in_instance : (instance : ℕ) → Configuration → Activity
 in_instance instance configuration =
-    record { frame = record { instance = Some instance; locals = [] }; configuration = configuration }
+    record {
+      frame = record { instance = Some instance; locals = [] };
+      configuration = configuration;
+    }
 
 -- What a task runs. The operands of a copy are the offset, 0 and how much it copies, as an i32, and cost nothing. The start function
 -- is called from outside.
 abbrev pub activity : Store → (instance : ℕ) → ModuleInstance → Task → Option Activity
 activity store instance i (Copies offset count init drop) =
-    option_map (λ (v : Val). in_instance instance (Running (I32 (count % 2 ^ 32) ∷ (I32 0 ∷ (v ∷ []))) (Then init (Then drop Empty)))) (constant_value store i offset)
+    option_map (λ (v : Val). in_instance instance
+    (Running (I32 (count % 2 ^ 32) ∷ (I32 0 ∷ (v ∷ []))) (Then init (Then drop Empty))))
+    (constant_value store i offset)
 activity store instance i (Drops drop) = Some (in_instance instance (Running [] (Then drop Empty)))
 activity store instance i (Starts x) =
-    option_map (λ (address : ℕ). record { frame = no_frame; configuration = Invoking [] address }) (slice_get i.functions x)
+    option_map (λ (address : ℕ). record { frame = no_frame; configuration = Invoking [] address })
+    (slice_get i.functions x)
 
 -- The ending is none with values.
 abbrev pub HasNoValues : Ending → Type 0
@@ -287,29 +307,39 @@ HasNoValues OutOfDepth = Unit {0}
 HasNoValues OutOfMemory = Unit {0}
 HasNoValues GotStuck = Unit {0}
 
-module _ {H : Type 0} (HostStep : List H → ℕ → Option ℕ → List Val → Store → Answer → Store → List H → Type 0) (bound : ℕ) where
+module _ {H : Type 0} (HostStep : List H → ℕ → Option ℕ → List Val → Store → Answer → Store
+    → List H → Type 0) (bound : ℕ) where
   -- A bounded run of this.
   abbrev pub RunOf : State H → Activity → Ending → State H → Type 0
   RunOf old a ending new = Run HostStep bound a.frame old a.configuration ending new
 
   -- The bounded runs of tasks, one after the other, in the instance at an address. What ends without values ends them all, and
   -- what was done stays.
-  pub data RunTasks (instance : ℕ) (i : ModuleInstance) : State H → List Task → Ending → State H → Type 0 where
+  pub data RunTasks (instance : ℕ) (i : ModuleInstance) : State H → List Task → Ending → State H
+      → Type 0 where
     all_done : {at : State H} → RunTasks instance i at [] (WithValues []) at
-    done : {old between last : State H} {task : Task} {tasks : List Task} {a : Activity} {values : List Val} {ending : Ending}
+    done : {old between last : State H} {task : Task} {tasks : List Task} {a : Activity}
+        {values : List Val} {ending : Ending}
         → activity old.store instance i task ≡ Some a → RunOf old a (WithValues values) between
-        → RunTasks instance i between tasks ending last → RunTasks instance i old (task ∷ tasks) ending last
+        → RunTasks instance i between tasks ending last
+        → RunTasks instance i old (task ∷ tasks) ending last
     ended : {old last : State H} {task : Task} {tasks : List Task} {a : Activity} {ending : Ending}
         → activity old.store instance i task ≡ Some a → RunOf old a ending last → HasNoValues ending
         → RunTasks instance i old (task ∷ tasks) ending last
-    lost : {at : State H} {task : Task} {tasks : List Task} → activity at.store instance i task ≡ None
+    lost : {at : State H} {task : Task} {tasks : List Task}
+        → activity at.store instance i task ≡ None
         → RunTasks instance i at (task ∷ tasks) GotStuck at
 
   -- The instantiation of a module with what is given for its imports: its objects are allocated, and its tasks are run. It is stuck
   -- where a constant expression has no value.
-  pub data Instantiation (m : Module) (given : List Extern) (old : State H) (ending : Ending) (new : State H) : Type 0 where
-    allocated : {objects : ObjectLists} → new_objects old.store (new_instance old.store m given) m ≡ Some objects
-        → RunTasks (length old.store.instances) (new_instance old.store m given) (record old { store = with_module old.store (new_instance old.store m given) m objects }) (tasks_of m) ending new
+  pub data Instantiation (m : Module) (given : List Extern) (old : State H) (ending : Ending)
+      (new : State H) : Type 0 where
+    allocated : {objects : ObjectLists}
+        → new_objects old.store (new_instance old.store m given) m ≡ Some objects
+        → RunTasks (length old.store.instances) (new_instance old.store m given)
+        (record old { store = with_module old.store (new_instance old.store m given) m objects })
+        (tasks_of m) ending new
         → Instantiation m given old ending new
-    without_value : new_objects old.store (new_instance old.store m given) m ≡ None → ending ≡ GotStuck → new ≡ old
+    without_value : new_objects old.store (new_instance old.store m given) m ≡ None
+        → ending ≡ GotStuck → new ≡ old
         → Instantiation m given old ending new

@@ -68,7 +68,8 @@ abbrev pub quotient_signed : ℕ → ℕ → ℕ → Result ℕ Trap
 quotient_signed bits a b =
     let quotient = int_div (signed bits a) (signed bits b) in
     if b == 0 then Err DivideByZero
-    else (if int_lt quotient (pos (2 ^ (bits - 1))) then Ok (integer bits quotient) else Err IntegerOverflow)
+    else (if int_lt quotient (pos (2 ^ (bits - 1))) then Ok (integer bits quotient)
+    else Err IntegerOverflow)
 
 -- What the rounded quotient of the signed numbers leaves of a (irem_s).
 abbrev pub remainder_signed : ℕ → ℕ → ℕ → Result ℕ Trap
@@ -99,7 +100,8 @@ binary_operator bits And a b = Ok (bit_and a b)
 binary_operator bits Or a b = Ok (bit_or a b)
 binary_operator bits Xor a b = Ok (bit_xor a b)
 binary_operator bits Shl a b = Ok ((a * 2 ^ (b % bits)) % 2 ^ bits)
-binary_operator bits ShrS a b = Ok (integer bits (int_div_euclid (signed bits a) (pos (2 ^ (b % bits)))))
+binary_operator bits ShrS a b =
+    Ok (integer bits (int_div_euclid (signed bits a) (pos (2 ^ (b % bits)))))
 binary_operator bits ShrU a b = Ok (a / 2 ^ (b % bits))
 binary_operator bits Rotl a b = Ok (rotated_left bits a (b % bits))
 binary_operator bits Rotr a b = Ok (rotated_right bits a (b % bits))

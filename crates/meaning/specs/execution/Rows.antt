@@ -37,7 +37,16 @@ function params results body =
 abbrev pub instance_of_two : FunctionInstance → FunctionInstance → Store
 instance_of_two f g = record {
   functions = f ∷ g ∷ [];
-  instances = record { types = []; functions = 0 ∷ 1 ∷ []; tables = []; memories = []; globals = []; elements = []; datas = []; exports = [] } ∷ [];
+  instances = record {
+    types = [];
+    functions = 0 ∷ 1 ∷ [];
+    tables = [];
+    memories = [];
+    globals = [];
+    elements = [];
+    datas = [];
+    exports = [];
+  } ∷ [];
   tables = [];
   memories = [];
   globals = [];
@@ -60,7 +69,8 @@ abbrev pub state_of : FunctionInstance → (fuel : ℕ) → State ⊥
 state_of f fuel = record { store = instance_of_two f nothing; hosts = []; fuel = fuel }
 
 -- A call of the first function, with the arguments from the top, from this fuel to this ending with that fuel left.
-abbrev pub Calls : (bound : ℕ) → FunctionInstance → List Val → (fuel : ℕ) → Ending → (left : ℕ) → Type 0
+abbrev pub Calls : (bound : ℕ) → FunctionInstance → List Val → (fuel : ℕ) → Ending → (left : ℕ)
+    → Type 0
 Calls bound f arguments fuel ending left =
     Run NoHosts bound no_frame (state_of f fuel) (Invoking arguments 0) ending (state_of f left)
 
@@ -78,7 +88,9 @@ endless = function [] [] (Nested LoopKind block.Empty (Then (Control (Br 0)) Emp
 abbrev pub last_of_three : FunctionInstance
 last_of_three =
     function [] (ty.I32 ∷ [])
-    (Nested BlockKind (block.Value ty.I32) (Then (I32Const 7) (Then (I32Const 8) (Then (I32Const 9) (Then (Control (Br 0)) Empty)))) Empty)
+    (Nested BlockKind (block.Value ty.I32)
+    (Then (I32Const 7) (Then (I32Const 8) (Then (I32Const 9) (Then (Control (Br 0)) Empty))))
+    Empty)
 
 -- Two results.
 abbrev pub one_and_two : FunctionInstance
@@ -88,7 +100,8 @@ one_and_two = function [] (ty.I32 ∷ ty.I32 ∷ []) (Then (I32Const 1) (Then (I
 abbrev pub seven_or_eight : FunctionInstance
 seven_or_eight =
     function (ty.I32 ∷ []) (ty.I32 ∷ [])
-    (Then (local 0) (IfElse (block.Value ty.I32) (Then (I32Const 7) Empty) (Then (I32Const 8) Empty) Empty))
+    (Then (local 0) (IfElse (block.Value ty.I32) (Then (I32Const 7) Empty)
+    (Then (I32Const 8) Empty) Empty))
 
 -- A call of the function that does nothing.
 abbrev pub caller : FunctionInstance
@@ -99,8 +112,18 @@ caller = function [] [] (Then (Control (Call 1)) Empty)
 -- The store of this function and a host function, in an instance that has the memory at address 6.
 abbrev pub store_with_host : FunctionInstance → (host_params host_results : List ValType) → Store
 store_with_host f host_params host_results = record {
-  functions = f ∷ record { ty = function_type host_params host_results; implementation = InHost 0 } ∷ [];
-  instances = record { types = []; functions = 0 ∷ 1 ∷ []; tables = []; memories = 6 ∷ []; globals = []; elements = []; datas = []; exports = [] } ∷ [];
+  functions =
+      f ∷ record { ty = function_type host_params host_results; implementation = InHost 0 } ∷ [];
+  instances = record {
+    types = [];
+    functions = 0 ∷ 1 ∷ [];
+    tables = [];
+    memories = 6 ∷ [];
+    globals = [];
+    elements = [];
+    datas = [];
+    exports = [];
+  } ∷ [];
   tables = [];
   memories = [];
   globals = [];
@@ -111,14 +134,17 @@ store_with_host f host_params host_results = record {
 }
 
 -- The host function that counts its calls and answers the count, if it is lent this memory.
-abbrev pub CountsCalls : Option ℕ → List ℕ → ℕ → Option ℕ → List Val → Store → Answer → Store → List ℕ → Type 0
+abbrev pub CountsCalls : Option ℕ → List ℕ → ℕ → Option ℕ → List Val → Store → Answer → Store
+    → List ℕ → Type 0
 CountsCalls memory hosts number lent arguments store answer store' hosts' =
-    (lent ≡ memory) × (store' ≡ store) × (n : ℕ) × (hosts ≡ n ∷ []) × (answer ≡ Results (I32 (suc n) ∷ [])) ×
+    (lent ≡ memory) × (store' ≡ store) × (n : ℕ) × (hosts ≡ n ∷ []) ×
+    (answer ≡ Results (I32 (suc n) ∷ [])) ×
     (hosts' ≡ suc n ∷ [])
 
 -- It calls the host function twice.
 abbrev pub calls_twice : FunctionInstance
-calls_twice = function [] (ty.I32 ∷ ty.I32 ∷ []) (Then (Control (Call 1)) (Then (Control (Call 1)) Empty))
+calls_twice =
+    function [] (ty.I32 ∷ ty.I32 ∷ []) (Then (Control (Call 1)) (Then (Control (Call 1)) Empty))
 
 -- The state with this function, the host function that counts, and its count.
 abbrev pub counting : (count fuel : ℕ) → State ℕ
@@ -126,17 +152,23 @@ counting count fuel =
     record { store = store_with_host calls_twice [] (ty.I32 ∷ []); hosts = count ∷ []; fuel = fuel }
 
 -- The host function that traps if it is called with 1 and 2, in this order.
-abbrev pub TrapsAtOneAndTwo : List ℕ → ℕ → Option ℕ → List Val → Store → Answer → Store → List ℕ → Type 0
+abbrev pub TrapsAtOneAndTwo : List ℕ → ℕ → Option ℕ → List Val → Store → Answer → Store → List ℕ
+    → Type 0
 TrapsAtOneAndTwo hosts number lent arguments store answer store' hosts' =
     (arguments ≡ I32 1 ∷ I32 2 ∷ []) × (answer ≡ HostTrap 4) × (store' ≡ store) × (hosts' ≡ hosts)
 
 -- It calls the host function with 1 and 2.
 abbrev pub calls_with_one_and_two : FunctionInstance
-calls_with_one_and_two = function [] [] (Then (I32Const 1) (Then (I32Const 2) (Then (Control (Call 1)) Empty)))
+calls_with_one_and_two =
+    function [] [] (Then (I32Const 1) (Then (I32Const 2) (Then (Control (Call 1)) Empty)))
 
 abbrev pub trapping : (fuel : ℕ) → State ℕ
 trapping fuel =
-    record { store = store_with_host calls_with_one_and_two (ty.I32 ∷ ty.I32 ∷ []) []; hosts = []; fuel = fuel }
+    record {
+      store = store_with_host calls_with_one_and_two (ty.I32 ∷ ty.I32 ∷ []) [];
+      hosts = [];
+      fuel = fuel;
+    }
 
 -- ---- memories and globals
 
@@ -144,7 +176,16 @@ trapping fuel =
 abbrev pub store_with_memory : FunctionInstance → (bytes : List ℕ) → (value : ℕ) → Store
 store_with_memory f bytes value = record {
   functions = f ∷ [];
-  instances = record { types = []; functions = 0 ∷ []; tables = []; memories = 0 ∷ []; globals = 0 ∷ []; elements = []; datas = 0 ∷ []; exports = [] } ∷ [];
+  instances = record {
+    types = [];
+    functions = 0 ∷ [];
+    tables = [];
+    memories = 0 ∷ [];
+    globals = 0 ∷ [];
+    elements = [];
+    datas = 0 ∷ [];
+    exports = [];
+  } ∷ [];
   tables = [];
   memories = record { limits = record { min = 0; max = None }; bytes = bytes } ∷ [];
   globals = record { ty = record { value = ty.I32; mutability = Var }; value = I32 value } ∷ [];
@@ -160,15 +201,25 @@ with_bytes_and_global f bytes value fuel =
 
 -- It fills the 128 bytes with 7.
 abbrev pub fills : FunctionInstance
-fills = function [] [] (Then (I32Const 0) (Then (I32Const 7) (Then (I32Const 128) (Then (Memory Fill) Empty))))
+fills = function [] [] (Then (I32Const 0)
+    (Then (I32Const 7) (Then (I32Const 128) (Then (Memory Fill) Empty))))
 
 -- It puts the second byte of the data segment at 1, reads both bytes, and sets the global to what it read.
 abbrev pub copies_and_sets : FunctionInstance
-copies_and_sets = function [] (ty.I32 ∷ []) (Then (I32Const 1) (Then (I32Const 1) (Then (I32Const 1) (Then (Memory (Init 0)) (Then (I32Const 0) (Then (Memory (Load (Bits16 W32 Unsigned) (record { align = 1; offset = 0 }))) (Then (Variable (GlobalSet 0)) (Then (Variable (GlobalGet 0)) Empty))))))))
+copies_and_sets = function [] (ty.I32 ∷ [])
+    (Then (I32Const 1)
+    (Then (I32Const 1)
+    (Then (I32Const 1) (Then (Memory (Init 0))
+    (Then (I32Const 0)
+    (Then (Memory (Load (Bits16 W32 Unsigned) (record { align = 1; offset = 0 })))
+    (Then (Variable (GlobalSet 0)) (Then (Variable (GlobalGet 0)) Empty))))))))
 
 -- It grows its memory by a page, which the bound does not allow, and then reads past the end.
 abbrev pub grows_and_reads : FunctionInstance
-grows_and_reads = function [] (ty.I32 ∷ []) (Then (I32Const 1) (Then (Memory Grow) (Then (Memory (Load (Bits8 W32 Unsigned) (record { align = 0; offset = 0 }))) Empty)))
+grows_and_reads = function [] (ty.I32 ∷ [])
+    (Then (I32Const 1)
+    (Then (Memory Grow)
+    (Then (Memory (Load (Bits8 W32 Unsigned) (record { align = 0; offset = 0 }))) Empty)))
 
 -- ---- tables and calls through them
 
@@ -181,8 +232,24 @@ ten = function [] (ty.I32 ∷ []) (Then (I32Const 10) Empty)
 abbrev pub store_with_table : FunctionInstance → (entries references : List Val) → Store
 store_with_table f entries references = record {
   functions = f ∷ ten ∷ nothing ∷ [];
-  instances = record { types = function_type [] (ty.I32 ∷ []) ∷ []; functions = 0 ∷ 1 ∷ 2 ∷ []; tables = 0 ∷ []; memories = []; globals = []; elements = 0 ∷ []; datas = []; exports = [] } ∷ [];
-  tables = record { ty = record { element = ref.FuncRef; limits = record { min = length entries; max = None } }; entries = entries } ∷ [];
+  instances = record {
+    types = function_type [] (ty.I32 ∷ []) ∷ [];
+    functions = 0 ∷ 1 ∷ 2 ∷ [];
+    tables = 0 ∷ [];
+    memories = [];
+    globals = [];
+    elements = 0 ∷ [];
+    datas = [];
+    exports = [];
+  } ∷
+      [];
+  tables = record {
+    ty = record {
+      element = ref.FuncRef;
+      limits = record { min = length entries; max = None };
+    };
+    entries = entries;
+  } ∷ [];
   memories = [];
   globals = [];
   elements = record { ty = ref.FuncRef; references = references } ∷ [];
@@ -204,21 +271,31 @@ null = FuncRef None
 
 -- It calls the function of an entry, which has to answer an i32.
 abbrev pub calls_entry : FunctionInstance
-calls_entry = function (ty.I32 ∷ []) (ty.I32 ∷ []) (Then (local 0) (Then (Control (CallIndirect 0 0)) Empty))
+calls_entry =
+    function (ty.I32 ∷ []) (ty.I32 ∷ []) (Then (local 0) (Then (Control (CallIndirect 0 0)) Empty))
 
 -- A call of it for an entry of a table of the function that answers 10, the one that does nothing, and null.
 abbrev pub CallsEntry : (offset fuel : ℕ) → Ending → (left : ℕ) → Type 0
 CallsEntry offset fuel ending left =
-    Run NoHosts 2 no_frame (with_entries calls_entry (at 1 ∷ at 2 ∷ null ∷ []) [] fuel) (Invoking (I32 offset ∷ []) 0) ending (with_entries calls_entry (at 1 ∷ at 2 ∷ null ∷ []) [] left)
+    Run NoHosts 2 no_frame (with_entries calls_entry (at 1 ∷ at 2 ∷ null ∷ []) [] fuel)
+    (Invoking (I32 offset ∷ []) 0) ending
+    (with_entries calls_entry (at 1 ∷ at 2 ∷ null ∷ []) [] left)
 
 -- It fills that many entries with null.
 abbrev pub fills_entries : (count : ℕ) → FunctionInstance
-fills_entries count = function [] [] (Then (I32Const 0) (Then (Reference (Null ref.FuncRef)) (Then (I32Const count) (Then (Table (table.Fill 0)) Empty))))
+fills_entries count = function [] []
+    (Then (I32Const 0) (Then (Reference (Null ref.FuncRef))
+    (Then (I32Const count) (Then (Table (table.Fill 0)) Empty))))
 
 -- It copies the reference of the segment to the entry at 1, drops the segment, and reads the entry.
 abbrev pub inits_entry : FunctionInstance
-inits_entry = function [] (ty.FuncRef ∷ []) (Then (I32Const 1) (Then (I32Const 0) (Then (I32Const 1) (Then (Table (table.Init 0 0)) (Then (Table (table.ElemDrop 0)) (Then (I32Const 1) (Then (Table (table.Get 0)) Empty)))))))
+inits_entry = function [] (ty.FuncRef ∷ [])
+    (Then (I32Const 1)
+    (Then (I32Const 0)
+    (Then (I32Const 1) (Then (Table (table.Init 0 0))
+    (Then (Table (table.ElemDrop 0)) (Then (I32Const 1) (Then (Table (table.Get 0)) Empty)))))))
 
 -- It grows the table by that many entries of the function at 1.
 abbrev pub grows_table : (count : ℕ) → FunctionInstance
-grows_table count = function [] (ty.I32 ∷ []) (Then (Reference (Func 1)) (Then (I32Const count) (Then (Table (table.Grow 0)) Empty)))
+grows_table count = function [] (ty.I32 ∷ [])
+    (Then (Reference (Func 1)) (Then (I32Const count) (Then (Table (table.Grow 0)) Empty)))

@@ -72,32 +72,40 @@ pub data Ending : Type 0 where
 
 -- HostStep hosts number lent arguments store answer store' hosts': the host function of this number, which is called with these
 -- arguments and lent the memory at an address, if there is one, gives this answer, and leaves this store and these host functions.
-module _ {H : Type 0} (HostStep : List H → ℕ → Option ℕ → List Val → Store → Answer → Store → List H → Type 0) (bound : ℕ) (outside : Frame) where
+module _ {H : Type 0} (HostStep : List H → ℕ → Option ℕ → List Val → Store → Answer → Store
+    → List H → Type 0) (bound : ℕ) (outside : Frame) where
   -- One step.
-  pub data IsStep (old : State H) (configuration : Configuration) (new : State H) (configuration' : Configuration) : Type 0 where
-    goes : {cost : ℕ} → next old.store outside configuration ≡ Goes cost new.store outside configuration'
+  pub data IsStep (old : State H) (configuration : Configuration) (new : State H)
+      (configuration' : Configuration) : Type 0 where
+    goes : {cost : ℕ} → next old.store outside configuration ≡
+        Goes cost new.store outside configuration'
         → cost ≤ old.fuel → new.fuel ≡ old.fuel - cost → new.hosts ≡ old.hosts
         → IsStep old configuration new configuration'
-    grows : {cost : ℕ} → next old.store outside configuration ≡ Grows cost new.store outside configuration'
+    grows : {cost : ℕ} → next old.store outside configuration ≡
+        Grows cost new.store outside configuration'
         → cost ≤ old.fuel → new.fuel ≡ old.fuel - cost → new.hosts ≡ old.hosts
         → IsStep old configuration new configuration'
     opens : {cost : ℕ} → next old.store outside configuration ≡ Opens cost new.store configuration'
-        → cost ≤ old.fuel → new.fuel ≡ old.fuel - cost → new.hosts ≡ old.hosts → depth configuration < bound
+        → cost ≤ old.fuel → new.fuel ≡ old.fuel - cost → new.hosts ≡ old.hosts
+        → depth configuration < bound
         → IsStep old configuration new configuration'
-    calls : {cost number : ℕ} {lent : Option ℕ} {arguments results : List Val} {waiting : Configuration}
+    calls : {cost number : ℕ} {lent : Option ℕ} {arguments results : List Val}
+        {waiting : Configuration}
         → next old.store outside configuration ≡ CallsHost cost number lent arguments waiting
         → cost ≤ old.fuel → new.fuel ≡ old.fuel - cost
         → HostStep old.hosts number lent arguments old.store (Results results) new.store new.hosts
         → configuration' ≡ answered results waiting → IsStep old configuration new configuration'
 
   -- The end of a run at this state and configuration, and the state then.
-  pub data IsEnd (at : State H) (configuration : Configuration) (ending : Ending) (last : State H) : Type 0 where
+  pub data IsEnd (at : State H) (configuration : Configuration) (ending : Ending)
+      (last : State H) : Type 0 where
     values_left : {values : List Val} → next at.store outside configuration ≡ Over values
         → ending ≡ WithValues (reverse values) → last ≡ at → IsEnd at configuration ending last
     trapped : {cost : ℕ} {trap : Trap} → next at.store outside configuration ≡ Traps cost trap
         → cost ≤ at.fuel → ending ≡ WithTrap trap → last ≡ record at { fuel = at.fuel - cost }
         → IsEnd at configuration ending last
-    host_trapped : {cost number code : ℕ} {lent : Option ℕ} {arguments : List Val} {waiting : Configuration}
+    host_trapped : {cost number code : ℕ} {lent : Option ℕ} {arguments : List Val}
+        {waiting : Configuration}
         → next at.store outside configuration ≡ CallsHost cost number lent arguments waiting
         → cost ≤ at.fuel → last.fuel ≡ at.fuel - cost
         → HostStep at.hosts number lent arguments at.store (HostTrap code) last.store last.hosts
@@ -106,7 +114,8 @@ module _ {H : Type 0} (HostStep : List H → ℕ → Option ℕ → List Val →
         → IsEnd at configuration ending last
     no_depth : {cost : ℕ} {store : Store} {configuration' : Configuration}
         → next at.store outside configuration ≡ Opens cost store configuration' → cost ≤ at.fuel
-        → bound ≤ depth configuration → ending ≡ OutOfDepth → last ≡ at → IsEnd at configuration ending last
+        → bound ≤ depth configuration → ending ≡ OutOfDepth → last ≡ at
+        → IsEnd at configuration ending last
     -- wherever a step would be done
     no_memory : IsReady (next at.store outside configuration)
         → IsWithinBound bound (depth configuration) (next at.store outside configuration)
@@ -119,7 +128,8 @@ module _ {H : Type 0} (HostStep : List H → ℕ → Option ℕ → List Val →
   pub data Run : State H → Configuration → Ending → State H → Type 0 where
     end : {at last : State H} {configuration : Configuration} {ending : Ending}
         → IsEnd at configuration ending last → Run at configuration ending last
-    step : {old between last : State H} {configuration configuration' : Configuration} {ending : Ending}
+    step : {old between last : State H} {configuration configuration' : Configuration}
+        {ending : Ending}
         → IsStep old configuration between configuration' → Run between configuration' ending last
         → Run old configuration ending last
 
@@ -127,7 +137,8 @@ module _ {H : Type 0} (HostStep : List H → ℕ → Option ℕ → List Val →
   pub data Steps : State H → Configuration → State H → Configuration → Type 0 where
     none : {at : State H} {configuration : Configuration} → Steps at configuration at configuration
     one_more : {old between new : State H} {first second third : Configuration}
-        → Steps old first between second → IsStep between second new third → Steps old first new third
+        → Steps old first between second → IsStep between second new third
+        → Steps old first new third
 
 -- Without host functions none answers.
 abbrev pub NoHosts : List ⊥ → ℕ → Option ℕ → List Val → Store → Answer → Store → List ⊥ → Type 0

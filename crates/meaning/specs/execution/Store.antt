@@ -109,10 +109,14 @@ locate items (Some address) = locate_at address (slice_get items address)
 
 -- The type of an external value that is there. The minimum of a table or a memory is its present size (External Typing).
 abbrev pub extern_type : Store → Extern → Option ExternType
-extern_type store (value.Func address) = option_map (λ (f : FunctionInstance). type.Func f.ty) (slice_get store.functions address)
-extern_type store (value.Table address) = option_map (λ (table : TableInstance). type.Table table.ty) (slice_get store.tables address)
-extern_type store (value.Memory address) = option_map (λ (memory : MemoryInstance). type.Memory memory.limits) (slice_get store.memories address)
-extern_type store (value.Global address) = option_map (λ (g : GlobalInstance). type.Global g.ty) (slice_get store.globals address)
+extern_type store (value.Func address) =
+    option_map (λ (f : FunctionInstance). type.Func f.ty) (slice_get store.functions address)
+extern_type store (value.Table address) =
+    option_map (λ (table : TableInstance). type.Table table.ty) (slice_get store.tables address)
+extern_type store (value.Memory address) = option_map
+    (λ (memory : MemoryInstance). type.Memory memory.limits) (slice_get store.memories address)
+extern_type store (value.Global address) =
+    option_map (λ (g : GlobalInstance). type.Global g.ty) (slice_get store.globals address)
 
 -- ---- changes
 
@@ -120,7 +124,8 @@ abbrev pub with_table : Store → (address : ℕ) → TableInstance → Store
 with_table store address table = record store { tables = slice_set store.tables address table }
 
 abbrev pub with_memory : Store → (address : ℕ) → MemoryInstance → Store
-with_memory store address memory = record store { memories = slice_set store.memories address memory }
+with_memory store address memory =
+    record store { memories = slice_set store.memories address memory }
 
 abbrev pub with_global : Store → (address : ℕ) → GlobalInstance → Store
 with_global store address g = record store { globals = slice_set store.globals address g }
@@ -129,4 +134,5 @@ abbrev pub with_data : Store → (address : ℕ) → DataInstance → Store
 with_data store address segment = record store { datas = slice_set store.datas address segment }
 
 abbrev pub with_elements : Store → (address : ℕ) → ElementInstance → Store
-with_elements store address segment = record store { elements = slice_set store.elements address segment }
+with_elements store address segment =
+    record store { elements = slice_set store.elements address segment }

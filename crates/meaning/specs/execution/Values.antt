@@ -7,6 +7,13 @@ use Rattle.core_types.specs.declared.types.ValType.{ValType}
 use Rattle.core_types.specs.declared.types.ValType.TheVariants as ty
 use Rattle.meaning.specs.validation.Types.{reference_type}
 
+-- The type of a value.
+abbrev pub type_of : Val → ValType
+type_of (I32 n) = ty.I32
+type_of (I64 n) = ty.I64
+type_of (FuncRef a) = ty.FuncRef
+type_of (ExternRef x) = ty.ExternRef
+
 -- The value that a local has at first: zero or null.
 abbrev pub default_of : ValType → Val
 default_of ty.I32 = I32 0

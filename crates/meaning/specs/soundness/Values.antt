@@ -33,4 +33,5 @@ ValuesHaveTypes store (v ∷ vs) (t ∷ ts) = ValueHasType store v t × ValuesHa
 -- There is a function at the address, and the arguments have its parameter types.
 abbrev pub TakesArguments : Store → (address : ℕ) → List Val → Type 0
 TakesArguments store address arguments =
-    (f : FunctionInstance) × (slice_get store.functions address ≡ Some f) × ValuesHaveTypes store arguments f.ty.params
+    (f : FunctionInstance) × (slice_get store.functions address ≡ Some f) ×
+    ValuesHaveTypes store arguments f.ty.params

@@ -30,7 +30,8 @@ abbrev pub writing : Body → List Op
 writing Empty = []
 writing (Then op rest) = Plain op ∷ writing rest
 writing (Nested kind type inner rest) = mark_of kind type ∷ (writing inner ++ (End ∷ writing rest))
-writing (IfElse type inner other rest) = If type ∷ (writing inner ++ (Else ∷ (writing other ++ (End ∷ writing rest))))
+writing (IfElse type inner other rest) =
+    If type ∷ (writing inner ++ (Else ∷ (writing other ++ (End ∷ writing rest))))
 
 -- The instructions of one body behind those of another.
 abbrev pub joined : Body → Body → Body
@@ -68,18 +69,30 @@ if_with type inner (Some other) rest = IfElse type inner other rest
 -- A position before an instruction with a body, whose inside is here and whose rest is the first of those around it.
 abbrev pub enclosed : (Part → Body → Body) → Rests → Rests
 enclosed instruction rests = record {
-  here = record { body = instruction rests.here (first_part rests.around).body; other = (first_part rests.around).other };
+  here = record {
+    body = instruction rests.here (first_part rests.around).body;
+    other = (first_part rests.around).other;
+  };
   around = other_parts rests.around;
 }
 
 -- Read from the last operation to the first.
 abbrev pub rests : List Op → Rests
 rests [] = record { here = nothing_left; around = [] }
-rests (Plain op ∷ ops) = record { here = record { body = Then op (rests ops).here.body; other = (rests ops).here.other }; around = (rests ops).around }
-rests (Block type ∷ ops) = enclosed (λ inside rest. Nested BlockKind type inside.body rest) (rests ops)
-rests (Loop type ∷ ops) = enclosed (λ inside rest. Nested LoopKind type inside.body rest) (rests ops)
-rests (If type ∷ ops) = enclosed (λ inside rest. if_with type inside.body inside.other rest) (rests ops)
-rests (Else ∷ ops) = record { here = record { body = Empty; other = Some (rests ops).here.body }; around = (rests ops).around }
+rests (Plain op ∷ ops) = record {
+  here = record { body = Then op (rests ops).here.body; other = (rests ops).here.other };
+  around = (rests ops).around;
+}
+rests (Block type ∷ ops) =
+    enclosed (λ inside rest. Nested BlockKind type inside.body rest) (rests ops)
+rests (Loop type ∷ ops) =
+    enclosed (λ inside rest. Nested LoopKind type inside.body rest) (rests ops)
+rests (If type ∷ ops) =
+    enclosed (λ inside rest. if_with type inside.body inside.other rest) (rests ops)
+rests (Else ∷ ops) = record {
+  here = record { body = Empty; other = Some (rests ops).here.body };
+  around = (rests ops).around;
+}
 rests (End ∷ ops) = record { here = nothing_left; around = (rests ops).here ∷ (rests ops).around }
 
 -- What is left of the body at a position in flat code: down to its end, its else, or the last operation.

@@ -75,8 +75,10 @@ integer_type W64 = I64
 
 abbrev pub numeric_instruction_type : NumericOp → FuncType
 numeric_instruction_type (Eqz width) = function_type (integer_type width ∷ []) (I32 ∷ [])
-numeric_instruction_type (Compare width op) = function_type (integer_type width ∷ integer_type width ∷ []) (I32 ∷ [])
-numeric_instruction_type (Unary width op) = function_type (integer_type width ∷ []) (integer_type width ∷ [])
+numeric_instruction_type (Compare width op) =
+    function_type (integer_type width ∷ integer_type width ∷ []) (I32 ∷ [])
+numeric_instruction_type (Unary width op) =
+    function_type (integer_type width ∷ []) (integer_type width ∷ [])
 numeric_instruction_type (Binary width op) =
     function_type (integer_type width ∷ integer_type width ∷ []) (integer_type width ∷ [])
 numeric_instruction_type (Convert I32WrapI64) = function_type (I64 ∷ []) (I32 ∷ [])
@@ -109,7 +111,8 @@ IsNumeric (Known ExternRef) = ⊥
 IsNumeric Unknown = Unit {0}
 
 abbrev pub parametric_rule : ParametricOp → List OperandType → List OperandType → Type 0
-parametric_rule DropOperand operands results = (t : OperandType) × (operands ≡ t ∷ []) × (results ≡ [])
+parametric_rule DropOperand operands results =
+    (t : OperandType) × (operands ≡ t ∷ []) × (results ≡ [])
 parametric_rule Select operands results =
     (t : OperandType) × IsNumeric t × (operands ≡ t ∷ t ∷ Known I32 ∷ []) × (results ≡ t ∷ [])
 
@@ -124,7 +127,8 @@ variable_rule context (LocalGet x) operands results =
 variable_rule context (LocalSet x) operands results =
     (t : ValType) × IsLocal context x t × HasFuncType (function_type (t ∷ []) []) operands results
 variable_rule context (LocalTee x) operands results =
-    (t : ValType) × IsLocal context x t × HasFuncType (function_type (t ∷ []) (t ∷ [])) operands results
+    (t : ValType) × IsLocal context x t ×
+    HasFuncType (function_type (t ∷ []) (t ∷ [])) operands results
 variable_rule context (GlobalGet x) operands results =
     (g : GlobalType) × (slice_get context.globals x ≡ Some g)
     × HasFuncType (function_type [] (g.value ∷ [])) operands results
@@ -264,11 +268,13 @@ Rule context (BrTable t) operands results = branch_table_rule context t operands
 Rule context (Reference op) operands results = reference_rule context op operands results
 Rule context (Parametric op) operands results = parametric_rule op operands results
 Rule context (SelectTyped types) operands results =
-    (t : ValType) × (types ≡ t ∷ []) × HasFuncType (function_type (t ∷ t ∷ I32 ∷ []) (t ∷ [])) operands results
+    (t : ValType) × (types ≡ t ∷ []) ×
+    HasFuncType (function_type (t ∷ t ∷ I32 ∷ []) (t ∷ [])) operands results
 Rule context (Variable op) operands results = variable_rule context op operands results
 Rule context (Table op) operands results = table_rule context op operands results
 Rule context (Memory op) operands results = memory_rule context op operands results
-Rule context (Numeric op) operands results = HasFuncType (numeric_instruction_type op) operands results
+Rule context (Numeric op) operands results =
+    HasFuncType (numeric_instruction_type op) operands results
 Rule context (I32Const n) operands results =
     (n < 2 ^ 32) × HasFuncType (function_type [] (I32 ∷ [])) operands results
 Rule context (I64Const n) operands results =
@@ -302,4 +308,5 @@ HasType context (IfElse type inner other rest) before after =
     (s : FuncType) × (between : List OperandType) × (block_type context.types type ≡ Some s)
     × HasType (with_label context s.results) inner (known s.params) (known s.results)
     × HasType (with_label context s.results) other (known s.params) (known s.results)
-    × Frames (known (s.params ++ I32 ∷ [])) (known s.results) before between × HasType context rest between after
+    × Frames (known (s.params ++ I32 ∷ [])) (known s.results) before between ×
+    HasType context rest between after

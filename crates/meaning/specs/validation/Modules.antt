@@ -127,7 +127,8 @@ named_by_exports (e ∷ es) = elim e.desc [
 ]
 
 abbrev pub named_functions : Module → List ℕ
-named_functions m = named_by_globals m.globals ++ (named_by_elements m.elements ++ named_by_exports m.exports)
+named_functions m =
+    named_by_globals m.globals ++ (named_by_elements m.elements ++ named_by_exports m.exports)
 
 -- ---- contexts
 
@@ -186,9 +187,11 @@ pub record IsValidFunction (m : Module) (f : Function) : Type 0 where
   pub typed : HasType (body_context m ty f.locals) body [] (known ty.results)
 
 abbrev pub HasItemsOfType : Module → RefType → ElementItems → Type 0
-HasItemsOfType m t (Functions indices) = (t ≡ ref.FuncRef) × All (λ (x : ℕ). x < length (function_indices m)) indices
+HasItemsOfType m t (Functions indices) =
+    (t ≡ ref.FuncRef) × All (λ (x : ℕ). x < length (function_indices m)) indices
 HasItemsOfType m t (Expressions expressions) =
-    All (λ (ops : List Op). IsConstantExpression (constant_context m) ops (reference_type t)) expressions
+    All (λ (ops : List Op). IsConstantExpression (constant_context m) ops (reference_type t))
+    expressions
 
 -- An active segment goes into a table of its type, at an i32 (Element Segments).
 abbrev pub HasElementMode : Module → RefType → ElementMode → Type 0
@@ -232,7 +235,8 @@ pub record IsValid (m : Module) : Type 0 where
   pub memory_limits : All AreOrdered (memories_of m)
   pub memory_pages : All AreFewPages (memories_of m)
   pub one_memory : length (memories_of m) ≤ 1
-  pub globals : All (λ (g : Global). IsConstantExpression (constant_context m) g.init g.ty.value) m.globals
+  pub globals : All (λ (g : Global). IsConstantExpression (constant_context m) g.init g.ty.value)
+      m.globals
   pub elements : All (IsValidElement m) m.elements
   pub datas : All (λ (d : DataSegment). HasDataMode m d.mode) m.datas
   pub start : IsValidStart m m.start

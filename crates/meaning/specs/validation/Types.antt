@@ -52,4 +52,5 @@ AreOrdered limits = elim limits.max [ None ↦ Unit {0} | Some max ↦ limits.mi
 
 -- At most 65,536 pages (Memory Types).
 abbrev pub AreFewPages : Limits → Type 0
-AreFewPages limits = (limits.min ≤ 2 ^ 16) × elim limits.max [ None ↦ Unit {0} | Some max ↦ max ≤ 2 ^ 16 ]
+AreFewPages limits =
+    (limits.min ≤ 2 ^ 16) × elim limits.max [ None ↦ Unit {0} | Some max ↦ max ≤ 2 ^ 16 ]

@@ -52,27 +52,27 @@ type-there m k f valid there none =
 
 -- ---- the function at an address
 
--- An entry of the store finds its function.
-found-at : (instances : List Instance) (fs : List FunctionInstance) (k : ℕ) (f : FunctionInstance) → AllFound instances fs → slice_get fs k ≡ Some f → IsFound instances f
-found-at instances [] k f h e = absurd cc
-found-at instances (g ∷ gs) zero f h e = let same : g ≡ f = cc in subst (IsFound instances) same h.0
-found-at instances (g ∷ gs) (suc k) f h e = found-at instances gs k f h.1 e
+module _ (hosts : List FuncType) (instances : List Instance) where
+  -- An entry of the store finds its function.
+  found-at : (fs : List FunctionInstance) (k : ℕ) (f : FunctionInstance) → AllFound hosts instances fs → slice_get fs k ≡ Some f → IsFound hosts instances f
+  found-at [] k f h e = absurd cc
+  found-at (g ∷ gs) zero f h e = let same : g ≡ f = cc in subst (IsFound hosts instances) same h.0
+  found-at (g ∷ gs) (suc k) f h e = found-at gs k f h.1 e
 
-module _ (s : Contents) (found : AllFound s.instances s.functions) (address : ℕ) (entry : FunctionInstance) (there : Some entry ≡ slice_get s.functions address) where
-  function-there : (f : Function) → entry_function s.instances entry ≡ Some f → slice_get (functions_in s) address ≡ Some f
+module _ (s : Contents) (found : AllFound s.hosts s.instances s.functions) (address : ℕ) (entry : FunctionInstance) (there : Some entry ≡ slice_get s.functions address) where
+  pub function-there : (f : Function) → entry_function s.hosts s.instances entry ≡ Some f → slice_get (functions_in s) address ≡ Some f
   function-there f e =
-      slice_get-map (function_at s.instances) s.functions address ∙ ap (option_map (function_at s.instances)) (sym there) ∙ ap (λ (o : Option Function). Some (unwrap_or o no_function)) e
+      slice_get-map (function_at s.hosts s.instances) s.functions address ∙ ap (option_map (function_at s.hosts s.instances)) (sym there) ∙ ap (λ (o : Option Function). Some (unwrap_or o no_function)) e
 
-  never : entry_function s.instances entry ≡ None → ⊥
-  never e = let none : IsSome {T = Function} None = rw e at (found-at s.instances s.functions address entry found (sym there)) in absurd cc
+  pub never : entry_function s.hosts s.instances entry ≡ None → ⊥
+  never e = let none : IsSome {T = Function} None = rw e at (found-at s.hosts s.instances s.functions address entry found (sym there)) in absurd cc
 
-  pub instance-never : None ≡ slice_get s.instances entry.instance → ⊥
-  instance-never e = never (ap (instance_function entry) (sym e))
+-- ---- the function that an instance has under an index
 
-  module _ (i : Instance) (in_instance : Some i ≡ slice_get s.instances entry.instance) where
-    pub func-never : slice_get i.loaded.value.funcs entry.index ≡ None → ⊥
-    func-never e = never (ap (instance_function entry) (sym in_instance) ∙ ap (module_function entry.instance i.loaded.value) e)
+module _ (instance index : ℕ) (i : Instance) where
+  pub func-none : slice_get i.loaded.value.funcs index ≡ None → instance_function instance index (Some i) ≡ None
+  func-none e = ap (module_function instance i.loaded.value) e
 
-    module _ (f : Func) (in_module : slice_get i.loaded.value.funcs entry.index ≡ Some f) where
-      pub function-found : (t : FuncType) → slice_get i.loaded.value.types f.ty ≡ Some t → slice_get (functions_in s) address ≡ Some (function_of t entry.instance f)
-      function-found t e = function-there (function_of t entry.instance f) (ap (instance_function entry) (sym in_instance) ∙ ap (module_function entry.instance i.loaded.value) in_module ∙ ap (λ (o : Option FuncType). typed_function entry.instance o f) e)
+  pub func-there : (f : Func) → slice_get i.loaded.value.funcs index ≡ Some f → (t : FuncType) → slice_get i.loaded.value.types f.ty ≡ Some t
+      → instance_function instance index (Some i) ≡ Some (function_of t instance f)
+  func-there f in_module t e = ap (module_function instance i.loaded.value) in_module ∙ ap (λ (o : Option FuncType). typed_function instance o f) e

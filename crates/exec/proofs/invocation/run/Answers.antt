@@ -1,66 +1,87 @@
-use Rattle.std.proofs.Common.{refl, sym, ◌∙◌}
+use Rattle.std.proofs.Common.{refl, arith, ◌∙◌}
 use Rattle.meaning.specs.execution.Configurations.{no_frame}
-use Rattle.meaning.specs.execution.Runs.{NoHosts, end, none, values_left}
-use Rattle.meaning.proofs.lemmas.Runs.{Steps-run}
+use Rattle.meaning.specs.execution.Runs.{end, none, one_more}
+use Rattle.meaning.proofs.lemmas.Runs.{Steps-join, Steps-run}
+use Rattle.hostfunc.specs.Boxes.{HostStep}
 use Rattle.exec.specs.Simulation.{world_of}
-use Rattle.exec.proofs.simulation.Runs.{one_step_more, steps_end}
+use Rattle.exec.proofs.simulation.Stops.{end-at, fuel_then, lacks_run, over_run, step-at, steps-at, steps_to_call, stuck_run, traps_run, waits_then}
 use Rattle.exec.proofs.invocation.run.Goals as goal
 
-pub loop-current-init : goal.loop-current-init
-loop-current-init c = (refl, refl, λ whole h. (whole, none, h))
+pub loop-machine-init : goal.loop-machine-init
+loop-machine-init g c = record { bound = refl; hosts = c.requires.hosts; reaches = λ whole h. (whole, none, h) }
 
-pub step-requires-clause-sound : goal.step-requires-clause-sound
-step-requires-clause-sound c =
+pub run_code-stopped-requires : goal.run_code-stopped-requires
+run_code-stopped-requires g c =
     let (start, h) = c.requires.sound in
-    let (then, leads, represents) = c.loop-current.invariant.2 start h in (then, represents)
-
-pub loop-current-preserved : goal.loop-current-preserved
-loop-current-preserved c =
-    let (current, bound, reaches) = c.loop-current.invariant in (
-      refl,
-      c.step.ensures.bound ∙ bound,
-      λ whole h. (let (then, leads, represents) = reaches whole h in
-          let stepped = c.in-Crosses.ensures.simulates then represents in
-          (stepped.whole, one_step_more (world_of c.args.code.now c.args.state.now) whole c.args.meter.now (world_of c.args.code.now c.loop-current.state) then c.loop-current.meter bound leads (world_of c.args.code.now c.step.new.state) c.step.new.meter stepped.whole stepped.step, stepped.represents)),
-    )
-
-pub loop-current-preserved-in-Goes : goal.loop-current-preserved-in-Goes
-loop-current-preserved-in-Goes c =
-    let (current, bound, reaches) = c.loop-current.invariant in (
-      current ∙ sym c.in-Goes.ensures.stays,
-      c.step.ensures.bound ∙ bound,
-      λ whole h. (let (then, leads, represents) = reaches whole h in
-          let stepped = c.in-Goes.ensures.simulates then represents in
-          (stepped.whole, one_step_more (world_of c.args.code.now c.args.state.now) whole c.args.meter.now (world_of c.args.code.now c.loop-current.state) then c.loop-current.meter bound leads (world_of c.args.code.now c.step.new.state) c.step.new.meter stepped.whole stepped.step, stepped.represents)),
-    )
+    let (then, leads, represents) = c.loop-machine.invariant.reaches start h in
+    record { sound = (then, represents) }
 
 pub into_items-requires : goal.into_items-requires
-into_items-requires c =
+into_items-requires g c =
     let (start, h) = c.requires.sound in
-    let (then, leads, represents) = c.loop-current.invariant.2 start h in
-    (c.in-Over.ensures.simulates then represents).0
+    let (then, leads, represents) = c.loop-machine.invariant.reaches start h in
+    let stops = rw c.in-Over.is at (c.run_code-stopped.ensures.stops then represents) in
+    stops.last.0
 
 pub returns-in-Over-clause-run : goal.returns-in-Over-clause-run
-returns-in-Over-clause-run c whole h =
-    let (current, bound, reaches) = c.loop-current.invariant in
-    let (then, leads, represents) = reaches whole h in
-    let over = one_step_more (world_of c.args.code.now c.args.state.now) whole c.args.meter.now (world_of c.args.code.now c.loop-current.state) then c.loop-current.meter bound leads (world_of c.args.code.now c.step.new.state) c.step.new.meter _ (c.in-Over.ensures.simulates then represents).1 in
-    rw c.into_items.ensures (Steps-run NoHosts c.args.meter.now.bound no_frame over (end (values_left refl refl refl)))
+returns-in-Over-clause-run g c whole h =
+    let (then, leads, represents) = c.loop-machine.invariant.reaches whole h in
+    let stops = rw c.in-Over.is at (c.run_code-stopped.ensures.stops then represents) in
+    rw c.into_items.ensures
+    (Steps-run (HostStep (λ vtable. (g.dyn-1.0.entry vtable).1)) c.args.meter.now.bound no_frame leads (rw c.loop-machine.invariant.bound at (over_run (HostStep (λ vtable. (g.dyn-1.0.entry vtable).1)) c.loop-machine.hosts.objects.items c.loop-machine.meter.bound (world_of c.args.code.now c.loop-machine.state) c.loop-machine.meter.left then (world_of c.args.code.now c.run_code-stopped.new.state) c.run_code-stopped.result.machine c.run_code-stopped.new.meter stops)))
 
 pub returns-in-Traps-clause-run : goal.returns-in-Traps-clause-run
-returns-in-Traps-clause-run c whole h =
-    let (current, bound, reaches) = c.loop-current.invariant in
-    let (then, leads, represents) = reaches whole h in
-    steps_end (world_of c.args.code.now c.args.state.now) whole c.args.meter.now (world_of c.args.code.now c.loop-current.state) then c.loop-current.meter bound leads (world_of c.args.code.now c.step.new.state) c.step.new.meter _ (c.in-Traps.ensures.simulates then represents)
+returns-in-Traps-clause-run g c whole h =
+    let (then, leads, represents) = c.loop-machine.invariant.reaches whole h in
+    let stops = rw c.in-Traps.is at (c.run_code-stopped.ensures.stops then represents) in
+    Steps-run (HostStep (λ vtable. (g.dyn-1.0.entry vtable).1)) c.args.meter.now.bound no_frame leads (rw c.loop-machine.invariant.bound at (traps_run (HostStep (λ vtable. (g.dyn-1.0.entry vtable).1)) c.loop-machine.hosts.objects.items c.loop-machine.meter.bound (world_of c.args.code.now c.loop-machine.state) c.loop-machine.meter.left then (world_of c.args.code.now c.run_code-stopped.new.state) c.run_code-stopped.result.machine c.run_code-stopped.new.meter c.in-Traps.trap stops))
 
 pub returns-in-Lacks-clause-run : goal.returns-in-Lacks-clause-run
-returns-in-Lacks-clause-run c whole h =
-    let (current, bound, reaches) = c.loop-current.invariant in
-    let (then, leads, represents) = reaches whole h in
-    steps_end (world_of c.args.code.now c.args.state.now) whole c.args.meter.now (world_of c.args.code.now c.loop-current.state) then c.loop-current.meter bound leads (world_of c.args.code.now c.step.new.state) c.step.new.meter _ (c.in-Lacks.ensures.simulates then represents)
+returns-in-Lacks-clause-run g c whole h =
+    let (then, leads, represents) = c.loop-machine.invariant.reaches whole h in
+    let stops = rw c.in-Lacks.is at (c.run_code-stopped.ensures.stops then represents) in
+    Steps-run (HostStep (λ vtable. (g.dyn-1.0.entry vtable).1)) c.args.meter.now.bound no_frame leads (rw c.loop-machine.invariant.bound at (lacks_run (HostStep (λ vtable. (g.dyn-1.0.entry vtable).1)) c.loop-machine.hosts.objects.items c.loop-machine.meter.bound (world_of c.args.code.now c.loop-machine.state) c.loop-machine.meter.left then (world_of c.args.code.now c.run_code-stopped.new.state) c.run_code-stopped.result.machine c.run_code-stopped.new.meter c.in-Lacks.what stops))
 
 pub returns-in-Stuck-clause-run : goal.returns-in-Stuck-clause-run
-returns-in-Stuck-clause-run c whole h =
-    let (current, bound, reaches) = c.loop-current.invariant in
-    let (then, leads, represents) = reaches whole h in
-    steps_end (world_of c.args.code.now c.args.state.now) whole c.args.meter.now (world_of c.args.code.now c.loop-current.state) then c.loop-current.meter bound leads (world_of c.args.code.now c.step.new.state) c.step.new.meter _ (c.in-Stuck.ensures.simulates then represents)
+returns-in-Stuck-clause-run g c whole h =
+    let (then, leads, represents) = c.loop-machine.invariant.reaches whole h in
+    let stops = rw c.in-Stuck.is at (c.run_code-stopped.ensures.stops then represents) in
+    Steps-run (HostStep (λ vtable. (g.dyn-1.0.entry vtable).1)) c.args.meter.now.bound no_frame leads (rw c.loop-machine.invariant.bound at (stuck_run (HostStep (λ vtable. (g.dyn-1.0.entry vtable).1)) c.loop-machine.hosts.objects.items c.loop-machine.meter.bound (world_of c.args.code.now c.loop-machine.state) c.loop-machine.meter.left then (world_of c.args.code.now c.run_code-stopped.new.state) c.run_code-stopped.result.machine c.run_code-stopped.new.meter stops))
+
+pub call_host-requires-clause-waits : goal.call_host-requires-clause-waits
+call_host-requires-clause-waits g c =
+    let (start, h) = c.requires.sound in
+    let (then, leads, represents) = c.loop-machine.invariant.reaches start h in
+    let stops = rw c.in-CallsHost.is at (c.run_code-stopped.ensures.stops then represents) in
+    (stops.then, waits_then (HostStep (λ vtable. (g.dyn-1.0.entry vtable).1)) c.loop-machine.hosts.objects.items c.loop-machine.meter.bound (world_of c.args.code.now c.loop-machine.state) c.loop-machine.meter.left then (world_of c.args.code.now c.run_code-stopped.new.state) c.run_code-stopped.result.machine c.run_code-stopped.new.meter c.in-CallsHost.number stops)
+
+pub loop-machine-smaller : goal.loop-machine-smaller
+loop-machine-smaller g c =
+    let (start, h) = c.requires.sound in
+    let (then, leads, represents) = c.loop-machine.invariant.reaches start h in
+    let stops = rw c.in-CallsHost.is at (c.run_code-stopped.ensures.stops then represents) in
+    let less = fuel_then (HostStep (λ vtable. (g.dyn-1.0.entry vtable).1)) c.loop-machine.hosts.objects.items c.loop-machine.meter.bound (world_of c.args.code.now c.loop-machine.state) c.loop-machine.meter.left then (world_of c.args.code.now c.run_code-stopped.new.state) c.run_code-stopped.result.machine c.run_code-stopped.new.meter c.in-CallsHost.number stops in
+    let one = c.in-Ok.ensures.left in
+    omega (arith, less, one)
+
+pub loop-machine-preserved : goal.loop-machine-preserved
+loop-machine-preserved g c = record {
+  bound = c.call_host.ensures.bound.0 ∙ c.run_code-stopped.ensures.bound ∙ c.loop-machine.invariant.bound;
+  hosts = c.call_host.ensures.hosts;
+  reaches = λ whole h. (
+      let (then, leads, represents) = c.loop-machine.invariant.reaches whole h in
+      let stops = rw c.in-CallsHost.is at (c.run_code-stopped.ensures.stops then represents) in
+      let waits = waits_then (HostStep (λ vtable. (g.dyn-1.0.entry vtable).1)) c.loop-machine.hosts.objects.items c.loop-machine.meter.bound (world_of c.args.code.now c.loop-machine.state) c.loop-machine.meter.left then (world_of c.args.code.now c.run_code-stopped.new.state) c.run_code-stopped.result.machine c.run_code-stopped.new.meter c.in-CallsHost.number stops in
+      let called = steps_to_call (HostStep (λ vtable. (g.dyn-1.0.entry vtable).1)) c.loop-machine.hosts.objects.items c.loop-machine.meter.bound (world_of c.args.code.now c.loop-machine.state) c.loop-machine.meter.left then (world_of c.args.code.now c.run_code-stopped.new.state) c.run_code-stopped.result.machine c.run_code-stopped.new.meter c.in-CallsHost.number stops in
+      let (after, step, stands) = c.in-Ok.ensures.answered stops.then waits in
+      (after, one_more (Steps-join (HostStep (λ vtable. (g.dyn-1.0.entry vtable).1)) c.args.meter.now.bound no_frame leads (steps-at (HostStep (λ vtable. (g.dyn-1.0.entry vtable).1)) c.loop-machine.invariant.bound called)) (step-at (HostStep (λ vtable. (g.dyn-1.0.entry vtable).1)) (c.run_code-stopped.ensures.bound ∙ c.loop-machine.invariant.bound) step), stands));
+}
+
+pub returns-in-Err-clause-run : goal.returns-in-Err-clause-run
+returns-in-Err-clause-run g c whole h =
+    let (then, leads, represents) = c.loop-machine.invariant.reaches whole h in
+    let stops = rw c.in-CallsHost.is at (c.run_code-stopped.ensures.stops then represents) in
+    let waits = waits_then (HostStep (λ vtable. (g.dyn-1.0.entry vtable).1)) c.loop-machine.hosts.objects.items c.loop-machine.meter.bound (world_of c.args.code.now c.loop-machine.state) c.loop-machine.meter.left then (world_of c.args.code.now c.run_code-stopped.new.state) c.run_code-stopped.result.machine c.run_code-stopped.new.meter c.in-CallsHost.number stops in
+    let called = steps_to_call (HostStep (λ vtable. (g.dyn-1.0.entry vtable).1)) c.loop-machine.hosts.objects.items c.loop-machine.meter.bound (world_of c.args.code.now c.loop-machine.state) c.loop-machine.meter.left then (world_of c.args.code.now c.run_code-stopped.new.state) c.run_code-stopped.result.machine c.run_code-stopped.new.meter c.in-CallsHost.number stops in
+    let ended = c.in-Err.ensures.ended stops.then waits in
+    Steps-run (HostStep (λ vtable. (g.dyn-1.0.entry vtable).1)) c.args.meter.now.bound no_frame (Steps-join (HostStep (λ vtable. (g.dyn-1.0.entry vtable).1)) c.args.meter.now.bound no_frame leads (steps-at (HostStep (λ vtable. (g.dyn-1.0.entry vtable).1)) c.loop-machine.invariant.bound called)) (end (end-at (HostStep (λ vtable. (g.dyn-1.0.entry vtable).1)) (c.run_code-stopped.ensures.bound ∙ c.loop-machine.invariant.bound) ended))

@@ -1,13 +1,12 @@
 use Rattle.std.proofs.Common.{refl}
-use Rattle.exec.specs.Simulation.{ending_of}
-use Rattle.embed.specs.Contents.{Contents, modules_in}
+use Rattle.exec.specs.Simulation.{ending_of, run_state}
+use Rattle.store.specs.Contents.{store_of}
+use Rattle.embed.specs.Contents.{embedding_of}
 use Rattle.embed.specs.Replies.{reply_of}
 use Rattle.embed.proofs.lemmas.Steps.{call-ended}
 use Rattle.embed.proofs.embedding.Embedding.call.Goals as goal
 
 pub returns : goal.returns
-returns c =
-    let inside = c.self.inside in
-    let kept : Contents = record { setup = inside.config; modules = modules_in inside.modules.items; instances = inside.instances.items; names = inside.names; store = inside.store; fuel = inside.meter.left } in
-    let found = rw (← c.self.view_is) at c.in_ok-address.ensures in
-    rw (← c.self.view_is) (call-ended kept c.invoke.new.store c.invoke.new.meter.left inside.meter.bound c.in_ok-address.address c.args.args.now (ending_of c.invoke.result) (reply_of c.from.result) _ found c.self.invariant.1 (c.if-not-accepts.ensures.0 refl) c.invoke.ensures.run c.from.ensures)
+returns g c =
+    let state = run_state (store_of c.invoke.new.store) c.invoke.new.hosts.objects.items c.invoke.new.meter.left in
+    call-ended _ (embedding_of c.args.self.now) state c.args.self.now.meter.bound c.in_ok-address.address c.args.args.now (ending_of c.invoke.result) (reply_of c.from.result) _ c.in_ok-address.ensures c.args.self.now.bound (c.if-not-accepts.ensures.0 refl) c.invoke.ensures.run c.from.ensures

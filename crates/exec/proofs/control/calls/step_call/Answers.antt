@@ -1,9 +1,9 @@
-use Rattle.std.proofs.Common.{refl, ap, sym, ◌∙◌}
+use Rattle.std.proofs.Common.{List, refl, ap, sym, ◌∙◌}
+use Rattle.std.specs.Prelude.{slice_get}
 use Rattle.core_types.specs.declared.op.ControlOp.TheVariants.{Call}
 use Rattle.core_types.specs.declared.op.PlainOp.TheVariants.{Control as ControlPlain}
-use Rattle.meaning.specs.execution.Instructions.{lent_memory}
-use Rattle.meaning.specs.execution.Store.{item_of}
-use Rattle.exec.specs.Representation.{frame_of, redex_of}
+use Rattle.meaning.specs.execution.Store.{FunctionInstance, item_of}
+use Rattle.exec.specs.Representation.{redex_of}
 use Rattle.exec.proofs.simulation.Calls.{call_next, call_of_none}
 use Rattle.store.specs.Contents.{code_store}
 use Rattle.exec.proofs.control.calls.step_call.Goals as goal
@@ -18,4 +18,5 @@ returns-in_default-function-clause-simulates c w here before whole h =
 
 pub returns-clause-simulates : goal.returns-clause-simulates
 returns-clause-simulates c w here before =
-    c.call.ensures.simulates w (redex_of c.args.machine.now) (ControlPlain (Call c.args.x)) (lent_memory w.store (frame_of c.args.machine.now)) before refl (call_next c.args.code.now w here c.args.machine.now c.args.x before _ (ap (item_of (code_store c.args.code.now).functions) (sym c.function_address.ensures ∙ c.in-Some.is) ∙ c.in-Some-function.ensures.found))
+    let there = ap (λ (fs : List FunctionInstance). slice_get fs c.in-Some.address) here.functions ∙ c.in-Some-function.ensures.found in
+    c.call.ensures.simulates w c.in-Some.address (redex_of c.args.machine.now) (ControlPlain (Call c.args.x)) there before refl (call_next c.args.code.now w here c.args.machine.now c.args.x before _ (ap (item_of (code_store c.args.code.now).functions) (sym c.function_address.ensures ∙ c.in-Some.is) ∙ c.in-Some-function.ensures.found))

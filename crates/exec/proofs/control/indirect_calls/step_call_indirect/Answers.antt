@@ -6,7 +6,7 @@ use Rattle.exec.specs.Representation.{redex_of}
 use Rattle.exec.specs.Simulation.{world_of}
 use Rattle.exec.proofs.simulation.Conditions.{popped_stands}
 use Rattle.exec.proofs.simulation.Fuel.{below_one}
-use Rattle.exec.proofs.simulation.IndirectCalls.{lent, through_next, through_no_fuel, through_none, through_traps, through_waits}
+use Rattle.exec.proofs.simulation.IndirectCalls.{through_next, through_no_fuel, through_none, through_traps, through_waits}
 use Rattle.fuel.specs.Metering.{Metered}
 use Rattle.exec.proofs.control.indirect_calls.step_call_indirect.Goals as goal
 
@@ -16,7 +16,8 @@ returns-in_default-clause-simulates c before whole h =
 
 pub returns-in-Function-clause-simulates : goal.returns-in-Function-clause-simulates
 returns-in-Function-clause-simulates c before whole h =
-    c.call.ensures.simulates (world_of c.args.code.now c.args.state.now) (redex_of c.args.machine.now) (ControlPlain (CallIndirect c.args.ty c.args.table)) (lent (world_of c.args.code.now c.args.state.now) c.args.machine.now c.args.ty c.args.table before) before refl (through_next (world_of c.args.code.now c.args.state.now) c.args.machine.now c.args.ty c.args.table before (I32 c.in-Some.offset ∷ c.pop_i32.new.operands.own) c.in-Some.ensures.0 _ (c.in-Function.ensures.found _ _ _)) whole (popped_stands c.args.machine.now c.args.meter.now.frames (redex_of c.args.machine.now) whole h c.pop_i32.new.operands c.in-Some.ensures.1)
+    let among = c.in-Function.ensures.among in
+    c.call.ensures.simulates (world_of c.args.code.now c.args.state.now) among.0.0 (redex_of c.args.machine.now) (ControlPlain (CallIndirect c.args.ty c.args.table)) among.0.1 before refl (through_next (world_of c.args.code.now c.args.state.now) c.args.machine.now c.args.ty c.args.table before (I32 c.in-Some.offset ∷ c.pop_i32.new.operands.own) c.in-Some.ensures.0 _ (c.in-Function.ensures.found _ _ _)) whole (popped_stands c.args.machine.now c.args.meter.now.frames (redex_of c.args.machine.now) whole h c.pop_i32.new.operands c.in-Some.ensures.1)
 
 pub returns-then-try_spend-clause-simulates : goal.returns-then-try_spend-clause-simulates
 returns-then-try_spend-clause-simulates c before whole h =

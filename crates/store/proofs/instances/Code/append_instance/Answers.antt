@@ -9,7 +9,7 @@ invariant_of-self-in-Ok c =
     let count : c.len-count.result ≡ length c.args.instance.loaded.value.funcs = search rules in
     let valid : IsValid c.args.instance.loaded.value = rw c.as_ref.ensures at c.module.ensures.valid in
     let added = rw (number, count) at c.in_ok-push_entries.ensures.pushed in
-    rw c.in-Ok.ensures.pushed (AllFound-added c.self.inside.instances.items c.args.instance valid c.self.inside.functions.items c.push_entries.new.functions.items c.self.invariant added)
+    rw c.in-Ok.ensures.pushed (AllFound-added c.self.inside.hosts.items c.self.inside.instances.items c.args.instance valid c.self.inside.functions.items c.push_entries.new.functions.items c.self.invariant added)
 
 pub returns-in-Ok-clause-functions : goal.returns-in-Ok-clause-functions
 returns-in-Ok-clause-functions c =
@@ -18,4 +18,4 @@ returns-in-Ok-clause-functions c =
     let valid : IsValid c.args.instance.loaded.value = rw c.as_ref.ensures at c.module.ensures.valid in
     let added = rw (number, count) at c.in_ok-push_entries.ensures.pushed in
     rw (c.in-Ok.ensures.pushed, ← c.self.view_is)
-    (functions-added c.self.inside.instances.items c.args.instance valid c.self.inside.functions.items c.push_entries.new.functions.items c.self.invariant added)
+    (functions-added c.self.inside.hosts.items c.self.inside.instances.items c.args.instance valid c.self.inside.functions.items c.push_entries.new.functions.items c.self.invariant added)

@@ -1,19 +1,35 @@
-use Rattle.store.specs.Contents.{contents_of}
-use Rattle.store.proofs.lemmas.Lookups.{func-never, function-found, instance-never}
+use Rattle.std.proofs.Common.{ap, sym, ◌∙◌}
+use Rattle.std.specs.Prelude.{option_map}
+use Rattle.store.specs.Contents.{contents_of, function_of, host_function}
+use Rattle.store.proofs.lemmas.Lookups.{function-there, never}
 use Rattle.store.proofs.instances.Code.function.Goals as goal
 
-pub returns-in_err-instance-clause-found : goal.returns-in_err-instance-clause-found
-returns-in_err-instance-clause-found c =
-    absurd (instance-never (contents_of c.self.inside.functions.items c.self.inside.instances.items) c.self.invariant c.args.address c.in_ok-entry.entry.now (rw c.deref.ensures.value at c.in_ok-entry.ensures) (rw c.deref-2.ensures.value at c.in_err-instance.ensures))
+pub returns-in_err-module_function-in-InModule-clause-found : goal.returns-in_err-module_function-in-InModule-clause-found
+returns-in_err-module_function-in-InModule-clause-found c =
+    let inside = c.self.inside in
+    let kept = contents_of inside.functions.items inside.instances.items inside.hosts.items in
+    let there = rw (c.deref.ensures.value, c.in-InModule.is) at c.in_ok-instance.ensures in
+    absurd (never kept c.self.invariant c.args.address _ there (rw (← c.self.view_is) at c.in_err-module_function-in-InModule.ensures.found))
 
-pub returns-in_err-found-clause-found : goal.returns-in_err-found-clause-found
-returns-in_err-found-clause-found c =
-    absurd (func-never (contents_of c.self.inside.functions.items c.self.inside.instances.items) c.self.invariant c.args.address c.in_ok-entry.entry.now (rw c.deref.ensures.value at c.in_ok-entry.ensures) c.in_ok-instance.instance.now (rw c.deref-2.ensures.value at c.in_ok-instance.ensures) (rw c.as_ref.ensures at c.in_err-found.ensures.func))
+pub returns-in_err-ty-in-InHost-clause-found : goal.returns-in_err-ty-in-InHost-clause-found
+returns-in_err-ty-in-InHost-clause-found c =
+    let inside = c.self.inside in
+    let kept = contents_of inside.functions.items inside.instances.items inside.hosts.items in
+    let there = rw (c.deref.ensures.value, c.in-InHost.is) at c.in_ok-instance.ensures in
+    let none = rw c.deref-in-InHost.ensures.value at c.in_err-ty-in-InHost.ensures in
+    absurd (never kept c.self.invariant c.args.address _ there (ap (option_map (host_function c.in-InHost.number)) (sym none)))
 
-pub returns-clause-found : goal.returns-clause-found
-returns-clause-found c =
-    rw (← c.self.view_is)
-    (
-    function-found (contents_of c.self.inside.functions.items c.self.inside.instances.items) c.self.invariant c.args.address c.in_ok-entry.entry.now (rw c.deref.ensures.value at c.in_ok-entry.ensures) c.in_ok-instance.instance.now (rw c.deref-2.ensures.value at c.in_ok-instance.ensures)
-    c.in_ok-found.found.func.now (rw c.as_ref.ensures at c.in_ok-found.ensures.func) c.in_ok-found.found.ty.now (rw c.as_ref.ensures at c.in_ok-found.ensures.ty)
-    )
+pub returns-in_ok-module_function-in-InModule-clause-found : goal.returns-in_ok-module_function-in-InModule-clause-found
+returns-in_ok-module_function-in-InModule-clause-found c =
+    let inside = c.self.inside in
+    let kept = contents_of inside.functions.items inside.instances.items inside.hosts.items in
+    let there = rw (c.deref.ensures.value, c.in-InModule.is) at c.in_ok-instance.ensures in
+    rw (← c.self.view_is) (function-there kept c.self.invariant c.args.address _ there _ (rw (← c.self.view_is) at c.in_ok-module_function-in-InModule.ensures.found))
+
+pub returns-in_ok-ty-in-InHost-clause-found : goal.returns-in_ok-ty-in-InHost-clause-found
+returns-in_ok-ty-in-InHost-clause-found c =
+    let inside = c.self.inside in
+    let kept = contents_of inside.functions.items inside.instances.items inside.hosts.items in
+    let there = rw (c.deref.ensures.value, c.in-InHost.is) at c.in_ok-instance.ensures in
+    let is = rw c.deref-in-InHost.ensures.value at c.in_ok-ty-in-InHost.ensures in
+    rw (← c.self.view_is) (function-there kept c.self.invariant c.args.address _ there _ (ap (option_map (host_function c.in-InHost.number)) (sym is)))

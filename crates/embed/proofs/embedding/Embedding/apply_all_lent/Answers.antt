@@ -1,0 +1,34 @@
+use Rattle.std.proofs.Common.{◌++◌, ◌∷◌, [], ◌<◌, ◌≤◌, ◌∙◌, length, arith, sym}
+use Rattle.std.proofs.lemmas.Grind.{common_steps}
+use Rattle.std.proofs.lemmas.List.{append-nil, map-append, take_all}
+use Rattle.meaning.proofs.lemmas.Lists.{map-next}
+use Rattle.meaning.specs.embedding.Machine.{none}
+use Rattle.embed.specs.Replies.{command_of}
+use Rattle.embed.proofs.lemmas.Runs.{one_more_applied}
+use Rattle.embed.proofs.embedding.Embedding.apply_all_lent.Goals as goal
+
+pub loop-command-init : goal.loop-command-init
+loop-command-init g c = record {
+  room = grind (arith, common_steps);
+  run = ([], c.in_ok-try_reserve.ensures.items ∙ sym (append-nil c.args.replies.now.items), none);
+}
+
+pub loop-command-preserved : goal.loop-command-preserved
+loop-command-preserved g c =
+    let run = c.loop-command.invariant.run in
+    let more = one_more_applied _ _ _ run.2 c.apply_lent-reply.ensures in
+    let inside : c.loop-command.command-index < length c.args.commands.now = c.loop-command-test.true in
+    record {
+      room = grind (arith, common_steps);
+      run = (
+        run.0 ++ c.apply_lent-reply.result ∷ [],
+        grind (arith, common_steps),
+        rw (← map-next command_of c.args.commands.now c.loop-command.command-index c.command-item.result inside, ← c.command-item.is, map-append) more,
+      );
+    }
+
+pub returns-clause-applied : goal.returns-clause-applied
+returns-clause-applied g c =
+    let run = c.loop-command.invariant.run in
+    let past : length c.args.commands.now ≤ c.loop-command.command-index = c.loop-command-test.false in
+    (run.0, run.1, rw take_all at run.2)

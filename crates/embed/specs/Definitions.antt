@@ -1,0 +1,49 @@
+-- Definitions of host functions, in the terms of the embedding machine.
+use Rattle.std.specs.Prelude.{◌≡◌, ℕ, List, map, Some, Result, Ok, Err, string_bytes}
+use Rattle.std.specs.Global.{Global}
+use Rattle.std.specs.declared.dyn_box.DynBox.{DynBox}
+use Rattle.meaning.specs.embedding.Creation as machine
+use Rattle.meaning.specs.embedding.Creation.{HostDefinition, fault_of, first_fault}
+use Rattle.meaning.specs.embedding.Names.{NamesContents, no_names}
+use Rattle.hostfunc.specs.Boxes.{declared_type, type_of_host}
+use Rattle.hostfunc.specs.declared.host_function.HostFn.{Ghosts}
+use Rattle.hostfunc.specs.declared.host_object.HostObject.{HostObject}
+use Rattle.linker.specs.declared.refusals.NameRefusal.{NameRefusal}
+use Rattle.linker.specs.declared.refusals.NameRefusal.TheVariants as name
+use Rattle.embed.specs.declared.host_definitions.HostDef.{HostDef}
+use Rattle.embed.specs.declared.new_fault.NewFault.{NewFault}
+use Rattle.embed.specs.declared.new_fault.NewFault.TheVariants.{HostFuncRef, NameTaken, OutOfMemory}
+
+abbrev pub fault_in : NewFault → machine.Fault
+fault_in HostFuncRef = machine.HostFuncRef
+fault_in NameTaken = machine.NameTaken
+fault_in OutOfMemory = machine.OutOfMemory
+
+abbrev pub name_fault : NameRefusal → NewFault
+name_fault name.NameTaken = NameTaken
+name_fault name.OutOfMemory = OutOfMemory
+
+module _ {I : Type 0} {F : I → Type 0} (members : (i : I) → Ghosts (F i)) where
+  -- The host function that is defined, with the type that it declares.
+  abbrev pub definition_of : HostDef I F → HostDefinition (HostObject I F)
+  definition_of d = record {
+    module_name = string_bytes d.«module»;
+    name = string_bytes d.name;
+    host = record { ty = declared_type members d.func; object = d.func };
+  }
+
+  -- Why a definition is refused: for its first cause, or for want of memory.
+  abbrev pub IsAtFault : NewFault → NamesContents → HostDef I F → Type 0
+  IsAtFault HostFuncRef names d =
+      fault_of type_of_host names (definition_of d) ≡ Some machine.HostFuncRef
+  IsAtFault NameTaken names d =
+      fault_of type_of_host names (definition_of d) ≡ Some machine.NameTaken
+  IsAtFault OutOfMemory names d = Unit {0}
+
+  -- The first of the definitions that is at fault is refused so, or memory ran out.
+  abbrev pub IsFirstFault : NewFault → List (HostDef I F) → Type 0
+  IsFirstFault HostFuncRef ds =
+      first_fault type_of_host no_names 0 (map definition_of ds) ≡ Some machine.HostFuncRef
+  IsFirstFault NameTaken ds =
+      first_fault type_of_host no_names 0 (map definition_of ds) ≡ Some machine.NameTaken
+  IsFirstFault OutOfMemory ds = Unit {0}

@@ -1,0 +1,58 @@
+-- Host functions in boxes: I names the kinds of objects, and F has the type of each.
+use Rattle.std.specs.Prelude.{◌≡◌, ℕ, List, Option}
+use Rattle.std.specs.Global.{Global}
+use Rattle.std.specs.declared.dyn_box.DynBox.{DynBox}
+use Rattle.core_types.specs.declared.outcome.Val.{Val}
+use Rattle.core_types.specs.declared.types.FuncType.{FuncType}
+use Rattle.meaning.specs.execution.Hosts.{HasType, HostsHaveTypes, IsHostCall, IsHostStep}
+use Rattle.meaning.specs.execution.Runs.{Answer, HostTrap}
+use Rattle.meaning.specs.execution.Store.{Store}
+use Rattle.hostfunc.specs.declared.host_function.HostFn.{Ghosts}
+use Rattle.hostfunc.specs.declared.host_object.HostObject.{HostObject}
+
+module _ {I : Type 0} {F : I → Type 0} where
+  -- The type that a host function was taken in with.
+  abbrev pub type_of_host : HostObject I F → FuncType
+  type_of_host h = h.ty
+
+  -- There is a host function of this number and type.
+  abbrev pub IsHost : List (HostObject I F) → (number : ℕ) → FuncType → Type 0
+  IsHost hosts number t = HasType type_of_host hosts number t
+
+  -- Each host function of the store is there, and has its type.
+  abbrev pub HaveHosts : Store → List (HostObject I F) → Type 0
+  HaveHosts store hosts = HostsHaveTypes type_of_host store hosts
+
+module _ {I : Type 0} {F : I → Type 0} (members : (i : I) → Ghosts (F i)) where
+  -- The type that the object in a box declares.
+  abbrev pub declared_type : DynBox I Global F → FuncType
+  declared_type o = (members o.vtable).declared o.value
+
+  -- The relation of the object in a box: the one then is of the same kind.
+  abbrev pub AnswersInBox : DynBox I Global F → List Val → List ℕ → Answer → List ℕ
+      → DynBox I Global F → Type 0
+  AnswersInBox o arguments bytes answer bytes' o' =
+      (w : F o.vtable) × (o' ≡ record o { value = w }) ×
+      (members o.vtable).Answers o.value arguments bytes answer bytes' w
+
+  -- The relation of a host function: that of its object. One that declared another type than it was taken in with, which no host
+  -- that keeps its contract does, would trap and change nothing.
+  pub record HostAnswers (h : HostObject I F) (arguments : List Val) (bytes : List ℕ)
+      (answer : Answer) (bytes' : List ℕ) (h' : HostObject I F) : Type 0 where
+    pub same_type : h'.ty ≡ h.ty
+    pub answers : declared_type h.object ≡ h.ty
+        → AnswersInBox h.object arguments bytes answer bytes' h'.object
+    pub traps : (declared_type h.object ≡ h.ty → ⊥)
+        → (answer ≡ HostTrap 0) × (bytes' ≡ bytes) × (h' ≡ h)
+
+  -- The host function of a number answers.
+  abbrev pub HostCall : List (HostObject I F) → (number : ℕ) → List Val → List ℕ → Answer → List ℕ
+      → List (HostObject I F) → Type 0
+  HostCall hosts number arguments bytes answer bytes' hosts' =
+      IsHostCall type_of_host HostAnswers hosts number arguments bytes answer bytes' hosts'
+
+  -- A step of a host function.
+  abbrev pub HostStep : List (HostObject I F) → (number : ℕ) → (lent : Option ℕ) → List Val → Store
+      → Answer → Store → List (HostObject I F) → Type 0
+  HostStep hosts number lent arguments store answer store' hosts' =
+      IsHostStep type_of_host HostAnswers hosts number lent arguments store answer store' hosts'

@@ -1,0 +1,48 @@
+ghost use Rattle.std.specs.Prelude.{◌≡◌, ℕ, List, IfOk, Err, map};
+ghost use Rattle.core_types.specs.declared.outcome.Val.{Val as Value};
+ghost use Rattle.core_types.specs.declared.types.FuncType.{FuncType as Signature};
+ghost use Rattle.meaning.specs.execution.Runs.{Answer, HostTrap, Results};
+ghost use Rattle.meaning.specs.execution.Values.{type_of};
+
+use core_types::{FuncType, Val};
+
+/// Why a host function gives no results.
+#[derive(Clone, Copy)]
+pub enum HostFault {
+    /// A trap of its own, with a code.
+    Trap(u32),
+    /// There was no memory, and nothing has changed.
+    Memory,
+}
+
+/// A function of the host: an object with a state of its own (Execution, Instructions, Host Functions).
+///
+/// It states its type, and a relation of its own between the object before, arguments, the bytes that it is lent, its answer, the
+/// bytes then and the object then.
+pub trait HostFn: Drop {
+    /// What it takes and gives.
+    ghost declared: { Self → Signature };
+
+    /// From an object, arguments and bytes it may come to this answer, these bytes and this object.
+    ghost Answers: { Self → List Value → List ℕ → Answer → List ℕ → Self → Type 0 };
+
+    /// The declared type.
+    fn ty(&self) -> &FuncType
+        ensures { result.now ≡ declared self.now };
+
+    /// One call, which is lent the bytes of the caller's memory, or none. The caller owes arguments of the declared parameter types. The
+    /// host owes results of the declared result types or a fault; the declared type stays; after `Memory` nothing has changed.
+    fn call(&mut self, args: &[Val], memory: &mut [u8]) -> Result<Vec<Val>, HostFault>
+        requires arguments { map type_of args.now ≡ (declared self.old).params }
+        ensures same_type { declared self.new ≡ declared self.old }
+        ensures typed { IfOk result (λ values. map type_of values.items ≡
+            (declared self.old).results) }
+        ensures answered { IfOk result
+            (λ values. Answers self.old args.now memory.old (Results values.items) memory.new
+            self.new) }
+        ensures trapped { (code : ℕ) → result ≡ Err (HostFault.Trap code)
+            → Answers self.old args.now memory.old (HostTrap code)
+            memory.new self.new }
+        ensures unchanged { result ≡ Err HostFault.Memory
+            → (self.new ≡ self.old) × (memory.new ≡ memory.old) };
+}

@@ -1,0 +1,39 @@
+ghost use Rattle.std.specs.Prelude.{◌≡◌, ℕ, IfOk, Err, map};
+ghost use Rattle.meaning.specs.execution.Runs.{HostTrap, Results};
+ghost use Rattle.meaning.specs.execution.Values.{type_of};
+ghost use Rattle.hostfunc.specs.Boxes.{HostAnswers};
+ghost use Rattle.hostfunc.specs.declared.host_function.HostFault.TheVariants.{Trap as TrapFault, Memory as MemoryFault};
+
+use crate::boxes::{call_object, object_type};
+use crate::host_function::{HostFault, HostFn};
+use core_types::{FuncType, Val};
+
+/// A host function, with the type that it was taken in with.
+#[derive(Drop)]
+pub struct HostObject {
+    pub ty: FuncType,
+    pub object: Box<dyn HostFn>,
+}
+
+impl HostObject {
+    /// One call, with arguments of its parameter types and bytes that it is lent. One that declared another type than it was taken in
+    /// with, which no host that keeps its contract does, would trap with the code 0.
+    pub fn call(&mut self, args: &[Val], memory: &mut [u8]) -> Result<Vec<Val>, HostFault>
+        requires arguments { map type_of args.now ≡ self.old.ty.params }
+        ensures same_type { self.new.ty ≡ self.old.ty }
+        ensures typed { IfOk result (λ values. map type_of values.items ≡ self.old.ty.results) }
+        ensures answered { IfOk result
+            (λ values. HostAnswers ⟦<dyn HostFn as HostFn>⟧ self.old args.now memory.old
+            (Results values.items) memory.new self.new) }
+        ensures trapped { (code : ℕ) → result ≡ Err (TrapFault code)
+            → HostAnswers ⟦<dyn HostFn as HostFn>⟧ self.old args.now
+            memory.old (HostTrap code) memory.new self.new }
+        ensures unchanged { result ≡ Err MemoryFault
+            → (self.new ≡ self.old) × (memory.new ≡ memory.old) }
+    {
+        if !object_type(&self.object).is_same(&self.ty) {
+            return Err(HostFault::Trap(0));
+        }
+        call_object(&mut self.object, args, memory)
+    }
+}

@@ -1,0 +1,87 @@
+ghost use Rattle.std.specs.Prelude.{◌≡◌, ℕ, ◌<◌, ◌-◌, ◌^◌, ◌++◌, ◌∷◌, [], length, map, IfOk, OnOk, OnErr, Err};
+ghost use Rattle.core_types.specs.declared.types.FuncType.{FuncType as Signature};
+ghost use Rattle.meaning.specs.execution.Runs.{HostTrap, Results};
+ghost use Rattle.meaning.specs.execution.Values.{type_of};
+ghost use Rattle.hostfunc.specs.Boxes.{HostCall, IsHost};
+ghost use Rattle.hostfunc.specs.declared.host_function.HostFault.TheVariants.{Trap as TrapFault, Memory as MemoryFault};
+
+use crate::boxes::object_type;
+use crate::host_function::{HostFault, HostFn};
+use crate::host_object::HostObject;
+use core_types::{FuncType, Val};
+use std::alloc::{AllocError, Global};
+
+/// The host functions of an embedding, by number.
+#[derive(Drop)]
+pub struct HostTable {
+    alloc: Global,
+    objects: Vec<HostObject>,
+}
+
+impl HostTable {
+    /// A table without host functions. Takes no memory.
+    pub fn new(alloc: Global) -> HostTable
+        ensures { result.objects.items ≡ [] }
+    {
+        HostTable {
+            alloc,
+            objects: Vec::new(alloc),
+        }
+    }
+
+    /// How many host functions there are.
+    pub fn len(&self) -> usize
+        ensures { result ≡ length self.now.objects.items }
+    {
+        self.objects.len()
+    }
+
+    /// Takes in a host function with the type that it declares, and answers its number, the next one. Where memory runs out, the
+    /// object is dropped and the table stays.
+    pub fn push(&mut self, object: Box<dyn HostFn>) -> Result<u32, AllocError>
+        requires room { length self.old.objects.items < 2 ^ 32 - 1 }
+        ensures number { IfOk result (λ number. number ≡ length self.old.objects.items) }
+        ensures pushed { OnOk result (self.new.objects.items ≡ self.old.objects.items ++
+            record { ty = declared object; object = object } ∷ []) }
+        ensures unchanged { OnErr result (self.new.objects.items ≡ self.old.objects.items) }
+    {
+        let number = self.objects.len() as u32;
+        let ty = object_type(&object).copy(self.alloc)?;
+        self.objects.push(HostObject { ty, object })?;
+        Ok(number)
+    }
+
+    /// The type of the host function of a number.
+    pub fn ty(&self, number: u32) -> &FuncType
+        requires there { number < length self.now.objects.items }
+        ensures { IsHost self.now.objects.items number result.now }
+    {
+        &self.objects[number as usize].ty
+    }
+
+    /// One call of the host function of a number, with arguments of its parameter types and bytes that it is lent. All others stay;
+    /// after `HostFault::Memory` nothing has changed.
+    pub fn call(
+        &mut self,
+        number: u32,
+        args: &[Val],
+        memory: &mut [u8],
+    ) -> Result<Vec<Val>, HostFault>
+        requires there { (t : Signature) × IsHost self.old.objects.items number t
+            × (map type_of args.now ≡ t.params) }
+        ensures answered { IfOk result
+            (λ values. HostCall ⟦<dyn HostFn as HostFn>⟧ self.old.objects.items number args.now
+            memory.old (Results values.items)
+            memory.new self.new.objects.items) }
+        ensures trapped { (code : ℕ) → result ≡ Err (TrapFault code)
+            → HostCall ⟦<dyn HostFn as HostFn>⟧ self.old.objects.items number args.now memory.old
+            (HostTrap code)
+            memory.new self.new.objects.items }
+        ensures unchanged { result ≡ Err MemoryFault
+            → (self.new.objects.items ≡ self.old.objects.items)
+            × (memory.new ≡ memory.old) }
+    {
+        let host = &mut self.objects[number as usize];
+        host.call(args, memory)
+    }
+}

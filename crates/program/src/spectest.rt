@@ -1,0 +1,11 @@
+//! The stored module `spectest`, from which tests of the standard import.
+
+/// The bytes of the stored module: it imports the three prints from `host`, and exports them, `memory` of 1 to 2 pages, `table` of 10 to 20
+/// funcref, and the immutable globals `global_i32` and `global_i64` of 666. A line a section.
+pub const SPECTEST: &[u8] = b"\x00asm\x01\x00\x00\x00\
+    \x01\x0c\x03`\x00\x00`\x01\x7f\x00`\x01~\x00\
+    \x020\x03\x04host\x05print\x00\x00\x04host\x09print_i32\x00\x01\x04host\x09print_i64\x00\x02\
+    \x04\x05\x01p\x01\x0a\x14\
+    \x05\x04\x01\x01\x01\x02\
+    \x06\x0d\x02\x7f\x00A\x9a\x05\x0b~\x00B\x9a\x05\x0b\
+    \x07L\x07\x06memory\x02\x00\x05table\x01\x00\x0aglobal_i32\x03\x00\x0aglobal_i64\x03\x01\x05print\x00\x00\x09print_i32\x00\x01\x09print_i64\x00\x02";

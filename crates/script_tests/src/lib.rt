@@ -1,0 +1,7 @@
+//! Tests of scripts: how they are read, and what they report.
+#![tactic(auto)]
+
+#[cfg(test)]
+mod reading;
+#[cfg(test)]
+mod running;

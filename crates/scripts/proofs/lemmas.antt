@@ -1,0 +1,6 @@
+-- Lemmas, by what they speak of.
+pub mod Lists
+pub mod Numbers
+pub mod Names
+pub mod Talks
+pub mod Whole

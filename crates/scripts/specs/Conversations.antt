@@ -1,0 +1,41 @@
+-- Dialogues that are held with an embedding.
+use Rattle.std.specs.Prelude.{◌≡◌, ℕ, List, Option, Result, Ok, Err}
+use Rattle.core_types.specs.declared.outcome.Val.{Val}
+use Rattle.meaning.specs.embedding.Commands.{Command, Reply}
+use Rattle.meaning.specs.embedding.Machine.{Applies, Embedding}
+use Rattle.meaning.specs.execution.Runs.{Answer}
+use Rattle.meaning.specs.execution.Store.{Store}
+use Rattle.meaning.specs.scripts.Dialogues.{Dialogue, Asks, IsForMemory}
+use Rattle.scripts.specs.declared.faults.ScriptFault.{ScriptFault}
+use Rattle.scripts.specs.declared.faults.ScriptFault.TheVariants.{OutOfMemory}
+
+module _ {H : Type 0} (HostStep : List H → ℕ → Option ℕ → List Val → Store → Answer → Store
+    → List H → Type 0) where
+  -- From a dialogue and an embedding to what is left of the dialogue and the embedding then. No reply says that there was no memory.
+  pub data Converses : Dialogue → Embedding H → Dialogue → Embedding H → Type 0 where
+    nothing : {at : Dialogue} {embedding : Embedding H} → Converses at embedding at embedding
+    asked : {command : Command} {next : Reply → Dialogue} (reply : Reply)
+        {old between new : Embedding H} {left : Dialogue}
+        → Applies HostStep old command reply between → (IsForMemory reply → ⊥)
+        → Converses (next reply) between left new
+        → Converses (Asks command next) old left new
+
+  -- A dialogue that is broken off for want of memory: the last reply says so, or the runner itself has none.
+  pub data BreaksOff : Dialogue → Embedding H → Embedding H → Type 0 where
+    here : {at : Dialogue} {embedding : Embedding H} → BreaksOff at embedding embedding
+    lacked : {command : Command} {next : Reply → Dialogue} (reply : Reply) {old new : Embedding H}
+        → Applies HostStep old command reply new → IsForMemory reply
+        → BreaksOff (Asks command next) old new
+    went_on : {command : Command} {next : Reply → Dialogue} (reply : Reply)
+        {old between new : Embedding H}
+        → Applies HostStep old command reply between → (IsForMemory reply → ⊥)
+        → BreaksOff (next reply) between new
+        → BreaksOff (Asks command next) old new
+
+  -- A part of a dialogue, whose rest depends on what the part came to: it was held, or broken off.
+  abbrev pub Holds : {T A : Type 0} → (T → A) → ((A → Dialogue) → Dialogue) → Embedding H
+      → Result T ScriptFault → Embedding H → Type 0
+  Holds see part old (Ok found) new =
+      (next : _ → Dialogue) → Converses (part next) old (next (see found)) new
+  Holds see part old (Err fault) new =
+      (fault ≡ OutOfMemory) × ((next : _ → Dialogue) → BreaksOff (part next) old new)

@@ -1,0 +1,27 @@
+//! Scripts: command files as wast2json writes them are read, and run on an embedding.
+#![tactic(auto)]
+
+mod actions;
+mod asking;
+mod faults;
+mod fields;
+mod file_maps;
+mod instances;
+mod kinds;
+mod numbers;
+mod passing;
+mod place;
+mod reading;
+mod report;
+mod running;
+mod script;
+mod skipping;
+mod tasks;
+mod unread;
+mod values;
+
+pub use faults::ScriptFault;
+pub use reading::read_script;
+pub use report::Report;
+pub use running::{run_script, run_script_lent};
+pub use script::Script;

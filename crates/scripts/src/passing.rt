@@ -1,0 +1,131 @@
+ghost use Rattle.std.specs.Prelude.{◌≡◌};
+ghost use Rattle.embed.specs.Replies.{reply_of};
+ghost use Rattle.meaning.specs.scripts.Runner.{is_malformed as is_no_module, is_unlinkable as has_no_imports, linked_instance, passes as passes_with, returns as returns_values, runs_out as is_exhausted, same_value, same_values, trap_text as text_of, traps as traps_for};
+ghost use Rattle.scripts.specs.Views.{task_view};
+
+use crate::script::Task;
+use core_types::{Exhaustion, Trap, Val};
+use embed::{Refusal, Reply};
+
+// The text of a trap.
+fn trap_text(trap: Trap) -> &'static str
+    ensures { result.now ≡ text_of trap }
+{
+    match trap {
+        Trap::Unreachable => "unreachable",
+        Trap::DivideByZero => "integer divide by zero",
+        Trap::IntegerOverflow => "integer overflow",
+        Trap::MemoryBounds => "out of bounds memory access",
+        Trap::TableBounds => "out of bounds table access",
+        Trap::UndefinedElement => "undefined element",
+        Trap::UninitializedElement => "uninitialized element",
+        Trap::IndirectType => "indirect call type mismatch",
+        Trap::Host(_) => "host trap",
+    }
+}
+
+// The instance that was linked, if one was.
+pub fn linked(reply: &Reply) -> Option<u64>
+    ensures { result ≡ linked_instance (reply_of reply.now) }
+{
+    match reply {
+        Reply::Linked(number) => Some(*number),
+        _ => None,
+    }
+}
+
+// Whether two values are the same.
+fn is_same(value: Val, other: Val) -> bool
+    ensures { result ≡ same_value value other }
+{
+    match (value, other) {
+        (Val::I32(m), Val::I32(n)) => m == n,
+        (Val::I64(m), Val::I64(n)) => m == n,
+        (Val::FuncRef(m), Val::FuncRef(n)) => m == n,
+        (Val::ExternRef(m), Val::ExternRef(n)) => m == n,
+        _ => false,
+    }
+}
+
+// Whether the values are the same, in the same order.
+fn are_same(values: &[Val], others: &[Val]) -> bool
+    ensures { result ≡ same_values values.now others.now }
+{
+    if values.len() != others.len() {
+        return false;
+    }
+    for k in 0..values.len() {
+        if !is_same(values[k], others[k]) {
+            return false;
+        }
+    }
+    true
+}
+
+// Whether a reply is these values.
+fn returns(expected: &[Val], reply: &Reply) -> bool
+    ensures { result ≡ returns_values expected.now (reply_of reply.now) }
+{
+    match reply {
+        Reply::Values(values) => are_same(values, expected),
+        _ => false,
+    }
+}
+
+// Whether a reply is a trap whose text is a beginning of this one.
+fn traps(text: &str, reply: &Reply) -> bool
+    ensures { result ≡ traps_for text.now (reply_of reply.now) }
+{
+    match reply {
+        Reply::Trap(trap) => text.as_bytes().starts_with(trap_text(*trap).as_bytes()),
+        _ => false,
+    }
+}
+
+// Whether a reply says that fuel or depth ran out.
+fn runs_out(reply: &Reply) -> bool
+    ensures { result ≡ is_exhausted (reply_of reply.now) }
+{
+    matches!(
+        reply,
+        Reply::Exhausted(Exhaustion::Fuel) | Reply::Exhausted(Exhaustion::Depth)
+    )
+}
+
+// Whether a reply says that bytes spell no module within the limits.
+fn is_malformed(reply: &Reply) -> bool
+    ensures { result ≡ is_no_module (reply_of reply.now) }
+{
+    matches!(
+        reply,
+        Reply::Refused(Refusal::Malformed | Refusal::Unsupported | Refusal::Limit)
+    )
+}
+
+// Whether a reply says that an import is not there or does not match.
+fn is_unlinkable(reply: &Reply) -> bool
+    ensures { result ≡ has_no_imports (reply_of reply.now) }
+{
+    matches!(
+        reply,
+        Reply::Refused(Refusal::UnknownImport | Refusal::IncompatibleImport)
+    )
+}
+
+// Whether a task passes with this last reply.
+pub fn passes(task: &Task, reply: &Reply) -> bool
+    ensures { result ≡ passes_with (task_view task.now) (reply_of reply.now) }
+{
+    match task {
+        Task::Module { .. } => matches!(reply, Reply::Linked(_)),
+        Task::Register { .. } => matches!(reply, Reply::Done),
+        Task::Perform(_) => matches!(reply, Reply::Values(_)),
+        Task::AssertReturn(_, expected) => returns(expected, reply),
+        Task::AssertTrap(_, text) => traps(text.as_str(), reply),
+        Task::AssertExhaustion(_) => runs_out(reply),
+        Task::AssertInvalid(_) => matches!(reply, Reply::Refused(Refusal::Invalid)),
+        Task::AssertMalformed(_) => is_malformed(reply),
+        Task::AssertUnlinkable(_) => is_unlinkable(reply),
+        Task::AssertUninstantiable(_, text) => traps(text.as_str(), reply),
+    }
+}

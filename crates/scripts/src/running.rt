@@ -1,0 +1,76 @@
+ghost use Rattle.std.specs.Prelude.{◌≡◌, map};
+ghost use Rattle.embed.specs.Contents.{embedding_of};
+ghost use Rattle.meaning.specs.scripts.Commands.{files_in};
+ghost use Rattle.meaning.specs.scripts.Runner.{start};
+ghost use Rattle.scripts.specs.FileMaps.{files_kept};
+ghost use Rattle.scripts.specs.Runs.{HoldsAll, Runs, files_view};
+ghost use Rattle.scripts.specs.Views.{command_view};
+
+use crate::faults::ScriptFault;
+use crate::file_maps::{files_by_name, missing};
+use crate::place::Place;
+use crate::report::Report;
+use crate::script::{Script, ScriptCommand};
+use embed::Embedding;
+use hostfunc::HostFn;
+use indexmap::IndexMap;
+use std::alloc::Global;
+
+// Does all commands, each with this fuel.
+fn run_commands(
+    alloc: Global,
+    fuel: u64,
+    files: &IndexMap<&str, &[u8]>,
+    commands: &[ScriptCommand],
+    embedding: &mut Embedding,
+) -> Result<Report, ScriptFault>
+    ensures { HoldsAll ⟦<dyn HostFn as HostFn>⟧ fuel (files_kept files.now)
+        (map command_view commands.now)
+        (embedding_of embedding.old) result (embedding_of embedding.new) }
+{
+    let mut at = Place::new(alloc);
+    for k in 0..commands.len() {
+        at.advance(alloc, fuel, files, &commands[k], embedding)?;
+    }
+    let Place {
+        instances: _,
+        report,
+    } = at;
+    Ok(report)
+}
+
+/// Runs a script on an embedding, with the files that are handed in: each with its name, and of two with one name the first counts.
+///
+/// Answers `MissingFile` with the index of the first command whose file was not handed in; then nothing has changed. Answers
+/// `OutOfMemory` where the embedding or the runner has no memory; then the embedding is what the commands so far made.
+pub fn run_script(
+    alloc: Global,
+    script: &Script,
+    files: &[(String, Vec<u8>)],
+    embedding: &mut Embedding,
+) -> Result<Report, ScriptFault>
+    ensures { Runs ⟦<dyn HostFn as HostFn>⟧ script.now (files_in (files_view files.now))
+        (embedding_of embedding.old) result (embedding_of embedding.new) }
+{
+    run_script_lent(alloc, script, files, embedding)
+}
+
+/// The same as `run_script`, for a function of another library that was given the embedding or its host functions, as `apply_lent`
+/// of the embedding is.
+pub fn run_script_lent(
+    alloc: Global,
+    script: &Script,
+    files: &[(String, Vec<u8>)],
+    embedding: &mut Embedding,
+) -> Result<Report, ScriptFault>
+    requires nothing { Unit {0} }
+    ensures { Runs ⟦<dyn HostFn as HostFn>⟧ script.now (files_in (files_view files.now))
+        (embedding_of embedding.old) result (embedding_of embedding.new) }
+{
+    let kept = files_by_name(alloc, files)?;
+    if let Some(index) = missing(&kept, script.commands()) {
+        return Err(ScriptFault::MissingFile(index));
+    }
+    let fuel = embedding.config().fuel();
+    run_commands(alloc, fuel, &kept, script.commands(), embedding)
+}
