@@ -1,5 +1,5 @@
 -- What an embedding holds, in the terms of the definitions.
-use Rattle.std.specs.Prelude.{ℕ, List, map}
+use Rattle.std.specs.Prelude.{List, map}
 use Rattle.std.specs.declared.rc.Rc.{Rc}
 use Rattle.core_types.specs.declared.module.Module.{Module}
 use Rattle.meaning.specs.embedding.Machine.{Embedding}

@@ -1,7 +1,5 @@
 -- Definitions of host functions, in the terms of the embedding machine.
-use Rattle.std.specs.Prelude.{◌≡◌, ℕ, List, map, Some, Result, Ok, Err, string_bytes}
-use Rattle.std.specs.Global.{Global}
-use Rattle.std.specs.declared.dyn_box.DynBox.{DynBox}
+use Rattle.std.specs.Prelude.{◌≡◌, List, map, Some, string_bytes}
 use Rattle.meaning.specs.embedding.Creation as machine
 use Rattle.meaning.specs.embedding.Creation.{HostDefinition, fault_of, first_fault}
 use Rattle.meaning.specs.embedding.Names.{NamesContents, no_names}

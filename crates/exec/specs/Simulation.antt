@@ -13,7 +13,7 @@ use Rattle.exec.specs.declared.machine.Step.{Step}
 use Rattle.exec.specs.declared.machine.Step.TheVariants as steps
 use Rattle.exec.specs.HostCalls.{WaitsForHost}
 use Rattle.exec.specs.Representation.{Represents, RepresentsAt, frame_of, redex_of, rests_of}
-use Rattle.store.specs.Contents.{BothParts, Contents, functions_in, instances_in, store_with}
+use Rattle.store.specs.Contents.{Contents, functions_in, instances_in, store_with}
 use Rattle.store.specs.State.{StateContents}
 use Rattle.exec.specs.Positions.{continue_at, rests_at}
 use Rattle.exec.specs.declared.control.blocks.Arity.{Arity}

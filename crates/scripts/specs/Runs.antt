@@ -1,11 +1,12 @@
 -- What running a script answers and leaves.
 use Rattle.std.specs.Prelude.{◌≡◌, ℕ, List, Option, Some, None, Result, Ok, Err, map, string_bytes, String, Vec}
+use Rattle.std.specs.HashMap.{HashMap, get_by_text}
+use Rattle.std.specs.Option.{option_flatten}
 use Rattle.std.specs.declared.alloc.Global.{Global}
 use Rattle.core_types.specs.declared.outcome.Val.{Val}
 use Rattle.hostfunc.specs.Boxes.{HostStep}
 use Rattle.hostfunc.specs.declared.host_function.HostFn.{Ghosts}
 use Rattle.hostfunc.specs.declared.host_object.HostObject.{HostObject}
-use Rattle.linker.specs.Contents.{named}
 use Rattle.meaning.specs.embedding.Commands.{Command, Reply}
 use Rattle.meaning.specs.embedding.Machine.{AppliesAll, Embedding}
 use Rattle.meaning.specs.execution.Runs.{Answer}
@@ -32,8 +33,12 @@ report_view r = record {
   failures = r.failures.items;
 }
 
+-- What a map says that names mean.
+abbrev pub named_in : {Z S : Type 0} → HashMap (String Z) (Option ℕ) S → (name : List ℕ) → Option ℕ
+named_in names name = option_flatten (get_by_text names name)
+
 abbrev pub instances_view : Instances → runner.Instances
-instances_view i = record { current = i.current; named = named (λ n. n) i.named.entries }
+instances_view i = record { current = i.current; named = named_in i.named }
 
 abbrev pub place_view : Place → runner.Place
 place_view p = record { instances = instances_view p.instances; report = report_view p.report }

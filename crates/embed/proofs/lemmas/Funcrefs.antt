@@ -1,5 +1,5 @@
 -- Whether a funcref is among types.
-use Rattle.std.proofs.Common.{◌≡◌, ℕ, ◌+◌, ◌<◌, List, ◌∷◌, length, get_or, drop, refl, ap, sym, subst, ◌∙◌}
+use Rattle.std.proofs.Common.{◌≡◌, ℕ, ◌+◌, ◌<◌, List, ◌∷◌, length, get_or, drop, refl, ap, sym, ◌∙◌}
 use Rattle.std.specs.Prelude.{true}
 use Rattle.std.proofs.lemmas.List.{drop_more}
 use Rattle.core_types.specs.declared.types.ValType.{ValType}

@@ -131,7 +131,7 @@ others_stay added own n k count = sym (drop-drop k n (added ++ own)) ∙ ap (dro
 -- The results are as many as the type says.
 pub result_count : {H : Type 0} (host_type : H → FuncType) (Answers : H → List Val → List ℕ → Answer → List ℕ → H → Type 0) (hosts hosts' : List H) (number : ℕ) (lent : Option ℕ) (arguments results : List Val) (store store' : Store) (t : FuncType)
     → IsHostStep host_type Answers hosts number lent arguments store (Results results) store' hosts' → HasType host_type hosts number t → length results ≡ length t.results
-result_count host_type Answers hosts hosts' number lent arguments results store store' t (bytes', done, is) there =
+result_count host_type Answers hosts hosts' number lent _ results store store' t (bytes', done, is) there =
     let same : host_type done.host ≡ t = one_type host_type hosts number (host_type done.host) t (ap (option_map host_type) done.is) there in
     sym (length-map results type_of) ∙ ap length done.typed ∙ ap (λ (u : FuncType). length u.results) same
 

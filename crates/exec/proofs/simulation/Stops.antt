@@ -1,11 +1,11 @@
 -- Runs over any host functions, up to where a machine stops.
-use Rattle.std.proofs.Common.{◌≡◌, ℕ, ◌≤◌, List, [], reverse, refl, subst, sym, ◌∙◌, arith}
+use Rattle.std.proofs.Common.{◌≡◌, ℕ, ◌≤◌, List, reverse, refl, subst}
 use Rattle.std.specs.Prelude.{Option}
 use Rattle.core_types.specs.declared.outcome.Exhaustion.{Exhaustion}
 use Rattle.core_types.specs.declared.outcome.Trap.{Trap}
 use Rattle.core_types.specs.declared.outcome.Val.{Val}
 use Rattle.meaning.specs.execution.Configurations.{Configuration, no_frame}
-use Rattle.meaning.specs.execution.Runs.{Answer, Ending, GotStuck, IsEnd, IsStep, NoHosts, Run, State, Steps, WithTrap, WithValues, end, step, values_left}
+use Rattle.meaning.specs.execution.Runs.{Answer, Ending, GotStuck, IsEnd, IsStep, Run, State, Steps, WithTrap, WithValues, end, step, values_left}
 use Rattle.meaning.specs.execution.Store.{Store}
 use Rattle.meaning.proofs.lemmas.Hosts.{end-over, step-over, steps-over}
 use Rattle.meaning.proofs.lemmas.Runs.{Steps-fuel, Steps-run}

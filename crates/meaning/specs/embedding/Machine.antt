@@ -17,7 +17,7 @@ use Rattle.meaning.specs.soundness.Values.{TakesArguments}
 use Rattle.meaning.specs.embedding.Commands.{Command, Load, Link, Register, Call, GetGlobal, SetFuel}
 use Rattle.meaning.specs.embedding.Commands.{Refusal, Malformed, Unsupported, Limit, Invalid, UnknownModule, UnknownImport, IncompatibleImport, UnknownInstance, UnknownExport, WrongKind, BadArguments, NameTaken, OutOfMemory}
 use Rattle.meaning.specs.embedding.Commands.{Reply, Loaded, Linked, Done, Ended, Refused}
-use Rattle.meaning.specs.embedding.Names.{HasHosts, NamesContents, export_of, no_names, resolve_name, with_instance}
+use Rattle.meaning.specs.embedding.Names.{HasHosts, NamesContents, export_of, resolve_name, with_instance}
 
 -- ---- states
 

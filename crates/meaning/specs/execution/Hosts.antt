@@ -1,6 +1,6 @@
 -- Host functions (Execution, Instructions, Host Functions): objects of any kind, each with a type and a relation of its own between
 -- the object before, arguments, the bytes that it is lent, its answer, the bytes then and the object then.
-use Rattle.std.specs.Prelude.{◌≡◌, ℕ, List, [], length, map, Option, Some, None, option_map, slice_get, slice_set, unwrap_or}
+use Rattle.std.specs.Prelude.{◌≡◌, ℕ, List, [], length, map, Option, Some, None, option_map, slice_get, slice_set}
 use Rattle.core_types.specs.declared.types.FuncType.{FuncType}
 use Rattle.core_types.specs.declared.types.ValType.{ValType}
 use Rattle.core_types.specs.declared.outcome.Val.{Val}

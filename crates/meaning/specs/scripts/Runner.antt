@@ -1,5 +1,5 @@
 -- What a script asks of an embedding, and when its commands pass.
-use Rattle.std.specs.Prelude.{ℕ, ◌+◌, ◌++◌, ◌==◌, ◌&&◌, List, [], ◌∷◌, Bool, true, false, Option, Some, None, option_and_then, codes, nat_eq}
+use Rattle.std.specs.Prelude.{ℕ, ◌+◌, ◌++◌, ◌==◌, ◌&&◌, List, [], ◌∷◌, Bool, true, false, Option, Some, None, bytes_eq, codes, if◌then◌else◌, nat_eq}
 use Rattle.std.specs.List.{starts_with}
 use Rattle.core_types.specs.declared.outcome.Trap.{Trap}
 use Rattle.core_types.specs.declared.outcome.Trap.TheVariants.{Unreachable, DivideByZero, IntegerOverflow, MemoryBounds, TableBounds, UndefinedElement, UninitializedElement, IndirectType, Host}
@@ -7,7 +7,6 @@ use Rattle.core_types.specs.declared.outcome.Val.{Val}
 use Rattle.core_types.specs.declared.outcome.Val.TheVariants.{I32, I64, FuncRef, ExternRef}
 use Rattle.meaning.specs.embedding.Commands as embedding
 use Rattle.meaning.specs.embedding.Commands.{Command, Reply, Load, Link, Call, GetGlobal, SetFuel, Loaded, Linked, Done, Ended, Refused, Malformed, Unsupported, Limit, Invalid, UnknownImport, IncompatibleImport, UnknownInstance}
-use Rattle.meaning.specs.embedding.Names.{under, put_under}
 use Rattle.meaning.specs.execution.Runs.{WithValues, WithTrap, OutOfFuel, OutOfDepth}
 use Rattle.meaning.specs.scripts.Commands.{Action, Invoke, Get, Task, Module, Register, Perform, AssertReturn, AssertTrap, AssertExhaustion, AssertInvalid, AssertMalformed, AssertUnlinkable, AssertUninstantiable, ScriptCommand, Skipped, Tried, Files, contents}
 use Rattle.meaning.specs.scripts.Dialogues.{Dialogue, Over, Asks, Report}
@@ -17,20 +16,20 @@ use Rattle.meaning.specs.scripts.Dialogues.{Dialogue, Over, Asks, Report}
 -- The current instance, and what the script's names mean: the number of an instance, or nothing.
 pub record Instances : Type 0 where
   pub current : Option ℕ
-  pub named : List (List ℕ × Option ℕ)
+  pub named : (name : List ℕ) → Option ℕ
 
 abbrev pub no_instances : Instances
-no_instances = record { current = None; named = [] }
+no_instances = record { current = None; named = λ name. None }
 
 -- The instance that a name means; without a name the current one.
 abbrev pub meant : Instances → Option (List ℕ) → Option ℕ
 meant at None = at.current
-meant at (Some name) = option_and_then (λ (i : Option ℕ). i) (under at.named name)
+meant at (Some name) = at.named name
 
 -- The names, where this one, if there is one, means this.
-abbrev pub naming : List (List ℕ × Option ℕ) → Option (List ℕ) → Option ℕ → List (List ℕ × Option ℕ)
-naming named None instance = named
-naming named (Some name) instance = put_under named name instance
+abbrev pub naming : (List ℕ → Option ℕ) → Option (List ℕ) → Option ℕ → (name : List ℕ) → Option ℕ
+naming named None instance other = named other
+naming named (Some name) instance other = if bytes_eq name other then instance else named other
 
 -- This is the current instance, and the name, if there is one, means it.
 abbrev pub with_current : Instances → Option (List ℕ) → Option ℕ → Instances

@@ -1,38 +1,32 @@
 -- Names of a script, and files by name.
 use Rattle.std.proofs.Common.{◌≡◌, ℕ, ◌+◌, ◌<◌, List, [], ◌∷◌, ◌++◌, Bool, true, false, cond, if◌then◌else◌, ap, get_or, length, refl, sym, take, ◌∙◌, string_bytes, String, arith}
 use denote.Ref.{Bor}
-use Rattle.std.specs.Prelude.{Option, Some, None, bytes_eq, option_and_then, option_map, is_some, Vec}
-use Rattle.std.specs.HashMap.{HashMap, get_by, UpdatesBy}
-use Rattle.std.specs.Map.{lookup}
+use Rattle.std.specs.Prelude.{Option, Some, None, bytes_eq, option_map, is_some, Vec}
+use Rattle.std.specs.HashMap.{HashMap, get_by, get_by_text, UpdatesBy}
 use Rattle.std.proofs.lemmas.Grind.{common_steps}
 use Rattle.std.proofs.lemmas.List.{map-append, take_more}
-use Rattle.std.proofs.lemmas.Map.Text.{hash_map_updates_str}
+use Rattle.std.proofs.lemmas.Map.Text.{hash_map_updates_str, hash_map_updates_text}
 use Rattle.std.proofs.lemmas.Slice.Eq.{bytes_eq-Decides}
 use Rattle.std.specs.Option.{option_flatten, option_or}
 use Rattle.std.specs.String.{string_eq}
 use Rattle.std.specs.declared.alloc.Global.{Global}
-use Rattle.indexmap.specs.IndexMap.{insert_entry}
-use Rattle.linker.specs.Contents.{named}
-use Rattle.linker.proofs.Named.{named-insert_entry, under-named}
-use Rattle.meaning.specs.embedding.Names.{put_under, under}
+use Rattle.meaning.specs.embedding.Names.{under}
 use Rattle.meaning.specs.scripts.Commands.{Files, files_in}
+use Rattle.meaning.specs.scripts.Runner.{naming}
 use Rattle.scripts.specs.FileMaps.{files_kept, with_file}
-use Rattle.scripts.specs.Runs.{files_view}
+use Rattle.scripts.specs.Runs.{files_view, named_in}
 
-flattened : (o : Option (Option ℕ)) → option_flatten o ≡ option_and_then (λ (i : Option ℕ). i) (option_map (λ (i : Option ℕ). i) o)
-flattened None = refl
-flattened (Some i) = refl
+module _ {Z S : Type 0} (old new : HashMap (String Z) (Option ℕ) S) (name : List ℕ) (instance : Option ℕ) where
+  flattened : (b : Bool) (before : Option (Option ℕ)) → option_flatten (cond b (Some instance) before) ≡ (if b then instance else option_flatten before)
+  flattened true before = refl
+  flattened false before = refl
 
-module _ {Z : Type 0} (entries : List (String Z × Option ℕ)) where
-  pub named-meant : (name : List ℕ) (found : Option (Option ℕ)) → found ≡ lookup (λ (k : String Z). bytes_eq name (string_bytes k)) entries
-      → option_flatten found ≡ option_and_then (λ (i : Option ℕ). i) (under (named (λ (i : Option ℕ). i) entries) name)
-  named-meant name found is = rw is (flattened (lookup (λ (k : String Z). bytes_eq name (string_bytes k)) entries) ∙ ap (option_and_then (λ (i : Option ℕ). i)) (sym (under-named (λ (i : Option ℕ). i) name entries)))
-
-  pub named-put : (after : List (String Z × Option ℕ)) (key : String Z) (name : List ℕ) (instance : Option ℕ) → after ≡ insert_entry string_eq entries key instance
-      → string_bytes key ≡ name → named (λ (i : Option ℕ). i) after ≡ put_under (named (λ (i : Option ℕ). i) entries) name instance
-  named-put after key name instance is same_name =
-      ap (named (λ (i : Option ℕ). i)) is ∙ named-insert_entry (λ (i : Option ℕ). i) entries key instance
-      ∙ ap (λ (n : List ℕ). put_under (named (λ (i : Option ℕ). i) entries) n instance) same_name
+  -- A name that is put into a map means the instance then, and all others mean what they meant.
+  pub named-put : UpdatesBy string_eq (λ (k : String Z). bytes_eq name (string_bytes k)) old new (Some instance) → named_in new ≡ naming (named_in old) (Some name) instance
+  named-put updates = λ j other. at other j
+    where
+      at : (other : List ℕ) → named_in new other ≡ naming (named_in old) (Some name) instance other
+      at other = ap option_flatten (hash_map_updates_text name old new (Some instance) updates other) ∙ flattened (bytes_eq name other) (get_by_text old other)
 
 -- ---- files
 

@@ -1,6 +1,6 @@
 use Rattle.std.proofs.Common.{◌≡◌, length, map}
 use Rattle.std.specs.Prelude.{None}
-use Rattle.meaning.specs.embedding.Creation.{HostDefinition, first_fault, store_of_hosts, with_definitions}
+use Rattle.meaning.specs.embedding.Creation.{first_fault, store_of_hosts, with_definitions}
 use Rattle.meaning.specs.embedding.Names.{no_names}
 use Rattle.hostfunc.specs.Boxes.{type_of_host}
 use Rattle.store.specs.Contents.{store_of}

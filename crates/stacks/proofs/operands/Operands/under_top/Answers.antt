@@ -1,4 +1,4 @@
-use Rattle.std.proofs.Common.{◌∙◌, ◌-◌, arith}
+use Rattle.std.proofs.Common.{◌-◌, arith}
 use Rattle.stacks.proofs.Views.{under-is}
 use Rattle.stacks.proofs.operands.Operands.under_top.Goals as goal
 

@@ -1,6 +1,6 @@
-use Rattle.std.proofs.Common.{ap, sym, ◌∙◌}
+use Rattle.std.proofs.Common.{ap, sym}
 use Rattle.std.specs.Prelude.{option_map}
-use Rattle.store.specs.Contents.{contents_of, function_of, host_function}
+use Rattle.store.specs.Contents.{contents_of, host_function}
 use Rattle.store.proofs.lemmas.Lookups.{function-there, never}
 use Rattle.store.proofs.instances.Code.function.Goals as goal
 

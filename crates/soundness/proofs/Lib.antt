@@ -1,0 +1,16 @@
+pub mod Values
+pub mod Extension
+pub mod Operands
+pub mod Effects
+pub mod Locals
+pub mod Writes
+pub mod Variables
+pub mod Overwrites
+pub mod Tables
+pub mod Memories
+pub mod Calls
+pub mod Control
+pub mod Sequences
+pub mod Steps
+pub mod Runs
+pub mod Insides

@@ -1,0 +1,139 @@
+-- Runs from typed configurations never go wrong.
+use Rattle.std.proofs.Common.{◌≡◌, ℕ, List, reverse, Option, refl, ap, subst, sym, ◌∙◌, arith, inl, inr}
+use Rattle.std.proofs.lemmas.List.{reverse-reverse}
+use Rattle.core_types.specs.declared.outcome.Val.{Val}
+use Rattle.core_types.specs.declared.types.GlobalType.{GlobalType}
+use Rattle.core_types.specs.declared.types.ValType.{ValType}
+use Rattle.meaning.specs.execution.Configurations.{Configuration, no_frame}
+use Rattle.meaning.specs.execution.Instructions.{Next, Goes, Grows, Opens, CallsHost, Traps, Branches, Returns, Over, NotReady, next}
+use Rattle.meaning.specs.execution.Runs.{Answer, Ending, IsEnd, IsStep, IsStuck, Run, State, goes, grows, opens, calls, values_left, trapped, host_trapped, no_fuel, no_depth, no_memory, stuck, end, step}
+use Rattle.meaning.specs.execution.Store.{DataInstance, FunctionInstance, GlobalInstance, ModuleInstance, Store}
+use Rattle.meaning.specs.execution.Tables.{ElementInstance}
+use Rattle.meaning.specs.soundness.Values.{ValuesHaveTypes}
+use Rattle.soundness.specs.Configurations.{ConfigurationHasType, FrameHasPlace, IsGood}
+use Rattle.soundness.specs.Places.{outermost}
+use Rattle.soundness.specs.Runs.{EndsTyped, EndsWell, HostsAnswerWell, NeverGoesWrong}
+use Rattle.soundness.specs.Stores.{DataStays, ElementStays, Extends, GlobalStays, Keeps, MemoryStays, StoreIsValid, TableStays}
+use Rattle.soundness.proofs.Effects.{Extends-same}
+use Rattle.soundness.proofs.Extension.{configuration-extended}
+use Rattle.soundness.proofs.Steps.{stays-good}
+use Rattle.soundness.proofs.Values.{values-reversed}
+
+-- ---- extensions in a row
+
+Keeps-through : {X : Type 0} (Stays : X → X → Type 0) → ((x y z : X) → Stays x y → Stays y z → Stays x z) → (a b c : List X) → Keeps Stays a b → Keeps Stays b c → Keeps Stays a c
+Keeps-through Stays through a b c first second address x is =
+    let (y, there, xy) = first address x is in
+    let (z, last, yz) = second address y there in
+    (z, last, through x y z xy yz)
+
+global-through : (x y z : GlobalInstance) → GlobalStays x y → GlobalStays y z → GlobalStays x z
+global-through x y z (type, constant) (type', constant') =
+    (type ∙ type', λ is. constant is ∙ constant' (sym (ap (λ (t : GlobalType). t.mutability) type) ∙ is))
+
+element-through : (x y z : ElementInstance) → ElementStays x y → ElementStays y z → ElementStays x z
+element-through x y z (type, inl same) (type', inl same') = (type ∙ type', inl (same ∙ same'))
+element-through x y z (type, inl same) (type', inr dropped) = (type ∙ type', inr dropped)
+element-through x y z (type, inr dropped) (type', inl same) = (type ∙ type', inr (sym same ∙ dropped))
+element-through x y z (type, inr dropped) (type', inr again) = (type ∙ type', inr again)
+
+data-through : (x y z : DataInstance) → DataStays x y → DataStays y z → DataStays x z
+data-through x y z (inl same) (inl same') = inl (same ∙ same')
+data-through x y z (inl same) (inr dropped) = inr dropped
+data-through x y z (inr dropped) (inl same) = inr (sym same ∙ dropped)
+data-through x y z (inr dropped) (inr again) = inr again
+
+pub Extends-through : (a b c : Store) → Extends a b → Extends b c → Extends a c
+Extends-through a b c first second = record {
+  functions = Keeps-through (λ (f g : FunctionInstance). f ≡ g) (λ x y z p q. p ∙ q) _ _ _ first.functions second.functions;
+  instances = Keeps-through (λ (i j : ModuleInstance). i ≡ j) (λ x y z p q. p ∙ q) _ _ _ first.instances second.instances;
+  tables = Keeps-through TableStays (λ x y z p q. (p.0 ∙ q.0, (omega (arith, p.1.0, q.1.0), p.1.1 ∙ q.1.1))) _ _ _ first.tables second.tables;
+  memories = Keeps-through MemoryStays (λ x y z p q. (omega (arith, p.0, q.0), p.1 ∙ q.1)) _ _ _ first.memories second.memories;
+  globals = Keeps-through GlobalStays global-through _ _ _ first.globals second.globals;
+  elements = Keeps-through ElementStays element-through _ _ _ first.elements second.elements;
+  datas = Keeps-through DataStays data-through _ _ _ first.datas second.datas;
+}
+
+-- ---- steps and ends
+
+module _ {H : Type 0} (HostStep : List H → ℕ → Option ℕ → List Val → Store → Answer → Store → List H → Type 0) (HaveHosts : Store → List H → Type 0)
+    (kept : (old new : Store) (hosts : List H) → Extends old new → StoreIsValid old → HaveHosts old hosts → HaveHosts new hosts)
+    (well : HostsAnswerWell HostStep HaveHosts) (bound : ℕ) where
+  outside : (store : Store) → FrameHasPlace store no_frame outermost
+  outside store = (refl, tt)
+
+  -- What a step from a typed configuration leaves.
+  record StepsTyped (results : List ValType) (old : State H) (new : State H) (configuration : Configuration) : Type 0 where
+    extends : Extends old.store new.store
+    valid : StoreIsValid new.store
+    there : HaveHosts new.store new.hosts
+    typed : ConfigurationHasType new.store outermost configuration results
+
+  module _ (results : List ValType) (old : State H) (configuration : Configuration) (valid : StoreIsValid old.store) (there : HaveHosts old.store old.hosts)
+      (typed : ConfigurationHasType old.store outermost configuration results) where
+    good : IsGood old.store outermost results (next old.store no_frame configuration)
+    good = stays-good old.store outermost no_frame configuration results valid (outside old.store) typed
+
+    at : (n : Next) → next old.store no_frame configuration ≡ n → IsGood old.store outermost results n
+    at n is = subst (λ (m : Next). IsGood old.store outermost results m) is good
+
+    step-typed : {new : State H} {configuration' : Configuration} → IsStep HostStep bound no_frame old configuration new configuration' → StepsTyped results old new configuration'
+    step-typed {new} {configuration'} (goes is enough fuel hosts) =
+        let (more, new_valid, own, next_typed) = at _ is in
+        record { extends = more; valid = new_valid; there = rw hosts (kept old.store new.store old.hosts more valid there); typed = next_typed }
+    step-typed {new} {configuration'} (grows is enough fuel hosts) =
+        let (more, new_valid, own, next_typed) = at _ is in
+        record { extends = more; valid = new_valid; there = rw hosts (kept old.store new.store old.hosts more valid there); typed = next_typed }
+    step-typed {new} {configuration'} (opens is enough fuel hosts within) =
+        let (same, next_typed) = at _ is in
+        record { extends = rw same (Extends-same old.store); valid = rw same valid; there = rw (hosts, same) there; typed = next_typed }
+    step-typed {new} {configuration'} (calls is enough fuel told then) =
+        let call = at _ is in
+        let answer = well _ _ _ call.address _ _ old.store new.store _ call.t valid there call.is call.typed told in
+        record {
+          extends = answer.extends;
+          valid = answer.valid;
+          there = answer.there;
+          typed = rw then (configuration-extended old.store new.store valid answer.extends outermost _ results (call.goes_on _ answer.typed));
+        }
+
+    not-stuck : (n : Next) → IsGood old.store outermost results n → IsStuck n → ⊥
+    not-stuck (Goes cost store frame c) fine is = is
+    not-stuck (Grows cost store frame c) fine is = is
+    not-stuck (Opens cost store c) fine is = is
+    not-stuck (CallsHost cost number lent arguments c) fine is = is
+    not-stuck (Traps cost trap) fine is = is
+    not-stuck (Branches label values) (types, there, on_top) is = absurd cc
+    not-stuck (Returns values) (types, there, on_top) is = absurd cc
+    not-stuck (Over values) fine is = is
+    not-stuck NotReady fine is = fine
+
+    stays-typed : (ending : Ending) → EndsWell old.store results ending → EndsTyped HostStep HaveHosts results old ending old
+    stays-typed ending ends = record { extends = Extends-same old.store; valid = valid; there = there; ends = ends }
+
+    end-typed : {ending : Ending} {last : State H} → IsEnd HostStep bound no_frame old configuration ending last → EndsTyped HostStep HaveHosts results old ending last
+    end-typed (values_left {values} is ending_is last_is) =
+        let values_typed : ValuesHaveTypes old.store values (reverse results) = at _ is in
+        rw (last_is, ending_is) (stays-typed _ (rw (reverse-reverse results) at (values-reversed old.store values (reverse results) values_typed)))
+    end-typed (trapped is enough ending_is last_is) = rw (ending_is, last_is) (record { extends = Extends-same old.store; valid = valid; there = there; ends = tt })
+    end-typed {ending} {last} (host_trapped is enough fuel told ending_is) =
+        let call = at _ is in
+        let answer = well _ _ _ call.address _ _ old.store last.store _ call.t valid there call.is call.typed told in
+        rw ending_is (record { extends = answer.extends; valid = answer.valid; there = answer.there; ends = tt })
+    end-typed (no_fuel little ending_is last_is) = rw (ending_is, last_is) (stays-typed _ tt)
+    end-typed (no_depth is enough deep ending_is last_is) = rw (ending_is, last_is) (stays-typed _ tt)
+    end-typed (no_memory ready within enough ending_is last_is) = rw (ending_is, last_is) (stays-typed _ tt)
+    end-typed (stuck is ending_is last_is) = absurd (not-stuck (next old.store no_frame configuration) good is)
+
+  run-typed : {old last : State H} {configuration : Configuration} {ending : Ending} (results : List ValType) → StoreIsValid old.store → HaveHosts old.store old.hosts
+      → ConfigurationHasType old.store outermost configuration results → Run HostStep bound no_frame old configuration ending last → EndsTyped HostStep HaveHosts results old ending last
+  run-typed {old} {last} {configuration} {ending} results valid there typed (end is) = end-typed results old configuration valid there typed is
+  run-typed {old} {last} {configuration} {ending} results valid there typed (step {between = between} first rest) =
+      let more = step-typed results old configuration valid there typed first in
+      let ended = run-typed results more.valid more.there more.typed rest in
+      record { extends = Extends-through old.store between.store last.store more.extends ended.extends; valid = ended.valid; there = ended.there; ends = ended.ends }
+
+pub never-goes-wrong : {H : Type 0} (HostStep : List H → ℕ → Option ℕ → List Val → Store → Answer → Store → List H → Type 0) (HaveHosts : Store → List H → Type 0)
+    → ((old new : Store) (hosts : List H) → Extends old new → StoreIsValid old → HaveHosts old hosts → HaveHosts new hosts)
+    → HostsAnswerWell HostStep HaveHosts → NeverGoesWrong HostStep HaveHosts
+never-goes-wrong HostStep HaveHosts kept well bound old last configuration results ending valid there typed run = run-typed HostStep HaveHosts kept well bound results valid there typed run

@@ -1,0 +1,6 @@
+pub mod Places
+pub mod Stores
+pub mod Configurations
+pub mod Insides
+pub mod Runs
+pub mod Rows

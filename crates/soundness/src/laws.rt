@@ -1,0 +1,49 @@
+//! The laws.
+
+ghost use Rattle.std.specs.Prelude.{◌∷◌, [], List};
+ghost use Rattle.core_types.specs.declared.outcome.Val.TheVariants.{I32, I64};
+ghost use Rattle.core_types.specs.declared.types.ValType.{ValType};
+ghost use Rattle.meaning.specs.execution.Configurations.{Configuration};
+ghost use Rattle.meaning.specs.execution.Runs.{NoHosts};
+ghost use Rattle.meaning.specs.execution.Store.{Store};
+ghost use Rattle.soundness.specs.Configurations.{ConfigurationHasType, StaysGood};
+ghost use Rattle.soundness.specs.Insides.{InsideIsTyped};
+ghost use Rattle.soundness.specs.Places.{Place};
+ghost use Rattle.soundness.specs.Rows.{AddsTyped, adding};
+ghost use Rattle.soundness.specs.Runs.{NeverGoesWrong, NoConditions};
+ghost use Rattle.soundness.specs.Stores.{Extends, StoreIsValid};
+
+/// Law: stores that extend one another in a row extend the first, and what is typed in a valid store is typed in each that extends it.
+pub fn what_is_typed_stays_typed()
+    ensures same { (store : Store) → Extends store store }
+    ensures through { (a b c : Store) → Extends a b → Extends b c → Extends a c }
+    ensures typed { (old new : Store) (place : Place) (c : Configuration) (results : List ValType)
+        → StoreIsValid old → Extends old new → ConfigurationHasType old place c results
+        → ConfigurationHasType new place c results }
+{}
+
+/// Law: a typed configuration in a valid store is over with its results, or steps to one that has them in a valid store that extends it,
+/// or traps, or calls a host function with arguments of its types.
+pub fn typed_configurations_stay_good()
+    ensures { StaysGood }
+{}
+
+/// Law: a bounded run from a typed configuration in a valid store, without host functions, is never stuck and ends with values of its
+/// results, or with a trap or an exhaustion, and the store is valid then and extends the one before.
+pub fn typed_runs_never_go_wrong()
+    ensures { NeverGoesWrong NoHosts NoConditions }
+{}
+
+/// Law: what is inside of a typed configuration is typed in its own frame.
+pub fn the_inside_is_typed()
+    ensures { InsideIsTyped }
+{}
+
+/// Worked row of the definitions: a store with a function that adds is valid, a call of it with two i32 is typed, and one with too few
+/// arguments or an i64 is not.
+pub fn a_call_of_a_function_that_adds_is_typed()
+    ensures valid { StoreIsValid adding }
+    ensures typed { AddsTyped (I32 2 ∷ I32 1 ∷ []) }
+    ensures too_few { AddsTyped (I32 1 ∷ []) → ⊥ }
+    ensures other { AddsTyped (I64 2 ∷ I32 1 ∷ []) → ⊥ }
+{}
