@@ -12,6 +12,8 @@ mod compiled;
 #[cfg(test)]
 mod depths;
 #[cfg(test)]
+mod engine_script;
+#[cfg(test)]
 mod files;
 #[cfg(test)]
 mod lines;
