@@ -19,7 +19,7 @@ use Rattle.meaning.specs.validation.Instructions.{FitsLabel, Frames, HasType, br
 use Rattle.soundness.specs.Configurations.{FrameHasPlace, IsGood}
 use Rattle.soundness.specs.Places.{Place, RunsOn, context_at}
 use Rattle.soundness.specs.Stores.{StoreIsValid}
-use Rattle.soundness.proofs.Effects.{EffectIsGood, Extends-same}
+use Rattle.soundness.proofs.Effects.{EffectIsGood, Follows-same}
 use Rattle.soundness.proofs.Extension.{RunsOn-extended}
 use Rattle.soundness.proofs.Locals.{Works}
 use Rattle.soundness.proofs.Operands.{i32-on-top, known-fits, known-same, known-parts, operands-on-top, taken}
@@ -53,9 +53,9 @@ module _ (store : Store) (place : Place) (frame : Frame) where
   module _ (valid : StoreIsValid store) (own : FrameHasPlace store frame place) (rest : Body) (results : List ValType) where
     goes-on : (stack : List ValType) (e : Effect) → EffectIsGood store place stack e → RunsOn store place rest stack results → IsGood store place results (continue_after frame e rest)
     goes-on stack (Done cost new locals values) (more, new_valid, locals_typed, typed) runs =
-        (more, new_valid, (own.0, locals_typed), (stack, typed, RunsOn-extended store new valid more place rest stack results runs))
+        (more, new_valid, (own.0, locals_typed), (stack, typed, RunsOn-extended store new valid more.extends place rest stack results runs))
     goes-on stack (Grown cost new locals values) (more, new_valid, locals_typed, typed) runs =
-        (more, new_valid, (own.0, locals_typed), (stack, typed, RunsOn-extended store new valid more place rest stack results runs))
+        (more, new_valid, (own.0, locals_typed), (stack, typed, RunsOn-extended store new valid more.extends place rest stack results runs))
     goes-on stack (Fails trap) good runs = tt
     goes-on stack Lacks good runs = absurd good
 
@@ -81,7 +81,7 @@ module _ (store : Store) (place : Place) (frame : Frame) where
         rw top (by n others left)
       where
         by : (n : ℕ) (others : List Val) → ValuesHaveTypes store others (reverse types ++ below) → IsGood store place results (branch_if store frame label (I32 n ∷ others) rest)
-        by zero others left = (Extends-same store, valid, own, (reverse types ++ below, left, runs))
+        by zero others left = (Follows-same store, valid, own, (reverse types ++ below, left, runs))
         by (suc n) others left = (types, is, (below, left))
 
     -- The label that the i32 on top counts carries the types below it.

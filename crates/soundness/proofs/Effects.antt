@@ -19,16 +19,16 @@ use Rattle.meaning.specs.validation.Instructions.{numeric_instruction_type}
 use Rattle.meaning.proofs.lemmas.OperatorRanges.{binary_range, comparison_range, conversion_range, eqz_range, unary_range}
 use Rattle.soundness.specs.Configurations.{FrameHasPlace}
 use Rattle.soundness.specs.Places.{Place}
-use Rattle.soundness.specs.Stores.{Extends, StoreIsValid}
+use Rattle.soundness.specs.Stores.{Extends, Follows, StoreIsValid}
 use Rattle.soundness.proofs.Operands.{i32-on-top, i64-on-top}
 
 -- What an instruction without control must do at a place: give values of these types, over a store that is valid and extended, and
 -- leave the locals their types; or trap.
 abbrev pub EffectIsGood : Store → Place → (stack : List ValType) → Effect → Type 0
 EffectIsGood old place stack (Done cost store locals values) =
-    Extends old store × StoreIsValid store × ValuesHaveTypes store locals place.locals × ValuesHaveTypes store values stack
+    Follows old store × StoreIsValid store × ValuesHaveTypes store locals place.locals × ValuesHaveTypes store values stack
 EffectIsGood old place stack (Grown cost store locals values) =
-    Extends old store × StoreIsValid store × ValuesHaveTypes store locals place.locals × ValuesHaveTypes store values stack
+    Follows old store × StoreIsValid store × ValuesHaveTypes store locals place.locals × ValuesHaveTypes store values stack
 EffectIsGood old place stack (Fails trap) = Unit {0}
 EffectIsGood old place stack Lacks = ⊥
 
@@ -43,10 +43,13 @@ Extends-same store = record {
   datas = λ address d is. (d, is, inl refl);
 }
 
+pub Follows-same : (store : Store) → Follows store store
+Follows-same store = record { extends = Extends-same store; functions = refl }
+
 module _ (store : Store) (valid : StoreIsValid store) (place : Place) (frame : Frame) (own : FrameHasPlace store frame place) where
   -- The store and the locals stay.
   pub stays : (cost : ℕ) (values : List Val) (stack : List ValType) → ValuesHaveTypes store values stack → EffectIsGood store place stack (Done cost store frame.locals values)
-  stays cost values stack typed = (Extends-same store, valid, own.1, typed)
+  stays cost values stack typed = (Follows-same store, valid, own.1, typed)
 
   -- ---- numbers
 

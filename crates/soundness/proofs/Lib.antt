@@ -14,3 +14,10 @@ pub mod Sequences
 pub mod Steps
 pub mod Runs
 pub mod Insides
+pub mod Imports
+pub mod Appends
+pub mod Constants
+pub mod Objects
+pub mod Allocation
+pub mod Tasks
+pub mod Links

@@ -137,7 +137,7 @@ module _ (store : Store) (valid : StoreIsValid store) (place : Place) (frame : F
         let new_valid : MemoryIsValid new = record { size = there.size; bytes_are = fits.0 ∙ there.bytes_are; bytes = fits.1 } in
         let stays : MemoryStays memory new = (omega (arith), refl) in
         leaves store valid place frame own (with_memory store address new) (memory-extends store valid address memory new at stays new_valid)
-        (memory-valid store valid address memory new at stays new_valid) cost values stack typed
+        (memory-valid store valid address memory new at stays new_valid) refl cost values stack typed
 
     overwritten : (offset : ℕ) (new : List ℕ) → AreBytes new → nat_le (offset + length new) (length memory.bytes) ≡ true → Fit (overwrite memory.bytes offset new)
     overwritten offset new bytes is = (overwrite-length memory.bytes offset new (at-most _ _ is), overwrite-all memory.bytes offset IsByte there.bytes new bytes)
@@ -199,7 +199,7 @@ module _ (store : Store) (valid : StoreIsValid store) (place : Place) (frame : F
             } in
             let stays : MemoryStays memory (grow_by memory pages) = (omega (arith), refl) in
             grows store valid place frame own (with_memory store address (grow_by memory pages)) (memory-extends store valid address memory (grow_by memory pages) at stays new_valid)
-            (memory-valid store valid address memory (grow_by memory pages) at stays new_valid) (growth_cost pages) (I32 memory.limits.min ∷ values) (ty.I32 ∷ below) ((refl, size-fits), typed)
+            (memory-valid store valid address memory (grow_by memory pages) at stays new_valid) refl (growth_cost pages) (I32 memory.limits.min ∷ values) (ty.I32 ∷ below) ((refl, size-fits), typed)
 
   -- ---- the memory and the segments of the instance
 
@@ -278,8 +278,7 @@ module _ (store : Store) (valid : StoreIsValid store) (place : Place) (frame : F
     drops values below typed =
         let (address, d, at, held) = found-data in
         rw (own.0, at, held)
-        (leaves store valid place frame own (with_data store address (record { bytes = [] })) (data-dropped-extends store valid address d held) (data-dropped-valid store valid address d held)
-        instruction_cost values below typed)
+        (leaves store valid place frame own (with_data store address (record { bytes = [] })) (data-dropped-extends store valid address d held) (data-dropped-valid store valid address d held) refl instruction_cost values below typed)
 
   pub memory-works : (op : MemoryOp) (operands results : List OperandType) → memory_rule (context_at store place) op operands results → Works store place operands results (memory_or_data_effect store frame op)
   memory-works (memory_op.Load op arg) operands results (has, aligned, type) given known_are = (function_type (ty.I32 ∷ []) (load_type op ∷ []), type, loads has op arg)

@@ -1,18 +1,18 @@
 -- Runs from typed configurations never go wrong.
-use Rattle.std.proofs.Common.{◌≡◌, ℕ, List, reverse, Option, refl, ap, subst, sym, ◌∙◌, arith, inl, inr}
+use Rattle.std.proofs.Common.{◌≡◌, ℕ, List, [], reverse, Option, Some, None, ap, subst, sym, ◌∙◌, arith, slice_get, inl, inr}
 use Rattle.std.proofs.lemmas.List.{reverse-reverse}
 use Rattle.core_types.specs.declared.outcome.Val.{Val}
 use Rattle.core_types.specs.declared.types.GlobalType.{GlobalType}
 use Rattle.core_types.specs.declared.types.ValType.{ValType}
-use Rattle.meaning.specs.execution.Configurations.{Configuration, no_frame}
+use Rattle.meaning.specs.execution.Configurations.{Configuration, Frame}
 use Rattle.meaning.specs.execution.Instructions.{Next, Goes, Grows, Opens, CallsHost, Traps, Branches, Returns, Over, NotReady, next}
 use Rattle.meaning.specs.execution.Runs.{Answer, Ending, IsEnd, IsStep, IsStuck, Run, State, goes, grows, opens, calls, values_left, trapped, host_trapped, no_fuel, no_depth, no_memory, stuck, end, step}
 use Rattle.meaning.specs.execution.Store.{DataInstance, FunctionInstance, GlobalInstance, ModuleInstance, Store}
 use Rattle.meaning.specs.execution.Tables.{ElementInstance}
 use Rattle.meaning.specs.soundness.Values.{ValuesHaveTypes}
 use Rattle.soundness.specs.Configurations.{ConfigurationHasType, FrameHasPlace, IsGood}
-use Rattle.soundness.specs.Places.{outermost}
-use Rattle.soundness.specs.Runs.{EndsTyped, EndsWell, HostsAnswerWell, NeverGoesWrong}
+use Rattle.soundness.specs.Places.{Place}
+use Rattle.soundness.specs.Runs.{EndsTyped, EndsWell, HostsAnswerWell, IsOutside, NeverGoesWrong}
 use Rattle.soundness.specs.Stores.{DataStays, ElementStays, Extends, GlobalStays, Keeps, MemoryStays, StoreIsValid, TableStays}
 use Rattle.soundness.proofs.Effects.{Extends-same}
 use Rattle.soundness.proofs.Extension.{configuration-extended}
@@ -57,33 +57,33 @@ Extends-through a b c first second = record {
 -- ---- steps and ends
 
 module _ {H : Type 0} (HostStep : List H → ℕ → Option ℕ → List Val → Store → Answer → Store → List H → Type 0) (HaveHosts : Store → List H → Type 0)
-    (kept : (old new : Store) (hosts : List H) → Extends old new → StoreIsValid old → HaveHosts old hosts → HaveHosts new hosts)
-    (well : HostsAnswerWell HostStep HaveHosts) (bound : ℕ) where
-  outside : (store : Store) → FrameHasPlace store no_frame outermost
-  outside store = (refl, tt)
+    (kept : (old new : Store) (hosts : List H) → new.functions ≡ old.functions → HaveHosts old hosts → HaveHosts new hosts)
+    (well : HostsAnswerWell HostStep HaveHosts) (bound : ℕ) (frame : Frame) (place : Place) (out : IsOutside frame place) where
+  outside : (store : Store) → FrameHasPlace store frame place
+  outside store = (out.instance, rw (out.frame_locals, out.locals) tt)
 
   -- What a step from a typed configuration leaves.
   record StepsTyped (results : List ValType) (old : State H) (new : State H) (configuration : Configuration) : Type 0 where
     extends : Extends old.store new.store
     valid : StoreIsValid new.store
     there : HaveHosts new.store new.hosts
-    typed : ConfigurationHasType new.store outermost configuration results
+    typed : ConfigurationHasType new.store place configuration results
 
   module _ (results : List ValType) (old : State H) (configuration : Configuration) (valid : StoreIsValid old.store) (there : HaveHosts old.store old.hosts)
-      (typed : ConfigurationHasType old.store outermost configuration results) where
-    good : IsGood old.store outermost results (next old.store no_frame configuration)
-    good = stays-good old.store outermost no_frame configuration results valid (outside old.store) typed
+      (typed : ConfigurationHasType old.store place configuration results) where
+    good : IsGood old.store place results (next old.store frame configuration)
+    good = stays-good old.store place frame configuration results valid (outside old.store) typed
 
-    at : (n : Next) → next old.store no_frame configuration ≡ n → IsGood old.store outermost results n
-    at n is = subst (λ (m : Next). IsGood old.store outermost results m) is good
+    at : (n : Next) → next old.store frame configuration ≡ n → IsGood old.store place results n
+    at n is = subst (λ (m : Next). IsGood old.store place results m) is good
 
-    step-typed : {new : State H} {configuration' : Configuration} → IsStep HostStep bound no_frame old configuration new configuration' → StepsTyped results old new configuration'
+    step-typed : {new : State H} {configuration' : Configuration} → IsStep HostStep bound frame old configuration new configuration' → StepsTyped results old new configuration'
     step-typed {new} {configuration'} (goes is enough fuel hosts) =
         let (more, new_valid, own, next_typed) = at _ is in
-        record { extends = more; valid = new_valid; there = rw hosts (kept old.store new.store old.hosts more valid there); typed = next_typed }
+        record { extends = more.extends; valid = new_valid; there = rw hosts (kept old.store new.store old.hosts more.functions there); typed = next_typed }
     step-typed {new} {configuration'} (grows is enough fuel hosts) =
         let (more, new_valid, own, next_typed) = at _ is in
-        record { extends = more; valid = new_valid; there = rw hosts (kept old.store new.store old.hosts more valid there); typed = next_typed }
+        record { extends = more.extends; valid = new_valid; there = rw hosts (kept old.store new.store old.hosts more.functions there); typed = next_typed }
     step-typed {new} {configuration'} (opens is enough fuel hosts within) =
         let (same, next_typed) = at _ is in
         record { extends = rw same (Extends-same old.store); valid = rw same valid; there = rw (hosts, same) there; typed = next_typed }
@@ -94,24 +94,24 @@ module _ {H : Type 0} (HostStep : List H → ℕ → Option ℕ → List Val →
           extends = answer.extends;
           valid = answer.valid;
           there = answer.there;
-          typed = rw then (configuration-extended old.store new.store valid answer.extends outermost _ results (call.goes_on _ answer.typed));
+          typed = rw then (configuration-extended old.store new.store valid answer.extends place _ results (call.goes_on _ answer.typed));
         }
 
-    not-stuck : (n : Next) → IsGood old.store outermost results n → IsStuck n → ⊥
+    not-stuck : (n : Next) → IsGood old.store place results n → IsStuck n → ⊥
     not-stuck (Goes cost store frame c) fine is = is
     not-stuck (Grows cost store frame c) fine is = is
     not-stuck (Opens cost store c) fine is = is
     not-stuck (CallsHost cost number lent arguments c) fine is = is
     not-stuck (Traps cost trap) fine is = is
-    not-stuck (Branches label values) (types, there, on_top) is = absurd cc
-    not-stuck (Returns values) (types, there, on_top) is = absurd cc
+    not-stuck (Branches label values) (types, named, on_top) is = let none : slice_get [] label ≡ Some types = rw out.labels at named in absurd cc
+    not-stuck (Returns values) (types, named, on_top) is = let none : None ≡ Some types = rw out.results at named in absurd cc
     not-stuck (Over values) fine is = is
     not-stuck NotReady fine is = fine
 
     stays-typed : (ending : Ending) → EndsWell old.store results ending → EndsTyped HostStep HaveHosts results old ending old
     stays-typed ending ends = record { extends = Extends-same old.store; valid = valid; there = there; ends = ends }
 
-    end-typed : {ending : Ending} {last : State H} → IsEnd HostStep bound no_frame old configuration ending last → EndsTyped HostStep HaveHosts results old ending last
+    end-typed : {ending : Ending} {last : State H} → IsEnd HostStep bound frame old configuration ending last → EndsTyped HostStep HaveHosts results old ending last
     end-typed (values_left {values} is ending_is last_is) =
         let values_typed : ValuesHaveTypes old.store values (reverse results) = at _ is in
         rw (last_is, ending_is) (stays-typed _ (rw (reverse-reverse results) at (values-reversed old.store values (reverse results) values_typed)))
@@ -123,10 +123,10 @@ module _ {H : Type 0} (HostStep : List H → ℕ → Option ℕ → List Val →
     end-typed (no_fuel little ending_is last_is) = rw (ending_is, last_is) (stays-typed _ tt)
     end-typed (no_depth is enough deep ending_is last_is) = rw (ending_is, last_is) (stays-typed _ tt)
     end-typed (no_memory ready within enough ending_is last_is) = rw (ending_is, last_is) (stays-typed _ tt)
-    end-typed (stuck is ending_is last_is) = absurd (not-stuck (next old.store no_frame configuration) good is)
+    end-typed (stuck is ending_is last_is) = absurd (not-stuck (next old.store frame configuration) good is)
 
   run-typed : {old last : State H} {configuration : Configuration} {ending : Ending} (results : List ValType) → StoreIsValid old.store → HaveHosts old.store old.hosts
-      → ConfigurationHasType old.store outermost configuration results → Run HostStep bound no_frame old configuration ending last → EndsTyped HostStep HaveHosts results old ending last
+      → ConfigurationHasType old.store place configuration results → Run HostStep bound frame old configuration ending last → EndsTyped HostStep HaveHosts results old ending last
   run-typed {old} {last} {configuration} {ending} results valid there typed (end is) = end-typed results old configuration valid there typed is
   run-typed {old} {last} {configuration} {ending} results valid there typed (step {between = between} first rest) =
       let more = step-typed results old configuration valid there typed first in
@@ -134,6 +134,6 @@ module _ {H : Type 0} (HostStep : List H → ℕ → Option ℕ → List Val →
       record { extends = Extends-through old.store between.store last.store more.extends ended.extends; valid = ended.valid; there = ended.there; ends = ended.ends }
 
 pub never-goes-wrong : {H : Type 0} (HostStep : List H → ℕ → Option ℕ → List Val → Store → Answer → Store → List H → Type 0) (HaveHosts : Store → List H → Type 0)
-    → ((old new : Store) (hosts : List H) → Extends old new → StoreIsValid old → HaveHosts old hosts → HaveHosts new hosts)
+    → ((old new : Store) (hosts : List H) → new.functions ≡ old.functions → HaveHosts old hosts → HaveHosts new hosts)
     → HostsAnswerWell HostStep HaveHosts → NeverGoesWrong HostStep HaveHosts
-never-goes-wrong HostStep HaveHosts kept well bound old last configuration results ending valid there typed run = run-typed HostStep HaveHosts kept well bound results valid there typed run
+never-goes-wrong HostStep HaveHosts kept well bound frame place old last configuration results ending out valid there typed run = run-typed HostStep HaveHosts kept well bound frame place out results valid there typed run

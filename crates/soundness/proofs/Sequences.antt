@@ -35,7 +35,7 @@ use Rattle.soundness.specs.Places.{Place, RunsOn, context_at, inside_label}
 use Rattle.soundness.specs.Stores.{StoreIsValid, TableIsValid}
 use Rattle.soundness.proofs.Calls.{function-called}
 use Rattle.soundness.proofs.Control.{branches-by-table, branches-if, does, types-on-top}
-use Rattle.soundness.proofs.Effects.{Extends-same, numeric-good, stays}
+use Rattle.soundness.proofs.Effects.{Follows-same, numeric-good, stays}
 use Rattle.soundness.proofs.Extension.{instance-valid, types-found}
 use Rattle.soundness.proofs.Locals.{parametric-works, reference-works, selects}
 use Rattle.soundness.proofs.Memories.{memory-works}
@@ -94,7 +94,7 @@ module _ (store : Store) (valid : StoreIsValid store) (place : Place) (frame : F
       let runs : RunsOn store (inside_label place (label_types kind s)) inside (reverse s.params) s.results = rw (reverse-reverse s.params) inner in
       rw (if-at-most (length s.params) (length values)
       (Goes instruction_cost store frame (InLabel (label_of kind type s inside values rest) (Running (take (length s.params) values) inside))) NotReady enough)
-      (Extends-same store, valid, own, (below, s.results, label_types kind s, refl, parts.1, (reverse s.params, parts.0, runs), onward, again))
+      (Follows-same store, valid, own, (below, s.results, label_types kind s, refl, parts.1, (reverse s.params, parts.0, runs), onward, again))
 
   -- A loop again, on the values that a branch to it carries.
   again-typed : (kind : Kind) (type : BlockType) (s : FuncType) (inside rest : Body) (below : List ValType) → block_type (context_at store place).types type ≡ Some s

@@ -14,7 +14,7 @@ use Rattle.soundness.specs.Configurations.{ConfigurationHasType, FrameHasPlace, 
 use Rattle.soundness.specs.Places.{Place, RunsOn, inside_frame, inside_label}
 use Rattle.soundness.specs.Stores.{Extends, StoreIsValid}
 use Rattle.soundness.proofs.Calls.{empty-runs, function-called}
-use Rattle.soundness.proofs.Effects.{Extends-same}
+use Rattle.soundness.proofs.Effects.{Extends-same, Follows-same}
 use Rattle.soundness.proofs.Extension.{RunsOn-extended, functions-more}
 use Rattle.soundness.proofs.Sequences.{sequences}
 use Rattle.soundness.proofs.Values.{values-extended, values-joined, values-length, values-parts}
@@ -52,15 +52,15 @@ module _ (store : Store) (valid : StoreIsValid store) (place : Place) (frame : F
           if-at-most (length carried) (length kept) (Goes instruction_cost store frame (Running (take (length carried) kept ++ label.values) (continue_with label.continuation label.rest))) NotReady
               (kept-enough store kept carried under kept_values),
         ) (
-          Extends-same store,
+          Follows-same store,
           valid,
           own,
           (reverse carried ++ stack, values-joined store (take (length carried) kept) label.values (reverse carried) stack (kept-typed store kept carried under kept_values) typed, again),
         )
 
     labelled : (inner : Next) → IsGood store (inside_label place carried) given inner → IsGood store place results (step_in_label store frame label inner)
-    labelled (Goes cost new frame' inside) (more, new_valid, own', inner) = (more, new_valid, own', around new more inside inner)
-    labelled (Grows cost new frame' inside) (more, new_valid, own', inner) = (more, new_valid, own', around new more inside inner)
+    labelled (Goes cost new frame' inside) (more, new_valid, own', inner) = (more, new_valid, own', around new more.extends inside inner)
+    labelled (Grows cost new frame' inside) (more, new_valid, own', inner) = (more, new_valid, own', around new more.extends inside inner)
     labelled (Opens cost new inside) (same, inner) = (same, around new (rw same (Extends-same store)) inside inner)
     labelled (CallsHost cost number lent arguments inside) good = record {
       t = good.t;
@@ -76,7 +76,7 @@ module _ (store : Store) (valid : StoreIsValid store) (place : Place) (frame : F
     labelled (Branches (suc further) kept) good = good
     labelled (Returns kept) good = good
     labelled (Over values) values_typed =
-        (Extends-same store, valid, own, (reverse given ++ stack, values-joined store values label.values (reverse given) stack values_typed typed, onward))
+        (Follows-same store, valid, own, (reverse given ++ stack, values-joined store values label.values (reverse given) stack values_typed typed, onward))
     labelled NotReady good = absurd good
 
   -- ---- frames
@@ -101,8 +101,8 @@ module _ (store : Store) (valid : StoreIsValid store) (place : Place) (frame : F
 
     in-frame : (own_locals : ValuesHaveTypes store inner_frame.locals locals) (inner : Next) → IsGood store (inside_frame inner_frame.instance locals given) given inner
         → IsGood store place results (step_in_frame store frame activation inner_frame inner)
-    in-frame own_locals (Goes cost new frame' inside) (more, new_valid, own', inner) = (more, new_valid, outside new more, framed new more frame' own' inside inner)
-    in-frame own_locals (Grows cost new frame' inside) (more, new_valid, own', inner) = (more, new_valid, outside new more, framed new more frame' own' inside inner)
+    in-frame own_locals (Goes cost new frame' inside) (more, new_valid, own', inner) = (more, new_valid, outside new more.extends, framed new more.extends frame' own' inside inner)
+    in-frame own_locals (Grows cost new frame' inside) (more, new_valid, own', inner) = (more, new_valid, outside new more.extends, framed new more.extends frame' own' inside inner)
     in-frame own_locals (Opens cost new inside) (same, inner) =
         let more : Extends store new = rw same (Extends-same store) in
         (same, framed new more inner_frame (refl, values-extended store new (functions-more store new valid more) inner_frame.locals locals own_locals) inside inner)
@@ -123,13 +123,13 @@ module _ (store : Store) (valid : StoreIsValid store) (place : Place) (frame : F
           if-at-most (length given) (length kept) (Goes instruction_cost store frame (Running (take (length given) kept ++ activation.values) activation.rest)) NotReady
               (kept-enough store kept given under values_typed),
         ) (
-          Extends-same store,
+          Follows-same store,
           valid,
           own,
           (reverse given ++ stack, values-joined store (take (length given) kept) activation.values (reverse given) stack (kept-typed store kept given under values_typed) typed, onward),
         )
     in-frame own_locals (Over values) values_typed =
-        (Extends-same store, valid, own, (reverse given ++ stack, values-joined store values activation.values (reverse given) stack values_typed typed, onward))
+        (Follows-same store, valid, own, (reverse given ++ stack, values-joined store values activation.values (reverse given) stack values_typed typed, onward))
     in-frame own_locals NotReady good = absurd good
 
 -- ---- all of them

@@ -77,7 +77,7 @@ module _ (store : Store) (valid : StoreIsValid store) (place : Place) (frame : F
         let new_valid : TableIsValid store new = record { size = there.size; entries_are = fits.0 ∙ there.entries_are; entries = fits.1 } in
         let stays : TableStays table new = (refl, (omega (arith), refl)) in
         leaves store valid place frame own (with_table store address new) (table-extends store valid address table new at stays new_valid)
-        (table-valid store valid address table new at stays new_valid) cost values stack typed
+        (table-valid store valid address table new at stays new_valid) refl cost values stack typed
 
     written-entry : (i : ℕ) (v : Val) → ValueHasType store v (reference_type table.ty.element) → IfOk (write_entry table.entries i v) Fit
     written-entry i v fits = by (nat_lt i (length table.entries))
@@ -137,7 +137,7 @@ module _ (store : Store) (valid : StoreIsValid store) (place : Place) (frame : F
             } in
             let stays : TableStays table (grow_entries table v count) = (refl, (omega (arith), refl)) in
             grows store valid place frame own (with_table store address (grow_entries table v count)) (table-extends store valid address table (grow_entries table v count) at stays new_valid)
-            (table-valid store valid address table (grow_entries table v count) at stays new_valid) (entries_cost count) (I32 table.ty.limits.min ∷ values) (ty.I32 ∷ below) ((refl, size-fits), typed)
+            (table-valid store valid address table (grow_entries table v count) at stays new_valid) refl (entries_cost count) (I32 table.ty.limits.min ∷ values) (ty.I32 ∷ below) ((refl, size-fits), typed)
 
   -- ---- tables and segments of the instance
 
@@ -217,8 +217,7 @@ module _ (store : Store) (valid : StoreIsValid store) (place : Place) (frame : F
     drops values below typed =
         let (address, e, at, held, same) = found-elements in
         rw (own.0, at, held)
-        (leaves store valid place frame own (with_elements store address (record { ty = e.ty; references = [] })) (elements-dropped-extends store valid address e held) (elements-dropped-valid store valid address e held)
-        instruction_cost values below typed)
+        (leaves store valid place frame own (with_elements store address (record { ty = e.ty; references = [] })) (elements-dropped-extends store valid address e held) (elements-dropped-valid store valid address e held) refl instruction_cost values below typed)
 
   pub table-works : (op : TableOp) (operands results : List OperandType) → table_rule (context_at store place) op operands results → Works store place operands results (table_or_elements_effect store frame op)
   table-works (table_op.Get x) operands results (t, is, type) given known_are = (function_type (ty.I32 ∷ []) (reference_type t ∷ []), type, gets x t is)

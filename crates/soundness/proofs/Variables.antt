@@ -17,7 +17,7 @@ use Rattle.meaning.specs.validation.Types.{function_type}
 use Rattle.soundness.specs.Configurations.{FrameHasPlace}
 use Rattle.soundness.specs.Places.{Place, context_at}
 use Rattle.soundness.specs.Stores.{GlobalIsValid, GlobalStays, StoreIsValid}
-use Rattle.soundness.proofs.Effects.{EffectIsGood, Extends-same, stays}
+use Rattle.soundness.proofs.Effects.{EffectIsGood, Follows-same, stays}
 use Rattle.soundness.proofs.Extension.{instance-valid, types-found}
 use Rattle.soundness.proofs.Locals.{Works, WorksAs, if-below}
 use Rattle.soundness.proofs.Operands.{value-on-top}
@@ -41,7 +41,7 @@ module _ (store : Store) (valid : StoreIsValid store) (place : Place) (frame : F
       let (w, at, w_typed) = values-at store frame.locals place.locals x t own.1 is in
       let inside : x < length frame.locals = slice_get_within frame.locals x w at in
       rw (if-below x (length frame.locals) (Done instruction_cost store (slice_set frame.locals x v) values) Lacks inside)
-      (Extends-same store, valid, values-set store frame.locals place.locals x t v own.1 is v_typed, typed)
+      (Follows-same store, valid, values-set store frame.locals place.locals x t v own.1 is v_typed, typed)
 
   local-sets : (x : ℕ) (t : ValType) → slice_get place.locals x ≡ Some t → WorksAs store place (function_type (t ∷ []) []) (variable_effect store frame (LocalSet x))
   local-sets x t at values below typed =
@@ -73,7 +73,7 @@ module _ (store : Store) (valid : StoreIsValid store) (place : Place) (frame : F
         let stays : GlobalStays g (record { ty = g.ty; value = v }) = (refl, λ constant. absurd cc) in
         rw (top, own.0, at, is)
         (leaves store valid place frame own (with_global store address (record { ty = g.ty; value = v })) (global-extends store valid address g v is stays fits)
-        (global-valid store valid address g v is stays fits) instruction_cost rest below left)
+        (global-valid store valid address g v is stays fits) refl instruction_cost rest below left)
 
   pub variable-works : (op : VariableOp) (operands results : List OperandType) → variable_rule (context_at store place) op operands results → Works store place operands results (variable_effect store frame op)
   variable-works (LocalGet x) operands results (t, is, type) given known_are = (function_type [] (t ∷ []), type, local-gets x t is)

@@ -222,11 +222,11 @@ module _ (store : Store) (valid : StoreIsValid store) (address : ℕ) where
 -- ---- effects
 
 -- After a step to another store, which is valid and extends the one before, typed values and locals are typed still.
-module _ (store : Store) (valid : StoreIsValid store) (place : Place) (frame : Frame) (own : FrameHasPlace store frame place) (new : Store) (more : Extends store new) (new_valid : StoreIsValid new) where
+module _ (store : Store) (valid : StoreIsValid store) (place : Place) (frame : Frame) (own : FrameHasPlace store frame place) (new : Store) (more : Extends store new) (new_valid : StoreIsValid new) (same : new.functions ≡ store.functions) where
   pub leaves : (cost : ℕ) (values : List Val) (stack : List ValType) → ValuesHaveTypes store values stack → EffectIsGood store place stack (Done cost new frame.locals values)
   leaves cost values stack typed =
       let longer = functions-more store new valid more in
-      (more, new_valid, values-extended store new longer frame.locals place.locals own.1, values-extended store new longer values stack typed)
+      (record { extends = more; functions = same }, new_valid, values-extended store new longer frame.locals place.locals own.1, values-extended store new longer values stack typed)
 
   pub grows : (cost : ℕ) (values : List Val) (stack : List ValType) → ValuesHaveTypes store values stack → EffectIsGood store place stack (Grown cost new frame.locals values)
   grows cost values stack typed = leaves cost values stack typed

@@ -10,7 +10,7 @@ use Rattle.meaning.specs.execution.Instructions.{Next, Goes, Grows, Opens, Calls
 use Rattle.meaning.specs.execution.Store.{FunctionInstance, InHost, Store}
 use Rattle.meaning.specs.soundness.Values.{ValuesHaveTypes}
 use Rattle.soundness.specs.Places.{Place, RunsOn, inside_frame, inside_label}
-use Rattle.soundness.specs.Stores.{Extends, StoreIsValid}
+use Rattle.soundness.specs.Stores.{Follows, StoreIsValid}
 
 -- Results on these values, with which the rest leads on.
 abbrev pub GoesOnWith : Store → Place → Body → (given stack results : List ValType) → Type 0
@@ -63,10 +63,10 @@ HasOnTop store values types =
 -- host function; trap; branch or return with what the label or the frame takes; or be over, with the results.
 abbrev pub IsGood : Store → Place → (results : List ValType) → Next → Type 0
 IsGood old place results (Goes cost store frame configuration) =
-    Extends old store × StoreIsValid store × FrameHasPlace store frame place ×
+    Follows old store × StoreIsValid store × FrameHasPlace store frame place ×
     ConfigurationHasType store place configuration results
 IsGood old place results (Grows cost store frame configuration) =
-    Extends old store × StoreIsValid store × FrameHasPlace store frame place ×
+    Follows old store × StoreIsValid store × FrameHasPlace store frame place ×
     ConfigurationHasType store place configuration results
 IsGood old place results (Opens cost store configuration) =
     (store ≡ old) × ConfigurationHasType store place configuration results

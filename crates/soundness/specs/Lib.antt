@@ -3,4 +3,5 @@ pub mod Stores
 pub mod Configurations
 pub mod Insides
 pub mod Runs
+pub mod Links
 pub mod Rows

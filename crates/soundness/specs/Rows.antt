@@ -1,5 +1,7 @@
--- Worked rows: a valid store with a function that adds, and calls of it.
-use Rattle.std.specs.Prelude.{List, [], ◌∷◌}
+-- Worked rows: a valid store with a function that adds, and calls of it; a module that can be linked.
+use Rattle.std.specs.Prelude.{ℕ, List, [], ◌∷◌, None}
+use Rattle.core_types.specs.declared.module.DataMode.TheVariants.{Passive}
+use Rattle.core_types.specs.declared.module.Module.{Module}
 use Rattle.core_types.specs.declared.outcome.Val.{Val}
 use Rattle.core_types.specs.declared.types.ValType.TheVariants as ty
 use Rattle.meaning.specs.execution.Configurations.{Invoking}
@@ -14,3 +16,18 @@ adding = instance_of_two adder nothing
 -- A call of the function that adds, with these arguments, leads to one i32.
 abbrev pub AddsTyped : (arguments : List Val) → Type 0
 AddsTyped arguments = ConfigurationHasType adding outermost (Invoking arguments 0) (ty.I32 ∷ [])
+
+-- A module with a memory of one page and a passive data segment of these bytes.
+abbrev pub storing : (bytes : List ℕ) → Module
+storing bytes = record {
+  types = [];
+  imports = [];
+  funcs = [];
+  tables = [];
+  memories = record { min = 1; max = None } ∷ [];
+  globals = [];
+  exports = [];
+  start = None;
+  elements = [];
+  datas = record { bytes = bytes; mode = Passive } ∷ [];
+}

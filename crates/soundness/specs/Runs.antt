@@ -1,14 +1,14 @@
 -- Runs from typed configurations (Appendix, Soundness, Theorems).
-use Rattle.std.specs.Prelude.{◌≡◌, ℕ, List, Option, Some, slice_get}
+use Rattle.std.specs.Prelude.{◌≡◌, ℕ, List, [], Option, Some, None, slice_get}
 use Rattle.core_types.specs.declared.outcome.Val.{Val}
 use Rattle.core_types.specs.declared.types.FuncType.{FuncType}
 use Rattle.core_types.specs.declared.types.ValType.{ValType}
-use Rattle.meaning.specs.execution.Configurations.{Configuration, no_frame}
+use Rattle.meaning.specs.execution.Configurations.{Configuration, Frame}
 use Rattle.meaning.specs.execution.Runs.{Answer, Results, HostTrap, Ending, WithValues, WithTrap, OutOfFuel, OutOfDepth, OutOfMemory, GotStuck, Run, State}
 use Rattle.meaning.specs.execution.Store.{InHost, Store}
 use Rattle.meaning.specs.soundness.Values.{ValuesHaveTypes}
 use Rattle.soundness.specs.Configurations.{ConfigurationHasType}
-use Rattle.soundness.specs.Places.{outermost}
+use Rattle.soundness.specs.Places.{Place}
 use Rattle.soundness.specs.Stores.{Extends, StoreIsValid}
 
 -- Results are of these types. A trap has none.
@@ -24,6 +24,14 @@ EndsWell store results OutOfFuel = Unit {0}
 EndsWell store results OutOfDepth = Unit {0}
 EndsWell store results OutOfMemory = Unit {0}
 EndsWell store results GotStuck = ⊥
+
+-- A frame without locals, which is that of the place.
+pub record IsOutside (frame : Frame) (place : Place) : Type 0 where
+  pub instance : frame.instance ≡ place.instance
+  pub frame_locals : frame.locals ≡ []
+  pub locals : place.locals ≡ []
+  pub labels : place.labels ≡ []
+  pub results : place.results ≡ None
 
 module _ {H : Type 0} (HostStep : List H → ℕ → Option ℕ → List Val → Store → Answer → Store
     → List H → Type 0) (HaveHosts : Store → List H → Type 0) where
@@ -53,13 +61,14 @@ module _ {H : Type 0} (HostStep : List H → ℕ → Option ℕ → List Val →
     pub there : HaveHosts last.store last.hosts
     pub ends : EndsWell last.store results ending
 
-  -- A run from a typed configuration in a valid store never goes wrong.
+  -- A run from a typed configuration in a valid store never goes wrong. The frame outside is that of the place, around which there is
+  -- neither a label nor a frame.
   abbrev pub NeverGoesWrong : Type 0
-  NeverGoesWrong = (bound : ℕ) (old last : State H) (configuration : Configuration)
-      (results : List ValType) (ending : Ending)
-      → StoreIsValid old.store → HaveHosts old.store old.hosts
-      → ConfigurationHasType old.store outermost configuration results
-      → Run HostStep bound no_frame old configuration ending last
+  NeverGoesWrong = (bound : ℕ) (frame : Frame) (place : Place) (old last : State H)
+      (configuration : Configuration) (results : List ValType) (ending : Ending)
+      → IsOutside frame place → StoreIsValid old.store → HaveHosts old.store old.hosts
+      → ConfigurationHasType old.store place configuration results
+      → Run HostStep bound frame old configuration ending last
       → EndsTyped results old ending last
 
 -- No condition on host functions.

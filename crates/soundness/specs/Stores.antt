@@ -124,3 +124,8 @@ pub record Extends (old new : Store) : Type 0 where
   pub globals : Keeps GlobalStays old.globals new.globals
   pub elements : Keeps ElementStays old.elements new.elements
   pub datas : Keeps DataStays old.datas new.datas
+
+-- What a step of code does to a store: it extends it, and adds no function.
+pub record Follows (old new : Store) : Type 0 where
+  pub extends : Extends old new
+  pub functions : new.functions ≡ old.functions

@@ -2,16 +2,20 @@
 
 ghost use Rattle.std.specs.Prelude.{◌∷◌, [], List};
 ghost use Rattle.core_types.specs.declared.outcome.Val.TheVariants.{I32, I64};
+ghost use Rattle.core_types.specs.declared.outcome.Extern.{Extern};
 ghost use Rattle.core_types.specs.declared.types.ValType.{ValType};
 ghost use Rattle.meaning.specs.execution.Configurations.{Configuration};
 ghost use Rattle.meaning.specs.execution.Runs.{NoHosts};
 ghost use Rattle.meaning.specs.execution.Store.{Store};
 ghost use Rattle.soundness.specs.Configurations.{ConfigurationHasType, StaysGood};
 ghost use Rattle.soundness.specs.Insides.{InsideIsTyped};
+ghost use Rattle.soundness.specs.Links.{AllocationKeepsValid, IsLinkable, LinksNeverGoWrong};
 ghost use Rattle.soundness.specs.Places.{Place};
-ghost use Rattle.soundness.specs.Rows.{AddsTyped, adding};
+ghost use Rattle.soundness.specs.Rows.{AddsTyped, adding, storing};
 ghost use Rattle.soundness.specs.Runs.{NeverGoesWrong, NoConditions};
 ghost use Rattle.soundness.specs.Stores.{Extends, StoreIsValid};
+
+use meaning::writing_is_read;
 
 /// Law: stores that extend one another in a row extend the first, and what is typed in a valid store is typed in each that extends it.
 pub fn what_is_typed_stays_typed()
@@ -34,6 +38,21 @@ pub fn typed_runs_never_go_wrong()
     ensures { NeverGoesWrong NoHosts NoConditions }
 {}
 
+/// Law: a module whose imports fit, linked into a valid store, leaves it valid with the module's objects appended.
+pub fn allocation_keeps_stores_valid()
+    ensures { AllocationKeepsValid }
+{
+    writing_is_read();
+}
+
+/// Law: a link, without host functions, of a valid module whose imports fit, into a valid store, is never stuck: its constants have
+/// values, its segments and its start function end well, and the store is valid then and extends the one before.
+pub fn links_never_go_wrong()
+    ensures { LinksNeverGoWrong NoHosts NoConditions }
+{
+    writing_is_read();
+}
+
 /// Law: what is inside of a typed configuration is typed in its own frame.
 pub fn the_inside_is_typed()
     ensures { InsideIsTyped }
@@ -46,4 +65,12 @@ pub fn a_call_of_a_function_that_adds_is_typed()
     ensures typed { AddsTyped (I32 2 ∷ I32 1 ∷ []) }
     ensures too_few { AddsTyped (I32 1 ∷ []) → ⊥ }
     ensures other { AddsTyped (I64 2 ∷ I32 1 ∷ []) → ⊥ }
+{}
+
+/// Worked row of the definitions: a module with a memory and a data segment can be linked, but not with a number that is no byte, nor
+/// where more is given than it imports.
+pub fn a_module_of_bytes_can_be_linked()
+    ensures linkable { IsLinkable adding (storing (255 ∷ [])) [] }
+    ensures no_byte { IsLinkable adding (storing (256 ∷ [])) [] → ⊥ }
+    ensures too_many { (given : Extern) → IsLinkable adding (storing []) (given ∷ []) → ⊥ }
 {}
