@@ -284,19 +284,19 @@ module _ (old : Store) (m : Module) (given : List Extern) (linkable : IsLinkable
         pub store-valid : StoreIsValid new
         store-valid = record {
           functions = All-append (FunctionIsValid new) old.functions (map (new_function (length old.instances) m) m.funcs) (functions-still old new valid extends old.functions valid.functions)
-              (All-map (FunctionIsValid new) (IsValidFunction m) (new_function (length old.instances) m) function-made m.funcs linkable.valid.bodies);
+              (All-map (FunctionIsValid new) (IsValidFunction m) (new_function (length old.instances) m) function-made m.funcs linkable.sound.valid.bodies);
           instances = All-append (InstanceIsValid new) old.instances (instance ∷ []) (instances-still old new valid extends old.instances valid.instances) (All-replicate (InstanceIsValid new) 1 instance instance-valid-now);
           tables = All-append (TableIsValid new) old.tables (map new_table m.tables) (tables-still old new valid extends old.tables valid.tables)
               (All-map (TableIsValid new) (λ (t : TableType). AreOrdered t.limits × (t.limits.min ≤ most_entries)) new_table table-made m.tables
-              (λ k d inside. (of-own (λ (t : TableType). AreOrdered t.limits) (imported_tables m.imports) m.tables linkable.valid.table_limits k d inside, linkable.few_entries k d inside)));
+              (λ k d inside. (of-own (λ (t : TableType). AreOrdered t.limits) (imported_tables m.imports) m.tables linkable.sound.valid.table_limits k d inside, linkable.sound.few_entries k d inside)));
           memories = All-append MemoryIsValid old.memories (map new_memory m.memories) valid.memories
               (All-map MemoryIsValid (λ (l : Limits). AreOrdered l × AreFewPages l) new_memory memory-made m.memories
-              (λ k d inside. (of-own AreOrdered (imported_memories m.imports) m.memories linkable.valid.memory_limits k d inside, of-own AreFewPages (imported_memories m.imports) m.memories linkable.valid.memory_pages k d inside)));
+              (λ k d inside. (of-own AreOrdered (imported_memories m.imports) m.memories linkable.sound.valid.memory_limits k d inside, of-own AreFewPages (imported_memories m.imports) m.memories linkable.sound.valid.memory_pages k d inside)));
           globals = All-append (GlobalIsValid new) old.globals gs (globals-still old new valid extends old.globals valid.globals)
-              (made-all (new_global old instance) (GlobalIsValid new) (λ (g : Global). IsConstantExpression (constant_context m) g.init g.ty.value) global-made m.globals gs linkable.valid.globals globals_made);
+              (made-all (new_global old instance) (GlobalIsValid new) (λ (g : Global). IsConstantExpression (constant_context m) g.init g.ty.value) global-made m.globals gs linkable.sound.valid.globals globals_made);
           elements = All-append (ElementIsValid new) old.elements es (elements-still old new valid extends old.elements valid.elements)
-              (made-all (new_elements old instance) (ElementIsValid new) (IsValidElement m) elements-made-valid m.elements es linkable.valid.elements elements_made);
-          datas = All-append DataIsValid old.datas (map new_data m.datas) valid.datas (All-map DataIsValid (λ (d : DataSegment). AreBytes d.bytes) new_data (λ d bytes. bytes) m.datas linkable.bytes);
+              (made-all (new_elements old instance) (ElementIsValid new) (IsValidElement m) elements-made-valid m.elements es linkable.sound.valid.elements elements_made);
+          datas = All-append DataIsValid old.datas (map new_data m.datas) valid.datas (All-map DataIsValid (λ (d : DataSegment). AreBytes d.bytes) new_data (λ d bytes. bytes) m.datas linkable.sound.bytes);
         }
 
 pub allocation-keeps-valid : ((b : Body) → body_of (writing b) ≡ b) → AllocationKeepsValid

@@ -21,3 +21,6 @@ pub mod Objects
 pub mod Allocation
 pub mod Tasks
 pub mod Links
+pub mod Hosts
+pub mod Embedding
+pub mod Creation

@@ -61,7 +61,7 @@ module _ (old : Store) (m : Module) (given : List Extern) (linkable : IsLinkable
   globals-found : (gs : List GlobalInstance) × (map_all (new_global old instance) m.globals ≡ Some gs)
   globals-found = all-found (new_global old instance) m.globals (λ k d inside.
       let g = get_or m.globals k d in
-      let (v, is) = value-found g.init g.ty.value (linkable.valid.globals k d inside) in
+      let (v, is) = value-found g.init g.ty.value (linkable.sound.valid.globals k d inside) in
       (record { ty = g.ty; value = v }, ap (option_map (λ (v : Val). record { ty = g.ty; value = v })) is))
 
   references-found : (t : RefType) (items : ElementItems) → HasItemsOfType m t items → (vs : List Val) × (references old instance items ≡ Some vs)
@@ -74,7 +74,7 @@ module _ (old : Store) (m : Module) (given : List Extern) (linkable : IsLinkable
   elements-found : (es : List ElementInstance) × (map_all (new_elements old instance) m.elements ≡ Some es)
   elements-found = all-found (new_elements old instance) m.elements (λ k d inside.
       let e = get_or m.elements k d in
-      let (vs, is) = references-found e.ty e.items (linkable.valid.elements k d inside).items in
+      let (vs, is) = references-found e.ty e.items (linkable.sound.valid.elements k d inside).items in
       (record { ty = e.ty; references = vs }, ap (option_map (λ (vs : List Val). record { ty = e.ty; references = vs })) is))
 
 -- ---- what is run is typed
@@ -228,7 +228,7 @@ links-never-go-wrong read HostStep HaveHosts kept linked well bound m given old 
     let grown : Extends old.store now = rw same (extends old.store m given linkable gs es) in
     let ran = tasks-run HostStep HaveHosts kept well bound now (length old.store.instances) (new_instance old.store m given) (TaskIsTyped m)
     (λ at at_valid more task typed. task-now old.store m given linkable gs es globals_made elements_made made same now_valid at at_valid more task typed)
-    (tasks_of m) (tasks-typed m linkable.valid) now_valid (linked old.store m (new_instance old.store m given) made old.hosts there) (Extends-same now) run in
+    (tasks_of m) (tasks-typed m linkable.sound.valid) now_valid (linked old.store m (new_instance old.store m given) made old.hosts there) (Extends-same now) run in
     record { extends = Extends-through old.store now new.store grown ran.extends; valid = ran.valid; there = ran.there; ends = ran.ends }
 links-never-go-wrong read HostStep HaveHosts kept linked well bound m given old new ending valid there linkable (without_value none ending_is new_is) =
     let (gs, first) = globals-found old.store m given linkable in

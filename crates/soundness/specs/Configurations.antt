@@ -1,5 +1,5 @@
--- Typed configurations (Appendix, Soundness, Configuration Validity and Administrative Instructions). Values are listed from the top,
--- and so are the types of a stack of values; results have the top last.
+-- Typed configurations (Appendix, Soundness, Configuration Validity and Administrative Instructions). Values are listed from
+-- the top, and so are the types of a stack of values; results have the top last.
 use Rattle.std.specs.Prelude.{◌≡◌, ℕ, List, ◌++◌, length, reverse, Some, slice_get}
 use Rattle.core_types.specs.declared.outcome.Val.{Val}
 use Rattle.core_types.specs.declared.types.FuncType.{FuncType}
@@ -42,8 +42,8 @@ abbrev pub FrameHasPlace : Store → Frame → Place → Type 0
 FrameHasPlace store frame place =
     (frame.instance ≡ place.instance) × ValuesHaveTypes store frame.locals place.locals
 
--- A call of the host function of a number gets arguments of its type, and with any results of its type the configuration that takes
--- them leads on.
+-- A call of the host function of a number gets arguments of its type, and with any results of its type the configuration that
+-- takes them leads on.
 pub record HostCallIsGood (store : Store) (place : Place) (number : ℕ) (arguments : List Val)
     (waiting : Configuration) (results : List ValType) : Type 0 where
   pub t : FuncType
@@ -59,8 +59,8 @@ abbrev pub HasOnTop : Store → List Val → (types : List ValType) → Type 0
 HasOnTop store values types =
     (stack : List ValType) × ValuesHaveTypes store values (reverse types ++ stack)
 
--- What a configuration with these results must do next: step to one that has them, over a store that is valid and extended; call a
--- host function; trap; branch or return with what the label or the frame takes; or be over, with the results.
+-- What a configuration with these results must do next: step to one that has them, over a store that is valid and extended;
+-- call a host function; trap; branch or return with what the label or the frame takes; or be over, with the results.
 abbrev pub IsGood : Store → Place → (results : List ValType) → Next → Type 0
 IsGood old place results (Goes cost store frame configuration) =
     Follows old store × StoreIsValid store × FrameHasPlace store frame place ×

@@ -4,4 +4,6 @@ pub mod Configurations
 pub mod Insides
 pub mod Runs
 pub mod Links
+pub mod Hosts
+pub mod Embedding
 pub mod Rows

@@ -14,14 +14,17 @@ use Rattle.meaning.specs.validation.Modules.{IsValid}
 use Rattle.soundness.specs.Runs.{EndsTyped}
 use Rattle.soundness.specs.Stores.{AreBytes, Extends, StoreIsValid}
 
--- A valid module, with what is given for its imports. Its numbers fit: no table has more entries than any may have, and its data are
--- bytes.
-pub record IsLinkable (store : Store) (m : Module) (given : List Extern) : Type 0 where
+-- A valid module whose numbers fit: no table has more entries than any may have, and its data are bytes.
+pub record IsSoundModule (m : Module) : Type 0 where
   pub valid : IsValid m
-  pub count : length given ≡ length m.imports
-  pub fits : AreGiven store m m.imports given
   pub few_entries : All (λ (t : TableType). t.limits.min ≤ most_entries) m.tables
   pub bytes : All (λ (d : DataSegment). AreBytes d.bytes) m.datas
+
+-- A module, with what is given for its imports.
+pub record IsLinkable (store : Store) (m : Module) (given : List Extern) : Type 0 where
+  pub sound : IsSoundModule m
+  pub count : length given ≡ length m.imports
+  pub fits : AreGiven store m m.imports given
 
 -- The store with the module's objects is valid and extends the one before.
 abbrev pub AllocationKeepsValid : Type 0

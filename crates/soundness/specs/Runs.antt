@@ -61,8 +61,8 @@ module _ {H : Type 0} (HostStep : List H → ℕ → Option ℕ → List Val →
     pub there : HaveHosts last.store last.hosts
     pub ends : EndsWell last.store results ending
 
-  -- A run from a typed configuration in a valid store never goes wrong. The frame outside is that of the place, around which there is
-  -- neither a label nor a frame.
+  -- A run from a typed configuration in a valid store never goes wrong. The frame outside is that of the place, around which
+  -- there is neither a label nor a frame.
   abbrev pub NeverGoesWrong : Type 0
   NeverGoesWrong = (bound : ℕ) (frame : Frame) (place : Place) (old last : State H)
       (configuration : Configuration) (results : List ValType) (ending : Ending)

@@ -1,13 +1,18 @@
 //! The laws.
 
-ghost use Rattle.std.specs.Prelude.{◌∷◌, [], List};
+ghost use Rattle.std.specs.Prelude.{◌≡◌, ◌∷◌, [], List, None, map};
 ghost use Rattle.core_types.specs.declared.outcome.Val.TheVariants.{I32, I64};
 ghost use Rattle.core_types.specs.declared.outcome.Extern.{Extern};
+ghost use Rattle.core_types.specs.declared.types.FuncType.{FuncType};
 ghost use Rattle.core_types.specs.declared.types.ValType.{ValType};
+ghost use Rattle.meaning.specs.embedding.Creation.{HostDefinition, first_fault, store_of_hosts};
+ghost use Rattle.meaning.specs.embedding.Machine.{Setup};
+ghost use Rattle.meaning.specs.embedding.Names.{no_names};
 ghost use Rattle.meaning.specs.execution.Configurations.{Configuration};
 ghost use Rattle.meaning.specs.execution.Runs.{NoHosts};
 ghost use Rattle.meaning.specs.execution.Store.{Store};
 ghost use Rattle.soundness.specs.Configurations.{ConfigurationHasType, StaysGood};
+ghost use Rattle.soundness.specs.Embedding.{CommandsGoWell, IsSound, NeverAnswers, own_type};
 ghost use Rattle.soundness.specs.Insides.{InsideIsTyped};
 ghost use Rattle.soundness.specs.Links.{AllocationKeepsValid, IsLinkable, LinksNeverGoWrong};
 ghost use Rattle.soundness.specs.Places.{Place};
@@ -17,7 +22,8 @@ ghost use Rattle.soundness.specs.Stores.{Extends, StoreIsValid};
 
 use meaning::writing_is_read;
 
-/// Law: stores that extend one another in a row extend the first, and what is typed in a valid store is typed in each that extends it.
+/// Law: stores that extend one another in a row extend the first, and what is typed in a valid store is typed in each that
+/// extends it.
 pub fn what_is_typed_stays_typed()
     ensures same { (store : Store) → Extends store store }
     ensures through { (a b c : Store) → Extends a b → Extends b c → Extends a c }
@@ -26,14 +32,14 @@ pub fn what_is_typed_stays_typed()
         → ConfigurationHasType new place c results }
 {}
 
-/// Law: a typed configuration in a valid store is over with its results, or steps to one that has them in a valid store that extends it,
-/// or traps, or calls a host function with arguments of its types.
+/// Law: a typed configuration in a valid store is over with its results, or steps to one that has them in a valid store that
+/// extends it, or traps, or calls a host function with arguments of its types.
 pub fn typed_configurations_stay_good()
     ensures { StaysGood }
 {}
 
-/// Law: a bounded run from a typed configuration in a valid store, without host functions, is never stuck and ends with values of its
-/// results, or with a trap or an exhaustion, and the store is valid then and extends the one before.
+/// Law: a bounded run from a typed configuration in a valid store, without host functions, is never stuck and ends with values
+/// of its results, or with a trap or an exhaustion, and the store is valid then and extends the one before.
 pub fn typed_runs_never_go_wrong()
     ensures { NeverGoesWrong NoHosts NoConditions }
 {}
@@ -45,10 +51,23 @@ pub fn allocation_keeps_stores_valid()
     writing_is_read();
 }
 
-/// Law: a link, without host functions, of a valid module whose imports fit, into a valid store, is never stuck: its constants have
-/// values, its segments and its start function end well, and the store is valid then and extends the one before.
+/// Law: a link, without host functions, of a valid module whose imports fit, into a valid store, is never stuck: its constants
+/// have values, its segments and its start function end well, and the store is valid then and extends the one before.
 pub fn links_never_go_wrong()
     ensures { LinksNeverGoWrong NoHosts NoConditions }
+{
+    writing_is_read();
+}
+
+/// Law: a new embedding is sound, whatever host functions it has, and so is one that commands were given to, if the numbers of
+/// its modules fit. Each command goes well: no reply is an ending that is stuck, values have the types that were asked for, and
+/// the store is extended. Host functions are any types here, and never answer.
+pub fn commands_go_well()
+    ensures fresh { (setup : Setup) (ds : List (HostDefinition FuncType))
+        → first_fault own_type no_names 0 ds ≡ None
+        → IsSound own_type (store_of_hosts own_type setup.pages setup.entries ds)
+        (map (λ (d : HostDefinition FuncType). d.host) ds) [] }
+    ensures run { CommandsGoWell own_type NeverAnswers }
 {
     writing_is_read();
 }
@@ -58,8 +77,8 @@ pub fn the_inside_is_typed()
     ensures { InsideIsTyped }
 {}
 
-/// Worked row of the definitions: a store with a function that adds is valid, a call of it with two i32 is typed, and one with too few
-/// arguments or an i64 is not.
+/// Worked row of the definitions: a store with a function that adds is valid, a call of it with two i32 is typed, and one with
+/// too few arguments or an i64 is not.
 pub fn a_call_of_a_function_that_adds_is_typed()
     ensures valid { StoreIsValid adding }
     ensures typed { AddsTyped (I32 2 ∷ I32 1 ∷ []) }
@@ -67,8 +86,8 @@ pub fn a_call_of_a_function_that_adds_is_typed()
     ensures other { AddsTyped (I64 2 ∷ I32 1 ∷ []) → ⊥ }
 {}
 
-/// Worked row of the definitions: a module with a memory and a data segment can be linked, but not with a number that is no byte, nor
-/// where more is given than it imports.
+/// Worked row of the definitions: a module with a memory and a data segment can be linked, but not with a number that is no
+/// byte, nor where more is given than it imports.
 pub fn a_module_of_bytes_can_be_linked()
     ensures linkable { IsLinkable adding (storing (255 ∷ [])) [] }
     ensures no_byte { IsLinkable adding (storing (256 ∷ [])) [] → ⊥ }

@@ -24,25 +24,27 @@ byte = omega (arith)
 pub returns : goal.returns
 returns c = record {
   linkable = record {
-    valid = record {
-      function_types = none _;
-      bodies = none _;
-      table_limits = none _;
-      memory_limits = only AreOrdered (record { min = 1; max = None }) tt;
-      memory_pages = only AreFewPages (record { min = 1; max = None }) (few, tt);
-      one_memory = omega (arith);
-      globals = none _;
-      elements = none _;
-      datas = only (λ (d : DataSegment). HasDataMode (storing (255 ∷ [])) d.mode) (record { bytes = 255 ∷ []; mode = Passive }) tt;
-      start = tt;
-      exports = none _;
-      names_differ = tt;
+    sound = record {
+      valid = record {
+        function_types = none _;
+        bodies = none _;
+        table_limits = none _;
+        memory_limits = only AreOrdered (record { min = 1; max = None }) tt;
+        memory_pages = only AreFewPages (record { min = 1; max = None }) (few, tt);
+        one_memory = omega (arith);
+        globals = none _;
+        elements = none _;
+        datas = only (λ (d : DataSegment). HasDataMode (storing (255 ∷ [])) d.mode) (record { bytes = 255 ∷ []; mode = Passive }) tt;
+        start = tt;
+        exports = none _;
+        names_differ = tt;
+      };
+      few_entries = none _;
+      bytes = only (λ (d : DataSegment). AreBytes d.bytes) (record { bytes = 255 ∷ []; mode = Passive }) (only (λ (b : ℕ). b < 2 ^ 8) 255 byte);
     };
     count = refl;
     fits = tt;
-    few_entries = none _;
-    bytes = only (λ (d : DataSegment). AreBytes d.bytes) (record { bytes = 255 ∷ []; mode = Passive }) (only (λ (b : ℕ). b < 2 ^ 8) 255 byte);
   };
-  no_byte = λ linkable. let wrong : 256 < 2 ^ 8 = linkable.bytes 0 (record { bytes = 256 ∷ []; mode = Passive }) (omega (arith)) 0 256 (omega (arith)) in omega (arith, wrong);
+  no_byte = λ linkable. let wrong : 256 < 2 ^ 8 = linkable.sound.bytes 0 (record { bytes = 256 ∷ []; mode = Passive }) (omega (arith)) 0 256 (omega (arith)) in omega (arith, wrong);
   too_many = λ given linkable. let wrong : 1 ≡ 0 = linkable.count in omega (arith, wrong);
 }

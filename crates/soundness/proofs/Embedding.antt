@@ -1,0 +1,296 @@
+-- Commands to a sound embedding go well, and leave it sound.
+use Rattle.std.proofs.Common.{◌≡◌, ℕ, zero, suc, ◌<◌, List, [], ◌∷◌, ◌++◌, bytes_eq, length, reverse, Some, refl, ap, sym, subst, arith, slice_get}
+use Rattle.std.proofs.Math.Logic.{∥∥₁_elim, ∥∥₁_map, ∥∥₁_prop}
+use Rattle.std.specs.List.{All}
+use Rattle.std.specs.Prelude.{Option, None, Result, Ok, Err, find, option_and_then, option_map}
+use Rattle.core_types.specs.declared.module.Export.{Export}
+use Rattle.core_types.specs.declared.module.ExportDesc.{ExportDesc}
+use Rattle.core_types.specs.declared.module.ExportDesc.TheVariants as export
+use Rattle.core_types.specs.declared.module.Import.{Import}
+use Rattle.core_types.specs.declared.module.Module.{Module}
+use Rattle.core_types.specs.declared.outcome.Extern.{Extern}
+use Rattle.core_types.specs.declared.outcome.Extern.TheVariants as value
+use Rattle.core_types.specs.declared.outcome.Val.{Val}
+use Rattle.core_types.specs.declared.types.FuncType.{FuncType}
+use Rattle.core_types.specs.declared.types.ValType.{ValType}
+use Rattle.meaning.proofs.lemmas.Lists.{map_all-length}
+use Rattle.meaning.specs.embedding.Commands.{Command, Load, Link, Register, Call, GetGlobal, SetFuel, Refusal, Reply, Done, Refused}
+use Rattle.meaning.specs.embedding.Machine.{Applies, AppliesAll, Calls, CallsAt, Embedding, Gets, GetsAt, Links, LinksAt, Loads, Registers, RegistersAt, as_function, as_global, export_at, export_from, export_in}
+use Rattle.meaning.specs.embedding.Machine as machine
+use Rattle.meaning.specs.embedding.Names.{export_of, extern_of, resolve_name}
+use Rattle.meaning.specs.execution.Configurations.{Invoking, no_frame}
+use Rattle.meaning.specs.execution.Hosts.{IsHostStep}
+use Rattle.meaning.specs.execution.Runs.{Answer, Ending, State, WithValues}
+use Rattle.meaning.specs.execution.Store.{ModuleInstance, Store, instance_of}
+use Rattle.meaning.specs.structure.Bodies.{Body, body_of, writing}
+use Rattle.soundness.specs.Embedding.{AllGoWell, CommandsGoWell, GoesWell, IsSound, RepliesWell, RunsWell, asked_types, function_results, global_value}
+use Rattle.soundness.specs.Hosts.{AnswersFit, AreReady}
+use Rattle.soundness.specs.Links.{IsSoundModule}
+use Rattle.soundness.specs.Places.{outermost}
+use Rattle.soundness.specs.Runs.{EndsTyped, IsOutside}
+use Rattle.soundness.specs.Stores.{Extends, GlobalIsValid, InstanceIsValid, StoreIsValid}
+use Rattle.soundness.proofs.Appends.{append-at}
+use Rattle.soundness.proofs.Effects.{Extends-same}
+use Rattle.soundness.proofs.Extension.{instance-valid}
+use Rattle.soundness.proofs.Hosts.{hosts-answer-well, ready-linked, ready-still}
+use Rattle.soundness.proofs.Links.{links-never-go-wrong}
+use Rattle.soundness.proofs.Runs.{never-goes-wrong}
+use Rattle.soundness.proofs.Values.{All-at, All-from, values-reversed}
+
+-- ---- exported globals
+
+-- What is made of an item that is there.
+made-of : {A B : Type 0} (f : A → B) (found : Option A) (y : B) → option_map f found ≡ Some y → (x : A) × (found ≡ Some x) × (f x ≡ y)
+made-of f None y is = absurd cc
+made-of f (Some x) y is = (x, refl, cc)
+
+module _ (store : Store) (i : ModuleInstance) (valid : InstanceIsValid store i) where
+  of-kind : (desc : ExportDesc) (address : ℕ) → extern_of i desc ≡ Some (value.Global address) → address < length store.globals
+  of-kind (export.Func x) address is = let (a, there, same) = made-of value.Func (slice_get i.functions x) (value.Global address) is in absurd cc
+  of-kind (export.Table x) address is = let (a, there, same) = made-of value.Table (slice_get i.tables x) (value.Global address) is in absurd cc
+  of-kind (export.Memory x) address is = let (a, there, same) = made-of value.Memory (slice_get i.memories x) (value.Global address) is in absurd cc
+  of-kind (export.Global x) address is =
+      let (a, there, same) = made-of value.Global (slice_get i.globals x) (value.Global address) is in
+      let one : a ≡ address = cc in
+      subst (λ (b : ℕ). b < length store.globals) one (All-at (λ (b : ℕ). b < length store.globals) i.globals x a there valid.globals)
+
+  exported-there : (name : List ℕ) (address : ℕ) → export_of i name ≡ Some (value.Global address) → address < length store.globals
+  exported-there name address is = go (find (λ (e : Export). bytes_eq e.name name) i.exports) is
+    where
+      go : (found : Option Export) → option_and_then (λ (e : Export). extern_of i e.desc) found ≡ Some (value.Global address) → address < length store.globals
+      go None same = absurd cc
+      go (Some e) same = of-kind e.desc address same
+
+global-there : (store : Store) → StoreIsValid store → (name : List ℕ) (instance : Option ℕ) (address : ℕ) → as_global (export_from store name instance) ≡ Ok address → address < length store.globals
+global-there store valid name None address is = absurd cc
+global-there store valid name (Some instance) address is = go (export_of (instance_of store (Some instance)) name) refl is
+  where
+    go : (found : Option Extern) → export_of (instance_of store (Some instance)) name ≡ found → as_global (export_in found) ≡ Ok address → address < length store.globals
+    go None there same = absurd cc
+    go (Some (value.Func a)) there same = absurd cc
+    go (Some (value.Table a)) there same = absurd cc
+    go (Some (value.Memory a)) there same = absurd cc
+    go (Some (value.Global a)) there same =
+        let one : a ≡ address = cc in
+        subst (λ (b : ℕ). b < length store.globals) one (exported-there store (instance_of store (Some instance)) (instance-valid store valid (Some instance)) name a there)
+
+-- ---- commands
+
+module _ {H : Type 0} (host_type : H → FuncType) where
+  -- The embedding is sound.
+  abbrev pub Sound : Embedding H → Type 0
+  Sound at = IsSound host_type at.state.store at.state.hosts at.modules
+
+  -- What a command leaves, where these types were asked for.
+  pub record LeavesWell (old : Embedding H) (types : List ValType) (reply : Reply) (new : Embedding H) : Type 0 where
+    pub extends : Extends old.state.store new.state.store
+    pub replies : RepliesWell new.state.store types reply
+    pub sound : Sound new
+
+  module _ (old new : Embedding H) (sound : Sound old) (types : List ValType) (reply : Reply) where
+    -- A command that leaves the state of runs.
+    still : new.state ≡ old.state → RepliesWell old.state.store types reply → All IsSoundModule new.modules → LeavesWell old types reply new
+    still same replies linkable =
+        let stores : new.state.store ≡ old.state.store = ap (λ (s : State H). s.store) same in
+        record {
+          extends = subst (λ (s : Store). Extends old.state.store s) (sym stores) (Extends-same old.state.store);
+          replies = subst (λ (s : Store). RepliesWell s types reply) (sym stores) replies;
+          sound = record {
+            valid = subst StoreIsValid (sym stores) sound.valid;
+            ready = subst (λ (s : State H). AreReady host_type s.store s.hosts) (sym same) sound.ready;
+            linkable = linkable;
+          };
+        }
+
+    refused : {refusal : Refusal} → (reply ≡ Refused refusal) × (new ≡ old) → LeavesWell old types reply new
+    refused (reply_is, new_is) =
+        still (ap (λ (e : Embedding H). e.state) new_is) (subst (RepliesWell old.state.store types) (sym reply_is) tt) (subst (λ (e : Embedding H). All IsSoundModule e.modules) (sym new_is) sound.linkable)
+
+    loads-well : (bytes : List ℕ) → All IsSoundModule new.modules → Loads old bytes reply new → LeavesWell old types reply new
+    loads-well bytes linkable (machine.loaded decoded valid reply_is new_is) =
+        still (ap (λ (e : Embedding H). e.state) new_is) (subst (RepliesWell old.state.store types) (sym reply_is) tt) linkable
+    loads-well bytes linkable (machine.no_module none cause refuses) = refused refuses
+    loads-well bytes linkable (machine.not_valid decoded invalid refuses) = refused refuses
+    loads-well bytes linkable (machine.no_memory refuses) = refused refuses
+
+    registers-well : (name : List ℕ) (instance : Option ℕ) → RegistersAt old name instance reply new → LeavesWell old types reply new
+    registers-well name None refuses = refused refuses
+    registers-well name (Some instance) (machine.registered free reply_is new_is) =
+        still (ap (λ (e : Embedding H). e.state) new_is) (subst (RepliesWell old.state.store types) (sym reply_is) tt) (subst (λ (e : Embedding H). All IsSoundModule e.modules) (sym new_is) sound.linkable)
+    registers-well name (Some instance) (machine.taken has refuses) = refused refuses
+    registers-well name (Some instance) (machine.no_memory free refuses) = refused refuses
+
+  module _ (old new : Embedding H) (sound : Sound old) (reply : Reply) where
+    sets-fuel-well : (fuel : ℕ) → (reply ≡ Done) × (new ≡ machine.with_fuel old fuel) → LeavesWell old [] reply new
+    sets-fuel-well fuel (reply_is, new_is) =
+        let replies : RepliesWell old.state.store [] reply = subst (RepliesWell old.state.store []) (sym reply_is) tt in
+        rw new_is (record {
+          extends = Extends-same old.state.store;
+          replies = replies;
+          sound = record { valid = sound.valid; ready = sound.ready; linkable = sound.linkable };
+        })
+
+    gets-well : (name : List ℕ) (instance : Option ℕ) (found : Result ℕ Refusal) → as_global (export_from old.state.store name instance) ≡ found → GetsAt old found reply new
+        → LeavesWell old (global_value old.state.store found) reply new
+    gets-well name instance (Err refusal) is refuses = refused old new sound [] reply refuses
+    gets-well name instance (Ok address) is (machine.got {g = g} there reply_is new_is) =
+        let typed : GlobalIsValid old.state.store g = All-at (GlobalIsValid old.state.store) old.state.store.globals address g there sound.valid.globals in
+        rw there (still old new sound (g.ty.value ∷ []) reply (ap (λ (e : Embedding H). e.state) new_is)
+        (subst (RepliesWell old.state.store (g.ty.value ∷ [])) (sym reply_is) (typed, tt)) (subst (λ (e : Embedding H). All IsSoundModule e.modules) (sym new_is) sound.linkable))
+    gets-well name instance (Ok address) is (machine.lost lost reply_is new_is) =
+        absurd (let inside = global-there old.state.store sound.valid name instance address is in missing old.state.store.globals address inside lost)
+      where
+        missing : {X : Type 0} (items : List X) (k : ℕ) → k < length items → slice_get items k ≡ None → ⊥
+        missing [] k inside is = omega (arith, inside)
+        missing (x ∷ items) zero inside is = cc
+        missing (x ∷ items) (suc k) inside is = missing items k (omega (arith, inside)) is
+    gets-well name instance (Ok address) is (machine.no_memory refuses) = refused old new sound _ reply refuses
+
+-- ---- commands with a run
+
+module _ {H : Type 0} (host_type : H → FuncType) (Answers : H → List Val → List ℕ → Answer → List ℕ → H → Type 0) (fit : AnswersFit Answers) where
+  module _ (old new : Embedding H) (sound : Sound host_type old) (reply : Reply) where
+    -- What a run leaves.
+    leaves : {ending : Ending} {state : State H} (types : List ValType) → EndsTyped (IsHostStep host_type Answers) (AreReady host_type) types old.state ending state
+        → new.state ≡ state → new.modules ≡ old.modules → RepliesWell state.store types reply → LeavesWell host_type old types reply new
+    leaves {state = state} types ended state_is modules_is replies =
+        let stores : new.state.store ≡ state.store = ap (λ (s : State H). s.store) state_is in
+        record {
+          extends = subst (λ (s : Store). Extends old.state.store s) (sym stores) ended.extends;
+          replies = subst (λ (s : Store). RepliesWell s types reply) (sym stores) replies;
+          sound = record {
+            valid = subst StoreIsValid (sym stores) ended.valid;
+            ready = subst (λ (s : State H). AreReady host_type s.store s.hosts) (sym state_is) ended.there;
+            linkable = subst (All IsSoundModule) (sym modules_is) sound.linkable;
+          };
+        }
+
+    pub calls-well : (arguments : List Val) (found : Result ℕ Refusal) → CallsAt (IsHostStep host_type Answers) old found arguments reply new
+        → LeavesWell host_type old (function_results old.state.store found) reply new
+    calls-well arguments (Err refusal) refuses = refused host_type old new sound [] reply refuses
+    calls-well arguments (Ok address) (machine.bad_arguments none refuses) = refused host_type old new sound _ reply refuses
+    calls-well arguments (Ok address) (machine.called {ending = ending} {state = state} (f, there, typed) run reply_is new_is) =
+        let outside : IsOutside no_frame outermost = record { instance = refl; frame_locals = refl; locals = refl; labels = refl; results = refl } in
+        let ended = never-goes-wrong (IsHostStep host_type Answers) (AreReady host_type) (ready-still host_type) (hosts-answer-well host_type Answers fit) old.setup.depth no_frame outermost old.state state
+        (Invoking (reverse arguments) address) f.ty.results ending outside sound.valid sound.ready (f, there, values-reversed old.state.store arguments f.ty.params typed, refl) run in
+        rw there (leaves f.ty.results ended (ap (λ (e : Embedding H). e.state) new_is) (ap (λ (e : Embedding H). e.modules) new_is) (subst (RepliesWell state.store f.ty.results) (sym reply_is) ended.ends))
+
+    links-well : ((b : Body) → body_of (writing b) ≡ b) → (m : Module) → IsSoundModule m → Links (IsHostStep host_type Answers) old m reply new → LeavesWell host_type old [] reply new
+    links-well read m sound_module (machine.linked {externs = externs} {state = state} resolved allowed run reply_is new_is) =
+        let ended = links-never-go-wrong read (IsHostStep host_type Answers) (AreReady host_type) (ready-still host_type) (ready-linked host_type) (hosts-answer-well host_type Answers fit) old.setup.depth m externs old.state state
+        (WithValues []) sound.valid sound.ready (record { sound = sound_module; count = map_all-length (λ (i : Import). resolve_name old.state.store old.names i.module_name i.name) m.imports externs resolved; fits = allowed.given }) run in
+        leaves [] ended (ap (λ (e : Embedding H). e.state) new_is) (ap (λ (e : Embedding H). e.modules) new_is) (subst (RepliesWell state.store []) (sym reply_is) tt)
+    links-well read m sound_module (machine.ended {externs = externs} {ending = ending} {state = state} resolved allowed run none reply_is new_is) =
+        let ended = links-never-go-wrong read (IsHostStep host_type Answers) (AreReady host_type) (ready-still host_type) (ready-linked host_type) (hosts-answer-well host_type Answers fit) old.setup.depth m externs old.state state
+        ending sound.valid sound.ready (record { sound = sound_module; count = map_all-length (λ (i : Import). resolve_name old.state.store old.names i.module_name i.name) m.imports externs resolved; fits = allowed.given }) run in
+        leaves [] ended (ap (λ (e : Embedding H). e.state) new_is) (ap (λ (e : Embedding H). e.modules) new_is) (subst (RepliesWell state.store []) (sym reply_is) ended.ends)
+    links-well read m sound_module (machine.unknown none refuses) = refused host_type old new sound [] reply refuses
+    links-well read m sound_module (machine.incompatible resolved differs refuses) = refused host_type old new sound [] reply refuses
+    links-well read m sound_module (machine.too_large resolved given passes refuses) = refused host_type old new sound [] reply refuses
+    links-well read m sound_module (machine.no_memory refuses) = refused host_type old new sound [] reply refuses
+
+    pub links-at-well : ((b : Body) → body_of (writing b) ≡ b) → (number : ℕ) (found : Option Module) → slice_get old.modules number ≡ found → LinksAt (IsHostStep host_type Answers) old found reply new → LeavesWell host_type old [] reply new
+    links-at-well read number None there refuses = refused host_type old new sound [] reply refuses
+    links-at-well read number (Some m) there links = links-well read m (All-at IsSoundModule old.modules number m there sound.linkable) links
+
+    -- A command goes well, and leaves the embedding sound where its modules are.
+    pub applies-well : ((b : Body) → body_of (writing b) ≡ b) → (command : Command) → All IsSoundModule new.modules → Applies (IsHostStep host_type Answers) old command reply new
+        → LeavesWell host_type old (asked_types old command) reply new
+    applies-well read (Load bytes) linkable applies = loads-well host_type old new sound [] reply bytes linkable applies
+    applies-well read (Link number) linkable applies = links-at-well read number (slice_get old.modules number) refl applies
+    applies-well read (Register number name) linkable applies = registers-well host_type old new sound [] reply name (slice_get old.instances number) applies
+    applies-well read (Call number name arguments) linkable applies = calls-well arguments (as_function (export_at old number name)) applies
+    applies-well read (GetGlobal number name) linkable applies = gets-well host_type old new sound reply name (slice_get old.instances number) (as_global (export_at old number name)) refl applies
+    applies-well read (SetFuel fuel) linkable applies = sets-fuel-well host_type old new sound reply fuel applies
+
+-- ---- commands in a row
+
+module _ {H : Type 0} (HostStep : List H → ℕ → Option ℕ → List Val → Store → Answer → Store → List H → Type 0) where
+  pub none-well : (at : Embedding H) → RunsWell HostStep at [] [] at
+  none-well at = (machine.none, ∣ tt ∣₁)
+
+  module _ {between last : Embedding H} (command : Command) (reply : Reply) (step : Applies HostStep between command reply last) where
+    one-more : {old : Embedding H} {commands : List Command} {replies : List Reply} → AppliesAll HostStep old commands replies between
+        → AppliesAll HostStep old (commands ++ command ∷ []) (replies ++ reply ∷ []) last
+    one-more machine.none = machine.then_on step machine.none
+    one-more (machine.then_on first rest) = machine.then_on first (one-more rest)
+
+    all-well : {old : Embedding H} {commands : List Command} {replies : List Reply} (run : AppliesAll HostStep old commands replies between) → GoesWell between command reply last → AllGoWell HostStep run
+        → AllGoWell HostStep (one-more run)
+    unfolding one-more
+    all-well machine.none well before = (well, tt)
+    all-well (machine.then_on first rest) well before = (before.0, all-well rest well before.1)
+
+    pub one-more-well : {old : Embedding H} {commands : List Command} {replies : List Reply} → ∥ GoesWell between command reply last ∥₁ → RunsWell HostStep old commands replies between
+        → RunsWell HostStep old (commands ++ command ∷ []) (replies ++ reply ∷ []) last
+    one-more-well well (run, before) = (one-more run, ∥∥₁_elim well ∥∥₁_prop (λ w. ∥∥₁_map before (all-well run w)))
+
+-- ---- runs of commands
+
+module _ {H : Type 0} (HostStep : List H → ℕ → Option ℕ → List Val → Store → Answer → Store → List H → Type 0) (P : Module → Type 0) where
+  first-ones : (ms ns : List Module) → All P (ms ++ ns) → All P ms
+  first-ones ms ns all = All-from P ms (λ k m is. All-at P (ms ++ ns) k m (append-at ms ns k m is) all)
+
+  as-before : (old new : Embedding H) → new.modules ≡ old.modules → All P new.modules → All P old.modules
+  as-before old new same all = subst (All P) same all
+
+  refused-before : (old new : Embedding H) {refusal : Refusal} {reply : Reply} → (reply ≡ Refused refusal) × (new ≡ old) → All P new.modules → All P old.modules
+  refused-before old new (reply_is, new_is) = as-before old new (ap (λ (e : Embedding H). e.modules) new_is)
+
+  -- What holds of all modules then held of those before.
+  loads-before : (old new : Embedding H) (bytes : List ℕ) (reply : Reply) → Loads old bytes reply new → All P new.modules → All P old.modules
+  loads-before old new bytes reply (machine.loaded {m = m} decoded valid reply_is new_is) =
+      λ all. first-ones old.modules (m ∷ []) (subst (All P) (ap (λ (e : Embedding H). e.modules) new_is) all)
+  loads-before old new bytes reply (machine.no_module none cause refuses) = refused-before old new refuses
+  loads-before old new bytes reply (machine.not_valid decoded invalid refuses) = refused-before old new refuses
+  loads-before old new bytes reply (machine.no_memory refuses) = refused-before old new refuses
+
+  links-before : (old new : Embedding H) (found : Option Module) (reply : Reply) → LinksAt HostStep old found reply new → All P new.modules → All P old.modules
+  links-before old new None reply refuses = refused-before old new refuses
+  links-before old new (Some m) reply (machine.linked resolved allowed run reply_is new_is) = as-before old new (ap (λ (e : Embedding H). e.modules) new_is)
+  links-before old new (Some m) reply (machine.ended resolved allowed run none reply_is new_is) = as-before old new (ap (λ (e : Embedding H). e.modules) new_is)
+  links-before old new (Some m) reply (machine.unknown none refuses) = refused-before old new refuses
+  links-before old new (Some m) reply (machine.incompatible resolved differs refuses) = refused-before old new refuses
+  links-before old new (Some m) reply (machine.too_large resolved given passes refuses) = refused-before old new refuses
+  links-before old new (Some m) reply (machine.no_memory refuses) = refused-before old new refuses
+
+  registers-before : (old new : Embedding H) (name : List ℕ) (instance : Option ℕ) (reply : Reply) → RegistersAt old name instance reply new → All P new.modules → All P old.modules
+  registers-before old new name None reply refuses = refused-before old new refuses
+  registers-before old new name (Some instance) reply (machine.registered free reply_is new_is) = as-before old new (ap (λ (e : Embedding H). e.modules) new_is)
+  registers-before old new name (Some instance) reply (machine.taken has refuses) = refused-before old new refuses
+  registers-before old new name (Some instance) reply (machine.no_memory free refuses) = refused-before old new refuses
+
+  calls-before : (old new : Embedding H) (found : Result ℕ Refusal) (arguments : List Val) (reply : Reply) → CallsAt HostStep old found arguments reply new → All P new.modules → All P old.modules
+  calls-before old new (Err refusal) arguments reply refuses = refused-before old new refuses
+  calls-before old new (Ok address) arguments reply (machine.called takes run reply_is new_is) = as-before old new (ap (λ (e : Embedding H). e.modules) new_is)
+  calls-before old new (Ok address) arguments reply (machine.bad_arguments none refuses) = refused-before old new refuses
+
+  gets-before : (old new : Embedding H) (found : Result ℕ Refusal) (reply : Reply) → GetsAt old found reply new → All P new.modules → All P old.modules
+  gets-before old new (Err refusal) reply refuses = refused-before old new refuses
+  gets-before old new (Ok address) reply (machine.got there reply_is new_is) = as-before old new (ap (λ (e : Embedding H). e.modules) new_is)
+  gets-before old new (Ok address) reply (machine.lost lost reply_is new_is) = as-before old new (ap (λ (e : Embedding H). e.modules) new_is)
+  gets-before old new (Ok address) reply (machine.no_memory refuses) = refused-before old new refuses
+
+  modules-before : (old new : Embedding H) (command : Command) (reply : Reply) → Applies HostStep old command reply new → All P new.modules → All P old.modules
+  modules-before old new (Load bytes) reply applies = loads-before old new bytes reply applies
+  modules-before old new (Link number) reply applies = links-before old new (slice_get old.modules number) reply applies
+  modules-before old new (Register number name) reply applies = registers-before old new name (slice_get old.instances number) reply applies
+  modules-before old new (Call number name arguments) reply applies = calls-before old new (as_function (export_at old number name)) arguments reply applies
+  modules-before old new (GetGlobal number name) reply applies = gets-before old new (as_global (export_at old number name)) reply applies
+  modules-before old new (SetFuel fuel) reply applies = as-before old new (ap (λ (e : Embedding H). e.modules) applies.1)
+
+  all-before : {old last : Embedding H} {commands : List Command} {replies : List Reply} → AppliesAll HostStep old commands replies last → All P last.modules → All P old.modules
+  all-before machine.none all = all
+  all-before (machine.then_on {old = old} {between = between} {command = command} {reply = reply} first rest) all = modules-before old between command reply first (all-before rest all)
+
+pub commands-go-well : ((b : Body) → body_of (writing b) ≡ b) → {H : Type 0} (host_type : H → FuncType) (Answers : H → List Val → List ℕ → Answer → List ℕ → H → Type 0)
+    → AnswersFit Answers → CommandsGoWell host_type Answers
+commands-go-well read {H} host_type Answers fit old last commands replies run sound linkable = go run sound
+  where
+    go : {at : Embedding H} {cs : List Command} {rs : List Reply} (rest : AppliesAll (IsHostStep host_type Answers) at cs rs last) → Sound host_type at
+        → AllGoWell (IsHostStep host_type Answers) rest × Sound host_type last
+    go machine.none at_sound = (tt, at_sound)
+    go (machine.then_on {old = at} {between = between} {command = command} {reply = reply} first rest) at_sound =
+        let left = applies-well host_type Answers fit at between at_sound reply read command (all-before (IsHostStep host_type Answers) IsSoundModule rest linkable) first in
+        let (others, sound_then) = go rest left.sound in
+        ((record { extends = left.extends; replies = left.replies }, others), sound_then)

@@ -1,0 +1,99 @@
+-- Commands to an embedding never go wrong (Appendix, Soundness, Theorems).
+use Rattle.std.specs.Prelude.{ℕ, List, [], ◌∷◌, Option, Some, None, Result, Ok, Err, slice_get}
+use Rattle.std.specs.List.{All}
+use Rattle.core_types.specs.declared.module.Module.{Module}
+use Rattle.core_types.specs.declared.outcome.Val.{Val}
+use Rattle.core_types.specs.declared.types.FuncType.{FuncType}
+use Rattle.core_types.specs.declared.types.ValType.{ValType}
+use Rattle.meaning.specs.embedding.Commands.{Command, Load, Link, Register, Call, GetGlobal, SetFuel}
+use Rattle.meaning.specs.embedding.Commands.{Refusal, Reply, Loaded, Linked, Done, Ended, Refused}
+use Rattle.meaning.specs.embedding.Machine.{AppliesAll, Embedding, as_function, as_global, export_at, none, then_on}
+use Rattle.meaning.specs.execution.Hosts.{IsHostStep}
+use Rattle.meaning.specs.execution.Runs.{Answer}
+use Rattle.meaning.specs.execution.Store.{FunctionInstance, GlobalInstance, Store}
+use Rattle.soundness.specs.Hosts.{AreReady}
+use Rattle.soundness.specs.Links.{IsSoundModule}
+use Rattle.soundness.specs.Runs.{EndsWell}
+use Rattle.soundness.specs.Stores.{Extends, StoreIsValid}
+
+-- The types of the values that a function or a global gives, if it is there.
+abbrev pub results_of : Option FunctionInstance → List ValType
+results_of None = []
+results_of (Some f) = f.ty.results
+
+abbrev pub value_of : Option GlobalInstance → List ValType
+value_of None = []
+value_of (Some g) = g.ty.value ∷ []
+
+abbrev pub function_results : Store → Result ℕ Refusal → List ValType
+function_results store (Ok address) = results_of (slice_get store.functions address)
+function_results store (Err refusal) = []
+
+abbrev pub global_value : Store → Result ℕ Refusal → List ValType
+global_value store (Ok address) = value_of (slice_get store.globals address)
+global_value store (Err refusal) = []
+
+-- A reply is no ending that is stuck, and its values have these types.
+abbrev pub RepliesWell : Store → List ValType → Reply → Type 0
+RepliesWell store types (Loaded number) = Unit {0}
+RepliesWell store types (Linked number) = Unit {0}
+RepliesWell store types Done = Unit {0}
+RepliesWell store types (Ended ending) = EndsWell store types ending
+RepliesWell store types (Refused refusal) = Unit {0}
+
+module _ {H : Type 0} where
+  -- The types of the values that a command asks for.
+  abbrev pub asked_types : Embedding H → Command → List ValType
+  asked_types at (Load bytes) = []
+  asked_types at (Link number) = []
+  asked_types at (Register number name) = []
+  asked_types at (Call number name arguments) =
+      function_results at.state.store (as_function (export_at at number name))
+  asked_types at (GetGlobal number name) =
+      global_value at.state.store (as_global (export_at at number name))
+  asked_types at (SetFuel fuel) = []
+
+  -- A command goes well: the store is extended, and values in the reply have the types that were asked for.
+  pub record GoesWell (old : Embedding H) (command : Command) (reply : Reply) (new : Embedding H)
+      : Type 0 where
+    pub extends : Extends old.state.store new.state.store
+    pub replies : RepliesWell new.state.store (asked_types old command) reply
+
+module _ {H : Type 0} (HostStep : List H → ℕ → Option ℕ → List Val → Store → Answer → Store
+    → List H → Type 0) where
+  -- Each command of a run goes well.
+  abbrev pub AllGoWell : {old last : Embedding H} {commands : List Command} {replies : List Reply}
+      → AppliesAll HostStep old commands replies last → Type 0
+  AllGoWell none = Unit {0}
+  AllGoWell (then_on {old = at} {between = next} {command = command} {reply = reply} step rest) =
+      GoesWell at command reply next × AllGoWell rest
+
+  -- A run of commands, each of which goes well.
+  abbrev pub RunsWell : Embedding H → List Command → List Reply → Embedding H → Type 0
+  RunsWell old commands replies last =
+      (run : AppliesAll HostStep old commands replies last) × ∥ AllGoWell run ∥₁
+
+module _ {H : Type 0} (host_type : H → FuncType) where
+  -- The store of an embedding is valid, its host functions are ready, and its modules may be linked.
+  pub record IsSound (store : Store) (hosts : List H) (modules : List Module) : Type 0 where
+    pub valid : StoreIsValid store
+    pub ready : AreReady host_type store hosts
+    pub linkable : All IsSoundModule modules
+
+module _ {H : Type 0} (host_type : H → FuncType)
+    (Answers : H → List Val → List ℕ → Answer → List ℕ → H → Type 0) where
+  -- Each command of a run from a sound embedding goes well, and the embedding at the end is sound, if its modules are.
+  abbrev pub CommandsGoWell : Type 0
+  CommandsGoWell = (old last : Embedding H) (commands : List Command) (replies : List Reply)
+      (run : AppliesAll (IsHostStep host_type Answers) old commands replies last)
+      → IsSound host_type old.state.store old.state.hosts old.modules
+      → All IsSoundModule last.modules
+      → AllGoWell (IsHostStep host_type Answers) run
+      × IsSound host_type last.state.store last.state.hosts last.modules
+
+-- Host functions that are nothing but their types, and never answer.
+abbrev pub own_type : FuncType → FuncType
+own_type t = t
+
+abbrev pub NeverAnswers : FuncType → List Val → List ℕ → Answer → List ℕ → FuncType → Type 0
+NeverAnswers t arguments bytes answer bytes' t' = ⊥
