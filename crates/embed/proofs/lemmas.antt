@@ -1,6 +1,4 @@
 -- Lemmas on what an embedding holds and does.
-pub mod Runs
 pub mod Causes
 pub mod Steps
 pub mod Definitions
-pub mod Funcrefs

@@ -1,12 +1,12 @@
 -- What commands and replies mean to the embedding machine.
 use Rattle.std.specs.Prelude.{Result, Ok, Err, string_bytes}
 use Rattle.meaning.specs.embedding.Commands as machine
-use Rattle.meaning.specs.execution.Runs.{WithValues, WithTrap, GotStuck}
+use Rattle.meaning.specs.execution.Runs.{WithValues, WithTrap}
 use Rattle.exec.specs.Simulation.{exhausted_ending}
 use Rattle.embed.specs.declared.commands.Command.{Command}
 use Rattle.embed.specs.declared.commands.Command.TheVariants.{Load, Link, Register, Call, GetGlobal, SetFuel}
 use Rattle.embed.specs.declared.commands.Reply.{Reply}
-use Rattle.embed.specs.declared.commands.Reply.TheVariants.{Loaded, Linked, Done, Values, Trap, Exhausted, Stuck, Refused}
+use Rattle.embed.specs.declared.commands.Reply.TheVariants.{Loaded, Linked, Done, Values, Trap, Exhausted, Refused}
 use Rattle.embed.specs.declared.refusals.Refusal.{Refusal}
 use Rattle.embed.specs.declared.refusals.Refusal.TheVariants.{Malformed, Unsupported, Limit, Invalid, UnknownModule, UnknownImport, IncompatibleImport, UnknownInstance, UnknownExport, WrongKind, BadArguments, NameTaken, OutOfMemory}
 
@@ -40,7 +40,6 @@ reply_of Done = machine.Done
 reply_of (Values values) = machine.Ended (WithValues values.items)
 reply_of (Trap trap) = machine.Ended (WithTrap trap)
 reply_of (Exhausted what) = machine.Ended (exhausted_ending what)
-reply_of Stuck = machine.Ended GotStuck
 reply_of (Refused refusal) = machine.Refused (refusal_of refusal)
 
 -- The reply where a helper answers one, or why there is none.

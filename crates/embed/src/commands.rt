@@ -62,8 +62,6 @@ pub enum Reply {
     Trap(Trap),
     /// A link or a call ran out of something: `Exhausted(Fuel)`.
     Exhausted(Exhaustion),
-    /// A fault of the engine: a run that came to a configuration that is neither an end nor ready.
-    Stuck,
     /// The command was refused, and nothing has changed: `Refused(UnknownModule)`.
     Refused(Refusal),
 }
@@ -76,7 +74,6 @@ impl From<Outcome> for Reply {
             Outcome::Values(values) => Reply::Values(values.into_vec()),
             Outcome::Trap(trap) => Reply::Trap(trap),
             Outcome::Exhausted(what) => Reply::Exhausted(what),
-            Outcome::Stuck => Reply::Stuck,
         }
     }
 }

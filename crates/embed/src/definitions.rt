@@ -1,6 +1,5 @@
 ghost use Rattle.std.specs.Prelude.{◌≡◌, ◌↔◌, ◌+◌, ◌<◌, ◌^◌, ◌++◌, ◌∷◌, [], IsTrue, IfOk, IfErr, OnOk, None, length, map, true};
-ghost use Rattle.core_types.specs.declared.types.ValType.TheVariants.{FuncRef};
-ghost use Rattle.meaning.specs.embedding.Creation.{fault_of, first_fault, has_funcref as have_funcref, store_of_hosts, with_definitions};
+ghost use Rattle.meaning.specs.embedding.Creation.{fault_of, first_fault, store_of_hosts, with_definitions};
 ghost use Rattle.meaning.specs.embedding.Names.{no_names, with_host};
 ghost use Rattle.hostfunc.specs.Boxes.{HaveHosts, declared_type, type_of_host};
 ghost use Rattle.store.specs.Contents.{host_function, store_of, with_function};
@@ -9,8 +8,7 @@ ghost use Rattle.embed.specs.Definitions.{IsAtFault, IsFirstFault, definition_of
 use crate::config::Config;
 use crate::host_definitions::HostDef;
 use crate::new_fault::NewFault;
-use core_types::ValType;
-use hostfunc::{HostFn, HostTable, object_type};
+use hostfunc::{HostFn, HostTable, has_funcref, object_type};
 use linker::Names;
 use std::alloc::Global;
 use store::Store;
@@ -21,18 +19,6 @@ pub struct Defined {
     pub names: Names,
     pub store: Store,
     pub hosts: HostTable,
-}
-
-// Whether a funcref is among the types.
-fn has_funcref(types: &[ValType]) -> bool
-    ensures { result ≡ have_funcref types.now }
-{
-    for ty in types {
-        if *ty == ValType::FuncRef {
-            return true;
-        }
-    }
-    false
 }
 
 // Takes in one host function.

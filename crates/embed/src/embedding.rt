@@ -2,8 +2,9 @@ ghost use Rattle.std.specs.Prelude.{◌≡◌, ◌++◌, ◌∷◌, [], ◌+◌,
 ghost use Rattle.std.proofs.Props.{props};
 ghost use Rattle.core_types.specs.declared.types.ExternType.{ExternType as AnyType};
 ghost use Rattle.meaning.specs.embedding.Creation.{Creates};
-ghost use Rattle.meaning.specs.embedding.Machine.{Applies, AppliesAll, CallsAt, GetsAt, LinksAt, Loads, RegistersAt, SetsFuel};
+ghost use Rattle.meaning.specs.embedding.Machine.{Applies, CallsAt, GetsAt, LinksAt, Loads, RegistersAt, SetsFuel};
 ghost use Rattle.meaning.specs.embedding.Machine.{as_function, as_global, export_at, export_type as type_at};
+ghost use Rattle.soundness.specs.Embedding.{GoesWell, IsSound, LinksSoundModule, RunsWell};
 ghost use Rattle.hostfunc.specs.Boxes.{HaveHosts, HostStep, type_of_host};
 ghost use Rattle.store.specs.Contents.{store_of};
 
@@ -21,6 +22,7 @@ use fuel::Meter;
 use hostfunc::{HostFn, HostTable};
 use instantiate::{LinkEnd, instantiate};
 use linker::Names;
+use meaning::writing_is_read;
 use std::alloc::{AllocError, Global};
 use std::rc::Rc;
 use store::{LoadedModule, Store, accepts};
@@ -80,11 +82,12 @@ impl Embedding {
     /// memory. A refused call drops all host functions.
     pub fn new(alloc: Global, config: Config, hosts: Vec<HostDef>) -> Result<Embedding, NewFault>
         requires { length hosts.items < 2 ^ 32 }
-        ensures { Creates type_of_host config
+        ensures created { Creates type_of_host config
             (map (definition_of ⟦<dyn HostFn as HostFn>⟧) hosts.items) (created result) }
+        ensures sound { IfOk (created result) (λ at. IsSound type_of_host at) }
     {
         let defined = define_hosts(alloc, &config, hosts)?;
-        Ok(Embedding {
+        let embedding = Embedding {
             alloc,
             modules: Vec::new(alloc),
             instances: Vec::new(alloc),
@@ -93,7 +96,16 @@ impl Embedding {
             hosts: defined.hosts,
             meter: Meter::new(config.fuel(), config.depth()),
             config,
-        })
+        };
+        embedding.show_sound();
+        Ok(embedding)
+    }
+
+    // An embedding is sound, by its type.
+    fn show_sound(&self)
+        ensures { IsSound type_of_host (embedding_of self.now) }
+    {
+        let _ = self.store.state();
     }
 
     /// What it was set up with.
@@ -248,7 +260,7 @@ impl Embedding {
     {
         let address = self.exported_global(number, name)?;
         let Some(variable) = self.store.state().global(address) else {
-            return Ok(Reply::Stuck);
+            unreachable!()
         };
         let mut values = Vec::new(self.alloc);
         values.push(variable.value())?;
@@ -261,6 +273,17 @@ impl Embedding {
     {
         self.meter.set(fuel);
         Reply::Done
+    }
+
+    // The module that a command links, if there is one, may be linked: one that is loaded is valid, and its numbers fit their types.
+    fn show_linked_module(&self, command: &Command)
+        ensures { LinksSoundModule (embedding_of self.now) (command_of command.now) }
+    {
+        if let Command::Link(number) = command {
+            if let Some(loaded) = module_at(&self.modules, *number) {
+                let _ = loaded.as_ref().module();
+            }
+        }
     }
 
     // Does what a command asks for, or says why it is refused.
@@ -280,11 +303,15 @@ impl Embedding {
     }
 
     /// Applies a command. A refused one changes nothing, and of a link or a call that ends in a trap or an exhaustion what was done
-    /// stays.
+    /// stays. It goes well: no run gets stuck, values have the types of the function or the global, the store is valid and extends the
+    /// one before, and no command but `SetFuel` leaves more fuel than there was.
     pub fn apply(&mut self, command: &Command) -> Reply
-        ensures { Applies (HostStep ⟦<dyn HostFn as HostFn>⟧) (embedding_of self.old)
+        ensures applied { Applies (HostStep ⟦<dyn HostFn as HostFn>⟧) (embedding_of self.old)
             (command_of command.now)
             (reply_of result) (embedding_of self.new) }
+        ensures goes_well { GoesWell (embedding_of self.old) (command_of command.now)
+            (reply_of result) (embedding_of self.new) }
+        ensures sound { IsSound type_of_host (embedding_of self.new) }
     {
         self.apply_lent(command)
     }
@@ -293,17 +320,24 @@ impl Embedding {
     /// with a `requires`. This one asks nothing.
     pub fn apply_lent(&mut self, command: &Command) -> Reply
         requires nothing { Unit {0} }
-        ensures { Applies (HostStep ⟦<dyn HostFn as HostFn>⟧) (embedding_of self.old)
+        ensures applied { Applies (HostStep ⟦<dyn HostFn as HostFn>⟧) (embedding_of self.old)
             (command_of command.now)
             (reply_of result) (embedding_of self.new) }
+        ensures goes_well { GoesWell (embedding_of self.old) (command_of command.now)
+            (reply_of result) (embedding_of self.new) }
+        ensures sound { IsSound type_of_host (embedding_of self.new) }
     {
+        writing_is_read();
+        self.show_sound();
+        self.show_linked_module(command);
         match self.perform(command) {
             Ok(reply) => reply,
             Err(refusal) => Reply::Refused(refusal),
         }
     }
 
-    /// Applies all commands, in order, and appends one reply a command. There is room for all replies before the first command is
+    /// Applies all commands, in order, and appends one reply a command. They and what is left are a run of the embedding machine, each
+    /// command of which goes well, from a sound embedding to a sound one. There is room for all replies before the first command is
     /// applied; where there is none, nothing has changed.
     pub fn apply_all(
         &mut self,
@@ -312,8 +346,10 @@ impl Embedding {
     ) -> Result<(), AllocError>
         ensures applied { OnOk result ((answers : List Answer) × (replies.new.items ≡
             replies.old.items ++ answers) ×
-            AppliesAll (HostStep ⟦<dyn HostFn as HostFn>⟧) (embedding_of self.old)
+            RunsWell (HostStep ⟦<dyn HostFn as HostFn>⟧) (embedding_of self.old)
             (map command_of commands.now) (map reply_of answers) (embedding_of self.new)) }
+        ensures from_sound { IsSound type_of_host (embedding_of self.old) }
+        ensures sound { IsSound type_of_host (embedding_of self.new) }
         ensures unchanged { OnErr result
             ((embedding_of self.new ≡ embedding_of self.old) × (replies.new.items ≡
             replies.old.items)) }
@@ -330,17 +366,21 @@ impl Embedding {
         requires nothing { Unit {0} }
         ensures applied { OnOk result ((answers : List Answer) × (replies.new.items ≡
             replies.old.items ++ answers) ×
-            AppliesAll (HostStep ⟦<dyn HostFn as HostFn>⟧) (embedding_of self.old)
+            RunsWell (HostStep ⟦<dyn HostFn as HostFn>⟧) (embedding_of self.old)
             (map command_of commands.now) (map reply_of answers) (embedding_of self.new)) }
+        ensures from_sound { IsSound type_of_host (embedding_of self.old) }
+        ensures sound { IsSound type_of_host (embedding_of self.new) }
         ensures unchanged { OnErr result
             ((embedding_of self.new ≡ embedding_of self.old) × (replies.new.items ≡
             replies.old.items)) }
     {
+        self.show_sound();
         replies.try_reserve(commands.len())?;
         for command in commands {
             let reply = self.apply_lent(command);
             append(replies, reply);
         }
+        self.show_sound();
         Ok(())
     }
 }

@@ -3,12 +3,13 @@ use Rattle.std.specs.Prelude.{List, [], ◌∷◌}
 use Rattle.core_types.specs.declared.types.ValType.{ValType}
 use Rattle.core_types.specs.declared.types.ValType.TheVariants.{I32, FuncRef}
 use Rattle.embedding_tests.specs.declared.kinds.Kind.{Kind}
-use Rattle.embedding_tests.specs.declared.kinds.Kind.TheVariants.{Counts, Traps, LacksMemory, Writes, Measures, GivesFunction}
+use Rattle.embedding_tests.specs.declared.kinds.Kind.TheVariants.{Counts, Traps, LacksMemory, Writes, Marks, Measures, GivesFunction}
 
 abbrev pub results_of : Kind → List ValType
 results_of Counts = I32 ∷ []
 results_of Traps = []
 results_of LacksMemory = []
 results_of Writes = I32 ∷ []
+results_of Marks = []
 results_of Measures = I32 ∷ []
 results_of GivesFunction = FuncRef ∷ []

@@ -29,6 +29,8 @@ pub enum Step {
     Link(u64, Answer),
     // A module that is linked so many times, whatever the answers are.
     LinkTimes(u64, u64),
+    // Modules that differ, one for each number from the first to before the last, are loaded and linked.
+    LinkOthers(u64, u64),
     Register(u64, &'static str, Answer),
     Call(u64, &'static str, &'static [Val], Answer),
     GetGlobal(u64, &'static str, Answer),
@@ -36,7 +38,9 @@ pub enum Step {
     Left(u64),
 }
 
-use Step::{Call, GetGlobal, Left, Link, LinkTimes, Load, LoadBytes, Register, SetFuel};
+use Step::{
+    Call, GetGlobal, Left, Link, LinkOthers, LinkTimes, Load, LoadBytes, Register, SetFuel,
+};
 
 // Steps that follow one another in a fresh embedding.
 struct Row {
@@ -59,14 +63,14 @@ const ONE_AND_TWO: [Val; 2] = [Val::I32(1), Val::I32(2)];
 const TEN: &str =
     "(type (func (param i32) (result i32))) (type (func (result i32))) (table 10 funcref) (func (param i32) (result i32) local.get 0 call_indirect (type 1)) (export \"table\" (table 0)) (export \"call\" (func 0))";
 
-const PAST_THE_END: &str =
+pub const PAST_THE_END: &str =
     "(import \"ten\" \"table\" (table 10 funcref)) (func (result i32) i32.const 42) (elem (offset i32.const 0) func 0) (elem (offset i32.const 10) func 0)";
 
 const ENTRY_ONE: &str =
     "(import \"ten\" \"table\" (table 10 funcref)) (func (result i32) i32.const 7) (elem (offset i32.const 1) func 0)";
 
 // Takes a reference to a function, and tells whether it is null.
-const TAKES_FUNCTION: &str =
+pub const TAKES_FUNCTION: &str =
     "(func (param funcref) (result i32) local.get 0 ref.is_null) (export \"is_null\" (func 0))";
 
 // A function that adds, and a global of 666.
@@ -192,6 +196,36 @@ fn link_times(at: &mut Embedding, number: u64, times: u64) {
     }
 }
 
+// Whether the module of a text is loaded and linked.
+fn links_text(alloc: Global, at: &mut Embedding, text: &str) -> bool {
+    let Ok(bytes) = assemble(alloc, text) else {
+        return false;
+    };
+    match at.apply(&Command::Load(bytes)) {
+        Reply::Loaded(number) => matches!(at.apply(&Command::Link(number)), Reply::Linked(_)),
+        _ => false,
+    }
+}
+
+// Whether a module with objects of its own, and a function that answers this number, is loaded and linked.
+fn links_other(alloc: Global, at: &mut Embedding, number: u64) -> bool {
+    match format!(in alloc;
+        "(memory 1) (table 2 funcref) (global i32 i32.const {number}) (func (result i32) i32.const {number}) (elem (offset i32.const 0) func 0) (data (offset i32.const 0) \"x\")"
+    ) {
+        Ok(text) => links_text(alloc, at, text.as_str()),
+        Err(_) => false,
+    }
+}
+
+// Whether such modules are loaded and linked, one for each of these numbers.
+fn links_others(alloc: Global, at: &mut Embedding, first: u64, last: u64) -> bool {
+    let mut all = true;
+    for number in first..last {
+        all &= links_other(alloc, at, number);
+    }
+    all
+}
+
 // Whether an instance is registered with this answer.
 fn registers(alloc: Global, at: &mut Embedding, number: u64, name: &str, answer: Answer) -> bool {
     match String::from_str(alloc, name) {
@@ -232,6 +266,7 @@ fn is_so(alloc: Global, at: &mut Embedding, step: Step) -> bool {
             link_times(at, number, times);
             true
         }
+        LinkOthers(first, last) => links_others(alloc, at, first, last),
         Register(number, name, answer) => registers(alloc, at, number, name, answer),
         Call(number, name, args, answer) => calls(alloc, at, (number, name), args, answer),
         GetGlobal(number, name, answer) => reads(alloc, at, number, name, answer),
@@ -249,15 +284,18 @@ pub fn steps_hold(alloc: Global, at: &mut Embedding, steps: &[Step]) -> bool {
     all
 }
 
-// Whether all steps are as they say, in an embedding without host functions.
-fn all_are_so(alloc: Global, steps: &[Step]) -> bool {
-    let Some(config) = Config::new(1_000_000_000, 1_024, 1_024, 1_000_000) else {
-        return false;
-    };
-    let Ok(mut at) = Embedding::new(alloc, config, Vec::new(alloc)) else {
-        return false;
-    };
-    steps_hold(alloc, &mut at, steps)
+/// A fresh embedding without host functions.
+pub fn fresh_embedding(alloc: Global) -> Option<Embedding> {
+    let config = Config::new(1_000_000_000, 1_024, 1_024, 1_000_000)?;
+    Embedding::new(alloc, config, Vec::new(alloc)).ok()
+}
+
+/// Whether all steps are as they say, in a fresh embedding without host functions.
+pub fn all_are_so(alloc: Global, steps: &[Step]) -> bool {
+    match fresh_embedding(alloc) {
+        Some(mut at) => steps_hold(alloc, &mut at, steps),
+        None => false,
+    }
 }
 
 #[test]

@@ -52,6 +52,13 @@ fn one_result(alloc: Global, number: u32) -> Result<Vec<Val>, HostFault>
     }
 }
 
+// Writes the byte 7 at 0, if there is anything.
+fn mark(memory: &mut [u8]) {
+    if !memory.is_empty() {
+        memory[0] = 7;
+    }
+}
+
 impl HostFn for Host {
     ghost declared = { λ h. h.ty };
 
@@ -74,10 +81,12 @@ impl HostFn for Host {
             Kind::LacksMemory => Err(HostFault::Memory),
             Kind::Writes => {
                 let values = one_result(self.alloc, 5)?;
-                if !memory.is_empty() {
-                    memory[0] = 7;
-                }
+                mark(memory);
                 Ok(values)
+            }
+            Kind::Marks => {
+                mark(memory);
+                Ok(Vec::new(self.alloc))
             }
             Kind::Measures => one_result(
                 self.alloc,
@@ -115,10 +124,24 @@ const MEASURES_NOTHING: &str =
 const CALLS_THROUGH_A_TABLE: &str =
     "(type (func (result i32))) (import \"host\" \"c\" (func (result i32))) (table 1 funcref) (func (result i32) i32.const 0 call_indirect (type 0)) (elem (offset i32.const 0) func 0) (export \"f\" (func 1))";
 
+// Has a memory, and a table with the host function in it.
+const LENDS_A_TABLE: &str =
+    "(import \"host\" \"w\" (func (result i32))) (memory 1) (table 1 funcref) (func (result i32) i32.const 0 i32.load8_u) (elem (offset i32.const 0) func 0) (export \"table\" (table 0)) (export \"byte\" (func 1))";
+
+// Has another memory, and calls through that table.
+const CALLS_THROUGH_THAT_TABLE: &str =
+    "(type (func (result i32))) (import \"a\" \"table\" (table 1 funcref)) (memory 1) (func (result i32) i32.const 0 call_indirect (type 0)) (func (result i32) i32.const 0 i32.load8_u) (export \"f\" (func 0)) (export \"byte\" (func 1))";
+
+const WRITES_AND_READS: &str =
+    "(import \"host\" \"w\" (func (result i32))) (memory 1) (func (result i32) call 0) (func (result i32) i32.const 0 i32.load8_u) (export \"f\" (func 1)) (export \"byte\" (func 2))";
+
+const STARTS_A_MARK: &str =
+    "(import \"host\" \"s\" (func)) (memory 1) (func call 0) (func (result i32) i32.const 0 i32.load8_u) (start 0) (export \"f\" (func 1)) (export \"byte\" (func 2))";
+
 const STARTS_A_TRAP: &str = "(import \"host\" \"h\" (func)) (start 0)";
 
 #[rattlefmt::skip]
-static ROWS: [Row; 15] = [
+static ROWS: [Row; 18] = [
     Row { name: "calls are counted from 1", hosts: &[("c", Kind::Counts)], refused: None, steps: &[
         Load(CALLS_TWICE, Number(0)), Link(0, Number(0)), SetFuel(10),
         Call(0, "f", &[], Values(&[Val::I32(1), Val::I32(2)])), Left(8),
@@ -149,6 +172,20 @@ static ROWS: [Row; 15] = [
     Row { name: "a call through a table", hosts: &[("c", Kind::Counts)], refused: None, steps: &[
         SetFuel(100), Load(CALLS_THROUGH_A_TABLE, Number(0)), Link(0, Number(0)), SetFuel(2),
         Call(0, "f", &[], Values(&[Val::I32(1)])), Left(0),
+    ] },
+    Row { name: "the memory of the caller is lent, and not that of the table's owner", hosts: &[("w", Kind::Writes)], refused: None, steps: &[
+        Load(LENDS_A_TABLE, Number(0)), Link(0, Number(0)), Register(0, "a", Done),
+        Load(CALLS_THROUGH_THAT_TABLE, Number(1)), Link(1, Number(1)), Call(1, "f", &[], Values(&[Val::I32(5)])),
+        Call(1, "byte", &[], Values(&[Val::I32(7)])), Call(0, "byte", &[], Values(&[Val::I32(0)])),
+    ] },
+    Row { name: "each of two instances has the byte in its own memory", hosts: &[("w", Kind::Writes)], refused: None, steps: &[
+        Load(WRITES_AND_READS, Number(0)), Link(0, Number(0)), Link(0, Number(1)), Call(0, "f", &[], Values(&[Val::I32(5)])),
+        Call(0, "byte", &[], Values(&[Val::I32(7)])), Call(1, "byte", &[], Values(&[Val::I32(0)])),
+        Call(1, "f", &[], Values(&[Val::I32(5)])), Call(1, "byte", &[], Values(&[Val::I32(7)])),
+    ] },
+    Row { name: "a start function of the host is lent nothing", hosts: &[("s", Kind::Marks)], refused: None, steps: &[
+        Load(STARTS_A_MARK, Number(0)), Link(0, Number(0)), Call(0, "byte", &[], Values(&[Val::I32(0)])),
+        Call(0, "f", &[], Values(&[])), Call(0, "byte", &[], Values(&[Val::I32(7)])),
     ] },
     Row { name: "a start function of the host that traps", hosts: &[("h", Kind::Traps)], refused: None, steps: &[
         SetFuel(4), Load(STARTS_A_TRAP, Number(0)), Link(0, Trapped(Trap::Host(5))), Left(4),

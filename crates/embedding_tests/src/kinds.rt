@@ -16,6 +16,8 @@ pub enum Kind {
     LacksMemory,
     /// Writes the byte 7 at 0 of what it is lent, if it is lent anything, and answers 5.
     Writes,
+    /// Writes the byte 7 at 0 of what it is lent, if it is lent anything, and answers nothing.
+    Marks,
     /// Answers how many bytes it is lent.
     Measures,
     /// Has a funcref result, and is never called.
@@ -29,7 +31,7 @@ impl Kind {
     {
         match self {
             Kind::Counts | Kind::Writes | Kind::Measures => &[ValType::I32],
-            Kind::Traps | Kind::LacksMemory => &[],
+            Kind::Traps | Kind::LacksMemory | Kind::Marks => &[],
             Kind::GivesFunction => &[ValType::FuncRef],
         }
     }

@@ -11,6 +11,10 @@ mod exports;
 mod hosts;
 pub mod kinds;
 #[cfg(test)]
+mod lasting;
+#[cfg(test)]
 mod lists;
 #[cfg(test)]
 mod setups;
+#[cfg(test)]
+mod sharing;

@@ -18,3 +18,4 @@ pub mod Positions
 pub mod Returns
 pub mod Runs
 pub mod Stops
+pub mod Typing

@@ -4,4 +4,5 @@ pub mod Frames
 pub mod HostCalls
 pub mod Simulation
 pub mod Stops
+pub mod Typing
 pub mod IndirectCalls

@@ -8,7 +8,7 @@ use Rattle.meaning.specs.execution.Store.{Store}
 use Rattle.meaning.specs.execution.Runs.{IsEnd, IsStep, NoHosts, Run, State, Steps, Ending, WithValues, WithTrap, OutOfFuel, OutOfDepth, OutOfMemory, GotStuck}
 use Rattle.exec.specs.declared.machine.Machine.{Machine}
 use Rattle.exec.specs.declared.machine.Outcome.{Outcome}
-use Rattle.exec.specs.declared.machine.Outcome.TheVariants.{Values, Trap, Exhausted, Stuck}
+use Rattle.exec.specs.declared.machine.Outcome.TheVariants.{Values, Trap, Exhausted}
 use Rattle.exec.specs.declared.machine.Step.{Step}
 use Rattle.exec.specs.declared.machine.Step.TheVariants as steps
 use Rattle.exec.specs.HostCalls.{WaitsForHost}
@@ -31,7 +31,6 @@ abbrev pub ending_of : Outcome → Ending
 ending_of (Values values) = WithValues values
 ending_of (Trap trap) = WithTrap trap
 ending_of (Exhausted what) = exhausted_ending what
-ending_of Stuck = GotStuck
 
 -- What a run may change beside the fuel between calls of host functions: the store alone.
 pub record World : Type 0 where

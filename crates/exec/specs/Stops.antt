@@ -15,7 +15,6 @@ step_of stop.Over = step.Over
 step_of (stop.Traps trap) = step.Traps trap
 step_of (stop.Lacks what) = step.Lacks what
 step_of (stop.CallsHost number) = step.CallsHost number
-step_of stop.Stuck = step.Stuck
 
 -- Steps lead from a configuration to one at which the machine stops.
 pub record StopsAt (bound : ℕ) (first : World) (fuel : ℕ) (whole : Configuration) (s : Stop)

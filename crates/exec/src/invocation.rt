@@ -1,4 +1,4 @@
-ghost use Rattle.std.specs.Prelude.{◌≡◌, ◌+◌, ◌<◌, ℕ, [], Err, Some, length, map, reverse, slice_get, IfOk, IfErr, MatchOption, None};
+ghost use Rattle.std.specs.Prelude.{◌≡◌, ◌+◌, ◌<◌, ◌≤◌, ℕ, [], Err, Some, length, map, reverse, slice_get, IfOk, IfErr, MatchOption, None};
 ghost use Rattle.core_types.specs.declared.types.FuncType.{FuncType};
 ghost use Rattle.meaning.specs.structure.Bodies.{rests};
 ghost use Rattle.meaning.specs.execution.Configurations.{Invoking, Configuration, no_frame};
@@ -7,15 +7,19 @@ ghost use Rattle.meaning.specs.execution.Runs.{HostTrap, IsEnd, IsStep, Results,
 ghost use Rattle.meaning.specs.execution.Store.{Store as AnyStore};
 ghost use Rattle.meaning.specs.execution.Values.{type_of};
 ghost use Rattle.meaning.specs.soundness.Values.{TakesArguments};
+ghost use Rattle.soundness.specs.Embedding.{results_of};
+ghost use Rattle.soundness.specs.Runs.{EndsWell, IsTyped};
+ghost use Rattle.soundness.specs.Stores.{Extends, StoreIsValid};
 ghost use Rattle.hostfunc.specs.Boxes.{HaveHosts, HostStep, IsHost};
 ghost use Rattle.hostfunc.specs.declared.host_function.HostFault.TheVariants.{Trap as TrapFault, Memory as MemoryFault};
 ghost use Rattle.store.specs.Contents.{code_store, function_of, functions_in, host_function, store_of, store_with};
 ghost use Rattle.store.specs.Ends.{HasEnds};
 ghost use Rattle.exec.specs.Frames.{enter_from_outside};
 ghost use Rattle.exec.specs.HostCalls.{WaitsForHost, first_memory};
-ghost use Rattle.exec.specs.Representation.{RepresentsSome, Represents};
+ghost use Rattle.exec.specs.Representation.{Represents};
 ghost use Rattle.exec.specs.Simulation.{ending_of, run_state, world_of};
 ghost use Rattle.exec.specs.Stops.{StopsAt};
+ghost use Rattle.exec.specs.Typing.{RepresentsTyped};
 
 use crate::control::calls::{code_of, enter_function};
 use crate::instructions::step;
@@ -38,8 +42,6 @@ pub enum Stop {
     Lacks(Exhaustion),
     /// The next step is a call of the host function of this number.
     CallsHost(u32),
-    /// There is no next step.
-    Stuck,
 }
 
 // A machine that has stopped.
@@ -56,7 +58,7 @@ fn run_code<'a>(
     machine: Machine<'a>,
     meter: &mut Meter,
 ) -> Stopped<'a>
-    requires sound { RepresentsSome machine meter.old.frames }
+    requires sound { RepresentsTyped (store_with code.now state.old) machine meter.old.frames }
     ensures stops { (whole : Configuration) → Represents machine.entry meter.old.frames whole →
         StopsAt meter.old.bound (world_of code.now state.old) meter.old.left whole result.stop
         (world_of code.now state.new) result.machine meter.new }
@@ -84,10 +86,7 @@ fn run_code<'a>(
                 machine,
                 stop: Stop::CallsHost(number),
             },
-            Step::Stuck => return Stopped {
-                machine,
-                stop: Stop::Stuck,
-            },
+            Step::Stuck => unreachable!(),
         }
     }
 }
@@ -196,7 +195,7 @@ fn run<'a>(
     machine: Machine<'a>,
     meter: &mut Meter,
 ) -> Outcome
-    requires sound { RepresentsSome machine meter.old.frames }
+    requires sound { RepresentsTyped (store_with code.now state.old) machine meter.old.frames }
     requires hosts { HaveHosts (store_with code.now state.old)
         hosts.old.objects.items }
     ensures run { (whole : Configuration) → Represents machine.entry meter.old.frames whole → Run
@@ -222,7 +221,6 @@ fn run<'a>(
                     Err(outcome) => return outcome,
                 }
             }
-            Stop::Stuck => return Outcome::Stuck,
         }
     }
 }
@@ -263,7 +261,8 @@ fn call_code_from_outside<'a>(
     args: &[Val],
 ) -> Outcome
     requires there { (address : ℕ) × (slice_get (functions_in code.now) address ≡ Some (function_of
-        callee.now.ty.now callee.now.instance callee.now.func.now)) }
+        callee.now.ty.now callee.now.instance callee.now.func.now))
+        × IsTyped (store_with code.now state.old) (Invoking (reverse args.now) address) }
     requires arguments { length args.now ≡ length callee.now.ty.now.params }
     requires ends { HasEnds callee.now.func.now.body callee.now.ends.now }
     requires whole { (rests callee.now.func.now.body).around ≡ [] }
@@ -311,12 +310,41 @@ fn call_host_from_outside(hosts: &mut HostTable, number: u32, args: &[Val]) -> O
     }
 }
 
+// Calls the function at an address from outside, over both parts of a valid store.
+fn call_from_outside(
+    alloc: Global,
+    code: &Code,
+    state: &mut State,
+    hosts: &mut HostTable,
+    meter: &mut Meter,
+    address: u32,
+    args: &[Val],
+) -> Outcome
+    requires arguments { TakesArguments (store_with code.now state.old) address args.now }
+    requires valid { StoreIsValid (store_with code.now state.old) }
+    requires hosts { HaveHosts (store_with code.now state.old) hosts.old.objects.items }
+    requires closed { meter.old.frames ≡ 0 }
+    ensures run { Run (HostStep ⟦<dyn HostFn as HostFn>⟧) meter.old.bound no_frame
+        (run_state (store_with code.now state.old) hosts.old.objects.items meter.old.left)
+        (Invoking (reverse args.now) address) (ending_of result)
+        (run_state (store_with code.now state.new) hosts.new.objects.items meter.new.left) }
+    ensures bound { meter.new.bound ≡ meter.old.bound }
+    ensures closed { meter.new.frames ≡ 0 }
+{
+    match code.function(address) {
+        Some(Callee::InModule(callee)) => {
+            call_code_from_outside(alloc, code, state, hosts, meter, &callee, args)
+        }
+        Some(Callee::InHost(callee)) => call_host_from_outside(hosts, callee.number, args),
+        None => unreachable!(),
+    }
+}
+
 /// Calls the function at an address from outside, and runs it to its end within the fuel that is left and the depth bound.
 ///
 /// The caller owes a function at the address, arguments of its parameter types (`accepts` is the test of both), for each host function
 /// of the store an object of its type, and a meter without an open frame; at the end no frame is open. A refused step charges
-/// nothing. `Stuck` is answered only where the run came to a configuration that is neither an end nor ready (Execution, Modules,
-/// Invocation).
+/// nothing. In a valid store no call goes wrong: results have the function's result types (Execution, Modules, Invocation).
 pub fn invoke(
     alloc: Global,
     store: &mut Store,
@@ -332,16 +360,14 @@ pub fn invoke(
         (run_state (store_of store.old) hosts.old.objects.items meter.old.left)
         (Invoking (reverse args.now) address) (ending_of result)
         (run_state (store_of store.new) hosts.new.objects.items meter.new.left) }
+    ensures ends { EndsWell (store_of store.new)
+        (results_of (slice_get (store_of store.old).functions address)) (ending_of result) }
+    ensures extends { Extends (store_of store.old) (store_of store.new) }
+    ensures spends { meter.new.left ≤ meter.old.left }
     ensures hosts { HaveHosts (store_of store.new) hosts.new.objects.items }
     ensures bound { meter.new.bound ≡ meter.old.bound }
     ensures closed { meter.new.frames ≡ 0 }
 {
-    let (code, state) = store.parts_mut();
-    match code.function(address) {
-        Some(Callee::InModule(callee)) => {
-            call_code_from_outside(alloc, code, state, hosts, meter, &callee, args)
-        }
-        Some(Callee::InHost(callee)) => call_host_from_outside(hosts, callee.number, args),
-        None => unreachable!(),
-    }
+    let (code, state) = (&store.code, &mut store.state);
+    call_from_outside(alloc, code, state, hosts, meter, address, args)
 }

@@ -10,8 +10,6 @@ pub enum Outcome {
     Trap(Trap),
     /// Out of fuel, depth or memory.
     Exhausted(Exhaustion),
-    /// At a configuration that is neither an end nor ready: a fault of the engine.
-    Stuck,
 }
 
 /// A label: how many values a branch to it keeps, the heights of the operands inside of it and outside of it, and the position

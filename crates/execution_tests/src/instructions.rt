@@ -234,10 +234,9 @@ fn run_alone(
     locals: &mut FrameLocals,
     operands: &mut Operands,
 ) -> (Progress, u64) {
-    let mut store = Store::new(alloc, 0, 0);
+    let Store { code, mut state } = Store::new(alloc, 0, 0);
     let mut meter = Meter::new(1, 0);
-    let (code, state) = store.parts_mut();
-    let did = run_plain(op, code, 0, state, locals, operands, &mut meter);
+    let did = run_plain(op, &code, 0, &mut state, locals, operands, &mut meter);
     (did, meter.left())
 }
 

@@ -195,12 +195,12 @@ fn takes(state: &mut State, step: Step) -> bool {
 
 // How many steps of a case are taken so, up to the first one that is not.
 fn count_steps(alloc: Global, case: &Case) -> usize {
-    let Some(mut store) = store_with(alloc, &[case.text]) else {
+    let Some(store) = store_with(alloc, &[case.text]) else {
         return 0;
     };
-    let (_, state) = store.parts_mut();
+    let mut state = store.state;
     for (index, step) in case.steps.iter().enumerate() {
-        if !takes(state, *step) {
+        if !takes(&mut state, *step) {
             return index;
         }
     }

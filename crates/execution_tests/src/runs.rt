@@ -237,7 +237,6 @@ fn ends_so(alloc: Global, outcome: &Outcome, text: &str) -> bool {
         Outcome::Values(found) => how == "values" && are_values(alloc, found.as_slice(), what),
         Outcome::Trap(trap) => how == "trap" && trap_text(*trap) == what,
         Outcome::Exhausted(found) => how == "exhausted" && exhaustion_text(*found) == what,
-        Outcome::Stuck => false,
     }
 }
 

@@ -4,9 +4,11 @@ use Rattle.std.specs.Global.{Global}
 use Rattle.std.specs.declared.dyn_box.DynBox.{DynBox}
 use Rattle.core_types.specs.declared.outcome.Val.{Val}
 use Rattle.core_types.specs.declared.types.FuncType.{FuncType}
-use Rattle.meaning.specs.execution.Hosts.{HasType, HostsHaveTypes, IsHostCall, IsHostStep}
+use Rattle.meaning.specs.execution.Hosts.{HasType, IsHostCall, IsHostStep}
 use Rattle.meaning.specs.execution.Runs.{Answer, HostTrap}
 use Rattle.meaning.specs.execution.Store.{Store}
+use Rattle.soundness.specs.Hosts.{AnswerFits, AreReady}
+use Rattle.soundness.specs.Stores.{AreBytes}
 use Rattle.hostfunc.specs.declared.host_function.HostFn.{Ghosts}
 use Rattle.hostfunc.specs.declared.host_object.HostObject.{HostObject}
 
@@ -19,9 +21,9 @@ module _ {I : Type 0} {F : I → Type 0} where
   abbrev pub IsHost : List (HostObject I F) → (number : ℕ) → FuncType → Type 0
   IsHost hosts number t = HasType type_of_host hosts number t
 
-  -- Each host function of the store is there, and has its type.
+  -- Each host function of the store is there, and has its type, and none gives references to functions.
   abbrev pub HaveHosts : Store → List (HostObject I F) → Type 0
-  HaveHosts store hosts = HostsHaveTypes type_of_host store hosts
+  HaveHosts store hosts = AreReady type_of_host store hosts
 
 module _ {I : Type 0} {F : I → Type 0} (members : (i : I) → Ghosts (F i)) where
   -- The type that the object in a box declares.
@@ -35,11 +37,14 @@ module _ {I : Type 0} {F : I → Type 0} (members : (i : I) → Ghosts (F i)) wh
       (w : F o.vtable) × (o' ≡ record o { value = w }) ×
       (members o.vtable).Answers o.value arguments bytes answer bytes' w
 
-  -- The relation of a host function: that of its object. One that declared another type than it was taken in with, which no host
-  -- that keeps its contract does, would trap and change nothing.
+  -- The relation of a host function: that of its object, of answers whose numbers have their widths, and of bytes. One that declared
+  -- another type than it was taken in with, which no host that keeps its contract does, would trap and change nothing.
   pub record HostAnswers (h : HostObject I F) (arguments : List Val) (bytes : List ℕ)
       (answer : Answer) (bytes' : List ℕ) (h' : HostObject I F) : Type 0 where
     pub same_type : h'.ty ≡ h.ty
+    pub same_declared : declared_type h'.object ≡ declared_type h.object
+    pub fits : AnswerFits answer
+    pub bytes_fit : AreBytes bytes'
     pub answers : declared_type h.object ≡ h.ty
         → AnswersInBox h.object arguments bytes answer bytes' h'.object
     pub traps : (declared_type h.object ≡ h.ty → ⊥)

@@ -1,10 +1,43 @@
 ghost use Rattle.std.specs.Prelude.{◌≡◌, ℕ, IfOk, Err, map};
 ghost use Rattle.meaning.specs.execution.Runs.{HostTrap, Results};
 ghost use Rattle.meaning.specs.execution.Values.{type_of};
+ghost use Rattle.std.specs.List.{All};
+ghost use Rattle.soundness.specs.Hosts.{FitsWidth};
+ghost use Rattle.soundness.specs.Stores.{AreBytes};
 ghost use Rattle.hostfunc.specs.declared.host_function.HostFault.TheVariants.{Trap as TrapFault, Memory as MemoryFault};
 
 use crate::host_function::{HostFault, HostFn};
 use core_types::{FuncType, Val};
+
+// The calls that show something do nothing: they say what is known by the types of numbers.
+
+// The number of a value has its width.
+fn show_width(value: Val)
+    ensures { FitsWidth value }
+{}
+
+// So have those of a list.
+fn show_widths(values: &[Val])
+    ensures { All FitsWidth values.now }
+{
+    for i in 0..values.len() {
+        show_width(values[i]);
+    }
+}
+
+// So have those of an answer, if there is one.
+fn show_answer_fits(answer: &Result<Vec<Val>, HostFault>)
+    ensures { IfOk answer.now (λ values. All FitsWidth values.items) }
+{
+    if let Ok(values) = answer {
+        show_widths(values);
+    }
+}
+
+// Bytes are bytes.
+fn show_bytes(bytes: &[u8])
+    ensures { AreBytes bytes.now }
+{}
 
 // One call of an object that is lent.
 fn call_lent(
@@ -53,6 +86,11 @@ pub fn call_object(
         × Answers object.old args.now memory.old (HostTrap code) memory.new w }
     ensures unchanged { result ≡ Err MemoryFault
         → (object.new ≡ object.old) × (memory.new ≡ memory.old) }
+    ensures fits { IfOk result (λ values. All FitsWidth values.items) }
+    ensures bytes_fit { AreBytes memory.new }
 {
-    call_lent(object.as_mut(), args, memory)
+    let answer = call_lent(object.as_mut(), args, memory);
+    show_answer_fits(&answer);
+    show_bytes(memory);
+    answer
 }

@@ -1,8 +1,12 @@
-ghost use Rattle.std.specs.Prelude.{◌≡◌, ℕ, ◌<◌, ◌-◌, ◌^◌, ◌++◌, ◌∷◌, [], length, map, IfOk, OnOk, OnErr, Err};
+ghost use Rattle.std.proofs.Props.{props};
+ghost use Rattle.std.specs.List.{All};
+ghost use Rattle.std.specs.Prelude.{◌≡◌, ℕ, ◌<◌, ◌-◌, ◌^◌, ◌++◌, ◌∷◌, [], length, map, IfOk, OnOk, OnErr, Err, false};
 ghost use Rattle.core_types.specs.declared.types.FuncType.{FuncType as Signature};
+ghost use Rattle.meaning.specs.embedding.Creation.{has_funcref};
 ghost use Rattle.meaning.specs.execution.Runs.{HostTrap, Results};
 ghost use Rattle.meaning.specs.execution.Values.{type_of};
-ghost use Rattle.hostfunc.specs.Boxes.{HostCall, IsHost};
+ghost use Rattle.soundness.specs.Hosts.{GivesNoFuncref};
+ghost use Rattle.hostfunc.specs.Boxes.{HostCall, IsHost, type_of_host};
 ghost use Rattle.hostfunc.specs.declared.host_function.HostFault.TheVariants.{Trap as TrapFault, Memory as MemoryFault};
 
 use crate::boxes::object_type;
@@ -11,11 +15,12 @@ use crate::host_object::HostObject;
 use core_types::{FuncType, Val};
 use std::alloc::{AllocError, Global};
 
-/// The host functions of an embedding, by number.
+/// The host functions of an embedding, by number. None gives references to functions.
 #[derive(Drop)]
 pub struct HostTable {
     alloc: Global,
     objects: Vec<HostObject>,
+    ghost no_funcrefs: { All (GivesNoFuncref type_of_host) objects.items } by { Prim.hlevel props },
 }
 
 impl HostTable {
@@ -36,10 +41,11 @@ impl HostTable {
         self.objects.len()
     }
 
-    /// Takes in a host function with the type that it declares, and answers its number, the next one. Where memory runs out, the
-    /// object is dropped and the table stays.
+    /// Takes in a host function with the type that it declares, which has no funcref among its results, and answers its number, the
+    /// next one. Where memory runs out, the object is dropped and the table stays.
     pub fn push(&mut self, object: Box<dyn HostFn>) -> Result<u32, AllocError>
         requires room { length self.old.objects.items < 2 ^ 32 - 1 }
+        requires no_funcref { has_funcref (declared object).results ≡ false }
         ensures number { IfOk result (λ number. number ≡ length self.old.objects.items) }
         ensures pushed { OnOk result (self.new.objects.items ≡ self.old.objects.items ++
             record { ty = declared object; object = object } ∷ []) }

@@ -11,4 +11,4 @@ pub use boxes::object_type;
 pub use host_function::{HostFault, HostFn};
 pub use host_object::HostObject;
 pub use host_table::HostTable;
-pub use types::have_types;
+pub use types::{has_funcref, have_types};

@@ -1,4 +1,5 @@
 ghost use Rattle.std.specs.Prelude.{◌≡◌, ◌↔◌, IsTrue, map};
+ghost use Rattle.meaning.specs.embedding.Creation.{has_funcref as have_funcref};
 ghost use Rattle.meaning.specs.execution.Values.{type_of as value_type};
 
 use core_types::{Val, ValType};
@@ -28,4 +29,16 @@ pub fn have_types(values: &[Val], types: &[ValType]) -> bool
         }
     }
     true
+}
+
+/// Whether a funcref is among the types.
+pub fn has_funcref(types: &[ValType]) -> bool
+    ensures { result ≡ have_funcref types.now }
+{
+    for ty in types {
+        if *ty == ValType::FuncRef {
+            return true;
+        }
+    }
+    false
 }

@@ -7,3 +7,4 @@ pub mod Links
 pub mod Objects
 pub mod Starts
 pub mod Tasks
+pub mod Validity

@@ -6,8 +6,8 @@ use Rattle.core_types.specs.declared.outcome.Val.{Val}
 use Rattle.meaning.specs.execution.Modules.{AreGiven, HasNoValues, Instantiation, IsAllowed, IsWithinLimits, new_instance, new_objects, with_module}
 use Rattle.meaning.specs.execution.Runs.{Answer, State, WithValues}
 use Rattle.meaning.specs.execution.Store.{ObjectLists, Store}
+use Rattle.soundness.specs.Links.{InstanceStays}
 use Rattle.exec.specs.declared.machine.Outcome.{Outcome}
-use Rattle.exec.specs.declared.machine.Outcome.TheVariants.{Stuck}
 use Rattle.exec.specs.Simulation.{ending_of}
 use Rattle.instantiate.specs.declared.link_end.LinkEnd.{LinkEnd}
 use Rattle.instantiate.specs.declared.link_end.LinkEnd.TheVariants.{Refused, Ended}
@@ -39,12 +39,11 @@ pub record IsAllocated (number : ℕ) (m : Module) (given : List Extern) (old ne
     pub objects_are : new_objects old (new_instance old m given) m ≡ Some objects
     pub store_is : new ≡ with_module old (new_instance old m given) m objects
 
--- They are, or nothing has changed: there was no memory, or a constant expression has no value.
+-- They are, or nothing has changed: there was no memory.
 abbrev pub Allocates : Result ℕ LinkEnd → Module → List Extern → (old new : Store) → Type 0
 Allocates (Ok number) m given old new = IsAllocated number m given old new
 Allocates (Err (Refused refusal)) m given old new = (refusal ≡ OutOfMemory) × (new ≡ old)
-Allocates (Err (Ended o)) m given old new =
-    (o ≡ Stuck) × (new_objects old (new_instance old m given) m ≡ None) × (new ≡ old)
+Allocates (Err (Ended o)) m given old new = ⊥
 
 module _ {H : Type 0} (HostStep : List H → ℕ → Option ℕ → List Val → Store → Answer → Store
     → List H → Type 0) where
@@ -76,3 +75,9 @@ Links HostStep (Ok number) bound m externs old new =
     IsLinked HostStep number bound m externs old new
 Links HostStep (Err (Ended o)) bound m externs old new = IsEnded HostStep o bound m externs old new
 Links HostStep (Err (Refused refusal)) bound m externs old new = IsRefused refusal m externs old new
+
+-- A link that is not refused leaves its instance, which is valid, also where it ended without values.
+abbrev pub LeavesInstance : Result ℕ LinkEnd → Module → List Extern → (old new : Store) → Type 0
+LeavesInstance (Ok number) m externs old new = InstanceStays old new m (given_to m externs)
+LeavesInstance (Err (Ended o)) m externs old new = InstanceStays old new m (given_to m externs)
+LeavesInstance (Err (Refused refusal)) m externs old new = Unit {0}

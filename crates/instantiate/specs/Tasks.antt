@@ -10,16 +10,18 @@ use Rattle.core_types.specs.declared.outcome.Val.{Val}
 use Rattle.core_types.specs.declared.outcome.Val.TheVariants.{I32, I64, FuncRef, ExternRef}
 use Rattle.meaning.specs.execution.Configurations.{Configuration, Frame}
 use Rattle.meaning.specs.execution.Modules.{HasNoValues, RunTasks, Task}
-use Rattle.meaning.specs.execution.Runs.{Answer, Ending, IsStep, Run, State, WithValues}
+use Rattle.meaning.specs.execution.Runs.{Answer, Ending, GotStuck, IsStep, Run, State, WithTrap, WithValues}
 use Rattle.meaning.specs.execution.Store.{ModuleInstance, Store}
 use Rattle.exec.specs.declared.machine.Outcome.{Outcome}
-use Rattle.exec.specs.declared.machine.Outcome.TheVariants.{Exhausted, Stuck, Trap}
-use Rattle.exec.specs.Simulation.{ending_of, state, world_of}
+use Rattle.exec.specs.declared.machine.Outcome.TheVariants.{Values}
+use Rattle.exec.specs.Simulation.{ending_of, exhausted_ending, state, world_of}
 use Rattle.plain.specs.declared.progress.Progress.{Progress}
 use Rattle.plain.specs.declared.progress.Progress.TheVariants as progress
 use Rattle.store.specs.Contents.{AddressLists, Contents, instances_in, lists_of, module_instance}
 use Rattle.store.specs.State.{StateContents}
 use Rattle.instantiate.specs.declared.copies.Linked.{Linked}
+use Rattle.instantiate.specs.declared.link_end.TaskEnd.{TaskEnd}
+use Rattle.instantiate.specs.declared.link_end.TaskEnd.TheVariants.{Exhausted, Stuck, Trap}
 
 -- The state of a link over both parts of the store, with this fuel left.
 abbrev pub link_state : Contents → StateContents → (fuel : ℕ) → State ⊥
@@ -52,16 +54,27 @@ HasNoI32 (Some (I64 n)) = Unit {0}
 HasNoI32 (Some (FuncRef a)) = Unit {0}
 HasNoI32 (Some (ExternRef n)) = Unit {0}
 
+-- The end of a run.
+abbrev pub ending_in : TaskEnd → Ending
+ending_in (Trap trap) = WithTrap trap
+ending_in (Exhausted what) = exhausted_ending what
+ending_in Stuck = GotStuck
+
 -- How a link ends where this came of an instruction.
-abbrev pub IsEndOf : Outcome → Progress → Type 0
+abbrev pub IsEndOf : TaskEnd → Progress → Type 0
 IsEndOf (Trap trap) p = p ≡ progress.Trapped trap
 IsEndOf (Exhausted exhausted.Fuel) p = p ≡ progress.NoFuel
 IsEndOf (Exhausted exhausted.Memory) p = p ≡ progress.NoMemory
 IsEndOf Stuck p = p ≡ progress.NotReady
 IsEndOf o p = ⊥
 
+-- What is left where a call from outside ended so: nothing, after values.
+abbrev pub EndsAs : {U : Type 0} → Result U TaskEnd → Outcome → Type 0
+EndsAs (Ok u) outcome = (values : List Val) × (outcome ≡ Values values)
+EndsAs (Err o) outcome = ending_of outcome ≡ ending_in o
+
 -- How it goes on.
-abbrev pub IsPassed : {U : Type 0} → Result U Outcome → Progress → Type 0
+abbrev pub IsPassed : {U : Type 0} → Result U TaskEnd → Progress → Type 0
 IsPassed (Ok u) p = p ≡ progress.Done
 IsPassed (Err o) p = IsEndOf o p
 
@@ -69,12 +82,12 @@ module _ {H : Type 0} (HostStep : List H → ℕ → Option ℕ → List Val →
     → List H → Type 0) where
   -- This outcome ends the run.
   pub record Ends (bound : ℕ) (frame : Frame) (old : State H) (configuration : Configuration)
-      (o : Outcome) (new : State H) : Type 0 where
-    pub ends : Run HostStep bound frame old configuration (ending_of o) new
-    pub no_values : HasNoValues (ending_of o)
+      (o : TaskEnd) (new : State H) : Type 0 where
+    pub ends : Run HostStep bound frame old configuration (ending_in o) new
+    pub no_values : HasNoValues (ending_in o)
 
   -- One step to this configuration, or another end of the run.
-  abbrev pub StepsOrEnds : {U : Type 0} → Result U Outcome → (bound : ℕ) → Frame → (old : State H)
+  abbrev pub StepsOrEnds : {U : Type 0} → Result U TaskEnd → (bound : ℕ) → Frame → (old : State H)
       → Configuration → (new : State H) → Configuration → Type 0
   StepsOrEnds (Ok u) bound frame old configuration new then =
       IsStep HostStep bound frame old configuration new then
@@ -82,7 +95,7 @@ module _ {H : Type 0} (HostStep : List H → ℕ → Option ℕ → List Val →
       Ends bound frame old configuration o new
 
   -- A run to values, or to another end.
-  abbrev pub RunsTo : {U : Type 0} → Result U Outcome → (bound : ℕ) → Frame → (old : State H)
+  abbrev pub RunsTo : {U : Type 0} → Result U TaskEnd → (bound : ℕ) → Frame → (old : State H)
       → Configuration → (new : State H) → Type 0
   RunsTo (Ok u) bound frame old configuration new =
       (values : List Val) × Run HostStep bound frame old configuration (WithValues values) new
@@ -98,12 +111,12 @@ module _ {H : Type 0} (HostStep : List H → ℕ → Option ℕ → List Val →
 
   -- One of the tasks ended the link.
   pub record EndedTasks (bound instance : ℕ) (i : ModuleInstance) (old : State H)
-      (tasks : List Task) (o : Outcome) (new : State H) : Type 0 where
+      (tasks : List Task) (o : TaskEnd) (new : State H) : Type 0 where
     pub ended : (further : List Task)
-        → RunTasks HostStep bound instance i old (tasks ++ further) (ending_of o) new
-    pub no_values : HasNoValues (ending_of o)
+        → RunTasks HostStep bound instance i old (tasks ++ further) (ending_in o) new
+    pub no_values : HasNoValues (ending_in o)
 
-  abbrev pub RanTasks : {U : Type 0} → Result U Outcome → (bound instance : ℕ) → ModuleInstance
+  abbrev pub RanTasks : {U : Type 0} → Result U TaskEnd → (bound instance : ℕ) → ModuleInstance
       → (old : State H) → List Task → (new : State H) → Type 0
   RanTasks (Ok u) bound instance i old tasks new = DoneTasks bound instance i old tasks new
   RanTasks (Err o) bound instance i old tasks new = EndedTasks bound instance i old tasks o new

@@ -8,8 +8,8 @@ ghost use Rattle.meaning.specs.execution.Configurations.{Running};
 ghost use Rattle.meaning.specs.execution.Runs.{NoHosts};
 ghost use Rattle.instantiate.specs.Tasks.{IsDrop, IsPassed, RunsTo, StepsOrEnds, frame_in, link_state};
 
+use crate::link_end::TaskEnd;
 use core_types::{Exhaustion, MemoryOp, Module, PlainOp, TableOp};
-use exec::Outcome;
 use fuel::Meter;
 use plain::{CopyOperands, Progress, run_memory_init, run_plain, run_table_init};
 use stacks::{FrameLocals, Operands};
@@ -26,15 +26,15 @@ pub struct Linked<'a> {
 }
 
 // How a link goes on where this came of an instruction.
-fn pass(progress: Progress) -> Result<(), Outcome>
+fn pass(progress: Progress) -> Result<(), TaskEnd>
     ensures { IsPassed result progress }
 {
     match progress {
         Progress::Done => Ok(()),
-        Progress::Trapped(trap) => Err(Outcome::Trap(trap)),
-        Progress::NoFuel => Err(Outcome::Exhausted(Exhaustion::Fuel)),
-        Progress::NoMemory => Err(Outcome::Exhausted(Exhaustion::Memory)),
-        Progress::NotReady => Err(Outcome::Stuck),
+        Progress::Trapped(trap) => Err(TaskEnd::Trap(trap)),
+        Progress::NoFuel => Err(TaskEnd::Exhausted(Exhaustion::Fuel)),
+        Progress::NoMemory => Err(TaskEnd::Exhausted(Exhaustion::Memory)),
+        Progress::NotReady => Err(TaskEnd::Stuck),
     }
 }
 
@@ -45,7 +45,7 @@ pub fn drop_segment(
     linked: &Linked<'_>,
     state: &mut State,
     meter: &mut Meter,
-) -> Result<(), Outcome>
+) -> Result<(), TaskEnd>
     requires { IsDrop op.now }
     ensures run { RunsTo NoHosts result meter.old.bound (frame_in linked.now)
         (link_state linked.now.code.now state.old meter.old.left) (Running ([])
@@ -67,7 +67,7 @@ fn init_elements(
     linked: &Linked<'_>,
     state: &mut State,
     meter: &mut Meter,
-) -> Result<(), Outcome>
+) -> Result<(), TaskEnd>
     ensures step { (rest : Body) → StepsOrEnds NoHosts result meter.old.bound (frame_in linked.now)
         (link_state linked.now.code.now state.old meter.old.left) (Running
         (I32Value given.count ∷ I32Value given.from ∷ I32Value given.target ∷ [])
@@ -89,7 +89,7 @@ pub fn copy_elements(
     linked: &Linked<'_>,
     state: &mut State,
     meter: &mut Meter,
-) -> Result<(), Outcome>
+) -> Result<(), TaskEnd>
     ensures run { RunsTo NoHosts result meter.old.bound (frame_in linked.now)
         (link_state linked.now.code.now state.old meter.old.left) (Running
         (I32Value given.count ∷ I32Value given.from ∷ I32Value given.target ∷ [])
@@ -111,7 +111,7 @@ fn init_bytes(
     linked: &Linked<'_>,
     state: &mut State,
     meter: &mut Meter,
-) -> Result<(), Outcome>
+) -> Result<(), TaskEnd>
     ensures step { (rest : Body) → StepsOrEnds NoHosts result meter.old.bound (frame_in linked.now)
         (link_state linked.now.code.now state.old meter.old.left) (Running
         (I32Value given.count ∷ I32Value given.from ∷ I32Value given.target ∷ [])
@@ -132,7 +132,7 @@ pub fn copy_bytes(
     linked: &Linked<'_>,
     state: &mut State,
     meter: &mut Meter,
-) -> Result<(), Outcome>
+) -> Result<(), TaskEnd>
     ensures run { RunsTo NoHosts result meter.old.bound (frame_in linked.now)
         (link_state linked.now.code.now state.old meter.old.left) (Running
         (I32Value given.count ∷ I32Value given.from ∷ I32Value given.target ∷ [])

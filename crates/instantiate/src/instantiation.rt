@@ -1,27 +1,30 @@
-ghost use Rattle.std.specs.Prelude.{◌≡◌, ◌<◌, ◌^◌, ◌++◌, length, Some};
+ghost use Rattle.std.specs.Prelude.{◌≡◌, ◌<◌, ◌≤◌, ◌^◌, ◌++◌, length, Some};
 ghost use Rattle.meaning.specs.execution.Modules.{IsWithinLimits, data_tasks, element_tasks, tasks_of};
 ghost use Rattle.meaning.specs.execution.Store.{instance_of};
 ghost use Rattle.meaning.specs.execution.Runs.{NoHosts};
+ghost use Rattle.soundness.specs.Links.{IsLinkable, TasksAreGood};
+ghost use Rattle.soundness.specs.Stores.{Extends};
 ghost use Rattle.hostfunc.specs.Boxes.{HaveHosts, HostStep};
 ghost use Rattle.exec.specs.Simulation.{run_state};
 ghost use Rattle.store.specs.Contents.{code_store, store_of};
-ghost use Rattle.instantiate.specs.Links.{Allocates, IsCauseOrAllowed, Links};
+ghost use Rattle.instantiate.specs.Links.{Allocates, IsCauseOrAllowed, LeavesInstance, Links};
 ghost use Rattle.instantiate.specs.Tasks.{HasInstance, RanTasks, link_state};
 
 use crate::addresses::new_addresses;
 use crate::copies::Linked;
 use crate::imports::are_given;
 use crate::limits::is_within_limits;
-use crate::link_end::{LinkEnd, LinkRefusal};
+use crate::link_end::{LinkEnd, LinkRefusal, TaskEnd};
 use crate::objects::{ObjectFault, new_objects};
 use crate::tasks::{run_data_segments, run_element_segments, run_start};
 use core_types::{Extern, Module};
 use exec::Outcome;
 use fuel::Meter;
 use hostfunc::{HostFn, HostTable};
+use meaning::writing_is_read;
 use std::alloc::Global;
 use std::rc::Rc;
-use store::{LoadedModule, Store};
+use store::{Code, LoadedModule, State, Store};
 
 // Why a module may not be instantiated with these external values, if it may not.
 fn refusal_of(store: &Store, wanted: &Module, externs: &[Extern]) -> Option<LinkRefusal>
@@ -46,14 +49,15 @@ fn allocate(
     loaded: &Rc<LoadedModule>,
     given: &[Extern],
 ) -> Result<u32, LinkEnd>
-    requires { IsWithinLimits (store_of store.old) loaded.now.value }
+    requires limits { IsWithinLimits (store_of store.old) loaded.now.value }
+    requires linkable { IsLinkable (store_of store.old) loaded.now.value given.now }
     ensures { Allocates result loaded.now.value given.now (store_of store.old)
         (store_of store.new) }
 {
     let addresses = new_addresses(alloc, store, loaded.as_ref().module(), given)?;
     let objects = match new_objects(alloc, store, loaded, &addresses) {
         Ok(objects) => objects,
-        Err(ObjectFault::NoValue) => return Err(LinkEnd::Ended(Outcome::Stuck)),
+        Err(ObjectFault::NoValue) => unreachable!(),
         Err(ObjectFault::Memory) => return Err(LinkEnd::Refused(LinkRefusal::OutOfMemory)),
     };
     let shared = loaded.clone()?;
@@ -61,26 +65,25 @@ fn allocate(
 }
 
 // Copies and drops the segments of an instance of a module, in the module's order: the element segments, and then the data segments.
-fn run_segments(
+fn copy_segments(
     alloc: Global,
-    store: &mut Store,
+    code: &Code,
+    state: &mut State,
     meter: &mut Meter,
     instance: u32,
     wanted: &Module,
-) -> Result<(), Outcome>
-    requires instance { HasInstance store.old.code instance wanted.now }
+) -> Result<(), TaskEnd>
+    requires instance { HasInstance code.now instance wanted.now }
     requires elements { length wanted.now.elements < 2 ^ 32 }
     requires datas { length wanted.now.datas < 2 ^ 32 }
     ensures ran { RanTasks NoHosts result meter.old.bound instance
-        (instance_of (code_store store.old.code) (Some instance))
-        (link_state store.old.code store.old.state meter.old.left)
+        (instance_of (code_store code.now) (Some instance))
+        (link_state code.now state.old meter.old.left)
         (element_tasks wanted.now.elements ++ data_tasks wanted.now.datas)
-        (link_state store.new.code store.new.state meter.new.left) }
-    ensures code { store.new.code ≡ store.old.code }
+        (link_state code.now state.new meter.new.left) }
     ensures bound { meter.new.bound ≡ meter.old.bound }
     ensures frames { meter.new.frames ≡ meter.old.frames }
 {
-    let (code, state) = store.parts_mut();
     let Some(found) = code.instance(instance) else {
         unreachable!()
     };
@@ -94,6 +97,33 @@ fn run_segments(
     run_data_segments(alloc, &linked, state, meter)
 }
 
+// The same in a store, where the segments go well, and which stays valid.
+fn run_segments(
+    alloc: Global,
+    store: &mut Store,
+    meter: &mut Meter,
+    instance: u32,
+    wanted: &Module,
+) -> Result<(), TaskEnd>
+    requires instance { HasInstance store.old.code instance wanted.now }
+    requires elements { length wanted.now.elements < 2 ^ 32 }
+    requires datas { length wanted.now.datas < 2 ^ 32 }
+    requires good { TasksAreGood (store_of store.old) instance
+        (instance_of (code_store store.old.code) (Some instance))
+        (element_tasks wanted.now.elements ++ data_tasks wanted.now.datas) }
+    ensures ran { RanTasks NoHosts result meter.old.bound instance
+        (instance_of (code_store store.old.code) (Some instance))
+        (link_state store.old.code store.old.state meter.old.left)
+        (element_tasks wanted.now.elements ++ data_tasks wanted.now.datas)
+        (link_state store.new.code store.new.state meter.new.left) }
+    ensures code { store.new.code ≡ store.old.code }
+    ensures bound { meter.new.bound ≡ meter.old.bound }
+    ensures frames { meter.new.frames ≡ meter.old.frames }
+{
+    let (code, state) = (&store.code, &mut store.state);
+    copy_segments(alloc, code, state, meter, instance, wanted)
+}
+
 // Runs what a link runs in an instance of a module: the segments, and then the start function.
 fn run_tasks(
     alloc: Global,
@@ -102,10 +132,12 @@ fn run_tasks(
     meter: &mut Meter,
     instance: u32,
     wanted: &Module,
-) -> Result<(), Outcome>
+) -> Result<(), TaskEnd>
     requires instance { HasInstance store.old.code instance wanted.now }
     requires elements { length wanted.now.elements < 2 ^ 32 }
     requires datas { length wanted.now.datas < 2 ^ 32 }
+    requires good { TasksAreGood (store_of store.old) instance
+        (instance_of (code_store store.old.code) (Some instance)) (tasks_of wanted.now) }
     requires hosts { HaveHosts (store_of store.old) hosts.old.objects.items }
     requires closed { meter.old.frames ≡ 0 }
     ensures ran { RanTasks (HostStep ⟦<dyn HostFn as HostFn>⟧) result meter.old.bound instance
@@ -121,19 +153,8 @@ fn run_tasks(
     run_start(alloc, store, hosts, meter, instance, wanted.start)
 }
 
-/// Links a module with what is given for its imports, in their order, and answers the number of its instance (Execution, Modules,
-/// Instantiation).
-///
-/// Its objects and the instance are added to the store; then its active and declarative element segments are copied and dropped, its
-/// active data segments likewise, and its start function is called, all within the fuel that is left. What is given past the imports
-/// is not looked at. A module may be linked any number of times, and nothing of it is copied.
-///
-/// It is refused, and nothing has changed: with `UnknownImport` where less is given than is imported, then with
-/// `IncompatibleImport` where something does not match, then with `Limit` where a table or a memory would be larger than the
-/// embedding allows, or an address larger than 32 bits; with `OutOfMemory` where there is no memory. A trap or an exhaustion ends
-/// the link where it stands, and what was done stays. The caller owes for each host function of the store an object of its type, and
-/// a meter without an open frame; at the end no frame is open.
-pub fn instantiate(
+// Links a module to its end, or says why it is refused.
+fn link(
     alloc: Global,
     store: &mut Store,
     hosts: &mut HostTable,
@@ -151,14 +172,59 @@ pub fn instantiate(
     ensures bound { meter.new.bound ≡ meter.old.bound }
     ensures closed { meter.new.frames ≡ 0 }
 {
+    writing_is_read();
+    let _ = store.state();
     let wanted = loaded.as_ref().module();
     if let Some(refusal) = refusal_of(store, wanted, externs) {
         return Err(LinkEnd::Refused(refusal));
     }
     let given = &externs[..wanted.imports.len()];
     let instance = allocate(alloc, store, loaded, given)?;
+    let _ = store.state();
     match run_tasks(alloc, store, hosts, meter, instance, wanted) {
         Ok(()) => Ok(instance),
-        Err(ended) => Err(LinkEnd::Ended(ended)),
+        Err(TaskEnd::Trap(trap)) => Err(LinkEnd::Ended(Outcome::Trap(trap))),
+        Err(TaskEnd::Exhausted(what)) => Err(LinkEnd::Ended(Outcome::Exhausted(what))),
+        Err(TaskEnd::Stuck) => unreachable!(),
     }
+}
+
+/// Links a module with what is given for its imports, in their order, and answers the number of its instance (Execution, Modules,
+/// Instantiation).
+///
+/// Its objects and the instance are added to the store; then its active and declarative element segments are copied and dropped, its
+/// active data segments likewise, and its start function is called, all within the fuel that is left. What is given past the imports
+/// is not looked at. A module may be linked any number of times, and nothing of it is copied.
+///
+/// It is refused, and nothing has changed: with `UnknownImport` where less is given than is imported, then with
+/// `IncompatibleImport` where something does not match, then with `Limit` where a table or a memory would be larger than the
+/// embedding allows, or an address larger than 32 bits; with `OutOfMemory` where there is no memory. A trap or an exhaustion ends
+/// the link where it stands, and what was done stays, a valid instance among it. The caller owes for each host function of the store
+/// an object of its type, and a meter without an open frame; at the end no frame is open.
+pub fn instantiate(
+    alloc: Global,
+    store: &mut Store,
+    hosts: &mut HostTable,
+    meter: &mut Meter,
+    loaded: &Rc<LoadedModule>,
+    externs: &[Extern],
+) -> Result<u32, LinkEnd>
+    requires hosts { HaveHosts (store_of store.old) hosts.old.objects.items }
+    requires closed { meter.old.frames ≡ 0 }
+    ensures linked { Links (HostStep ⟦<dyn HostFn as HostFn>⟧) result meter.old.bound
+        loaded.now.value externs.now
+        (run_state (store_of store.old) hosts.old.objects.items meter.old.left)
+        (run_state (store_of store.new) hosts.new.objects.items meter.new.left) }
+    ensures extends { Extends (store_of store.old) (store_of store.new) }
+    ensures instance_stays { LeavesInstance result loaded.now.value externs.now
+        (store_of store.old) (store_of store.new) }
+    ensures spends { meter.new.left ≤ meter.old.left }
+    ensures hosts { HaveHosts (store_of store.new) hosts.new.objects.items }
+    ensures bound { meter.new.bound ≡ meter.old.bound }
+    ensures closed { meter.new.frames ≡ 0 }
+{
+    writing_is_read();
+    let _ = store.state();
+    let _ = loaded.as_ref().module();
+    link(alloc, store, hosts, meter, loaded, externs)
 }

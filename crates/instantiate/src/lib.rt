@@ -13,3 +13,4 @@ mod tasks;
 
 pub use instantiation::instantiate;
 pub use link_end::{LinkEnd, LinkRefusal};
+pub use store::LoadedModule;

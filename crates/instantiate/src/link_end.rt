@@ -2,6 +2,7 @@ ghost use Rattle.std.specs.Prelude.{◌≡◌};
 ghost use Rattle.instantiate.specs.declared.link_end.LinkEnd.TheVariants.{Refused as RefusedEnd};
 ghost use Rattle.instantiate.specs.declared.link_end.LinkRefusal.TheVariants.{OutOfMemory as OutOfMemoryCause};
 
+use core_types::{Exhaustion, Trap};
 use exec::Outcome;
 use std::alloc::{AllocError, AllocFailed};
 
@@ -18,12 +19,23 @@ pub enum LinkRefusal {
     OutOfMemory,
 }
 
+/// How a task of a link ends that does not come to its end.
+#[derive(Clone, Copy)]
+pub enum TaskEnd {
+    /// With a trap.
+    Trap(Trap),
+    /// Out of fuel, depth or memory.
+    Exhausted(Exhaustion),
+    /// It cannot go on. No task of a valid module in a valid store ends so.
+    Stuck,
+}
+
 /// How a link ends that does not come to its end.
 #[derive(Drop)]
 pub enum LinkEnd {
     /// It is refused, and nothing has changed.
     Refused(LinkRefusal),
-    /// A trap or an exhaustion ended it where it stood, and what was done stays. `Stuck` is a fault of the engine.
+    /// A trap or an exhaustion ended it where it stood, and what was done stays.
     Ended(Outcome),
 }
 

@@ -8,10 +8,11 @@ ghost use Rattle.hostfunc.specs.Boxes.{HaveHosts, HostStep};
 ghost use Rattle.exec.specs.Simulation.{run_state};
 ghost use Rattle.meaning.specs.execution.Configurations.{Invoking, no_frame};
 ghost use Rattle.meaning.specs.execution.Modules.{item_count as count_of};
-ghost use Rattle.instantiate.specs.Tasks.{HasNoI32, RanTasks, RunsTo, instance_in, link_state};
+ghost use Rattle.instantiate.specs.Tasks.{EndsAs, HasNoI32, RanTasks, RunsTo, instance_in, link_state};
 
 use crate::constants::constant_value;
 use crate::copies::{Linked, copy_bytes, copy_elements, drop_segment};
+use crate::link_end::TaskEnd;
 use core_types::{
     DataMode, DataSegment, ElementItems, ElementMode, ElementSegment, Op, PlainOp, TableOp, Val,
 };
@@ -60,7 +61,7 @@ fn run_element_segment(
     linked: &Linked<'_>,
     state: &mut State,
     meter: &mut Meter,
-) -> Result<(), Outcome>
+) -> Result<(), TaskEnd>
     ensures ran { RanTasks NoHosts result meter.old.bound linked.now.instance
         (instance_in linked.now)
         (link_state linked.now.code.now state.old meter.old.left)
@@ -86,7 +87,7 @@ fn run_element_segment(
                     };
                     copy_elements(alloc, x, *table, given, linked, state, meter)
                 }
-                None => Err(Outcome::Stuck),
+                None => Err(TaskEnd::Stuck),
             }
         }
     }
@@ -98,7 +99,7 @@ pub fn run_element_segments(
     linked: &Linked<'_>,
     state: &mut State,
     meter: &mut Meter,
-) -> Result<(), Outcome>
+) -> Result<(), TaskEnd>
     requires { length linked.now.module_read.now.elements < 2 ^ 32 }
     ensures ran { RanTasks NoHosts result meter.old.bound linked.now.instance
         (instance_in linked.now)
@@ -123,7 +124,7 @@ fn run_data_segment(
     linked: &Linked<'_>,
     state: &mut State,
     meter: &mut Meter,
-) -> Result<(), Outcome>
+) -> Result<(), TaskEnd>
     ensures ran { RanTasks NoHosts result meter.old.bound linked.now.instance
         (instance_in linked.now)
         (link_state linked.now.code.now state.old meter.old.left)
@@ -145,7 +146,7 @@ fn run_data_segment(
                     };
                     copy_bytes(alloc, x, given, linked, state, meter)
                 }
-                None => Err(Outcome::Stuck),
+                None => Err(TaskEnd::Stuck),
             }
         }
     }
@@ -157,7 +158,7 @@ pub fn run_data_segments(
     linked: &Linked<'_>,
     state: &mut State,
     meter: &mut Meter,
-) -> Result<(), Outcome>
+) -> Result<(), TaskEnd>
     requires { length linked.now.module_read.now.datas < 2 ^ 32 }
     ensures ran { RanTasks NoHosts result meter.old.bound linked.now.instance
         (instance_in linked.now)
@@ -174,6 +175,17 @@ pub fn run_data_segments(
     Ok(())
 }
 
+// How a link goes on where a call ended so.
+fn end_of(outcome: Outcome) -> Result<(), TaskEnd>
+    ensures { EndsAs result outcome }
+{
+    match outcome {
+        Outcome::Values(_) => Ok(()),
+        Outcome::Trap(trap) => Err(TaskEnd::Trap(trap)),
+        Outcome::Exhausted(what) => Err(TaskEnd::Exhausted(what)),
+    }
+}
+
 // Calls the function at an address, which takes nothing, from outside.
 fn call_start(
     alloc: Global,
@@ -181,7 +193,7 @@ fn call_start(
     hosts: &mut HostTable,
     meter: &mut Meter,
     address: u32,
-) -> Result<(), Outcome>
+) -> Result<(), TaskEnd>
     requires hosts { HaveHosts (store_of store.old) hosts.old.objects.items }
     requires closed { meter.old.frames ≡ 0 }
     ensures run { RunsTo (HostStep ⟦<dyn HostFn as HostFn>⟧) result meter.old.bound no_frame
@@ -193,12 +205,9 @@ fn call_start(
     ensures closed { meter.new.frames ≡ 0 }
 {
     if !accepts(store, address, &[]) {
-        return Err(Outcome::Stuck);
+        return Err(TaskEnd::Stuck);
     }
-    match invoke(alloc, store, hosts, meter, address, &[]) {
-        Outcome::Values(_) => Ok(()),
-        ended => Err(ended),
-    }
+    end_of(invoke(alloc, store, hosts, meter, address, &[]))
 }
 
 /// Calls the start function of an instance, where its module has one (Execution, Modules, Instantiation).
@@ -209,7 +218,7 @@ pub fn run_start(
     meter: &mut Meter,
     instance: u32,
     start: Option<u32>,
-) -> Result<(), Outcome>
+) -> Result<(), TaskEnd>
     requires hosts { HaveHosts (store_of store.old) hosts.old.objects.items }
     requires closed { meter.old.frames ≡ 0 }
     ensures ran { RanTasks (HostStep ⟦<dyn HostFn as HostFn>⟧) result meter.old.bound instance
@@ -224,7 +233,7 @@ pub fn run_start(
         None => Ok(()),
         Some(x) => match store.code().function_address(instance, x) {
             Some(address) => call_start(alloc, store, hosts, meter, address),
-            None => Err(Outcome::Stuck),
+            None => Err(TaskEnd::Stuck),
         },
     }
 }

@@ -2,10 +2,10 @@
 
 use binary::decode;
 use core_types::Extern;
-use exec::{Outcome, have_hosts};
+use exec::have_hosts;
 use fuel::Meter;
 use hostfunc::HostTable;
-use instantiate::{LinkEnd, instantiate};
+use instantiate::{LinkEnd, LinkRefusal, instantiate};
 use std::alloc::Global;
 use std::rc::Rc;
 use store::{LoadedModule, Store};
@@ -48,7 +48,7 @@ pub fn link(
 ) -> (Result<u32, LinkEnd>, u64) {
     let mut hosts = HostTable::new(alloc);
     if !have_hosts(store, &hosts) {
-        return (Err(LinkEnd::Ended(Outcome::Stuck)), fuel);
+        return (Err(LinkEnd::Refused(LinkRefusal::OutOfMemory)), fuel);
     }
     let mut meter = Meter::new(fuel, DEPTH);
     let answer = instantiate(alloc, store, &mut hosts, &mut meter, loaded, given);

@@ -1,6 +1,8 @@
 //! A call of a function that a module exports, and a check of a module: commands to an embedding.
 
 ghost use Rattle.std.specs.Prelude.{◌<◌, ◌^◌, length};
+ghost use Rattle.embed.specs.Replies.{reply_of};
+ghost use Rattle.program.specs.Endings.{EndsCall};
 
 use crate::args::read_args;
 use crate::faults::Fault;
@@ -23,18 +25,18 @@ pub enum Outcome {
     Values(Vec<Val>),
     Trap(Trap),
     Exhausted(Exhaustion),
-    /// A fault of the engine.
-    Stuck,
 }
 
-// How a reply ends a call. One that neither a link nor a call has would be a fault of the engine.
-fn outcome_of<'a>(reply: Reply) -> Result<Outcome, Fault<'a>> {
+// How a reply ends a call.
+fn outcome_of<'a>(reply: Reply) -> Result<Outcome, Fault<'a>>
+    requires ends { EndsCall (reply_of reply) }
+{
     match reply {
         Reply::Values(values) => Ok(Outcome::Values(values)),
         Reply::Trap(trap) => Ok(Outcome::Trap(trap)),
         Reply::Exhausted(what) => Ok(Outcome::Exhausted(what)),
         Reply::Refused(refusal) => Err(Fault::Refused(refusal)),
-        Reply::Loaded(_) | Reply::Linked(_) | Reply::Done | Reply::Stuck => Ok(Outcome::Stuck),
+        Reply::Loaded(_) | Reply::Linked(_) | Reply::Done => unreachable!(),
     }
 }
 

@@ -62,7 +62,6 @@ fn print_outcome<W: Write>(out: &mut W, outcome: &Outcome) -> io::Result<()> {
         Outcome::Exhausted(exhaustion) => {
             writeln!(out, "exhausted: {}", exhaustion_text(*exhaustion))
         }
-        Outcome::Stuck => writeln!(out, "stuck"),
     }
 }
 
@@ -80,7 +79,6 @@ fn outcome_status(outcome: &Outcome) -> u8
         Outcome::Values(_) => 0,
         Outcome::Trap(_) => 1,
         Outcome::Exhausted(_) => 6,
-        Outcome::Stuck => 1,
     }
 }
 

@@ -186,33 +186,43 @@ fn runs_each_group_of_instructions(rt: HostRuntime) {
     }
 }
 
-// A name, the sections of a module, and the line with which a call of it is refused.
+// A name, the words of a run over the module of these sections, and the line and the status with which it is refused.
 struct Refused {
     name: &'static str,
+    words: &'static str,
     sections: &'static str,
     line: &'static str,
+    status: u8,
 }
 
+const F: &str = "call module.wasm f";
+
 #[rattlefmt::skip]
-static REFUSED: [Refused; 5] = [
-    Refused { name: "table.get of no table", sections: "0105016000017F 03020100 07050101660000 0A0B010900410025001A41070B", line: "refused 4 Invalid\n" },
-    Refused { name: "table.size of no table", sections: "0105016000017F 03020100 07050101660000 0A07010500FC10000B", line: "refused 4 Invalid\n" },
-    Refused { name: "elem.drop of no segment", sections: "0105016000017F 03020100 07050101660000 0A09010700FC0D0041070B", line: "refused 4 Invalid\n" },
-    Refused { name: "call_indirect through no table", sections: "0105016000017F 03020100 07050101660000 0A0901070041001100000B", line: "refused 4 Invalid\n" },
-    Refused { name: "an import", sections: "0105016000017F 020701016101620000 03020100 07050101660000 0A0601040041070B", line: "refused 6 UnknownImport\n" },
+static REFUSED: [Refused; 11] = [
+    Refused { name: "table.get of no table", words: F, sections: "0105016000017F 03020100 07050101660000 0A0B010900410025001A41070B", line: "refused 4 Invalid\n", status: 5 },
+    Refused { name: "table.size of no table", words: F, sections: "0105016000017F 03020100 07050101660000 0A07010500FC10000B", line: "refused 4 Invalid\n", status: 5 },
+    Refused { name: "elem.drop of no segment", words: F, sections: "0105016000017F 03020100 07050101660000 0A09010700FC0D0041070B", line: "refused 4 Invalid\n", status: 5 },
+    Refused { name: "call_indirect through no table", words: F, sections: "0105016000017F 03020100 07050101660000 0A0901070041001100000B", line: "refused 4 Invalid\n", status: 5 },
+    Refused { name: "an import", words: F, sections: "0105016000017F 020701016101620000 03020100 07050101660000 0A0601040041070B", line: "refused 6 UnknownImport\n", status: 5 },
+    Refused { name: "a memory of 1025 pages", words: F, sections: "0105016000017F 03020100 05040100 8108 07050101660000 0A0601040041070B", line: "refused 3 Limit\n", status: 5 },
+    Refused { name: "an immutable global as a mutable one", words: F, sections: "0105016000017F 0218010873706563746573740A676C6F62616C5F693332037F01 03020100 07050101660000 0A0601040041070B", line: "refused 7 IncompatibleImport\n", status: 5 },
+    Refused { name: "that, and then a missing import", words: F, sections: "0105016000017F 021E020873706563746573740A676C6F62616C5F693332037F01016101620000 03020100 07050101660001 0A0601040041070B", line: "refused 6 UnknownImport\n", status: 5 },
+    Refused { name: "that, and a memory of 1025 pages", words: F, sections: "0105016000017F 0218010873706563746573740A676C6F62616C5F693332037F01 03020100 05040100 8108 07050101660000 0A0601040041070B", line: "refused 7 IncompatibleImport\n", status: 5 },
+    Refused { name: "a global in the place of a function", words: F, sections: "0606017F0041050B 07050101660300", line: "refused 10 WrongKind\n", status: 2 },
+    Refused { name: "that, with a word that is no number", words: "call module.wasm f x", sections: "0606017F0041050B 07050101660300", line: "refused 10 WrongKind\n", status: 2 },
 ];
 
 fn is_refused(alloc: Global, row: &Refused) -> Result<bool, AllocError> {
     ends_so_on(
         alloc,
-        "call module.wasm f",
+        row.words,
         row.sections,
-        Ending::Err(row.line, 5),
+        Ending::Err(row.line, row.status),
     )
 }
 
 #[test]
-fn refuses_what_is_invalid_or_not_linked(rt: HostRuntime) {
+fn refuses_by_the_first_cause(rt: HostRuntime) {
     for row in &REFUSED {
         assert!(rt; is_refused(rt.alloc(), row) == Ok(true), "{}", row.name);
     }

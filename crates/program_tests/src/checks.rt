@@ -7,6 +7,8 @@ const VALID: Ending<'static> = Ending::Out("valid\n", 0);
 
 const INVALID: Ending<'static> = Ending::Err("refused 4 Invalid\n", 5);
 
+const MALFORMED: Ending<'static> = Ending::Err("refused 1 Malformed\n", 5);
+
 const LIMIT: Ending<'static> = Ending::Err("refused 3 Limit\n", 5);
 
 // A name, the sections of a module, and what a check of it prints.
@@ -17,7 +19,7 @@ struct Check {
 }
 
 #[rattlefmt::skip]
-static CHECKS: [Check; 8] = [
+static CHECKS: [Check; 14] = [
     Check {
         name: "unknown_operand_of_i32.add",
         sections: "010401600000 03020100 0A07010500006A1A0B",
@@ -47,6 +49,36 @@ static CHECKS: [Check; 8] = [
         name: "data.drop_of_a_segment",
         sections: "010401600000 03020100 0C0101 0A07010500FC09000B 0B03010100",
         ending: VALID,
+    },
+    Check {
+        name: "result_of_a_loop_is_dropped",
+        sections: "010401600000 03020100 0A0B010900037F0C000B1A010B",
+        ending: VALID,
+    },
+    Check {
+        name: "undeclared_ref.func",
+        sections: "010401600000 03020100 0A07010500D2001A0B",
+        ending: INVALID,
+    },
+    Check {
+        name: "ref.func_that_a_declarative_segment_names",
+        sections: "010401600000 03020100 09050103000100 0A07010500D2001A0B",
+        ending: VALID,
+    },
+    Check {
+        name: "size_in_two_bytes",
+        sections: "0187000160027F7F017F 03020100 070701036164640000 0A09010700200020016A0B",
+        ending: VALID,
+    },
+    Check {
+        name: "size_in_six_bytes",
+        sections: "018780808080000160027F7F017F 03020100 070701036164640000 0A09010700200020016A0B",
+        ending: MALFORMED,
+    },
+    Check {
+        name: "size_with_unused_bits",
+        sections: "0187808080100160027F7F017F 03020100 070701036164640000 0A09010700200020016A0B",
+        ending: MALFORMED,
     },
     Check {
         name: "two_exports_named_a",

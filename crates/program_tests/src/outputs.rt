@@ -3,8 +3,11 @@
 use crate::files::FewFiles;
 use crate::runs::words_of;
 use crate::writers::{Failing, prints_to};
+use core_types::Trap;
+use embed::{Command, Config, Embedding, Reply};
 use program::run;
 use std::alloc::{AllocError, Global};
+use testing::assemble;
 
 // A writer that takes so many calls of `write`, and cannot be flushed.
 fn failing(writes: u32) -> Failing {
@@ -81,6 +84,62 @@ fn prints_are_heard(alloc: Global) -> Result<bool, AllocError> {
         prints_so(alloc, 9, "fuel left 1000000000\n", 0)?
             && prints_so(alloc, 0, "trap: host trap\nfuel left 1000000000\n", 1)?,
     )
+}
+
+// An embedding with prints to a writer that takes so many calls of `write`.
+fn embedding_with_prints(alloc: Global, writes: u32) -> Option<Embedding> {
+    let config = Config::new(100, 1_024, 1_024, 1_000_000)?;
+    let lasting = Failing {
+        writes,
+        flushes: true,
+    };
+    match prints_to(alloc, lasting) {
+        Ok(hosts) => Embedding::new(alloc, config, hosts).ok(),
+        Err(_) => None,
+    }
+}
+
+// Whether a module that exports a print is loaded and linked.
+fn links_a_print(alloc: Global, at: &mut Embedding) -> bool {
+    match assemble(
+        alloc,
+        "(import \"host\" \"print\" (func)) (export \"p\" (func 0))",
+    ) {
+        Ok(bytes) => {
+            matches!(at.apply(&Command::Load(bytes)), Reply::Loaded(0))
+                && matches!(at.apply(&Command::Link(0)), Reply::Linked(0))
+        }
+        Err(_) => false,
+    }
+}
+
+// Whether a call of it ends with this code of a host function, or without a trap.
+fn calls_it(alloc: Global, at: &mut Embedding, code: Option<u32>) -> bool {
+    match String::from_str(alloc, "p") {
+        Ok(name) => match at.apply(&Command::Call(0, name, Vec::new(alloc))) {
+            Reply::Values(_) => code.is_none(),
+            Reply::Trap(Trap::Host(found)) => code == Some(found),
+            _ => false,
+        },
+        Err(_) => false,
+    }
+}
+
+fn prints_end_with(alloc: Global, writes: u32, code: Option<u32>) -> bool {
+    match embedding_with_prints(alloc, writes) {
+        Some(mut at) => links_a_print(alloc, &mut at) && calls_it(alloc, &mut at, code),
+        None => false,
+    }
+}
+
+#[test]
+fn failing_prints_trap_with_the_code_1(rt: HostRuntime) {
+    for (writes, code) in [(9, None), (0, Some(1))] {
+        assert!(rt;
+            prints_end_with(rt.alloc(), writes, code),
+            "{writes} writes"
+        );
+    }
 }
 
 #[test]

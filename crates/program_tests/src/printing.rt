@@ -11,7 +11,6 @@ enum Ending {
     Values(&'static [Val]),
     Trap(Trap),
     Exhausted(Exhaustion),
-    Stuck,
 }
 
 // How a call ends, with 5 of fuel left, the lines that are printed, and the exit status.
@@ -22,7 +21,7 @@ struct Row {
 }
 
 #[rattlefmt::skip]
-static OUTCOMES: [Row; 15] = [
+static OUTCOMES: [Row; 14] = [
     Row { ending: Ending::Values(&[]), lines: "fuel left 5\n", status: 0 },
     Row {
         ending: Ending::Values(&[
@@ -67,7 +66,6 @@ static OUTCOMES: [Row; 15] = [
     Row { ending: Ending::Exhausted(Exhaustion::Fuel), lines: "exhausted: fuel\nfuel left 5\n", status: 6 },
     Row { ending: Ending::Exhausted(Exhaustion::Depth), lines: "exhausted: depth\nfuel left 5\n", status: 6 },
     Row { ending: Ending::Exhausted(Exhaustion::Memory), lines: "exhausted: memory\nfuel left 5\n", status: 6 },
-    Row { ending: Ending::Stuck, lines: "stuck\nfuel left 5\n", status: 1 },
 ];
 
 fn outcome_of(alloc: Global, ending: Ending) -> Result<Outcome, AllocError> {
@@ -75,7 +73,6 @@ fn outcome_of(alloc: Global, ending: Ending) -> Result<Outcome, AllocError> {
         Ending::Values(values) => Ok(Outcome::Values(Vec::from_slice(alloc, values)?)),
         Ending::Trap(trap) => Ok(Outcome::Trap(trap)),
         Ending::Exhausted(exhaustion) => Ok(Outcome::Exhausted(exhaustion)),
-        Ending::Stuck => Ok(Outcome::Stuck),
     }
 }
 

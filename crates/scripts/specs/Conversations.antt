@@ -2,21 +2,23 @@
 use Rattle.std.specs.Prelude.{◌≡◌, ℕ, List, Option, Result, Ok, Err}
 use Rattle.core_types.specs.declared.outcome.Val.{Val}
 use Rattle.meaning.specs.embedding.Commands.{Command, Reply}
-use Rattle.meaning.specs.embedding.Machine.{Applies, Embedding}
+use Rattle.meaning.specs.embedding.Machine.{Embedding}
 use Rattle.meaning.specs.execution.Runs.{Answer}
 use Rattle.meaning.specs.execution.Store.{Store}
 use Rattle.meaning.specs.scripts.Dialogues.{Dialogue, Asks, IsForMemory}
+use Rattle.soundness.specs.Embedding.{AppliesWell}
 use Rattle.scripts.specs.declared.faults.ScriptFault.{ScriptFault}
 use Rattle.scripts.specs.declared.faults.ScriptFault.TheVariants.{OutOfMemory}
 
 module _ {H : Type 0} (HostStep : List H → ℕ → Option ℕ → List Val → Store → Answer → Store
     → List H → Type 0) where
-  -- From a dialogue and an embedding to what is left of the dialogue and the embedding then. No reply says that there was no memory.
+  -- From a dialogue and an embedding to what is left of the dialogue and the embedding then. Each command goes well, and no reply says
+  -- that there was no memory.
   pub data Converses : Dialogue → Embedding H → Dialogue → Embedding H → Type 0 where
     nothing : {at : Dialogue} {embedding : Embedding H} → Converses at embedding at embedding
     asked : {command : Command} {next : Reply → Dialogue} (reply : Reply)
         {old between new : Embedding H} {left : Dialogue}
-        → Applies HostStep old command reply between → (IsForMemory reply → ⊥)
+        → AppliesWell HostStep old command reply between → (IsForMemory reply → ⊥)
         → Converses (next reply) between left new
         → Converses (Asks command next) old left new
 
@@ -24,11 +26,11 @@ module _ {H : Type 0} (HostStep : List H → ℕ → Option ℕ → List Val →
   pub data BreaksOff : Dialogue → Embedding H → Embedding H → Type 0 where
     here : {at : Dialogue} {embedding : Embedding H} → BreaksOff at embedding embedding
     lacked : {command : Command} {next : Reply → Dialogue} (reply : Reply) {old new : Embedding H}
-        → Applies HostStep old command reply new → IsForMemory reply
+        → AppliesWell HostStep old command reply new → IsForMemory reply
         → BreaksOff (Asks command next) old new
     went_on : {command : Command} {next : Reply → Dialogue} (reply : Reply)
         {old between new : Embedding H}
-        → Applies HostStep old command reply between → (IsForMemory reply → ⊥)
+        → AppliesWell HostStep old command reply between → (IsForMemory reply → ⊥)
         → BreaksOff (next reply) between new
         → BreaksOff (Asks command next) old new
 

@@ -8,7 +8,7 @@ use Rattle.hostfunc.specs.Boxes.{HostStep}
 use Rattle.hostfunc.specs.declared.host_function.HostFn.{Ghosts}
 use Rattle.hostfunc.specs.declared.host_object.HostObject.{HostObject}
 use Rattle.meaning.specs.embedding.Commands.{Command, Reply}
-use Rattle.meaning.specs.embedding.Machine.{AppliesAll, Embedding}
+use Rattle.meaning.specs.embedding.Machine.{Embedding}
 use Rattle.meaning.specs.execution.Runs.{Answer}
 use Rattle.meaning.specs.execution.Store.{Store}
 use Rattle.meaning.specs.scripts.Commands.{Files, ScriptCommand, missing_from}
@@ -16,6 +16,7 @@ use Rattle.meaning.specs.scripts.Dialogues.{Begins, Dialogue, Holds}
 use Rattle.meaning.specs.scripts.Dialogues as meaning
 use Rattle.meaning.specs.scripts.Runner as runner
 use Rattle.meaning.specs.scripts.Runner.{dialogue, start}
+use Rattle.soundness.specs.Embedding.{RunsWell}
 use Rattle.scripts.specs.Conversations as part
 use Rattle.scripts.specs.declared.faults.ScriptFault.{ScriptFault}
 use Rattle.scripts.specs.declared.faults.ScriptFault.TheVariants.{NotJson, BadCommand, MissingFile, OutOfMemory}
@@ -51,19 +52,19 @@ files_view files = map (λ (f : String Global × Vec ℕ Global). (string_bytes 
 
 module _ {H : Type 0} (HostStep : List H → ℕ → Option ℕ → List Val → Store → Answer → Store
     → List H → Type 0) where
-  -- The commands that were applied, and their replies, are the dialogue of the script, held to its end.
+  -- The commands that were applied, each of which went well, and their replies are the dialogue of the script, held to its end.
   pub record IsHeld (at : Dialogue) (old : Embedding H) (report : meaning.Report)
       (new : Embedding H) : Type 0 where
     pub commands : List Command
     pub replies : List Reply
-    pub applied : AppliesAll HostStep old commands replies new
+    pub applied : RunsWell HostStep old commands replies new
     pub held : Holds at commands replies report
 
   -- They are a beginning of it.
   pub record IsBegun (at : Dialogue) (old new : Embedding H) : Type 0 where
     pub commands : List Command
     pub replies : List Reply
-    pub applied : AppliesAll HostStep old commands replies new
+    pub applied : RunsWell HostStep old commands replies new
     pub begun : Begins at commands replies
 
   abbrev pub RunsScript : List ScriptCommand → Files → Embedding H → Result Report ScriptFault

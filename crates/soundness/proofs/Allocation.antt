@@ -11,6 +11,8 @@ use Rattle.core_types.specs.declared.module.DataSegment.{DataSegment}
 use Rattle.core_types.specs.declared.module.ElementItems.{ElementItems}
 use Rattle.core_types.specs.declared.module.ElementItems.TheVariants.{Functions, Expressions}
 use Rattle.core_types.specs.declared.module.ElementSegment.{ElementSegment}
+use Rattle.core_types.specs.declared.module.ExportDesc.{ExportDesc}
+use Rattle.core_types.specs.declared.module.ExportDesc.TheVariants as export
 use Rattle.core_types.specs.declared.module.Func.{Func as Function}
 use Rattle.core_types.specs.declared.module.Global.{Global}
 use Rattle.core_types.specs.declared.module.Module.{Module}
@@ -35,7 +37,7 @@ use Rattle.meaning.specs.execution.Modules.{code_of, consecutive, constant, cons
 use Rattle.meaning.specs.execution.Store.{FunctionInstance, GlobalInstance, ModuleInstance, ObjectLists, Store, instance_of, item_at, item_of, no_instance}
 use Rattle.meaning.specs.execution.Tables.{ElementInstance, TableInstance, most_entries, new_table}
 use Rattle.meaning.specs.execution.Values.{null_of}
-use Rattle.meaning.specs.validation.Modules.{HasItemsOfType, IsConstantExpression, IsValidElement, IsValidFunction, body_context, constant_context, function_indices, module_context, functions_of, globals_of, imported_functions, imported_globals, imported_memories, imported_tables, memories_of, tables_of, type_at}
+use Rattle.meaning.specs.validation.Modules.{Exists, HasItemsOfType, IsConstantExpression, IsValidElement, IsValidFunction, body_context, constant_context, function_indices, module_context, functions_of, globals_of, imported_functions, imported_globals, imported_memories, imported_tables, memories_of, tables_of, type_at}
 use Rattle.meaning.specs.validation.ContextExtension.{Carries}
 use Rattle.meaning.specs.validation.Instructions.{HasMemory, IsNamed, IsTable, known}
 use Rattle.meaning.specs.validation.Types.{AreFewPages, AreOrdered, function_type, reference_type}
@@ -44,7 +46,7 @@ use Rattle.meaning.proofs.lemmas.Contexts.{HasType-extension}
 use Rattle.meaning.proofs.lemmas.Lists.{map_all-length}
 use Rattle.soundness.specs.Links.{AllocationKeepsValid, IsLinkable}
 use Rattle.soundness.specs.Places.{Place, below, context_at, instance_context, no_limits, types_at}
-use Rattle.soundness.specs.Stores.{AreBytes, AreThere, DataIsValid, InstanceIsValid, DataStays, ElementIsValid, ElementStays, GlobalIsValid, body_place, Extends, FunctionIsValid, GlobalStays, MemoryIsValid, MemoryStays, StoreIsValid, TableIsValid, TableStays}
+use Rattle.soundness.specs.Stores.{AreBytes, AreThere, DataIsValid, InstanceIsValid, DataStays, ElementIsValid, ElementStays, ExportIsThere, GlobalIsValid, body_place, Extends, FunctionIsValid, GlobalStays, HasFewObjects, MemoryIsValid, MemoryStays, SizeIsValid, StoreIsValid, TableIsValid, TableStays}
 use Rattle.soundness.proofs.Appends.{Keeps-append, append-at, append-first, consecutive-length, there-append, types-appended}
 use Rattle.soundness.proofs.Imports.{AreAllThere, functions-given, given-there, globals-given, mapped, memories-given, tables-given}
 use Rattle.soundness.proofs.Objects.{All-map, All-none, made-all, made-same, objects-made}
@@ -81,6 +83,8 @@ module _ (old : Store) (m : Module) (given : List Extern) (linkable : IsLinkable
     globals = Keeps-append GlobalStays (λ g. (refl, λ constant. refl)) old.globals gs;
     elements = Keeps-append ElementStays (λ e. (refl, inl refl)) old.elements es;
     datas = Keeps-append DataStays (λ d. inl refl) old.datas _;
+    pages = refl;
+    entries = refl;
   }
 
   -- ---- the types that the instance has are those of the module
@@ -254,22 +258,39 @@ module _ (old : Store) (m : Module) (given : List Extern) (linkable : IsLinkable
             let typed = HasType-extension (body_context m valid_function.ty f.locals) (context_at new place) (module-carried place refl) valid_function.body [] (known valid_function.ty.results) valid_function.typed in
             (there_now, rw (type_is, body_is) typed)
 
-        table-made : (t : TableType) → AreOrdered t.limits × (t.limits.min ≤ most_entries) → TableIsValid new (new_table t)
-        table-made t (ordered, few) = record {
-          size = (few, ordered);
+        table-made : (t : TableType) → SizeIsValid t.limits old.entries most_entries → TableIsValid new (new_table t)
+        table-made t size = record {
+          size = size;
           entries_are = length-replicate t.limits.min (null_of t.element);
           entries = All-replicate (λ (v : Val). ValueHasType new v (reference_type t.element)) t.limits.min (null_of t.element) (default-typed new (reference_type t.element));
         }
 
-        memory-made : (l : Limits) → AreOrdered l × AreFewPages l → MemoryIsValid (new_memory l)
-        memory-made l (ordered, few) = record {
-          size = (let most = few.0 in omega (arith, most), ordered);
+        memory-made : (l : Limits) → AreOrdered l × AreFewPages l × (l.min ≤ old.pages) → MemoryIsValid old.pages (new_memory l)
+        memory-made l (ordered, few, bounded) = record {
+          size = record { bounded = bounded; few = (let most = few.0 in omega (arith, most)); ordered = ordered };
           bytes_are = length-replicate {A = ℕ} (page_size * l.min) 0;
           bytes = All-replicate (λ (b : ℕ). b < 2 ^ 8) (page_size * l.min) 0 (omega (arith));
         }
 
         of-own : {X : Type 0} (P : X → Type 0) (imported owns : List X) → All P (imported ++ owns) → All P owns
         of-own P imported owns all = rw (drop-append_seam imported owns) at (All-drop P (length imported) (imported ++ owns) all)
+
+        export-there : (desc : ExportDesc) → Exists m desc → ExportIsThere instance desc
+        export-there (export.Func x) inside =
+            let all : length (instance_context new instance).functions ≡ length instance.functions = length-map instance.functions _ in
+            let same = ap (λ (fs : List FuncType). length fs) functions-are in
+            omega (arith, inside, all, same, length-map (function_indices m) (type_at m.types))
+        export-there (export.Table x) inside =
+            let all : length (instance_context new instance).tables ≡ length instance.tables = length-map instance.tables _ in
+            let same = ap (λ (es : List RefType). length es) elements-of-tables in
+            omega (arith, inside, all, same, length-map (instance_context new instance).tables (λ (t : TableType). t.element), length-map (tables_of m) (λ (t : TableType). t.element))
+        export-there (export.Memory x) inside =
+            let all : length (instance_context new instance).memories ≡ length instance.memories = length-map instance.memories _ in
+            omega (arith, inside, all, memories-are-as-many)
+        export-there (export.Global x) inside =
+            let all : length (instance_context new instance).globals ≡ length instance.globals = length-map instance.globals _ in
+            let same = ap (λ (gs : List GlobalType). length gs) globals-are in
+            omega (arith, inside, all, same)
 
         instance-valid-now : InstanceIsValid new instance
         instance-valid-now = record {
@@ -279,7 +300,21 @@ module _ (old : Store) (m : Module) (given : List Extern) (linkable : IsLinkable
           globals = there-append old.globals gs (given_addresses global_address given) (length m.globals) there.globals (map_all-length (new_global old instance) m.globals gs globals_made);
           elements = there-append old.elements es [] (length m.elements) (All-none (λ (a : ℕ). a < length old.elements)) (map_all-length (new_elements old instance) m.elements es elements_made);
           datas = there-append old.datas (map new_data m.datas) [] (length m.datas) (All-none (λ (a : ℕ). a < length old.datas)) (length-map m.datas new_data);
+          exports = λ k e inside. export-there _ (linkable.sound.valid.exports k e inside);
         }
+
+        few-now : HasFewObjects new
+        few-now =
+            let room = linkable.within.room in
+            record {
+              functions = omega (arith, room.functions, length-append old.functions (map (new_function (length old.instances) m) m.funcs), length-map m.funcs (new_function (length old.instances) m));
+              instances = omega (arith, room.instances, length-append old.instances (instance ∷ []));
+              tables = omega (arith, room.tables, length-append old.tables (map new_table m.tables), length-map m.tables new_table);
+              memories = omega (arith, room.memories, length-append old.memories (map new_memory m.memories), length-map m.memories new_memory);
+              globals = omega (arith, room.globals, length-append old.globals gs, map_all-length (new_global old instance) m.globals gs globals_made);
+              elements = omega (arith, room.elements, length-append old.elements es, map_all-length (new_elements old instance) m.elements es elements_made);
+              datas = omega (arith, room.datas, length-append old.datas (map new_data m.datas), length-map m.datas new_data);
+            }
 
         pub store-valid : StoreIsValid new
         store-valid = record {
@@ -287,16 +322,23 @@ module _ (old : Store) (m : Module) (given : List Extern) (linkable : IsLinkable
               (All-map (FunctionIsValid new) (IsValidFunction m) (new_function (length old.instances) m) function-made m.funcs linkable.sound.valid.bodies);
           instances = All-append (InstanceIsValid new) old.instances (instance ∷ []) (instances-still old new valid extends old.instances valid.instances) (All-replicate (InstanceIsValid new) 1 instance instance-valid-now);
           tables = All-append (TableIsValid new) old.tables (map new_table m.tables) (tables-still old new valid extends old.tables valid.tables)
-              (All-map (TableIsValid new) (λ (t : TableType). AreOrdered t.limits × (t.limits.min ≤ most_entries)) new_table table-made m.tables
-              (λ k d inside. (of-own (λ (t : TableType). AreOrdered t.limits) (imported_tables m.imports) m.tables linkable.sound.valid.table_limits k d inside, linkable.sound.few_entries k d inside)));
-          memories = All-append MemoryIsValid old.memories (map new_memory m.memories) valid.memories
-              (All-map MemoryIsValid (λ (l : Limits). AreOrdered l × AreFewPages l) new_memory memory-made m.memories
-              (λ k d inside. (of-own AreOrdered (imported_memories m.imports) m.memories linkable.sound.valid.memory_limits k d inside, of-own AreFewPages (imported_memories m.imports) m.memories linkable.sound.valid.memory_pages k d inside)));
+              (All-map (TableIsValid new) (λ (t : TableType). SizeIsValid t.limits old.entries most_entries) new_table table-made m.tables (λ k d inside. record {
+                bounded = linkable.within.few_entries k d inside;
+                few = linkable.sound.few_entries k d inside;
+                ordered = of-own (λ (t : TableType). AreOrdered t.limits) (imported_tables m.imports) m.tables linkable.sound.valid.table_limits k d inside;
+              }));
+          memories = All-append (MemoryIsValid old.pages) old.memories (map new_memory m.memories) valid.memories
+              (All-map (MemoryIsValid old.pages) (λ (l : Limits). AreOrdered l × AreFewPages l × (l.min ≤ old.pages)) new_memory memory-made m.memories (λ k d inside. (
+                of-own AreOrdered (imported_memories m.imports) m.memories linkable.sound.valid.memory_limits k d inside,
+                of-own AreFewPages (imported_memories m.imports) m.memories linkable.sound.valid.memory_pages k d inside,
+                linkable.within.few_pages k d inside,
+              )));
           globals = All-append (GlobalIsValid new) old.globals gs (globals-still old new valid extends old.globals valid.globals)
               (made-all (new_global old instance) (GlobalIsValid new) (λ (g : Global). IsConstantExpression (constant_context m) g.init g.ty.value) global-made m.globals gs linkable.sound.valid.globals globals_made);
           elements = All-append (ElementIsValid new) old.elements es (elements-still old new valid extends old.elements valid.elements)
               (made-all (new_elements old instance) (ElementIsValid new) (IsValidElement m) elements-made-valid m.elements es linkable.sound.valid.elements elements_made);
           datas = All-append DataIsValid old.datas (map new_data m.datas) valid.datas (All-map DataIsValid (λ (d : DataSegment). AreBytes d.bytes) new_data (λ d bytes. bytes) m.datas linkable.sound.bytes);
+          few = few-now;
         }
 
 pub allocation-keeps-valid : ((b : Body) → body_of (writing b) ≡ b) → AllocationKeepsValid

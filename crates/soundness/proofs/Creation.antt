@@ -1,5 +1,5 @@
--- A new embedding is sound.
-use Rattle.std.proofs.Common.{◌≡◌, ℕ, zero, suc, ◌+◌, List, [], ◌∷◌, map, refl, ap, ◌∙◌, arith}
+-- A fresh embedding is sound.
+use Rattle.std.proofs.Common.{◌≡◌, ℕ, zero, suc, ◌+◌, ◌<◌, ◌^◌, List, [], ◌∷◌, length, map, refl, ap, subst, sym, ◌∙◌, arith}
 use Rattle.std.proofs.lemmas.List.Elements.{All-append, All-replicate}
 use Rattle.std.specs.List.{All}
 use Rattle.std.specs.Option.{option_or}
@@ -9,9 +9,9 @@ use Rattle.meaning.specs.embedding.Creation.{Fault, HostDefinition, NameTaken, H
 use Rattle.meaning.specs.embedding.Names.{NamesContents, host_of, no_names, with_host}
 use Rattle.meaning.specs.execution.Hosts.{HostsHaveTypes}
 use Rattle.meaning.specs.execution.Store.{FunctionInstance, InHost, Store}
-use Rattle.soundness.specs.Embedding.{IsSound}
-use Rattle.soundness.specs.Hosts.{GivesNoFuncref}
-use Rattle.soundness.specs.Stores.{FunctionIsValid}
+use Rattle.soundness.specs.Embedding.{FreshOnesAreSound, IsSound}
+use Rattle.soundness.specs.Hosts.{AreReady, GivesNoFuncref}
+use Rattle.soundness.specs.Stores.{FunctionIsValid, StoreIsValid}
 
 none : {X : Type 0} (P : X → Type 0) → All P []
 none P k d inside = let wrong : ⊥ = omega (arith, inside) in absurd wrong
@@ -29,7 +29,7 @@ module _ {H : Type 0} (host_type : H → FuncType) where
       let (number, typed) = numbered (suc k) ds a n f there in_host in
       (omega arith, typed)
 
-  pub hosts-typed : (pages entries : ℕ) (ds : List (HostDefinition H)) → HostsHaveTypes host_type (store_of_hosts host_type pages entries ds) (map (λ (d : HostDefinition H). d.host) ds)
+  hosts-typed : (pages entries : ℕ) (ds : List (HostDefinition H)) → HostsHaveTypes host_type (store_of_hosts host_type pages entries ds) (map (λ (d : HostDefinition H). d.host) ds)
   hosts-typed pages entries ds address n f there in_host =
       let (number, typed) = numbered 0 ds address n f there in_host in
       let same : n ≡ address = omega arith in
@@ -60,19 +60,36 @@ module _ {H : Type 0} (host_type : H → FuncType) where
       All-append (GivesNoFuncref host_type) (d.host ∷ []) (map (λ (e : HostDefinition H). e.host) ds) (All-replicate (GivesNoFuncref host_type) 1 d.host first)
       (no-funcrefs names' (suc address) ds (others-faultless (fault_of host_type names d) rest faultless))
 
-  -- A store of host functions without a fault, and no module.
-  pub fresh-sound : (pages entries : ℕ) (ds : List (HostDefinition H)) → first_fault host_type no_names 0 ds ≡ None
-      → IsSound host_type (store_of_hosts host_type pages entries ds) (map (λ (d : HostDefinition H). d.host) ds) []
-  fresh-sound pages entries ds faultless = record {
-    valid = record {
-      functions = functions-valid (store_of_hosts host_type pages entries ds) 0 ds;
-      instances = none _;
-      tables = none _;
-      memories = none _;
-      globals = none _;
-      elements = none _;
-      datas = none _;
+  pub fresh-ready : (pages entries : ℕ) (ds : List (HostDefinition H)) → first_fault host_type no_names 0 ds ≡ None
+      → AreReady host_type (store_of_hosts host_type pages entries ds) (map (λ (d : HostDefinition H). d.host) ds)
+  fresh-ready pages entries ds faultless = record { typed = hosts-typed pages entries ds; no_funcrefs = no-funcrefs no_names 0 ds faultless }
+
+  -- ---- a store of host functions
+
+  as-many : (number : ℕ) (ds : List (HostDefinition H)) → length (host_functions host_type number ds) ≡ length ds
+  as-many number [] = refl
+  as-many number (d ∷ ds) = ap suc (as-many (suc number) ds)
+
+  fresh-valid : (pages entries : ℕ) (ds : List (HostDefinition H)) → length ds < 2 ^ 32 → StoreIsValid (store_of_hosts host_type pages entries ds)
+  fresh-valid pages entries ds few = record {
+    functions = functions-valid (store_of_hosts host_type pages entries ds) 0 ds;
+    instances = none _;
+    tables = none _;
+    memories = none _;
+    globals = none _;
+    elements = none _;
+    datas = none _;
+    few = record {
+      functions = omega (arith, few, as-many 0 ds);
+      instances = omega (arith);
+      tables = omega (arith);
+      memories = omega (arith);
+      globals = omega (arith);
+      elements = omega (arith);
+      datas = omega (arith);
     };
-    ready = record { typed = hosts-typed pages entries ds; no_funcrefs = no-funcrefs no_names 0 ds faultless };
-    linkable = none _;
   }
+
+  pub fresh-sound : FreshOnesAreSound host_type
+  fresh-sound setup ds at few (faultless, at_is) =
+      subst (IsSound host_type) (sym at_is) (record { valid = fresh-valid setup.pages setup.entries ds few; ready = fresh-ready setup.pages setup.entries ds faultless })

@@ -41,6 +41,8 @@ Extends-same store = record {
   globals = λ address g is. (g, is, (refl, λ constant. refl));
   elements = λ address e is. (e, is, (refl, inl refl));
   datas = λ address d is. (d, is, inl refl);
+  pages = refl;
+  entries = refl;
 }
 
 pub Follows-same : (store : Store) → Follows store store

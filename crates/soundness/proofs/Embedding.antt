@@ -1,6 +1,5 @@
 -- Commands to a sound embedding go well, and leave it sound.
 use Rattle.std.proofs.Common.{◌≡◌, ℕ, zero, suc, ◌<◌, List, [], ◌∷◌, ◌++◌, bytes_eq, length, reverse, Some, refl, ap, sym, subst, arith, slice_get}
-use Rattle.std.proofs.Math.Logic.{∥∥₁_elim, ∥∥₁_map, ∥∥₁_prop}
 use Rattle.std.specs.List.{All}
 use Rattle.std.specs.Prelude.{Option, None, Result, Ok, Err, find, option_and_then, option_map}
 use Rattle.core_types.specs.declared.module.Export.{Export}
@@ -20,21 +19,23 @@ use Rattle.meaning.specs.embedding.Machine as machine
 use Rattle.meaning.specs.embedding.Names.{export_of, extern_of, resolve_name}
 use Rattle.meaning.specs.execution.Configurations.{Invoking, no_frame}
 use Rattle.meaning.specs.execution.Hosts.{IsHostStep}
+use Rattle.meaning.specs.execution.Modules.{Instantiation, IsAllowed, map_all}
 use Rattle.meaning.specs.execution.Runs.{Answer, Ending, State, WithValues}
 use Rattle.meaning.specs.execution.Store.{ModuleInstance, Store, instance_of}
 use Rattle.meaning.specs.structure.Bodies.{Body, body_of, writing}
-use Rattle.soundness.specs.Embedding.{AllGoWell, CommandsGoWell, GoesWell, IsSound, RepliesWell, RunsWell, asked_types, function_results, global_value}
+use Rattle.soundness.specs.Embedding.{AllGoWell, AppliesWell, CommandsGoWell, GoesWell, IsSound, LinksSoundModule, RepliesWell, RunsWell, asked_types, function_results, global_value}
 use Rattle.soundness.specs.Hosts.{AnswersFit, AreReady}
-use Rattle.soundness.specs.Links.{IsSoundModule}
+use Rattle.soundness.specs.Links.{IsLinkable, IsSoundModule}
 use Rattle.soundness.specs.Places.{outermost}
-use Rattle.soundness.specs.Runs.{EndsTyped, IsOutside}
+use Rattle.soundness.specs.Runs.{EndsTyped}
 use Rattle.soundness.specs.Stores.{Extends, GlobalIsValid, InstanceIsValid, StoreIsValid}
 use Rattle.soundness.proofs.Appends.{append-at}
 use Rattle.soundness.proofs.Effects.{Extends-same}
 use Rattle.soundness.proofs.Extension.{instance-valid}
+use Rattle.soundness.proofs.Fuel.{applies-spends}
 use Rattle.soundness.proofs.Hosts.{hosts-answer-well, ready-linked, ready-still}
 use Rattle.soundness.proofs.Links.{links-never-go-wrong}
-use Rattle.soundness.proofs.Runs.{never-goes-wrong}
+use Rattle.soundness.proofs.Runs.{never-goes-wrong, out}
 use Rattle.soundness.proofs.Values.{All-at, All-from, values-reversed}
 
 -- ---- exported globals
@@ -61,7 +62,8 @@ module _ (store : Store) (i : ModuleInstance) (valid : InstanceIsValid store i) 
       go None same = absurd cc
       go (Some e) same = of-kind e.desc address same
 
-global-there : (store : Store) → StoreIsValid store → (name : List ℕ) (instance : Option ℕ) (address : ℕ) → as_global (export_from store name instance) ≡ Ok address → address < length store.globals
+-- A global that is exported is there.
+pub global-there : (store : Store) → StoreIsValid store → (name : List ℕ) (instance : Option ℕ) (address : ℕ) → as_global (export_from store name instance) ≡ Ok address → address < length store.globals
 global-there store valid name None address is = absurd cc
 global-there store valid name (Some instance) address is = go (export_of (instance_of store (Some instance)) name) refl is
   where
@@ -77,20 +79,16 @@ global-there store valid name (Some instance) address is = go (export_of (instan
 -- ---- commands
 
 module _ {H : Type 0} (host_type : H → FuncType) where
-  -- The embedding is sound.
-  abbrev pub Sound : Embedding H → Type 0
-  Sound at = IsSound host_type at.state.store at.state.hosts at.modules
-
   -- What a command leaves, where these types were asked for.
   pub record LeavesWell (old : Embedding H) (types : List ValType) (reply : Reply) (new : Embedding H) : Type 0 where
     pub extends : Extends old.state.store new.state.store
     pub replies : RepliesWell new.state.store types reply
-    pub sound : Sound new
+    pub sound : IsSound host_type new
 
-  module _ (old new : Embedding H) (sound : Sound old) (types : List ValType) (reply : Reply) where
+  module _ (old new : Embedding H) (sound : IsSound host_type old) (types : List ValType) (reply : Reply) where
     -- A command that leaves the state of runs.
-    still : new.state ≡ old.state → RepliesWell old.state.store types reply → All IsSoundModule new.modules → LeavesWell old types reply new
-    still same replies linkable =
+    still : new.state ≡ old.state → RepliesWell old.state.store types reply → LeavesWell old types reply new
+    still same replies =
         let stores : new.state.store ≡ old.state.store = ap (λ (s : State H). s.store) same in
         record {
           extends = subst (λ (s : Store). Extends old.state.store s) (sym stores) (Extends-same old.state.store);
@@ -98,36 +96,35 @@ module _ {H : Type 0} (host_type : H → FuncType) where
           sound = record {
             valid = subst StoreIsValid (sym stores) sound.valid;
             ready = subst (λ (s : State H). AreReady host_type s.store s.hosts) (sym same) sound.ready;
-            linkable = linkable;
           };
         }
 
     refused : {refusal : Refusal} → (reply ≡ Refused refusal) × (new ≡ old) → LeavesWell old types reply new
     refused (reply_is, new_is) =
-        still (ap (λ (e : Embedding H). e.state) new_is) (subst (RepliesWell old.state.store types) (sym reply_is) tt) (subst (λ (e : Embedding H). All IsSoundModule e.modules) (sym new_is) sound.linkable)
+        still (ap (λ (e : Embedding H). e.state) new_is) (subst (RepliesWell old.state.store types) (sym reply_is) tt)
 
-    loads-well : (bytes : List ℕ) → All IsSoundModule new.modules → Loads old bytes reply new → LeavesWell old types reply new
-    loads-well bytes linkable (machine.loaded decoded valid reply_is new_is) =
-        still (ap (λ (e : Embedding H). e.state) new_is) (subst (RepliesWell old.state.store types) (sym reply_is) tt) linkable
-    loads-well bytes linkable (machine.no_module none cause refuses) = refused refuses
-    loads-well bytes linkable (machine.not_valid decoded invalid refuses) = refused refuses
-    loads-well bytes linkable (machine.no_memory refuses) = refused refuses
+    loads-well : (bytes : List ℕ) → Loads old bytes reply new → LeavesWell old types reply new
+    loads-well bytes (machine.loaded decoded valid reply_is new_is) =
+        still (ap (λ (e : Embedding H). e.state) new_is) (subst (RepliesWell old.state.store types) (sym reply_is) tt)
+    loads-well bytes (machine.no_module none cause refuses) = refused refuses
+    loads-well bytes (machine.not_valid decoded invalid refuses) = refused refuses
+    loads-well bytes (machine.no_memory refuses) = refused refuses
 
     registers-well : (name : List ℕ) (instance : Option ℕ) → RegistersAt old name instance reply new → LeavesWell old types reply new
     registers-well name None refuses = refused refuses
     registers-well name (Some instance) (machine.registered free reply_is new_is) =
-        still (ap (λ (e : Embedding H). e.state) new_is) (subst (RepliesWell old.state.store types) (sym reply_is) tt) (subst (λ (e : Embedding H). All IsSoundModule e.modules) (sym new_is) sound.linkable)
+        still (ap (λ (e : Embedding H). e.state) new_is) (subst (RepliesWell old.state.store types) (sym reply_is) tt)
     registers-well name (Some instance) (machine.taken has refuses) = refused refuses
     registers-well name (Some instance) (machine.no_memory free refuses) = refused refuses
 
-  module _ (old new : Embedding H) (sound : Sound old) (reply : Reply) where
+  module _ (old new : Embedding H) (sound : IsSound host_type old) (reply : Reply) where
     sets-fuel-well : (fuel : ℕ) → (reply ≡ Done) × (new ≡ machine.with_fuel old fuel) → LeavesWell old [] reply new
     sets-fuel-well fuel (reply_is, new_is) =
         let replies : RepliesWell old.state.store [] reply = subst (RepliesWell old.state.store []) (sym reply_is) tt in
         rw new_is (record {
           extends = Extends-same old.state.store;
           replies = replies;
-          sound = record { valid = sound.valid; ready = sound.ready; linkable = sound.linkable };
+          sound = record { valid = sound.valid; ready = sound.ready };
         })
 
     gets-well : (name : List ℕ) (instance : Option ℕ) (found : Result ℕ Refusal) → as_global (export_from old.state.store name instance) ≡ found → GetsAt old found reply new
@@ -136,7 +133,7 @@ module _ {H : Type 0} (host_type : H → FuncType) where
     gets-well name instance (Ok address) is (machine.got {g = g} there reply_is new_is) =
         let typed : GlobalIsValid old.state.store g = All-at (GlobalIsValid old.state.store) old.state.store.globals address g there sound.valid.globals in
         rw there (still old new sound (g.ty.value ∷ []) reply (ap (λ (e : Embedding H). e.state) new_is)
-        (subst (RepliesWell old.state.store (g.ty.value ∷ [])) (sym reply_is) (typed, tt)) (subst (λ (e : Embedding H). All IsSoundModule e.modules) (sym new_is) sound.linkable))
+        (subst (RepliesWell old.state.store (g.ty.value ∷ [])) (sym reply_is) (typed, tt)))
     gets-well name instance (Ok address) is (machine.lost lost reply_is new_is) =
         absurd (let inside = global-there old.state.store sound.valid name instance address is in missing old.state.store.globals address inside lost)
       where
@@ -149,11 +146,11 @@ module _ {H : Type 0} (host_type : H → FuncType) where
 -- ---- commands with a run
 
 module _ {H : Type 0} (host_type : H → FuncType) (Answers : H → List Val → List ℕ → Answer → List ℕ → H → Type 0) (fit : AnswersFit Answers) where
-  module _ (old new : Embedding H) (sound : Sound host_type old) (reply : Reply) where
+  module _ (old new : Embedding H) (sound : IsSound host_type old) (reply : Reply) where
     -- What a run leaves.
     leaves : {ending : Ending} {state : State H} (types : List ValType) → EndsTyped (IsHostStep host_type Answers) (AreReady host_type) types old.state ending state
-        → new.state ≡ state → new.modules ≡ old.modules → RepliesWell state.store types reply → LeavesWell host_type old types reply new
-    leaves {state = state} types ended state_is modules_is replies =
+        → new.state ≡ state → RepliesWell state.store types reply → LeavesWell host_type old types reply new
+    leaves {state = state} types ended state_is replies =
         let stores : new.state.store ≡ state.store = ap (λ (s : State H). s.store) state_is in
         record {
           extends = subst (λ (s : Store). Extends old.state.store s) (sym stores) ended.extends;
@@ -161,7 +158,6 @@ module _ {H : Type 0} (host_type : H → FuncType) (Answers : H → List Val →
           sound = record {
             valid = subst StoreIsValid (sym stores) ended.valid;
             ready = subst (λ (s : State H). AreReady host_type s.store s.hosts) (sym state_is) ended.there;
-            linkable = subst (All IsSoundModule) (sym modules_is) sound.linkable;
           };
         }
 
@@ -170,45 +166,72 @@ module _ {H : Type 0} (host_type : H → FuncType) (Answers : H → List Val →
     calls-well arguments (Err refusal) refuses = refused host_type old new sound [] reply refuses
     calls-well arguments (Ok address) (machine.bad_arguments none refuses) = refused host_type old new sound _ reply refuses
     calls-well arguments (Ok address) (machine.called {ending = ending} {state = state} (f, there, typed) run reply_is new_is) =
-        let outside : IsOutside no_frame outermost = record { instance = refl; frame_locals = refl; locals = refl; labels = refl; results = refl } in
         let ended = never-goes-wrong (IsHostStep host_type Answers) (AreReady host_type) (ready-still host_type) (hosts-answer-well host_type Answers fit) old.setup.depth no_frame outermost old.state state
-        (Invoking (reverse arguments) address) f.ty.results ending outside sound.valid sound.ready (f, there, values-reversed old.state.store arguments f.ty.params typed, refl) run in
-        rw there (leaves f.ty.results ended (ap (λ (e : Embedding H). e.state) new_is) (ap (λ (e : Embedding H). e.modules) new_is) (subst (RepliesWell state.store f.ty.results) (sym reply_is) ended.ends))
+        (Invoking (reverse arguments) address) f.ty.results ending out sound.valid sound.ready (f, there, values-reversed old.state.store arguments f.ty.params typed, refl) run in
+        rw there (leaves f.ty.results ended (ap (λ (e : Embedding H). e.state) new_is) (subst (RepliesWell state.store f.ty.results) (sym reply_is) ended.ends))
+
+    link-ends : ((b : Body) → body_of (writing b) ≡ b) → (m : Module) → IsSoundModule m → (externs : List Extern) (ending : Ending) (state : State H)
+        → map_all (λ (i : Import). resolve_name old.state.store old.names i.module_name i.name) m.imports ≡ Some externs → IsAllowed old.state.store m externs
+        → Instantiation (IsHostStep host_type Answers) old.setup.depth m externs old.state ending state
+        → EndsTyped (IsHostStep host_type Answers) (AreReady host_type) [] old.state ending state
+    link-ends read m sound_module externs ending state resolved allowed run =
+        let linkable : IsLinkable old.state.store m externs = record { sound = sound_module; within = allowed.within; count = map_all-length (λ (i : Import). resolve_name old.state.store old.names i.module_name i.name) m.imports externs resolved; fits = allowed.given } in
+        (links-never-go-wrong read (IsHostStep host_type Answers) (AreReady host_type) (ready-still host_type) (ready-linked host_type) (hosts-answer-well host_type Answers fit) old.setup.depth m externs old.state state
+        ending sound.valid sound.ready linkable run).0
 
     links-well : ((b : Body) → body_of (writing b) ≡ b) → (m : Module) → IsSoundModule m → Links (IsHostStep host_type Answers) old m reply new → LeavesWell host_type old [] reply new
     links-well read m sound_module (machine.linked {externs = externs} {state = state} resolved allowed run reply_is new_is) =
-        let ended = links-never-go-wrong read (IsHostStep host_type Answers) (AreReady host_type) (ready-still host_type) (ready-linked host_type) (hosts-answer-well host_type Answers fit) old.setup.depth m externs old.state state
-        (WithValues []) sound.valid sound.ready (record { sound = sound_module; count = map_all-length (λ (i : Import). resolve_name old.state.store old.names i.module_name i.name) m.imports externs resolved; fits = allowed.given }) run in
-        leaves [] ended (ap (λ (e : Embedding H). e.state) new_is) (ap (λ (e : Embedding H). e.modules) new_is) (subst (RepliesWell state.store []) (sym reply_is) tt)
+        let ended = link-ends read m sound_module externs (WithValues []) state resolved allowed run in
+        leaves [] ended (ap (λ (e : Embedding H). e.state) new_is) (subst (RepliesWell state.store []) (sym reply_is) tt)
     links-well read m sound_module (machine.ended {externs = externs} {ending = ending} {state = state} resolved allowed run none reply_is new_is) =
-        let ended = links-never-go-wrong read (IsHostStep host_type Answers) (AreReady host_type) (ready-still host_type) (ready-linked host_type) (hosts-answer-well host_type Answers fit) old.setup.depth m externs old.state state
-        ending sound.valid sound.ready (record { sound = sound_module; count = map_all-length (λ (i : Import). resolve_name old.state.store old.names i.module_name i.name) m.imports externs resolved; fits = allowed.given }) run in
-        leaves [] ended (ap (λ (e : Embedding H). e.state) new_is) (ap (λ (e : Embedding H). e.modules) new_is) (subst (RepliesWell state.store []) (sym reply_is) ended.ends)
+        let ended = link-ends read m sound_module externs ending state resolved allowed run in
+        leaves [] ended (ap (λ (e : Embedding H). e.state) new_is) (subst (RepliesWell state.store []) (sym reply_is) ended.ends)
     links-well read m sound_module (machine.unknown none refuses) = refused host_type old new sound [] reply refuses
     links-well read m sound_module (machine.incompatible resolved differs refuses) = refused host_type old new sound [] reply refuses
     links-well read m sound_module (machine.too_large resolved given passes refuses) = refused host_type old new sound [] reply refuses
     links-well read m sound_module (machine.no_memory refuses) = refused host_type old new sound [] reply refuses
 
-    pub links-at-well : ((b : Body) → body_of (writing b) ≡ b) → (number : ℕ) (found : Option Module) → slice_get old.modules number ≡ found → LinksAt (IsHostStep host_type Answers) old found reply new → LeavesWell host_type old [] reply new
-    links-at-well read number None there refuses = refused host_type old new sound [] reply refuses
-    links-at-well read number (Some m) there links = links-well read m (All-at IsSoundModule old.modules number m there sound.linkable) links
+    links-at-well : ((b : Body) → body_of (writing b) ≡ b) → (found : Option Module) → ((m : Module) → found ≡ Some m → IsSoundModule m) → LinksAt (IsHostStep host_type Answers) old found reply new → LeavesWell host_type old [] reply new
+    links-at-well read None linkable refuses = refused host_type old new sound [] reply refuses
+    links-at-well read (Some m) linkable links = links-well read m (linkable m refl) links
 
-    -- A command goes well, and leaves the embedding sound where its modules are.
-    pub applies-well : ((b : Body) → body_of (writing b) ≡ b) → (command : Command) → All IsSoundModule new.modules → Applies (IsHostStep host_type Answers) old command reply new
+    applies-well : ((b : Body) → body_of (writing b) ≡ b) → (command : Command) → LinksSoundModule old command → Applies (IsHostStep host_type Answers) old command reply new
         → LeavesWell host_type old (asked_types old command) reply new
-    applies-well read (Load bytes) linkable applies = loads-well host_type old new sound [] reply bytes linkable applies
-    applies-well read (Link number) linkable applies = links-at-well read number (slice_get old.modules number) refl applies
+    applies-well read (Load bytes) linkable applies = loads-well host_type old new sound [] reply bytes applies
+    applies-well read (Link number) linkable applies = links-at-well read (slice_get old.modules number) linkable applies
     applies-well read (Register number name) linkable applies = registers-well host_type old new sound [] reply name (slice_get old.instances number) applies
     applies-well read (Call number name arguments) linkable applies = calls-well arguments (as_function (export_at old number name)) applies
     applies-well read (GetGlobal number name) linkable applies = gets-well host_type old new sound reply name (slice_get old.instances number) (as_global (export_at old number name)) refl applies
     applies-well read (SetFuel fuel) linkable applies = sets-fuel-well host_type old new sound reply fuel applies
 
+    -- A command goes well, if the module that it links may be linked, and leaves a sound embedding.
+    pub goes-well : ((b : Body) → body_of (writing b) ≡ b) → (command : Command) → LinksSoundModule old command → Applies (IsHostStep host_type Answers) old command reply new
+        → GoesWell old command reply new × IsSound host_type new
+    goes-well read command linkable applies =
+        let left = applies-well read command linkable applies in
+        (record { valid = left.sound.valid; extends = left.extends; replies = left.replies; spends = applies-spends (IsHostStep host_type Answers) old new reply command applies }, left.sound)
+
+  -- The module that is linked is one of those of the embedding.
+  one-of : (at : Embedding H) (command : Command) → All IsSoundModule at.modules → LinksSoundModule at command
+  one-of at (Load bytes) all = tt
+  one-of at (Link number) all = λ m there. All-at IsSoundModule at.modules number m there all
+  one-of at (Register number name) all = tt
+  one-of at (Call number name arguments) all = tt
+  one-of at (GetGlobal number name) all = tt
+  one-of at (SetFuel fuel) all = tt
+
 -- ---- commands in a row
 
 module _ {H : Type 0} (HostStep : List H → ℕ → Option ℕ → List Val → Store → Answer → Store → List H → Type 0) where
   pub none-well : (at : Embedding H) → RunsWell HostStep at [] [] at
-  none-well at = (machine.none, ∣ tt ∣₁)
+  none-well at = (machine.none, tt)
 
+  -- A command before others.
+  pub one-before-well : {old between last : Embedding H} {command : Command} {reply : Reply} {commands : List Command} {replies : List Reply} → AppliesWell HostStep old command reply between
+      → RunsWell HostStep between commands replies last → RunsWell HostStep old (command ∷ commands) (reply ∷ replies) last
+  one-before-well (step, well) (run, others) = (machine.then_on step run, (well, others))
+
+  -- A command behind others.
   module _ {between last : Embedding H} (command : Command) (reply : Reply) (step : Applies HostStep between command reply last) where
     one-more : {old : Embedding H} {commands : List Command} {replies : List Reply} → AppliesAll HostStep old commands replies between
         → AppliesAll HostStep old (commands ++ command ∷ []) (replies ++ reply ∷ []) last
@@ -221,9 +244,9 @@ module _ {H : Type 0} (HostStep : List H → ℕ → Option ℕ → List Val →
     all-well machine.none well before = (well, tt)
     all-well (machine.then_on first rest) well before = (before.0, all-well rest well before.1)
 
-    pub one-more-well : {old : Embedding H} {commands : List Command} {replies : List Reply} → ∥ GoesWell between command reply last ∥₁ → RunsWell HostStep old commands replies between
-        → RunsWell HostStep old (commands ++ command ∷ []) (replies ++ reply ∷ []) last
-    one-more-well well (run, before) = (one-more run, ∥∥₁_elim well ∥∥₁_prop (λ w. ∥∥₁_map before (all-well run w)))
+  pub one-more-well : {old between last : Embedding H} {command : Command} {reply : Reply} {commands : List Command} {replies : List Reply} → RunsWell HostStep old commands replies between
+      → AppliesWell HostStep between command reply last → RunsWell HostStep old (commands ++ command ∷ []) (replies ++ reply ∷ []) last
+  one-more-well {command = command} {reply = reply} (run, before) (step, well) = (one-more command reply step run, all-well command reply step run well before)
 
 -- ---- runs of commands
 
@@ -287,10 +310,11 @@ pub commands-go-well : ((b : Body) → body_of (writing b) ≡ b) → {H : Type 
     → AnswersFit Answers → CommandsGoWell host_type Answers
 commands-go-well read {H} host_type Answers fit old last commands replies run sound linkable = go run sound
   where
-    go : {at : Embedding H} {cs : List Command} {rs : List Reply} (rest : AppliesAll (IsHostStep host_type Answers) at cs rs last) → Sound host_type at
-        → AllGoWell (IsHostStep host_type Answers) rest × Sound host_type last
+    go : {at : Embedding H} {cs : List Command} {rs : List Reply} (rest : AppliesAll (IsHostStep host_type Answers) at cs rs last) → IsSound host_type at
+        → AllGoWell (IsHostStep host_type Answers) rest × IsSound host_type last
     go machine.none at_sound = (tt, at_sound)
     go (machine.then_on {old = at} {between = between} {command = command} {reply = reply} first rest) at_sound =
-        let left = applies-well host_type Answers fit at between at_sound reply read command (all-before (IsHostStep host_type Answers) IsSoundModule rest linkable) first in
-        let (others, sound_then) = go rest left.sound in
-        ((record { extends = left.extends; replies = left.replies }, others), sound_then)
+        let before = all-before (IsHostStep host_type Answers) IsSoundModule (machine.then_on {old = at} {between = between} {command = command} {reply = reply} first rest) linkable in
+        let (well, then) = goes-well host_type Answers fit at between at_sound reply read command (one-of host_type Answers fit at command before) first in
+        let (others, sound_then) = go rest then in
+        ((well, others), sound_then)

@@ -183,6 +183,7 @@ instance-valid store valid at = by at
       globals = nothing store.globals;
       elements = nothing store.elements;
       datas = nothing store.datas;
+      exports = λ k e inside. let wrong : ⊥ = omega (arith, inside) in absurd wrong;
     }
 
     found : (address : ℕ) (o : Option ModuleInstance) → slice_get store.instances address ≡ o → InstanceIsValid store (unwrap_or o no_instance)

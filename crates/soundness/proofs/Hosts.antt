@@ -56,7 +56,7 @@ lent-are-bytes store valid (Some address) = go (slice_get store.memories address
   where
     go : (found : Option MemoryInstance) → slice_get store.memories address ≡ found → AreBytes (bytes_in found)
     go None is = λ k d inside. let wrong : ⊥ = omega (arith, inside) in absurd wrong
-    go (Some memory) is = (All-at MemoryIsValid store.memories address memory is valid.memories).bytes
+    go (Some memory) is = (All-at (MemoryIsValid store.pages) store.memories address memory is valid.memories).bytes
 
 lent-leaves : (store : Store) → StoreIsValid store → (lent : Option ℕ) (bytes : List ℕ) → length bytes ≡ length (lent_bytes store lent) → AreBytes bytes
     → Extends store (with_lent_bytes store lent bytes) × StoreIsValid (with_lent_bytes store lent bytes)
@@ -67,8 +67,8 @@ lent-leaves store valid (Some address) bytes same are_bytes = go (slice_get stor
         → Extends store (with_bytes store address found bytes) × StoreIsValid (with_bytes store address found bytes)
     go None is long = (Extends-same store, valid)
     go (Some memory) is long =
-        let before = All-at MemoryIsValid store.memories address memory is valid.memories in
-        let now : MemoryIsValid (record memory { bytes = bytes }) = record { size = before.size; bytes_are = long ∙ before.bytes_are; bytes = are_bytes } in
+        let before = All-at (MemoryIsValid store.pages) store.memories address memory is valid.memories in
+        let now : MemoryIsValid store.pages (record memory { bytes = bytes }) = record { size = before.size; bytes_are = long ∙ before.bytes_are; bytes = are_bytes } in
         (memory-extends store valid address memory (record memory { bytes = bytes }) is (omega (arith), refl) now, memory-valid store valid address memory (record memory { bytes = bytes }) is (omega (arith), refl) now)
 
 -- ---- host functions that are ready
@@ -100,6 +100,17 @@ module _ {H : Type 0} (host_type : H → FuncType) where
       record {
         typed = λ address number f there is. All-at (HasItsHost hosts) _ address f there all number is;
         no_funcrefs = ready.no_funcrefs;
+      }
+
+module _ {H : Type 0} (host_type : H → FuncType) (Answers : H → List Val → List ℕ → Answer → List ℕ → H → Type 0) where
+  -- Host functions are ready after a call.
+  pub ready-kept : (hosts hosts' : List H) (number : ℕ) (lent : Option ℕ) (arguments : List Val) (old new : Store) (answer : Answer)
+      → IsHostStep host_type Answers hosts number lent arguments old answer new hosts' → AreReady host_type old hosts → AreReady host_type new hosts'
+  ready-kept hosts hosts' number lent arguments old new answer (bytes, call, new_is) ready =
+      let none = All-at (GivesNoFuncref host_type) hosts number call.host call.is ready.no_funcrefs in
+      record {
+        typed = hosts-kept host_type Answers hosts hosts' number lent arguments old new answer (bytes, call, new_is) ready.typed;
+        no_funcrefs = subst (All (GivesNoFuncref host_type)) (sym call.hosts_are) (All-set (GivesNoFuncref host_type) hosts number call.host' ready.no_funcrefs (ap (λ (u : FuncType). has_funcref u.results) call.same_type ∙ none));
       }
 
 module _ {H : Type 0} (host_type : H → FuncType) (Answers : H → List Val → List ℕ → Answer → List ℕ → H → Type 0) (fit : AnswersFit Answers) where

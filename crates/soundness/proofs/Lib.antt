@@ -21,6 +21,8 @@ pub mod Objects
 pub mod Allocation
 pub mod Tasks
 pub mod Links
+pub mod Functions
 pub mod Hosts
+pub mod Fuel
 pub mod Embedding
 pub mod Creation

@@ -1,5 +1,5 @@
 -- Links of modules in valid stores never go wrong.
-use Rattle.std.proofs.Common.{◌≡◌, ℕ, suc, ◌%◌, ◌<◌, ◌^◌, List, [], ◌∷◌, length, map, reverse, Option, Some, None, refl, ap, subst, sym, ◌∙◌, arith, get_or, slice_get, option_map, unwrap_or}
+use Rattle.std.proofs.Common.{◌≡◌, ℕ, suc, ◌%◌, ◌<◌, ◌^◌, List, [], ◌∷◌, ◌++◌, length, map, reverse, Option, Some, None, refl, ap, subst, sym, ◌∙◌, arith, get_or, slice_get, option_map, unwrap_or}
 use Rattle.std.proofs.lemmas.List.{length-map}
 use Rattle.std.proofs.lemmas.Option.{slice_get-get_or}
 use Rattle.std.specs.List.{All}
@@ -21,8 +21,8 @@ use Rattle.core_types.specs.declared.types.ValType.TheVariants as ty
 use Rattle.meaning.specs.structure.Bodies.{Body, Empty, Then, body_of, writing}
 use Rattle.meaning.specs.execution.Configurations.{Invoking, Running, no_frame}
 use Rattle.meaning.specs.execution.Memories.{new_memory}
-use Rattle.meaning.specs.execution.Modules.{Activity, Copies, Drops, HasNoValues, RunOf, RunTasks, Starts, Task, activity, allocated, constant, constant_value, done, ended, all_done, in_instance, lost, map_all, new_data, new_elements, new_global, new_instance, references, tasks_of, with_module, without_value}
-use Rattle.meaning.specs.execution.Runs.{Answer, Ending, WithValues, WithTrap, OutOfFuel, OutOfDepth, OutOfMemory, GotStuck, State}
+use Rattle.meaning.specs.execution.Modules.{Activity, Copies, Drops, HasNoValues, RunOf, RunTasks, Starts, Task, activity, allocated, constant, constant_value, done, ended, all_done, in_instance, lost, map_all, new_data, new_elements, new_global, new_instance, new_objects, references, tasks_of, with_module, without_value}
+use Rattle.meaning.specs.execution.Runs.{Answer, Ending, NoHosts, WithValues, WithTrap, OutOfFuel, OutOfDepth, OutOfMemory, GotStuck, State}
 use Rattle.meaning.specs.execution.Store.{FunctionInstance, GlobalInstance, ModuleInstance, ObjectLists, Store, instance_of, item_at, item_of, no_instance}
 use Rattle.meaning.specs.execution.Tables.{ElementInstance, new_table}
 use Rattle.meaning.specs.soundness.Values.{ValueHasType, ValuesHaveTypes}
@@ -31,10 +31,9 @@ use Rattle.meaning.specs.validation.Instructions.{HasType, known}
 use Rattle.meaning.specs.validation.Modules.{HasItemsOfType, IsConstantExpression, constant_context, function_indices, functions_of, globals_of, imported_globals, module_context, type_at}
 use Rattle.meaning.specs.validation.Types.{function_type, reference_type}
 use Rattle.meaning.proofs.lemmas.Contexts.{HasType-extension}
-use Rattle.soundness.specs.Configurations.{ConfigurationHasType}
-use Rattle.soundness.specs.Links.{IsLinkable, LinksNeverGoWrong}
+use Rattle.soundness.specs.Links.{InstanceStays, IsLinkable, LinksNeverGoWrong, RunsTyped, TaskIsGood, TasksAreGood}
 use Rattle.soundness.specs.Places.{Place, RunsOn, context_at, instance_context, outermost}
-use Rattle.soundness.specs.Runs.{EndsTyped, EndsWell, HostsAnswerWell, IsOutside}
+use Rattle.soundness.specs.Runs.{EndsTyped, EndsWell, HostsAnswerWell, NoConditions}
 use Rattle.soundness.specs.Stores.{Extends, GlobalIsValid, InstanceIsValid, StoreIsValid}
 use Rattle.soundness.proofs.Allocation.{extends, function-given, functions-are, global-given, globals-are, module-carried, store-valid}
 use Rattle.soundness.proofs.Appends.{append-at, append-first}
@@ -78,13 +77,6 @@ module _ (old : Store) (m : Module) (given : List Extern) (linkable : IsLinkable
       (record { ty = e.ty; references = vs }, ap (option_map (λ (vs : List Val). record { ty = e.ty; references = vs })) is))
 
 -- ---- what is run is typed
-
--- What runs in a frame outside of all others is typed there.
-record RunsTyped (store : Store) (a : Activity) : Type 0 where
-  place : Place
-  results : List ValType
-  outside : IsOutside a.frame place
-  typed : ConfigurationHasType store place a.configuration results
 
 module _ (old : Store) (m : Module) (given : List Extern) (linkable : IsLinkable old m given) (gs : List GlobalInstance) (es : List ElementInstance)
     (globals_made : map_all (new_global old (new_instance old m given)) m.globals ≡ Some gs) (elements_made : map_all (new_elements old (new_instance old m given)) m.elements ≡ Some es)
@@ -213,7 +205,47 @@ module _ {H : Type 0} (HostStep : List H → ℕ → Option ℕ → List Val →
     tasks-run (task ∷ tasks) all {old} {last} {ending} valid there more (lost is) =
         let (found, here, runs) = each old.store valid more task (all 0 task (omega (arith))) in absurd (let wrong : None ≡ Some found = sym is ∙ here in no-value wrong)
 
+-- ---- the parts of a link, one after the other
+
+-- The constants of a module that is linked have values.
+pub objects-there : (old : Store) (m : Module) (given : List Extern) → IsLinkable old m given → new_objects old (new_instance old m given) m ≡ None → ⊥
+objects-there old m given linkable none =
+    let (gs, first) = globals-found old m given linkable in
+    let (es, second) = elements-found old m given linkable in
+    objects-found m _ _ gs es first second none
+
+-- What it runs is there, and is typed, whatever runs before.
+pub tasks-good : ((b : Body) → body_of (writing b) ≡ b) → (old : Store) (m : Module) (given : List Extern) (made : ObjectLists) → StoreIsValid old → IsLinkable old m given → new_objects old (new_instance old m given) m ≡ Some made
+    → TasksAreGood (with_module old (new_instance old m given) m made) (length old.instances) (new_instance old m given) (tasks_of m)
+tasks-good read old m given made valid linkable made_is =
+    let (gs, es, globals_made, elements_made, same) = objects-made m (map_all (new_global old (new_instance old m given)) m.globals) (map_all (new_elements old (new_instance old m given)) m.elements) made made_is in
+    let now_valid : StoreIsValid (with_module old (new_instance old m given) m made) = rw same (store-valid old m given linkable gs es globals_made elements_made valid read) in
+    λ at at_valid more. λ k d inside. task-now old m given linkable gs es globals_made elements_made made same now_valid at at_valid more _ (tasks-typed m linkable.sound.valid k d inside)
+
+module _ {H : Type 0} (HostStep : List H → ℕ → Option ℕ → List Val → Store → Answer → Store → List H → Type 0) (HaveHosts : Store → List H → Type 0)
+    (kept : (old new : Store) (hosts : List H) → new.functions ≡ old.functions → HaveHosts old hosts → HaveHosts new hosts)
+    (well : HostsAnswerWell HostStep HaveHosts) (bound : ℕ) where
+  -- Good tasks never go wrong.
+  pub tasks-end : (start : Store) (n : ℕ) (i : ModuleInstance) (tasks : List Task) → TasksAreGood start n i tasks → {old last : State H} {ending : Ending} → StoreIsValid old.store → HaveHosts old.store old.hosts → Extends start old.store
+      → RunTasks HostStep bound n i old tasks ending last → EndsTyped HostStep HaveHosts [] old ending last
+  tasks-end start n i tasks good valid there more run =
+      tasks-run HostStep HaveHosts kept well bound start n i (λ (task : Task). (at : Store) → StoreIsValid at → Extends start at → TaskIsGood at n i task)
+      (λ at at_valid later task holds. holds at at_valid later) tasks (λ k d inside. λ at at_valid later. good at at_valid later k d inside) valid there more run
+
+-- The same without host functions.
+pub tasks-end-alone : (bound : ℕ) (start : Store) (n : ℕ) (i : ModuleInstance) (tasks : List Task) → TasksAreGood start n i tasks → {old last : State ⊥} {ending : Ending} → StoreIsValid old.store → Extends start old.store
+    → RunTasks NoHosts bound n i old tasks ending last → EndsTyped NoHosts NoConditions [] old ending last
+tasks-end-alone bound start n i tasks good valid more run = tasks-end NoHosts NoConditions (λ old new hosts same there. tt) (λ hosts hosts' number address lent arguments old new answer t valid there is typed told. absurd told) bound start n i tasks good valid tt more run
+
 -- ---- links
+
+instance-stays : (old now new : Store) (m : Module) (given : List Extern) → now.instances ≡ old.instances ++ new_instance old m given ∷ [] → Extends now new → StoreIsValid new → InstanceStays old new m given
+instance-stays old now new m given added more valid =
+    let i = new_instance old m given in
+    let first = ap (λ (is : List ModuleInstance). slice_get is (length old.instances)) added ∙ append-first old.instances [] i in
+    let (j, found, same) = more.instances (length old.instances) i first in
+    let there = found ∙ ap Some (sym same) in
+    record { there = there; valid = All-at (InstanceIsValid new) new.instances (length old.instances) i there valid.instances }
 
 -- A link never goes wrong where host functions answer by their types, and a link leaves their conditions.
 pub links-never-go-wrong : ((b : Body) → body_of (writing b) ≡ b)
@@ -226,11 +258,10 @@ links-never-go-wrong read HostStep HaveHosts kept linked well bound m given old 
     let now = with_module old.store (new_instance old.store m given) m made in
     let now_valid : StoreIsValid now = rw same (store-valid old.store m given linkable gs es globals_made elements_made valid read) in
     let grown : Extends old.store now = rw same (extends old.store m given linkable gs es) in
-    let ran = tasks-run HostStep HaveHosts kept well bound now (length old.store.instances) (new_instance old.store m given) (TaskIsTyped m)
-    (λ at at_valid more task typed. task-now old.store m given linkable gs es globals_made elements_made made same now_valid at at_valid more task typed)
-    (tasks_of m) (tasks-typed m linkable.sound.valid) now_valid (linked old.store m (new_instance old.store m given) made old.hosts there) (Extends-same now) run in
-    record { extends = Extends-through old.store now new.store grown ran.extends; valid = ran.valid; there = ran.there; ends = ran.ends }
+    let good = tasks-good read old.store m given made valid linkable made_is in
+    let ran = tasks-end HostStep HaveHosts kept well bound now (length old.store.instances) (new_instance old.store m given) (tasks_of m) good now_valid (linked old.store m (new_instance old.store m given) made old.hosts there) (Extends-same now) run in (
+      record { extends = Extends-through old.store now new.store grown ran.extends; valid = ran.valid; there = ran.there; ends = ran.ends },
+      instance-stays old.store now new.store m given refl ran.extends ran.valid,
+    )
 links-never-go-wrong read HostStep HaveHosts kept linked well bound m given old new ending valid there linkable (without_value none ending_is new_is) =
-    let (gs, first) = globals-found old.store m given linkable in
-    let (es, second) = elements-found old.store m given linkable in
-    absurd (objects-found m _ _ gs es first second none)
+    absurd (objects-there old.store m given linkable none)

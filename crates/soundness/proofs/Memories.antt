@@ -123,8 +123,8 @@ module _ (store : Store) (valid : StoreIsValid store) (place : Place) (frame : F
   -- ---- one memory
 
   module _ (address : ℕ) (memory : MemoryInstance) (at : slice_get store.memories address ≡ Some memory) where
-    there : MemoryIsValid memory
-    there = All-at MemoryIsValid store.memories address memory at valid.memories
+    there : MemoryIsValid store.pages memory
+    there = All-at (MemoryIsValid store.pages) store.memories address memory at valid.memories
 
     abbrev Fit : List ℕ → Type 0
     Fit bytes = (length bytes ≡ length memory.bytes) × AreBytes bytes
@@ -134,7 +134,7 @@ module _ (store : Store) (valid : StoreIsValid store) (place : Place) (frame : F
     written cost (Err trap) fits values stack typed = tt
     written cost (Ok bytes) fits values stack typed =
         let new : MemoryInstance = record { limits = memory.limits; bytes = bytes } in
-        let new_valid : MemoryIsValid new = record { size = there.size; bytes_are = fits.0 ∙ there.bytes_are; bytes = fits.1 } in
+        let new_valid : MemoryIsValid store.pages new = record { size = there.size; bytes_are = fits.0 ∙ there.bytes_are; bytes = fits.1 } in
         let stays : MemoryStays memory new = (omega (arith), refl) in
         leaves store valid place frame own (with_memory store address new) (memory-extends store valid address memory new at stays new_valid)
         (memory-valid store valid address memory new at stays new_valid) refl cost values stack typed
@@ -167,7 +167,7 @@ module _ (store : Store) (valid : StoreIsValid store) (place : Place) (frame : F
         by false is = tt
 
     size-fits : memory.limits.min < 2 ^ 32
-    size-fits = let few = there.size.0 in omega (arith, few)
+    size-fits = let few = there.size.few in omega (arith, few)
 
     loaded : (op : LoadOp) (offset : ℕ) (values : List Val) (below : List ValType) → ValuesHaveTypes store values below
         → EffectIsGood store place (load_type op ∷ below) (push_read store frame (load_from op memory.bytes offset) values)
@@ -192,7 +192,7 @@ module _ (store : Store) (valid : StoreIsValid store) (place : Place) (frame : F
             else Done instruction_cost store frame.locals (I32 4294967295 ∷ values))
         by false is = good instruction_cost (I32 4294967295 ∷ values) (ty.I32 ∷ below) ((refl, omega (arith)), typed)
         by true is =
-            let new_valid : MemoryIsValid (grow_by memory pages) = record {
+            let new_valid : MemoryIsValid store.pages (grow_by memory pages) = record {
               size = grown-size store.pages most_pages memory.limits pages is;
               bytes_are = omega (arith, there.bytes_are, length-append memory.bytes (replicate (page_size * pages) 0), length-replicate {A = ℕ} (page_size * pages) 0);
               bytes = All-append IsByte memory.bytes (replicate (page_size * pages) 0) there.bytes (All-replicate IsByte (page_size * pages) 0 (omega (arith)));

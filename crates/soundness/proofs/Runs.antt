@@ -1,18 +1,18 @@
 -- Runs from typed configurations never go wrong.
-use Rattle.std.proofs.Common.{◌≡◌, ℕ, List, [], reverse, Option, Some, None, ap, subst, sym, ◌∙◌, arith, slice_get, inl, inr}
+use Rattle.std.proofs.Common.{◌≡◌, ℕ, List, [], reverse, Option, Some, None, refl, ap, subst, sym, ◌∙◌, arith, slice_get, inl, inr}
 use Rattle.std.proofs.lemmas.List.{reverse-reverse}
 use Rattle.core_types.specs.declared.outcome.Val.{Val}
 use Rattle.core_types.specs.declared.types.GlobalType.{GlobalType}
 use Rattle.core_types.specs.declared.types.ValType.{ValType}
-use Rattle.meaning.specs.execution.Configurations.{Configuration, Frame}
+use Rattle.meaning.specs.execution.Configurations.{Configuration, Frame, no_frame}
 use Rattle.meaning.specs.execution.Instructions.{Next, Goes, Grows, Opens, CallsHost, Traps, Branches, Returns, Over, NotReady, next}
-use Rattle.meaning.specs.execution.Runs.{Answer, Ending, IsEnd, IsStep, IsStuck, Run, State, goes, grows, opens, calls, values_left, trapped, host_trapped, no_fuel, no_depth, no_memory, stuck, end, step}
+use Rattle.meaning.specs.execution.Runs.{Answer, Ending, IsEnd, IsStep, GotStuck, IsStuck, NoHosts, Run, State, Steps, none, one_more, goes, grows, opens, calls, values_left, trapped, host_trapped, no_fuel, no_depth, no_memory, stuck, end, step}
 use Rattle.meaning.specs.execution.Store.{DataInstance, FunctionInstance, GlobalInstance, ModuleInstance, Store}
 use Rattle.meaning.specs.execution.Tables.{ElementInstance}
 use Rattle.meaning.specs.soundness.Values.{ValuesHaveTypes}
 use Rattle.soundness.specs.Configurations.{ConfigurationHasType, FrameHasPlace, IsGood}
-use Rattle.soundness.specs.Places.{Place}
-use Rattle.soundness.specs.Runs.{EndsTyped, EndsWell, HostsAnswerWell, IsOutside, NeverGoesWrong}
+use Rattle.soundness.specs.Places.{Place, outermost}
+use Rattle.soundness.specs.Runs.{EndsTyped, EndsWell, HostsAnswerWell, IsOutside, IsTyped, NeverGoesWrong, NoConditions}
 use Rattle.soundness.specs.Stores.{DataStays, ElementStays, Extends, GlobalStays, Keeps, MemoryStays, StoreIsValid, TableStays}
 use Rattle.soundness.proofs.Effects.{Extends-same}
 use Rattle.soundness.proofs.Extension.{configuration-extended}
@@ -52,6 +52,8 @@ Extends-through a b c first second = record {
   globals = Keeps-through GlobalStays global-through _ _ _ first.globals second.globals;
   elements = Keeps-through ElementStays element-through _ _ _ first.elements second.elements;
   datas = Keeps-through DataStays data-through _ _ _ first.datas second.datas;
+  pages = second.pages ∙ first.pages;
+  entries = second.entries ∙ first.entries;
 }
 
 -- ---- steps and ends
@@ -137,3 +139,34 @@ pub never-goes-wrong : {H : Type 0} (HostStep : List H → ℕ → Option ℕ �
     → ((old new : Store) (hosts : List H) → new.functions ≡ old.functions → HaveHosts old hosts → HaveHosts new hosts)
     → HostsAnswerWell HostStep HaveHosts → NeverGoesWrong HostStep HaveHosts
 never-goes-wrong HostStep HaveHosts kept well bound frame place old last configuration results ending out valid there typed run = run-typed HostStep HaveHosts kept well bound frame place out results valid there typed run
+
+-- ---- steps in a row, and the end of a machine that steps outside of all frames
+
+-- Outside of all frames.
+pub out : IsOutside no_frame outermost
+out = record { instance = refl; frame_locals = refl; locals = refl; labels = refl; results = refl }
+
+module _ {H : Type 0} (HostStep : List H → ℕ → Option ℕ → List Val → Store → Answer → Store → List H → Type 0) (HaveHosts : Store → List H → Type 0)
+    (kept : (old new : Store) (hosts : List H) → new.functions ≡ old.functions → HaveHosts old hosts → HaveHosts new hosts)
+    (well : HostsAnswerWell HostStep HaveHosts) (bound : ℕ) where
+  -- Steps from a typed configuration lead to a typed one.
+  pub steps-stay-typed : {old last : State H} {first then : Configuration} → HaveHosts old.store old.hosts → IsTyped old.store first → Steps HostStep bound no_frame old first last then
+      → IsTyped last.store then × HaveHosts last.store last.hosts
+  steps-stay-typed there is none = (is, there)
+  steps-stay-typed {old} {last} {first} {then} there is (one_more {between = between} {second = second} before next_step) =
+      let (at, ready) = steps-stay-typed there is before in
+      let more = step-typed HostStep HaveHosts kept well bound no_frame outermost out at.results between second at.valid ready at.typed next_step in
+      (record { valid = more.valid; results = at.results; typed = more.typed }, more.there)
+
+  -- A typed configuration is no end that is stuck.
+  pub never-stuck : {at last : State H} {configuration : Configuration} → HaveHosts at.store at.hosts → IsTyped at.store configuration → IsEnd HostStep bound no_frame at configuration GotStuck last → ⊥
+  never-stuck {at} {last} {configuration} there is ends =
+      (end-typed HostStep HaveHosts kept well bound no_frame outermost out is.results at configuration is.valid there is.typed ends).ends
+
+-- The same without host functions.
+module _ (bound : ℕ) where
+  pub steps-alone : {old last : State ⊥} {first then : Configuration} → IsTyped old.store first → Steps NoHosts bound no_frame old first last then → IsTyped last.store then
+  steps-alone is steps = (steps-stay-typed NoHosts NoConditions (λ old new hosts same there. tt) (λ hosts hosts' number address lent arguments old new answer t valid there is typed told. absurd told) bound tt is steps).0
+
+  pub stuck-alone : {at last : State ⊥} {configuration : Configuration} → IsTyped at.store configuration → IsEnd NoHosts bound no_frame at configuration GotStuck last → ⊥
+  stuck-alone is ends = never-stuck NoHosts NoConditions (λ old new hosts same there. tt) (λ hosts hosts' number address lent arguments old new answer t valid there is typed told. absurd told) bound tt is ends

@@ -38,12 +38,12 @@ use Rattle.soundness.proofs.Writes.{All-set, elements-dropped-extends, elements-
 
 -- ---- growth
 
--- What may grow stays within what any may have, and within its maximum.
-pub grown-size : (bound most : ℕ) (limits : Limits) (more : ℕ) → can_grow bound most limits more ≡ true → SizeIsValid (raised limits more) most
+-- What may grow stays within the bound, within what any may have, and within its maximum.
+pub grown-size : (bound most : ℕ) (limits : Limits) (more : ℕ) → can_grow bound most limits more ≡ true → SizeIsValid (raised limits more) bound most
 grown-size bound most limits more is =
     let (first, rest) = both _ _ is in
     let (second, third) = both _ _ rest in
-    (at-most _ _ second, by limits.max third)
+    record { bounded = at-most _ _ first; few = at-most _ _ second; ordered = by limits.max third }
   where
     by : (max : Option ℕ) → is_within max (limits.min + more) ≡ true → AreOrdered (record { min = limits.min + more; max = max })
     by None within = tt
@@ -110,7 +110,7 @@ module _ (store : Store) (valid : StoreIsValid store) (place : Place) (frame : F
         by false is = tt
 
     size-fits : table.ty.limits.min < 2 ^ 32
-    size-fits = let few = there.size.0 in omega (arith, few)
+    size-fits = let few = there.size.few in omega (arith, few)
 
     read : (o : Option Val) (i : ℕ) → slice_get table.entries i ≡ o → (values : List Val) (below : List ValType) → ValuesHaveTypes store values below
         → EffectIsGood store place (reference_type table.ty.element ∷ below) (push_read store frame (entry_or_trap o) values)

@@ -1,5 +1,6 @@
 -- Writes to a valid store: what stays valid, and what the write must show.
 use Rattle.std.proofs.Common.{◌≡◌, ℕ, zero, suc, ◌≤◌, ◌⊎◌, List, [], ◌∷◌, length, Some, refl, arith, slice_get, slice_set, inl, inr}
+use Rattle.std.proofs.lemmas.List.{length-set}
 use Rattle.std.specs.List.{All}
 use Rattle.core_types.specs.declared.outcome.Val.{Val}
 use Rattle.core_types.specs.declared.types.FuncType.{FuncType}
@@ -11,7 +12,7 @@ use Rattle.meaning.specs.execution.Store.{DataInstance, FunctionInstance, Global
 use Rattle.meaning.specs.execution.Tables.{ElementInstance, TableInstance}
 use Rattle.meaning.specs.soundness.Values.{ValueHasType, ValuesHaveTypes}
 use Rattle.meaning.specs.validation.Types.{reference_type}
-use Rattle.soundness.specs.Stores.{AreThere, DataIsValid, DataStays, ElementIsValid, ElementStays, Extends, FunctionIsValid, GlobalIsValid, GlobalStays, ImplementationIsValid, InstanceIsValid, Keeps, MemoryIsValid, MemoryStays, StoreIsValid, TableIsValid, TableStays, body_place}
+use Rattle.soundness.specs.Stores.{AreThere, DataIsValid, DataStays, ElementIsValid, ElementStays, Extends, FunctionIsValid, GlobalIsValid, GlobalStays, HasFewObjects, ImplementationIsValid, InstanceIsValid, Keeps, MemoryIsValid, MemoryStays, StoreIsValid, TableIsValid, TableStays, body_place}
 use Rattle.soundness.proofs.Extension.{Keeps-length, RunsOn-extended, functions-more}
 use Rattle.soundness.specs.Configurations.{FrameHasPlace}
 use Rattle.soundness.specs.Places.{Place}
@@ -67,11 +68,12 @@ module _ (old new : Store) (valid : StoreIsValid old) (more : Extends old new) w
     globals = there-still _ _ (Keeps-length GlobalStays old.globals new.globals more.globals) _ valid_there.globals;
     elements = there-still _ _ (Keeps-length ElementStays old.elements new.elements more.elements) _ valid_there.elements;
     datas = there-still _ _ (Keeps-length DataStays old.datas new.datas more.datas) _ valid_there.datas;
+    exports = valid_there.exports;
   }
 
   pub table-still : (t : TableInstance) → TableIsValid old t → TableIsValid new t
   table-still t is = record {
-    size = is.size;
+    size = record { bounded = rw more.entries is.size.bounded; few = is.size.few; ordered = is.size.ordered };
     entries_are = is.entries_are;
     entries = λ k d inside. value-still _ (reference_type t.ty.element) (is.entries k d inside);
   }
@@ -84,6 +86,19 @@ module _ (old new : Store) (valid : StoreIsValid old) (more : Extends old new) w
 
   pub elements-still : (es : List ElementInstance) → All (ElementIsValid old) es → All (ElementIsValid new) es
   elements-still es all = λ k e inside. λ j d there. value-still _ _ (all k e inside j d there)
+
+-- A store whose lists are as long has as few objects.
+few-still : (old new : Store) → HasFewObjects old → length new.functions ≡ length old.functions → length new.instances ≡ length old.instances → length new.tables ≡ length old.tables → length new.memories ≡ length old.memories
+    → length new.globals ≡ length old.globals → length new.elements ≡ length old.elements → length new.datas ≡ length old.datas → HasFewObjects new
+few-still old new few functions instances tables memories globals elements datas = record {
+  functions = omega (arith, few.functions, functions);
+  instances = omega (arith, few.instances, instances);
+  tables = omega (arith, few.tables, tables);
+  memories = omega (arith, few.memories, memories);
+  globals = omega (arith, few.globals, globals);
+  elements = omega (arith, few.elements, elements);
+  datas = omega (arith, few.datas, datas);
+}
 
 -- ---- writes
 
@@ -102,6 +117,8 @@ module _ (store : Store) (valid : StoreIsValid store) (address : ℕ) where
       globals = Keeps-set GlobalStays (λ h. (refl, λ constant. refl)) store.globals address g _ at stays;
       elements = (Extends-same store).elements;
       datas = (Extends-same store).datas;
+      pages = refl;
+      entries = refl;
     }
 
     pub global-valid : StoreIsValid with_value
@@ -113,6 +130,7 @@ module _ (store : Store) (valid : StoreIsValid store) (address : ℕ) where
       globals = All-set (GlobalIsValid with_value) store.globals address _ (globals-still store with_value valid global-extends store.globals valid.globals) typed;
       elements = elements-still store with_value valid global-extends store.elements valid.elements;
       datas = valid.datas;
+      few = few-still store with_value valid.few refl refl refl refl (length-set store.globals address _) refl refl;
     }
 
   -- A table has other entries, or more.
@@ -126,6 +144,8 @@ module _ (store : Store) (valid : StoreIsValid store) (address : ℕ) where
       globals = (Extends-same store).globals;
       elements = (Extends-same store).elements;
       datas = (Extends-same store).datas;
+      pages = refl;
+      entries = refl;
     }
 
     pub table-valid : StoreIsValid (with_table store address new)
@@ -138,10 +158,11 @@ module _ (store : Store) (valid : StoreIsValid store) (address : ℕ) where
       globals = globals-still store (with_table store address new) valid table-extends store.globals valid.globals;
       elements = elements-still store (with_table store address new) valid table-extends store.elements valid.elements;
       datas = valid.datas;
+      few = few-still store (with_table store address new) valid.few refl refl (length-set store.tables address new) refl refl refl refl;
     }
 
   -- A memory has other bytes, or more.
-  module _ (memory new : MemoryInstance) (at : slice_get store.memories address ≡ Some memory) (stays : MemoryStays memory new) (new_valid : MemoryIsValid new) where
+  module _ (memory new : MemoryInstance) (at : slice_get store.memories address ≡ Some memory) (stays : MemoryStays memory new) (new_valid : MemoryIsValid store.pages new) where
     pub memory-extends : Extends store (with_memory store address new)
     memory-extends = record {
       functions = (Extends-same store).functions;
@@ -151,6 +172,8 @@ module _ (store : Store) (valid : StoreIsValid store) (address : ℕ) where
       globals = (Extends-same store).globals;
       elements = (Extends-same store).elements;
       datas = (Extends-same store).datas;
+      pages = refl;
+      entries = refl;
     }
 
     pub memory-valid : StoreIsValid (with_memory store address new)
@@ -158,10 +181,11 @@ module _ (store : Store) (valid : StoreIsValid store) (address : ℕ) where
       functions = functions-still store (with_memory store address new) valid memory-extends store.functions valid.functions;
       instances = instances-still store (with_memory store address new) valid memory-extends store.instances valid.instances;
       tables = tables-still store (with_memory store address new) valid memory-extends store.tables valid.tables;
-      memories = All-set MemoryIsValid store.memories address new valid.memories new_valid;
+      memories = All-set (MemoryIsValid store.pages) store.memories address new valid.memories new_valid;
       globals = globals-still store (with_memory store address new) valid memory-extends store.globals valid.globals;
       elements = elements-still store (with_memory store address new) valid memory-extends store.elements valid.elements;
       datas = valid.datas;
+      few = few-still store (with_memory store address new) valid.few refl refl refl (length-set store.memories address new) refl refl refl;
     }
 
   -- An element segment was dropped.
@@ -178,6 +202,8 @@ module _ (store : Store) (valid : StoreIsValid store) (address : ℕ) where
       globals = (Extends-same store).globals;
       elements = Keeps-set ElementStays (λ e. (refl, inl refl)) store.elements address segment _ at (refl, inr refl);
       datas = (Extends-same store).datas;
+      pages = refl;
+      entries = refl;
     }
 
     pub elements-dropped-valid : StoreIsValid without_references
@@ -190,6 +216,7 @@ module _ (store : Store) (valid : StoreIsValid store) (address : ℕ) where
       elements = All-set (ElementIsValid without_references) store.elements address _ (elements-still store without_references valid elements-dropped-extends store.elements valid.elements)
           (λ k d inside. let wrong : ⊥ = omega (arith, inside) in absurd wrong);
       datas = valid.datas;
+      few = few-still store without_references valid.few refl refl refl refl refl (length-set store.elements address _) refl;
     }
 
   -- A data segment was dropped.
@@ -206,6 +233,8 @@ module _ (store : Store) (valid : StoreIsValid store) (address : ℕ) where
       globals = (Extends-same store).globals;
       elements = (Extends-same store).elements;
       datas = Keeps-set DataStays (λ d. inl refl) store.datas address segment _ at (inr refl);
+      pages = refl;
+      entries = refl;
     }
 
     pub data-dropped-valid : StoreIsValid without_bytes
@@ -217,6 +246,7 @@ module _ (store : Store) (valid : StoreIsValid store) (address : ℕ) where
       globals = globals-still store without_bytes valid data-dropped-extends store.globals valid.globals;
       elements = elements-still store without_bytes valid data-dropped-extends store.elements valid.elements;
       datas = All-set DataIsValid store.datas address _ valid.datas (λ k d inside. let wrong : ⊥ = omega (arith, inside) in absurd wrong);
+      few = few-still store without_bytes valid.few refl refl refl refl refl refl (length-set store.datas address _);
     }
 
 -- ---- effects

@@ -1,5 +1,5 @@
 -- Commands to an embedding never go wrong (Appendix, Soundness, Theorems).
-use Rattle.std.specs.Prelude.{ℕ, List, [], ◌∷◌, Option, Some, None, Result, Ok, Err, slice_get}
+use Rattle.std.specs.Prelude.{◌≡◌, ℕ, ◌<◌, ◌≤◌, ◌^◌, List, [], ◌∷◌, Option, Some, None, Result, Ok, Err, length, slice_get}
 use Rattle.std.specs.List.{All}
 use Rattle.core_types.specs.declared.module.Module.{Module}
 use Rattle.core_types.specs.declared.outcome.Val.{Val}
@@ -7,7 +7,8 @@ use Rattle.core_types.specs.declared.types.FuncType.{FuncType}
 use Rattle.core_types.specs.declared.types.ValType.{ValType}
 use Rattle.meaning.specs.embedding.Commands.{Command, Load, Link, Register, Call, GetGlobal, SetFuel}
 use Rattle.meaning.specs.embedding.Commands.{Refusal, Reply, Loaded, Linked, Done, Ended, Refused}
-use Rattle.meaning.specs.embedding.Machine.{AppliesAll, Embedding, as_function, as_global, export_at, none, then_on}
+use Rattle.meaning.specs.embedding.Creation.{Creates, HostDefinition}
+use Rattle.meaning.specs.embedding.Machine.{Applies, AppliesAll, Embedding, Setup, as_function, as_global, export_at, none, then_on}
 use Rattle.meaning.specs.execution.Hosts.{IsHostStep}
 use Rattle.meaning.specs.execution.Runs.{Answer}
 use Rattle.meaning.specs.execution.Store.{FunctionInstance, GlobalInstance, Store}
@@ -41,6 +42,15 @@ RepliesWell store types Done = Unit {0}
 RepliesWell store types (Ended ending) = EndsWell store types ending
 RepliesWell store types (Refused refusal) = Unit {0}
 
+-- The fuel then is what it is set to, and else no more than there was.
+abbrev pub Spends : Command → (old new : ℕ) → Type 0
+Spends (Load bytes) old new = new ≤ old
+Spends (Link number) old new = new ≤ old
+Spends (Register number name) old new = new ≤ old
+Spends (Call number name arguments) old new = new ≤ old
+Spends (GetGlobal number name) old new = new ≤ old
+Spends (SetFuel fuel) old new = new ≡ fuel
+
 module _ {H : Type 0} where
   -- The types of the values that a command asks for.
   abbrev pub asked_types : Embedding H → Command → List ValType
@@ -53,14 +63,32 @@ module _ {H : Type 0} where
       global_value at.state.store (as_global (export_at at number name))
   asked_types at (SetFuel fuel) = []
 
-  -- A command goes well: the store is extended, and values in the reply have the types that were asked for.
+  -- The module that a command links may be linked.
+  abbrev pub LinksSoundModule : Embedding H → Command → Type 0
+  LinksSoundModule at (Load bytes) = Unit {0}
+  LinksSoundModule at (Link number) =
+      (m : Module) → slice_get at.modules number ≡ Some m → IsSoundModule m
+  LinksSoundModule at (Register number name) = Unit {0}
+  LinksSoundModule at (Call number name arguments) = Unit {0}
+  LinksSoundModule at (GetGlobal number name) = Unit {0}
+  LinksSoundModule at (SetFuel fuel) = Unit {0}
+
+  -- A command goes well: it leaves a valid store that extends the one before, values in the reply have the types that were asked for,
+  -- and no more fuel is left than there was, or was set.
   pub record GoesWell (old : Embedding H) (command : Command) (reply : Reply) (new : Embedding H)
       : Type 0 where
+    pub valid : StoreIsValid new.state.store
     pub extends : Extends old.state.store new.state.store
     pub replies : RepliesWell new.state.store (asked_types old command) reply
+    pub spends : Spends command old.state.fuel new.state.fuel
 
 module _ {H : Type 0} (HostStep : List H → ℕ → Option ℕ → List Val → Store → Answer → Store
     → List H → Type 0) where
+  -- A command is applied, and goes well.
+  abbrev pub AppliesWell : Embedding H → Command → Reply → Embedding H → Type 0
+  AppliesWell old command reply new =
+      Applies HostStep old command reply new × GoesWell old command reply new
+
   -- Each command of a run goes well.
   abbrev pub AllGoWell : {old last : Embedding H} {commands : List Command} {replies : List Reply}
       → AppliesAll HostStep old commands replies last → Type 0
@@ -71,25 +99,27 @@ module _ {H : Type 0} (HostStep : List H → ℕ → Option ℕ → List Val →
   -- A run of commands, each of which goes well.
   abbrev pub RunsWell : Embedding H → List Command → List Reply → Embedding H → Type 0
   RunsWell old commands replies last =
-      (run : AppliesAll HostStep old commands replies last) × ∥ AllGoWell run ∥₁
+      (run : AppliesAll HostStep old commands replies last) × AllGoWell run
 
 module _ {H : Type 0} (host_type : H → FuncType) where
-  -- The store of an embedding is valid, its host functions are ready, and its modules may be linked.
-  pub record IsSound (store : Store) (hosts : List H) (modules : List Module) : Type 0 where
-    pub valid : StoreIsValid store
-    pub ready : AreReady host_type store hosts
-    pub linkable : All IsSoundModule modules
+  -- An embedding is sound: its store is valid, and its host functions are ready.
+  pub record IsSound (at : Embedding H) : Type 0 where
+    pub valid : StoreIsValid at.state.store
+    pub ready : AreReady host_type at.state.store at.state.hosts
+
+  -- Each embedding that is created is sound, with fewer host functions than there are addresses.
+  abbrev pub FreshOnesAreSound : Type 0
+  FreshOnesAreSound = (setup : Setup) (definitions : List (HostDefinition H)) (at : Embedding H)
+      → length definitions < 2 ^ 32 → Creates host_type setup definitions (Ok at) → IsSound at
 
 module _ {H : Type 0} (host_type : H → FuncType)
     (Answers : H → List Val → List ℕ → Answer → List ℕ → H → Type 0) where
-  -- Each command of a run from a sound embedding goes well, and the embedding at the end is sound, if its modules are.
+  -- Each command of a run from a sound embedding goes well, and the embedding at the end is sound, if its modules may be linked.
   abbrev pub CommandsGoWell : Type 0
   CommandsGoWell = (old last : Embedding H) (commands : List Command) (replies : List Reply)
       (run : AppliesAll (IsHostStep host_type Answers) old commands replies last)
-      → IsSound host_type old.state.store old.state.hosts old.modules
-      → All IsSoundModule last.modules
-      → AllGoWell (IsHostStep host_type Answers) run
-      × IsSound host_type last.state.store last.state.hosts last.modules
+      → IsSound host_type old → All IsSoundModule last.modules
+      → AllGoWell (IsHostStep host_type Answers) run × IsSound host_type last
 
 -- Host functions that are nothing but their types, and never answer.
 abbrev pub own_type : FuncType → FuncType

@@ -7,3 +7,4 @@ pub mod Links
 pub mod Hosts
 pub mod Embedding
 pub mod Rows
+pub mod Costs

@@ -8,7 +8,7 @@ use Rattle.meaning.specs.execution.Runs.{Answer, Results, HostTrap, Ending, With
 use Rattle.meaning.specs.execution.Store.{InHost, Store}
 use Rattle.meaning.specs.soundness.Values.{ValuesHaveTypes}
 use Rattle.soundness.specs.Configurations.{ConfigurationHasType}
-use Rattle.soundness.specs.Places.{Place}
+use Rattle.soundness.specs.Places.{Place, outermost}
 use Rattle.soundness.specs.Stores.{Extends, StoreIsValid}
 
 -- Results are of these types. A trap has none.
@@ -24,6 +24,12 @@ EndsWell store results OutOfFuel = Unit {0}
 EndsWell store results OutOfDepth = Unit {0}
 EndsWell store results OutOfMemory = Unit {0}
 EndsWell store results GotStuck = ⊥
+
+-- A configuration leads to some results outside of all frames, in a valid store.
+pub record IsTyped (store : Store) (configuration : Configuration) : Type 0 where
+  pub valid : StoreIsValid store
+  pub results : List ValType
+  pub typed : ConfigurationHasType store outermost configuration results
 
 -- A frame without locals, which is that of the place.
 pub record IsOutside (frame : Frame) (place : Place) : Type 0 where

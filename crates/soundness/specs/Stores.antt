@@ -1,6 +1,9 @@
 -- Valid stores, and what steps may do to a store (Appendix, Soundness, Store Validity and Store Extension).
 use Rattle.std.specs.Prelude.{◌≡◌, ℕ, ◌*◌, ◌^◌, ◌<◌, ◌≤◌, ◌⊎◌, List, [], ◌∷◌, ◌++◌, length, Some, slice_get}
 use Rattle.std.specs.List.{All}
+use Rattle.core_types.specs.declared.module.Export.{Export}
+use Rattle.core_types.specs.declared.module.ExportDesc.{ExportDesc}
+use Rattle.core_types.specs.declared.module.ExportDesc.TheVariants as export
 use Rattle.core_types.specs.declared.outcome.Val.{Val}
 use Rattle.core_types.specs.declared.types.FuncType.{FuncType}
 use Rattle.core_types.specs.declared.types.Limits.{Limits}
@@ -35,12 +38,14 @@ FunctionIsValid store f = ImplementationIsValid store f.ty f.implementation
 
 -- ---- objects
 
--- The present size is within the maximum, and within what any may have.
-abbrev pub SizeIsValid : Limits → (most : ℕ) → Type 0
-SizeIsValid limits most = (limits.min ≤ most) × AreOrdered limits
+-- The present size is within the bound of the embedding, within what any may have, and within the maximum.
+pub record SizeIsValid (limits : Limits) (bound most : ℕ) : Type 0 where
+  pub bounded : limits.min ≤ bound
+  pub few : limits.min ≤ most
+  pub ordered : AreOrdered limits
 
 pub record TableIsValid (store : Store) (table : TableInstance) : Type 0 where
-  pub size : SizeIsValid table.ty.limits most_entries
+  pub size : SizeIsValid table.ty.limits store.entries most_entries
   pub entries_are : length table.entries ≡ table.ty.limits.min
   pub entries : All (λ (v : Val). ValueHasType store v (reference_type table.ty.element))
       table.entries
@@ -48,8 +53,8 @@ pub record TableIsValid (store : Store) (table : TableInstance) : Type 0 where
 abbrev pub AreBytes : List ℕ → Type 0
 AreBytes bytes = All (λ (byte : ℕ). byte < 2 ^ 8) bytes
 
-pub record MemoryIsValid (memory : MemoryInstance) : Type 0 where
-  pub size : SizeIsValid memory.limits most_pages
+pub record MemoryIsValid (pages : ℕ) (memory : MemoryInstance) : Type 0 where
+  pub size : SizeIsValid memory.limits pages most_pages
   pub bytes_are : length memory.bytes ≡ page_size * memory.limits.min
   pub bytes : AreBytes memory.bytes
 
@@ -68,6 +73,13 @@ DataIsValid d = AreBytes d.bytes
 abbrev pub AreThere : {X : Type 0} → List X → List ℕ → Type 0
 AreThere items addresses = All (λ (address : ℕ). address < length items) addresses
 
+-- An export names something that the instance has.
+abbrev pub ExportIsThere : ModuleInstance → ExportDesc → Type 0
+ExportIsThere i (export.Func x) = x < length i.functions
+ExportIsThere i (export.Table x) = x < length i.tables
+ExportIsThere i (export.Memory x) = x < length i.memories
+ExportIsThere i (export.Global x) = x < length i.globals
+
 pub record InstanceIsValid (store : Store) (i : ModuleInstance) : Type 0 where
   pub functions : AreThere store.functions i.functions
   pub tables : AreThere store.tables i.tables
@@ -75,15 +87,27 @@ pub record InstanceIsValid (store : Store) (i : ModuleInstance) : Type 0 where
   pub globals : AreThere store.globals i.globals
   pub elements : AreThere store.elements i.elements
   pub datas : AreThere store.datas i.datas
+  pub exports : All (λ (e : Export). ExportIsThere i e.desc) i.exports
+
+-- Each list has so few items that their addresses have 32 bits.
+pub record HasFewObjects (store : Store) : Type 0 where
+  pub functions : length store.functions < 2 ^ 32
+  pub instances : length store.instances < 2 ^ 32
+  pub tables : length store.tables < 2 ^ 32
+  pub memories : length store.memories < 2 ^ 32
+  pub globals : length store.globals < 2 ^ 32
+  pub elements : length store.elements < 2 ^ 32
+  pub datas : length store.datas < 2 ^ 32
 
 pub record StoreIsValid (store : Store) : Type 0 where
   pub functions : All (FunctionIsValid store) store.functions
   pub instances : All (InstanceIsValid store) store.instances
   pub tables : All (TableIsValid store) store.tables
-  pub memories : All MemoryIsValid store.memories
+  pub memories : All (MemoryIsValid store.pages) store.memories
   pub globals : All (GlobalIsValid store) store.globals
   pub elements : All (ElementIsValid store) store.elements
   pub datas : All DataIsValid store.datas
+  pub few : HasFewObjects store
 
 -- ---- extension
 
@@ -115,7 +139,7 @@ ElementStays old new =
 abbrev pub DataStays : DataInstance → DataInstance → Type 0
 DataStays old new = (old.bytes ≡ new.bytes) ⊎ (new.bytes ≡ [])
 
--- Addresses stay, and so do functions, instances and types; tables and memories may grow.
+-- Addresses stay, and so do functions, instances, types and the bounds of the embedding; tables and memories may grow.
 pub record Extends (old new : Store) : Type 0 where
   pub functions : Keeps (λ (f g : FunctionInstance). f ≡ g) old.functions new.functions
   pub instances : Keeps (λ (i j : ModuleInstance). i ≡ j) old.instances new.instances
@@ -124,6 +148,8 @@ pub record Extends (old new : Store) : Type 0 where
   pub globals : Keeps GlobalStays old.globals new.globals
   pub elements : Keeps ElementStays old.elements new.elements
   pub datas : Keeps DataStays old.datas new.datas
+  pub pages : new.pages ≡ old.pages
+  pub entries : new.entries ≡ old.entries
 
 -- What a step of code does to a store: it extends it, and adds no function.
 pub record Follows (old new : Store) : Type 0 where

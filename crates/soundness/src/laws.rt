@@ -1,22 +1,19 @@
 //! The laws.
 
-ghost use Rattle.std.specs.Prelude.{◌≡◌, ◌∷◌, [], List, None, map};
+ghost use Rattle.std.specs.Prelude.{◌∷◌, [], List};
 ghost use Rattle.core_types.specs.declared.outcome.Val.TheVariants.{I32, I64};
 ghost use Rattle.core_types.specs.declared.outcome.Extern.{Extern};
-ghost use Rattle.core_types.specs.declared.types.FuncType.{FuncType};
 ghost use Rattle.core_types.specs.declared.types.ValType.{ValType};
-ghost use Rattle.meaning.specs.embedding.Creation.{HostDefinition, first_fault, store_of_hosts};
-ghost use Rattle.meaning.specs.embedding.Machine.{Setup};
-ghost use Rattle.meaning.specs.embedding.Names.{no_names};
 ghost use Rattle.meaning.specs.execution.Configurations.{Configuration};
 ghost use Rattle.meaning.specs.execution.Runs.{NoHosts};
 ghost use Rattle.meaning.specs.execution.Store.{Store};
 ghost use Rattle.soundness.specs.Configurations.{ConfigurationHasType, StaysGood};
-ghost use Rattle.soundness.specs.Embedding.{CommandsGoWell, IsSound, NeverAnswers, own_type};
+ghost use Rattle.soundness.specs.Costs.{CostsAreSpent};
+ghost use Rattle.soundness.specs.Embedding.{CommandsGoWell, FreshOnesAreSound, NeverAnswers, own_type};
 ghost use Rattle.soundness.specs.Insides.{InsideIsTyped};
 ghost use Rattle.soundness.specs.Links.{AllocationKeepsValid, IsLinkable, LinksNeverGoWrong};
 ghost use Rattle.soundness.specs.Places.{Place};
-ghost use Rattle.soundness.specs.Rows.{AddsTyped, adding, storing};
+ghost use Rattle.soundness.specs.Rows.{AddsTyped, adding, adding_with_a_page, storing};
 ghost use Rattle.soundness.specs.Runs.{NeverGoesWrong, NoConditions};
 ghost use Rattle.soundness.specs.Stores.{Extends, StoreIsValid};
 
@@ -44,6 +41,11 @@ pub fn typed_runs_never_go_wrong()
     ensures { NeverGoesWrong NoHosts NoConditions }
 {}
 
+/// Law: the costs of the steps of a run, and of the instruction by which it traps, sum to the fuel that it spends.
+pub fn costs_are_spent()
+    ensures { CostsAreSpent NoHosts }
+{}
+
 /// Law: a module whose imports fit, linked into a valid store, leaves it valid with the module's objects appended.
 pub fn allocation_keeps_stores_valid()
     ensures { AllocationKeepsValid }
@@ -59,14 +61,12 @@ pub fn links_never_go_wrong()
     writing_is_read();
 }
 
-/// Law: a new embedding is sound, whatever host functions it has, and so is one that commands were given to, if the numbers of
-/// its modules fit. Each command goes well: no reply is an ending that is stuck, values have the types that were asked for, and
-/// the store is extended. Host functions are any types here, and never answer.
+/// Law: a fresh embedding is sound, whatever host functions it has, and so is one that commands were given to, if its modules may
+/// be linked. Each command goes well: no reply is an ending that is stuck, values have the types that were asked for, the store is
+/// valid and extends the one before, and no command but the one that sets the fuel leaves more than there was. Host functions are
+/// any types here, and never answer.
 pub fn commands_go_well()
-    ensures fresh { (setup : Setup) (ds : List (HostDefinition FuncType))
-        → first_fault own_type no_names 0 ds ≡ None
-        → IsSound own_type (store_of_hosts own_type setup.pages setup.entries ds)
-        (map (λ (d : HostDefinition FuncType). d.host) ds) [] }
+    ensures fresh { FreshOnesAreSound own_type }
     ensures run { CommandsGoWell own_type NeverAnswers }
 {
     writing_is_read();
@@ -87,9 +87,11 @@ pub fn a_call_of_a_function_that_adds_is_typed()
 {}
 
 /// Worked row of the definitions: a module with a memory and a data segment can be linked, but not with a number that is no
-/// byte, nor where more is given than it imports.
+/// byte, nor where more is given than it imports, nor where a memory may have no page.
 pub fn a_module_of_bytes_can_be_linked()
-    ensures linkable { IsLinkable adding (storing (255 ∷ [])) [] }
-    ensures no_byte { IsLinkable adding (storing (256 ∷ [])) [] → ⊥ }
-    ensures too_many { (given : Extern) → IsLinkable adding (storing []) (given ∷ []) → ⊥ }
+    ensures linkable { IsLinkable adding_with_a_page (storing (255 ∷ [])) [] }
+    ensures no_byte { IsLinkable adding_with_a_page (storing (256 ∷ [])) [] → ⊥ }
+    ensures too_many { (given : Extern) → IsLinkable adding_with_a_page (storing []) (given ∷ [])
+        → ⊥ }
+    ensures too_large { IsLinkable adding (storing []) [] → ⊥ }
 {}

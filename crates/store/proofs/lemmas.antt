@@ -6,3 +6,4 @@ pub mod Instantiation
 pub mod LoadedModules
 pub mod Lookups
 pub mod Positions
+pub mod Validity

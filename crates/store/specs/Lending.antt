@@ -6,15 +6,9 @@ use Rattle.store.specs.Memories.{with_bytes}
 use Rattle.store.specs.State.{StateContents, with_lent}
 use Rattle.store.specs.contracts.memories.Memory.{the_row as memory_row}
 use Rattle.store.specs.contracts.state.State.{the_row as state_row}
-use Rattle.store.specs.contracts.store.Store.{the_row as store_row}
-use Rattle.store.specs.Contents.{BothParts}
 
 abbrev pub LendsBytes : MutBor MemoryInstance → MutBor (List ℕ) → Fml
 LendsBytes m r = Lends memory_row (Array u8 0) m r (with_bytes m.now)
 
 abbrev pub LendsMemory : MutBor StateContents → ℕ → MutBor (List ℕ) → Fml
 LendsMemory s address r = Lends state_row (Array u8 0) s r (with_lent s.now address)
-
-abbrev pub LendsState : MutBor BothParts → MutBor StateContents → Fml
-LendsState s r = Lends store_row state_row s r
-    (λ (state : StateContents). record { code = s.now.code; state = state })

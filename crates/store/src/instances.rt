@@ -259,7 +259,7 @@ impl Code {
         Ok(number)
     }
 
-    /// Adds the functions of a module without imports and an instance of it with these addresses. Where memory runs out, nothing
+    /// Adds the functions of a module, and an instance of it with these addresses. Where memory runs out, nothing
     /// has changed.
     pub(crate) fn append_instance(&mut self, instance: Instance) -> Result<(), AllocError>
         requires functions { length self.old.functions + length instance.loaded.value.funcs < 2 ^

@@ -1,12 +1,18 @@
-ghost use Rattle.std.specs.Prelude.{◌≡◌, [], slice_get, IfOk, IfSome, MatchOption, Some, None};
+ghost use Rattle.std.specs.Prelude.{◌≤◌, ◌≡◌, [], slice_get, IfOk, IfSome, MatchOption, Some, None};
 ghost use Rattle.meaning.specs.structure.Bodies.{rests};
 ghost use Rattle.meaning.specs.validation.Modules.{IsValid};
+ghost use Rattle.std.specs.List.{All};
+ghost use Rattle.core_types.specs.declared.module.DataSegment.{DataSegment as AnySegment};
+ghost use Rattle.core_types.specs.declared.types.TableType.{TableType as AnyTable};
+ghost use Rattle.meaning.specs.execution.Tables.{most_entries};
+ghost use Rattle.soundness.specs.Links.{IsSoundModule};
+ghost use Rattle.soundness.specs.Stores.{AreBytes};
 ghost use Rattle.store.specs.Ends.{HasEnds};
 ghost use Rattle.store.specs.LoadedModules.{HaveEnds};
 
 use crate::ends::ends_of;
 use crate::lookups::item;
-use core_types::{Func, FuncType, Module};
+use core_types::{DataSegment, Func, FuncType, Limits, Module, TableType};
 use std::alloc::{AllocError, Global};
 use std::marker::Model;
 use validator::ValidModule;
@@ -34,13 +40,14 @@ pub struct LoadedFunction<'a> {
 
 impl Model for LoadedModule {
     ghost use Rattle.core_types.specs.declared.module.Module.{Module};
+    ghost use Rattle.soundness.specs.Links.{IsSoundModule};
     ghost use Rattle.store.specs.LoadedModules.{HaveEnds};
 
     ghost Value = { Module };
 
     ghost view = { λ m. m.validated };
 
-    ghost invariant = { λ m. HaveEnds m.validated.funcs m.ends.items };
+    ghost invariant = { λ m. HaveEnds m.validated.funcs m.ends.items × IsSoundModule m.validated };
 }
 
 // Where the bodies of each function's code end.
@@ -55,12 +62,45 @@ fn ends_of_functions(alloc: Global, funcs: &[Func]) -> Result<Vec<BodyEnds>, All
     Ok(ends)
 }
 
+// The calls that show something do nothing: they say what is known by the types of numbers.
+
+// Bytes are bytes.
+fn show_bytes(bytes: &[u8])
+    ensures { AreBytes bytes.now }
+{}
+
+// So are those of data segments.
+fn show_datas(datas: &[DataSegment])
+    ensures { All (λ (d : AnySegment). AreBytes d.bytes) datas.now }
+{
+    for k in 0..datas.len() {
+        show_bytes(datas[k].bytes.as_slice());
+    }
+}
+
+// A minimum has 32 bits.
+fn show_minimum(limits: Limits)
+    ensures { limits.min ≤ most_entries }
+{}
+
+// So have those of tables.
+fn show_tables(tables: &[TableType])
+    ensures { All (λ (t : AnyTable). t.limits.min ≤ most_entries) tables.now }
+{
+    for k in 0..tables.len() {
+        show_minimum(tables[k].limits);
+    }
+}
+
 impl LoadedModule {
     /// Loads a module, which takes two numbers for each position of its code. Fails where there is no memory for them.
     pub fn new(alloc: Global, validated: ValidModule) -> Result<LoadedModule, AllocError>
         ensures { IfOk result (λ loaded. loaded ≡ validated) }
     {
-        let ends = ends_of_functions(alloc, validated.module().funcs.as_slice())?;
+        let wanted = validated.module();
+        show_tables(wanted.tables.as_slice());
+        show_datas(wanted.datas.as_slice());
+        let ends = ends_of_functions(alloc, wanted.funcs.as_slice())?;
         Ok(LoadedModule { validated, ends })
     }
 
@@ -68,6 +108,7 @@ impl LoadedModule {
     pub fn module(&self) -> &Module
         ensures same { result.now ≡ self.now }
         ensures valid { IsValid self.now }
+        ensures sound { IsSoundModule self.now }
     {
         self.validated.module()
     }

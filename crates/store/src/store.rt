@@ -1,14 +1,15 @@
 ghost use Rattle.std.specs.Prelude.{◌≡◌, ◌↔◌, [], ◌+◌, ◌<◌, ◌^◌, length, IsTrue, IfOk, OnOk, OnErr};
-ghost use Rattle.std.specs.Borrow.{sem};
 ghost use Rattle.meaning.specs.execution.Modules.{HasRoom, with_module};
+ghost use Rattle.soundness.specs.Links.{IsAllocation};
+ghost use Rattle.soundness.specs.Stores.{Extends, StoreIsValid};
 ghost use Rattle.store.specs.Contents.{contents_of, host_function, lists_of, module_instance, store_of, with_function};
-ghost use Rattle.store.specs.Lending.{LendsState};
 ghost use Rattle.store.specs.State.{AreWithin, no_objects};
 
 use crate::instances::{Addresses, Code, Instance};
 use crate::loaded_modules::LoadedModule;
 use crate::state::{Objects, State};
 use core_types::{FuncType, Module};
+use meaning::writing_is_read;
 use std::alloc::{AllocError, Global};
 use std::marker::Model;
 use std::rc::Rc;
@@ -16,16 +17,19 @@ use std::rc::Rc;
 /// The store, in two parts: what a run does not change, and what it may change (Execution, Runtime Structure, Store).
 #[derive(Drop)]
 pub struct Store {
-    code: Code,
-    state: State,
+    pub code: Code,
+    pub state: State,
 }
 
 impl Model for Store {
-    ghost use Rattle.store.specs.Contents.{BothParts};
+    ghost use Rattle.soundness.specs.Stores.{StoreIsValid};
+    ghost use Rattle.store.specs.Contents.{BothParts, store_with};
 
     ghost Value = { BothParts };
 
     ghost view = { λ s. record { code = s.code; state = s.state } };
+
+    ghost invariant = { λ s. StoreIsValid (store_with s.code s.state) };
 }
 
 // Whether that many more objects of a kind still get addresses of 32 bits.
@@ -56,20 +60,12 @@ impl Store {
         &self.code
     }
 
-    /// What a run may change.
+    /// What a run may change. The store is valid.
     pub fn state(&self) -> &State
-        ensures { result.now ≡ self.now.state }
+        ensures same { result.now ≡ self.now.state }
+        ensures valid { StoreIsValid (store_of self.now) }
     {
         &self.state
-    }
-
-    /// Both parts at once: the code for reading, and the state for writing.
-    pub fn parts_mut(&mut self) -> (&Code, &mut State)
-        ensures* lent { sem 𝓛 (LendsState self.entry result.1) }
-        ensures code { result.0.now ≡ self.old.code }
-        ensures state { result.1.now ≡ self.old.state }
-    {
-        (&self.code, &mut self.state)
     }
 
     /// Whether the functions of a module, its objects and an instance of it still get addresses of 32 bits.
@@ -96,12 +92,16 @@ impl Store {
     ) -> Result<u32, AllocError>
         requires room { HasRoom (store_of self.old) loaded.value }
         requires within { AreWithin self.old.state.bounds objects.tables objects.memories }
+        requires linkable { IsAllocation (store_of self.old) loaded.value
+            (module_instance (lists_of addresses) loaded.value) objects }
         ensures number { IfOk result
             (λ number. number ≡ length (store_of self.old).instances) }
+        ensures extends { Extends (store_of self.old) (store_of self.new) }
         ensures appended { OnOk result (store_of self.new ≡ with_module (store_of self.old)
             (module_instance (lists_of addresses) loaded.value) loaded.value objects) }
         ensures unchanged { OnErr result (store_of self.new ≡ store_of self.old) }
     {
+        writing_is_read();
         let number = self.code.instance_count() as u32;
         self.state.reserve_all(&objects)?;
         self.code.append_instance(Instance { loaded, addresses })?;
@@ -117,6 +117,7 @@ impl Store {
         ensures number { IfOk result (λ number. number ≡ length (self.old.code.hosts)) }
         ensures appended { OnOk result (store_of self.new ≡ with_function (store_of self.old)
             (host_function (length (self.old.code.hosts)) ty)) }
+        ensures extends { Extends (store_of self.old) (store_of self.new) }
         ensures counted { OnOk result
             (length (self.new.code.hosts) ≡ length (self.old.code.hosts) + 1) }
         ensures unchanged { OnErr result (self.new ≡ self.old) }

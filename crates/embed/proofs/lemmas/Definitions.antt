@@ -1,13 +1,12 @@
 -- Definitions of host functions, one more at the end.
-use Rattle.std.proofs.Common.{◌≡◌, ℕ, zero, suc, ◌+◌, List, [], ◌∷◌, ◌++◌, length, map, refl, ap, ap₂, sym, subst, ◌∙◌, arith}
-use Rattle.std.specs.Prelude.{Option, Some, None, option_map, slice_get}
+use Rattle.std.proofs.Common.{◌≡◌, ℕ, suc, ◌+◌, List, [], ◌∷◌, ◌++◌, length, map, refl, ap, ap₂, sym, subst, ◌∙◌, arith}
+use Rattle.std.specs.Prelude.{Option, Some, None}
 use Rattle.std.specs.Option.{option_or}
 use Rattle.std.proofs.lemmas.List.{map-append}
 use Rattle.core_types.specs.declared.types.FuncType.{FuncType}
 use Rattle.meaning.specs.embedding.Creation.{Fault, HostDefinition, fault_of, first_fault, host_functions, store_of_hosts, with_definitions}
 use Rattle.meaning.specs.embedding.Creation as machine
 use Rattle.meaning.specs.embedding.Names.{NamesContents, no_names, with_host}
-use Rattle.meaning.specs.execution.Hosts.{HostsHaveTypes}
 use Rattle.meaning.specs.execution.Store.{FunctionInstance, InHost, Store}
 use Rattle.hostfunc.specs.Boxes.{type_of_host}
 use Rattle.hostfunc.specs.declared.host_function.HostFn.{Ghosts}
@@ -53,26 +52,6 @@ module _ {H : Type 0} (host_type : H → FuncType) where
       go None is none' later =
           let same : suc k + length ds ≡ k + suc (length ds) = omega arith in
           ap (λ (f : Option Fault). option_or f (first_fault host_type names' (suc k) (ds ++ d ∷ rest))) is ∙ subst (λ (n : ℕ). (first_fault host_type names' (suc k) (ds ++ d ∷ rest) ≡ option_or (fault_of host_type (with_definitions host_type names' (suc k) ds) d) (first_fault host_type (with_host (with_definitions host_type names' (suc k) ds) d.module_name d.name n) (suc n) rest))) same (later none')
-
-  -- ---- each has its type
-
-  numbered : (k : ℕ) (ds : List (HostDefinition H)) (a n : ℕ) (f : FunctionInstance) → slice_get (host_functions host_type k ds) a ≡ Some f → f.implementation ≡ InHost n
-      → (n ≡ k + a) × (option_map host_type (slice_get (map (λ (d : HostDefinition H). d.host) ds) a) ≡ Some f.ty)
-  numbered k [] a n f there in_host = absurd (cc)
-  numbered k (d ∷ ds) zero n f there in_host =
-      let same : record { ty = host_type d.host; implementation = InHost k } ≡ f = cc in
-      let host : InHost k ≡ InHost n = ap (λ (g : FunctionInstance). g.implementation) same ∙ in_host in
-      let number : k ≡ n = cc in
-      (omega arith, ap Some (ap (λ (g : FunctionInstance). g.ty) same))
-  numbered k (d ∷ ds) (suc a) n f there in_host =
-      let (number, typed) = numbered (suc k) ds a n f there in_host in
-      (omega arith, typed)
-
-  pub hosts-typed : (pages entries : ℕ) (ds : List (HostDefinition H)) → HostsHaveTypes host_type (store_of_hosts host_type pages entries ds) (map (λ (d : HostDefinition H). d.host) ds)
-  hosts-typed pages entries ds address n f there in_host =
-      let (number, typed) = numbered 0 ds address n f there in_host in
-      let same : n ≡ address = omega arith in
-      ap (λ (m : ℕ). option_map host_type (slice_get (map (λ (d : HostDefinition H). d.host) ds) m)) same ∙ typed
 
 -- ---- one more definition is taken in
 

@@ -5,7 +5,7 @@ use Rattle.core_types.specs.declared.outcome.Exhaustion.{Exhaustion}
 use Rattle.core_types.specs.declared.outcome.Trap.{Trap}
 use Rattle.core_types.specs.declared.outcome.Val.{Val}
 use Rattle.meaning.specs.execution.Configurations.{Configuration, no_frame}
-use Rattle.meaning.specs.execution.Runs.{Answer, Ending, GotStuck, IsEnd, IsStep, Run, State, Steps, WithTrap, WithValues, end, step, values_left}
+use Rattle.meaning.specs.execution.Runs.{Answer, Ending, IsEnd, IsStep, Run, State, Steps, WithTrap, WithValues, end, step, values_left}
 use Rattle.meaning.specs.execution.Store.{Store}
 use Rattle.meaning.proofs.lemmas.Hosts.{end-over, step-over, steps-over}
 use Rattle.meaning.proofs.lemmas.Runs.{Steps-fuel, Steps-run}
@@ -38,9 +38,6 @@ module _ {H : Type 0} (HostStep : List H → ℕ → Option ℕ → List Val →
 
   pub lacks_run : (what : Exhaustion) → StopsAt bound first fuel whole (stop.Lacks what) w' m meter' → RunsFrom (exhausted_ending what)
   lacks_run what stops = ends_after (stop.Lacks what) stops (exhausted_ending what) stops.last
-
-  pub stuck_run : StopsAt bound first fuel whole stop.Stuck w' m meter' → RunsFrom GotStuck
-  stuck_run stops = ends_after stop.Stuck stops GotStuck stops.last
 
   pub over_run : StopsAt bound first fuel whole stop.Over w' m meter' → RunsFrom (WithValues (reverse m.operands.own))
   over_run stops =

@@ -1,5 +1,5 @@
 -- What a link has allocated and run.
-use Rattle.std.proofs.Common.{◌≡◌, ℕ, ◌≤◌, List, [], ◌∷◌, ◌++◌, length, map, ap, subst, ◌∙◌, arith}
+use Rattle.std.proofs.Common.{sym, ◌≡◌, ℕ, ◌≤◌, List, [], ◌∷◌, ◌++◌, length, map, ap, subst, ◌∙◌, arith}
 use Rattle.std.specs.Prelude.{Option, Some, None, slice_get, unwrap_or}
 use Rattle.std.specs.List.{All}
 use Rattle.std.proofs.lemmas.List.{append-nil}
@@ -15,13 +15,20 @@ use Rattle.meaning.specs.execution.Modules.{AreGiven, Instantiation, RunTasks, T
 use Rattle.meaning.specs.execution.Runs.{Answer, Ending, State, WithValues}
 use Rattle.meaning.specs.execution.Store.{GlobalInstance, ModuleInstance, ObjectLists, Store, instance_of, no_instance}
 use Rattle.meaning.specs.execution.Tables.{ElementInstance, new_table}
-use Rattle.exec.specs.declared.machine.Outcome.{Outcome}
-use Rattle.exec.specs.Simulation.{ending_of, run_state}
+use Rattle.instantiate.specs.declared.link_end.TaskEnd.{TaskEnd}
+use Rattle.exec.specs.Simulation.{run_state}
 use Rattle.store.proofs.lemmas.Positions.{slice_get-seam}
 use Rattle.store.specs.Contents.{Contents, code_store, store_with}
 use Rattle.store.specs.State.{AreWithin, Bounds, IsMemoryWithin, IsTableWithin, StateContents}
+use Rattle.core_types.specs.declared.types.FuncType.{FuncType}
+use Rattle.meaning.specs.structure.Bodies.{Body, body_of, writing}
+use Rattle.soundness.specs.Hosts.{AreReady}
+use Rattle.soundness.specs.Links.{IsLinkable, TasksAreGood}
+use Rattle.soundness.specs.Stores.{StoreIsValid}
+use Rattle.soundness.proofs.Hosts.{ready-linked}
+use Rattle.soundness.proofs.Links.{tasks-good}
 use Rattle.instantiate.specs.Links.{IsAllocated}
-use Rattle.instantiate.specs.Tasks.{DoneTasks, EndedTasks, HasInstance}
+use Rattle.instantiate.specs.Tasks.{DoneTasks, EndedTasks, HasInstance, ending_in}
 use Rattle.instantiate.proofs.lemmas.Instances.{addresses_in}
 
 -- Each import is given something.
@@ -56,6 +63,19 @@ module _ (number : ℕ) (m : Module) (given : List Extern) (old : Store) (code :
   pub allocated-instance : HasInstance code number m
   allocated-instance = (addresses_in (new_instance old m given), numbered)
 
+  -- What it runs goes well.
+  pub allocated-good : ((b : Body) → body_of (writing b) ≡ b) → StoreIsValid old → IsLinkable old m given → TasksAreGood (store_with code s) number (instance_of (code_store code) (Some number)) (tasks_of m)
+  allocated-good read valid linkable =
+      let instance_is : instance_of (code_store code) (Some number) ≡ new_instance old m given = ap (λ (o : Option ModuleInstance). unwrap_or o no_instance) numbered in
+      subst (λ (store : Store). TasksAreGood store number (instance_of (code_store code) (Some number)) (tasks_of m)) (sym a.store_is)
+      (subst (λ (i : ModuleInstance). TasksAreGood (with_module old (new_instance old m given) m a.objects) number i (tasks_of m)) (sym instance_is)
+      (subst (λ (k : ℕ). TasksAreGood (with_module old (new_instance old m given) m a.objects) k (new_instance old m given) (tasks_of m)) (sym a.number_is)
+      (tasks-good read old m given a.objects valid linkable a.objects_are)))
+
+  pub allocated-ready : {H : Type 0} (host_type : H → FuncType) (hosts : List H) → AreReady host_type old hosts → AreReady host_type (store_with code s) hosts
+  allocated-ready host_type hosts ready =
+      subst (λ (store : Store). AreReady host_type store hosts) (sym a.store_is) (ready-linked host_type old m (new_instance old m given) a.objects hosts ready)
+
   -- What runs in it is the instantiation.
   module _ {H : Type 0} (HostStep : List H → ℕ → Option ℕ → List Val → Store → Answer → Store → List H → Type 0) (hosts : List H) (bound fuel : ℕ) where
     ran-links : (ending : Ending) (last : State H) → RunTasks HostStep bound number (instance_of (code_store code) (Some number)) (run_state (store_with code s) hosts fuel) (tasks_of m) ending last → Instantiation HostStep bound m given (run_state old hosts fuel) ending last
@@ -69,6 +89,6 @@ module _ (number : ℕ) (m : Module) (given : List Extern) (old : Store) (code :
         before-all : RunTasks HostStep bound number (instance_of (code_store code) (Some number)) (run_state (store_with code s) hosts fuel) (tasks_of m ++ []) (WithValues []) last → RunTasks HostStep bound number (instance_of (code_store code) (Some number)) (run_state (store_with code s) hosts fuel) (tasks_of m) (WithValues []) last
         before-all = subst (λ (ts : List Task). RunTasks HostStep bound number (instance_of (code_store code) (Some number)) (run_state (store_with code s) hosts fuel) ts (WithValues []) last) (append-nil (tasks_of m))
 
-    pub ended-links : (o : Outcome) (last : State H) → EndedTasks HostStep bound number (instance_of (code_store code) (Some number)) (run_state (store_with code s) hosts fuel) (tasks_of m) o last → Instantiation HostStep bound m given (run_state old hosts fuel) (ending_of o) last
+    pub ended-links : (o : TaskEnd) (last : State H) → EndedTasks HostStep bound number (instance_of (code_store code) (Some number)) (run_state (store_with code s) hosts fuel) (tasks_of m) o last → Instantiation HostStep bound m given (run_state old hosts fuel) (ending_in o) last
     ended-links o last before =
-        ran-links (ending_of o) last (subst (λ (ts : List Task). RunTasks HostStep bound number (instance_of (code_store code) (Some number)) (run_state (store_with code s) hosts fuel) ts (ending_of o) last) (append-nil (tasks_of m)) (before.ended []))
+        ran-links (ending_in o) last (subst (λ (ts : List Task). RunTasks HostStep bound number (instance_of (code_store code) (Some number)) (run_state (store_with code s) hosts fuel) ts (ending_in o) last) (append-nil (tasks_of m)) (before.ended []))

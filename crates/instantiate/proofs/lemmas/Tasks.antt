@@ -17,18 +17,19 @@ use Rattle.meaning.specs.execution.Configurations.{Configuration, Frame, Invokin
 use Rattle.meaning.specs.execution.Effects.{Effect, Done, Fails, Grown, Lacks, data_at, drop_data, drop_elements, effect, elements_at, in_memory, init_memory, init_table, table_at}
 use Rattle.meaning.specs.execution.Instructions.{Goes, Grows, NotReady, continue_after, next, with_locals}
 use Rattle.meaning.specs.execution.Memories.{MemoryInstance}
-use Rattle.meaning.specs.execution.Modules.{Activity, Copies, Drops, RunTasks, Starts, Task, activity, constant_value, done, ended, in_instance, lost, tasks_by}
+use Rattle.meaning.specs.execution.Modules.{Activity, Copies, Drops, HasNoValues, RunTasks, Starts, Task, activity, constant_value, done, ended, in_instance, lost, tasks_by}
 use Rattle.meaning.specs.execution.Runs.{Answer, Ending, GotStuck, IsEnd, IsStep, IsStuck, NoHosts, OutOfFuel, OutOfMemory, Run, State, WithTrap, WithValues, end, goes, grows, no_fuel, no_memory, step, stuck, trapped, values_left}
 use Rattle.meaning.specs.execution.Store.{DataInstance, ModuleInstance, Store, instance_of, locate}
 use Rattle.meaning.specs.execution.Tables.{ElementInstance, TableInstance}
+use Rattle.instantiate.specs.declared.link_end.TaskEnd.{TaskEnd}
 use Rattle.exec.specs.declared.machine.Outcome.{Outcome}
-use Rattle.exec.specs.declared.machine.Outcome.TheVariants.{Exhausted, Stuck, Trap, Values}
 use Rattle.exec.specs.Simulation.{ending_of}
+use Rattle.instantiate.specs.declared.link_end.TaskEnd.TheVariants.{Exhausted, Stuck, Trap}
 use Rattle.plain.specs.declared.progress.Progress.{Progress}
 use Rattle.plain.specs.declared.progress.Progress.TheVariants as progress
 use Rattle.plain.specs.Effects.{HasEffect, IsAffordable, LeadsTo, TrapsWith, price_of}
 use Rattle.stacks.specs.Stacked.{OperandStack}
-use Rattle.instantiate.specs.Tasks.{DoneTasks, EndedTasks, Ends, HasNoI32, IsDrop, IsEndOf, IsPassed, drops_data, drops_elements, RanTasks, RunsTo, StepsOrEnds}
+use Rattle.instantiate.specs.Tasks.{DoneTasks, EndedTasks, Ends, EndsAs, HasNoI32, IsDrop, IsEndOf, IsPassed, drops_data, drops_elements, RanTasks, RunsTo, StepsOrEnds, ending_in}
 
 -- The frame of an instance, without locals.
 abbrev pub frame_of : (instance : ℕ) → Frame
@@ -86,8 +87,7 @@ module _ (bound instance : ℕ) (old : Store) (fuel : ℕ) (configuration : Conf
       Had p = HasEffect p e old fuel new locals operands left below
 
       -- What did not let it go on ends the run.
-      passed-ends : (o : Outcome) (p : Progress) → IsEndOf o p → Had p → Ends NoHosts bound (frame_of instance) (at old fuel) configuration o (at new left)
-      passed-ends (Values values) p passed had = absurd passed
+      passed-ends : (o : TaskEnd) (p : Progress) → IsEndOf o p → Had p → Ends NoHosts bound (frame_of instance) (at old fuel) configuration o (at new left)
       passed-ends (Trap trap) p passed had =
           let h = rw passed at had in record { ends = end (effect-traps e is trap h.0 h.1); no_values = tt }
       passed-ends (Exhausted exhausted.Fuel) p passed had =
@@ -105,20 +105,34 @@ module _ (bound instance : ℕ) (old : Store) (fuel : ℕ) (configuration : Conf
           effect-steps e is operands.own (subst (λ (ls : List Val). LeadsTo e new ls operands.own fuel left) (none h.0) h.0)
 
       -- What came of it is a step, or an end of the run.
-      pub passed : {U : Type 0} (r : Result U Outcome) (p : Progress) → IsPassed r p → Had p → (LeadsTo e new locals operands.own fuel left → locals ≡ []) → StepsOrEnds NoHosts r bound (frame_of instance) (at old fuel) configuration (at new left) (Running operands.own rest)
+      pub passed : {U : Type 0} (r : Result U TaskEnd) (p : Progress) → IsPassed r p → Had p → (LeadsTo e new locals operands.own fuel left → locals ≡ []) → StepsOrEnds NoHosts r bound (frame_of instance) (at old fuel) configuration (at new left) (Running operands.own rest)
       passed (Ok u) p is_passed had none = passed-steps p is_passed had none
       passed (Err o) p is_passed had none = passed-ends o p is_passed had
 
 -- ---- runs
 
 -- A step before a run.
-pub step-runs : {U : Type 0} (r : Result U Outcome) (bound : ℕ) (frame : Frame) (old mid new : State ⊥) (first second : Configuration) → IsStep NoHosts bound frame old first mid second → RunsTo NoHosts r bound frame mid second new → RunsTo NoHosts r bound frame old first new
+pub step-runs : {U : Type 0} (r : Result U TaskEnd) (bound : ℕ) (frame : Frame) (old mid new : State ⊥) (first second : Configuration) → IsStep NoHosts bound frame old first mid second → RunsTo NoHosts r bound frame mid second new → RunsTo NoHosts r bound frame old first new
 step-runs (Ok u) bound frame old mid new first second s run = (run.0, step s run.1)
 step-runs (Err o) bound frame old mid new first second s run = record { ends = step s run.ends; no_values = run.no_values }
 
 -- A step to values alone.
 step-over : (bound : ℕ) (frame : Frame) (old new : State ⊥) (first : Configuration) (values : List Val) → IsStep NoHosts bound frame old first new (Running values Empty) → Run NoHosts bound frame old first (WithValues (reverse values)) new
 step-over bound frame old new first values s = step s (end (values_left refl refl refl))
+
+-- No task ends with values.
+no-values : (o : TaskEnd) → HasNoValues (ending_in o)
+no-values (Trap trap) = tt
+no-values (Exhausted exhausted.Fuel) = tt
+no-values (Exhausted exhausted.Depth) = tt
+no-values (Exhausted exhausted.Memory) = tt
+no-values Stuck = tt
+
+-- A call from outside that ended so.
+pub called : {H : Type 0} (HostStep : List H → ℕ → Option ℕ → List Val → Store → Answer → Store → List H → Type 0) {U : Type 0} (r : Result U TaskEnd) (outcome : Outcome) (bound : ℕ) (frame : Frame) (old new : State H) (configuration : Configuration)
+    → EndsAs r outcome → Run HostStep bound frame old configuration (ending_of outcome) new → RunsTo HostStep r bound frame old configuration new
+called HostStep (Ok u) outcome bound frame old new configuration (values, is) run = (values, subst (λ (o : Outcome). Run HostStep bound frame old configuration (ending_of o) new) is run)
+called HostStep (Err o) outcome bound frame old new configuration is run = record { ends = subst (λ (e : Ending). Run HostStep bound frame old configuration e new) is run; no_values = no-values o }
 
 -- ---- an instruction that drops a segment
 
@@ -144,20 +158,20 @@ module _ (bound instance : ℕ) (old new : Store) (fuel left : ℕ) (op : PlainO
   abbrev Dropped : Effect
   Dropped = effect old (frame_of instance) op []
 
-  pub drops : {U : Type 0} (r : Result U Outcome) (p : Progress) (locals below : List Val) (operands : OperandStack) → IsPassed r p → HasEffect p Dropped old fuel new locals operands left below → RunsTo NoHosts r bound (frame_of instance) (at old fuel) (Running [] (Then op Empty)) (at new left)
+  pub drops : {U : Type 0} (r : Result U TaskEnd) (p : Progress) (locals below : List Val) (operands : OperandStack) → IsPassed r p → HasEffect p Dropped old fuel new locals operands left below → RunsTo NoHosts r bound (frame_of instance) (at old fuel) (Running [] (Then op Empty)) (at new left)
   drops r p locals below operands is_passed had = go r stepped
     where
       stepped : StepsOrEnds NoHosts r bound (frame_of instance) (at old fuel) (Running [] (Then op Empty)) (at new left) (Running operands.own Empty)
       stepped = passed bound instance old fuel (Running [] (Then op Empty)) Empty new left Dropped (drop-next op is_drop old (frame_of instance) [] Empty) locals operands below r p is_passed had (drop-keeps op is_drop old new (frame_of instance) [] locals operands.own fuel left)
 
-      go : {U : Type 0} (r : Result U Outcome) → StepsOrEnds NoHosts r bound (frame_of instance) (at old fuel) (Running [] (Then op Empty)) (at new left) (Running operands.own Empty) → RunsTo NoHosts r bound (frame_of instance) (at old fuel) (Running [] (Then op Empty)) (at new left)
+      go : {U : Type 0} (r : Result U TaskEnd) → StepsOrEnds NoHosts r bound (frame_of instance) (at old fuel) (Running [] (Then op Empty)) (at new left) (Running operands.own Empty) → RunsTo NoHosts r bound (frame_of instance) (at old fuel) (Running [] (Then op Empty)) (at new left)
       go (Ok u) s = (reverse operands.own, step-over bound (frame_of instance) (at old fuel) (at new left) (Running [] (Then op Empty)) operands.own s)
       go (Err o) ends = ends
 
 -- ---- tasks
 
 module _ {H : Type 0} (HostStep : List H → ℕ → Option ℕ → List Val → Store → Answer → Store → List H → Type 0) (bound instance : ℕ) (i : ModuleInstance) where
-  ran-one : {U : Type 0} (r : Result U Outcome) (old new : State H) (task : Task) (a : Activity) → activity old.store instance i task ≡ Some a → RunsTo HostStep r bound a.frame old a.configuration new → RanTasks HostStep r bound instance i old (task ∷ []) new
+  ran-one : {U : Type 0} (r : Result U TaskEnd) (old new : State H) (task : Task) (a : Activity) → activity old.store instance i task ≡ Some a → RunsTo HostStep r bound a.frame old a.configuration new → RanTasks HostStep r bound instance i old (task ∷ []) new
   ran-one (Ok u) old new task a is run = λ further ending last more. done is run.1 more
   ran-one (Err o) old new task a is run = record { ended = λ further. ended is run.ends run.no_values; no_values = run.no_values }
 
@@ -165,16 +179,16 @@ module _ {H : Type 0} (HostStep : List H → ℕ → Option ℕ → List Val →
   lost-one old task none = record { ended = λ further. lost none; no_values = tt }
 
   -- All of a segment is copied.
-  pub copied : {U : Type 0} (r : Result U Outcome) (old new : State H) (offset : List Op) (count target : ℕ) (init drop : PlainOp) → constant_value old.store i offset ≡ Some (I32 target) → RunsTo HostStep r bound (frame_of instance) old (Running (I32 (count % 2 ^ 32) ∷ (I32 0 ∷ (I32 target ∷ []))) (Then init (Then drop Empty))) new → RanTasks HostStep r bound instance i old (Copies offset count init drop ∷ []) new
+  pub copied : {U : Type 0} (r : Result U TaskEnd) (old new : State H) (offset : List Op) (count target : ℕ) (init drop : PlainOp) → constant_value old.store i offset ≡ Some (I32 target) → RunsTo HostStep r bound (frame_of instance) old (Running (I32 (count % 2 ^ 32) ∷ (I32 0 ∷ (I32 target ∷ []))) (Then init (Then drop Empty))) new → RanTasks HostStep r bound instance i old (Copies offset count init drop ∷ []) new
   copied r old new offset count target init drop has run =
       ran-one r old new (Copies offset count init drop) (in_instance instance (Running (I32 (count % 2 ^ 32) ∷ (I32 0 ∷ (I32 target ∷ []))) (Then init (Then drop Empty)))) (rw has refl) run
 
   -- A segment is dropped.
-  pub dropped : {U : Type 0} (r : Result U Outcome) (old new : State H) (drop : PlainOp) → RunsTo HostStep r bound (frame_of instance) old (Running [] (Then drop Empty)) new → RanTasks HostStep r bound instance i old (Drops drop ∷ []) new
+  pub dropped : {U : Type 0} (r : Result U TaskEnd) (old new : State H) (drop : PlainOp) → RunsTo HostStep r bound (frame_of instance) old (Running [] (Then drop Empty)) new → RanTasks HostStep r bound instance i old (Drops drop ∷ []) new
   dropped r old new drop run = ran-one r old new (Drops drop) (in_instance instance (Running [] (Then drop Empty))) refl run
 
   -- The start function is called.
-  pub started : {U : Type 0} (r : Result U Outcome) (old new : State H) (x address : ℕ) → slice_get i.functions x ≡ Some address → RunsTo HostStep r bound no_frame old (Invoking [] address) new → RanTasks HostStep r bound instance i old (Starts x ∷ []) new
+  pub started : {U : Type 0} (r : Result U TaskEnd) (old new : State H) (x address : ℕ) → slice_get i.functions x ≡ Some address → RunsTo HostStep r bound no_frame old (Invoking [] address) new → RanTasks HostStep r bound instance i old (Starts x ∷ []) new
   started r old new x address has run =
       ran-one r old new (Starts x) (record { frame = no_frame; configuration = Invoking [] address }) (rw has refl) run
 
@@ -182,17 +196,17 @@ module _ {H : Type 0} (HostStep : List H → ℕ → Option ℕ → List Val →
   pub not-started : (old : State H) (x : ℕ) → slice_get i.functions x ≡ None → EndedTasks HostStep bound instance i old (Starts x ∷ []) Stuck old
   not-started old x none = lost-one old (Starts x) (rw none refl)
 
-  pub ran-then : {U : Type 0} (r : Result U Outcome) (old mid new : State H) (first second : List Task) → DoneTasks HostStep bound instance i old first mid → RanTasks HostStep r bound instance i mid second new → RanTasks HostStep r bound instance i old (first ++ second) new
+  pub ran-then : {U : Type 0} (r : Result U TaskEnd) (old mid new : State H) (first second : List Task) → DoneTasks HostStep bound instance i old first mid → RanTasks HostStep r bound instance i mid second new → RanTasks HostStep r bound instance i old (first ++ second) new
   ran-then (Ok u) old mid new first second before after =
       λ further ending last more. subst (λ (ts : List Task). RunTasks HostStep bound instance i old ts ending last) (sym (append_assoc first second further)) (before (second ++ further) ending last (after further ending last more))
   ran-then (Err o) old mid new first second before after = record {
-    ended = λ further. subst (λ (ts : List Task). RunTasks HostStep bound instance i old ts (ending_of o) new) (sym (append_assoc first second further)) (before (second ++ further) (ending_of o) new (after.ended further));
+    ended = λ further. subst (λ (ts : List Task). RunTasks HostStep bound instance i old ts (ending_in o) new) (sym (append_assoc first second further)) (before (second ++ further) (ending_in o) new (after.ended further));
     no_values = after.no_values;
   }
 
-  pub ended-then : (old new : State H) (first second : List Task) (o : Outcome) → EndedTasks HostStep bound instance i old first o new → EndedTasks HostStep bound instance i old (first ++ second) o new
+  pub ended-then : (old new : State H) (first second : List Task) (o : TaskEnd) → EndedTasks HostStep bound instance i old first o new → EndedTasks HostStep bound instance i old (first ++ second) o new
   ended-then old new first second o before = record {
-    ended = λ further. subst (λ (ts : List Task). RunTasks HostStep bound instance i old ts (ending_of o) new) (sym (append_assoc first second further)) (before.ended (second ++ further));
+    ended = λ further. subst (λ (ts : List Task). RunTasks HostStep bound instance i old ts (ending_in o) new) (sym (append_assoc first second further)) (before.ended (second ++ further));
     no_values = before.no_values;
   }
 
@@ -215,9 +229,9 @@ module _ {H : Type 0} (HostStep : List H → ℕ → Option ℕ → List Val →
     tasks-next now new k d inside so_far before =
         λ further ending last more. so_far further ending last (subst (λ (ts : List Task). RunTasks HostStep bound instance i now ts ending last) (sym (rest-is k d inside further)) (before (tasks_by task (k + 1) (drop (k + 1) items) ++ further) ending last more))
 
-    pub tasks-ended : (now new : State H) (k : ℕ) (d : A) → k < length items → SoFar now k → (o : Outcome) → EndedTasks HostStep bound instance i now (task k (get_or items k d)) o new → EndedTasks HostStep bound instance i start (tasks_by task 0 items) o new
+    pub tasks-ended : (now new : State H) (k : ℕ) (d : A) → k < length items → SoFar now k → (o : TaskEnd) → EndedTasks HostStep bound instance i now (task k (get_or items k d)) o new → EndedTasks HostStep bound instance i start (tasks_by task 0 items) o new
     tasks-ended now new k d inside so_far o before = record {
-      ended = λ further. so_far further (ending_of o) new (subst (λ (ts : List Task). RunTasks HostStep bound instance i now ts (ending_of o) new) (sym (rest-is k d inside further)) (before.ended (tasks_by task (k + 1) (drop (k + 1) items) ++ further)));
+      ended = λ further. so_far further (ending_in o) new (subst (λ (ts : List Task). RunTasks HostStep bound instance i now ts (ending_in o) new) (sym (rest-is k d inside further)) (before.ended (tasks_by task (k + 1) (drop (k + 1) items) ++ further)));
       no_values = before.no_values;
     }
 

@@ -4,13 +4,14 @@ use Rattle.std.specs.Prelude.{Option, Result, Ok, Err}
 use Rattle.std.specs.Result.{IsErrAnd}
 use Rattle.core_types.specs.declared.outcome.Val.{Val}
 use Rattle.meaning.specs.embedding.Commands.{Reply, SetFuel}
-use Rattle.meaning.specs.embedding.Machine.{Embedding, none, then_on}
+use Rattle.meaning.specs.embedding.Machine.{Embedding}
 use Rattle.meaning.specs.execution.Runs.{Answer}
 use Rattle.meaning.specs.execution.Store.{Store}
 use Rattle.meaning.specs.scripts.Commands.{Files, Skipped, Task, Tried}
 use Rattle.meaning.specs.scripts.Dialogues.{Dialogue, Asks, Over, Report}
 use Rattle.meaning.specs.scripts.Dialogues as dialogue
 use Rattle.meaning.specs.scripts.Runner.{Place, after_skipped, after_tried, ask, linking, turn}
+use Rattle.soundness.proofs.Embedding.{none-well, one-before-well}
 use Rattle.embed.specs.Replies.{reply_of}
 use Rattle.embed.specs.declared.commands.Reply.{Reply as GivenReply}
 use Rattle.embed.specs.declared.commands.Reply.TheVariants as answer
@@ -75,17 +76,17 @@ module _ {H : Type 0} (HostStep : List H → ℕ → Option ℕ → List Val →
   -- ---- to the end
 
   pub held-to-end : {at left : Dialogue} {old new : Embedding H} → Converses HostStep at old left new → (report : Report) → left ≡ Over report → IsHeld HostStep at old report new
-  held-to-end nothing report is = rw is (record { commands = []; replies = []; applied = none; held = dialogue.over })
+  held-to-end nothing report is = rw is (record { commands = []; replies = []; applied = none-well HostStep _; held = dialogue.over })
   held-to-end (asked {command = c} r applied has rest) report is =
       let later = held-to-end rest report is in
-      record { commands = c ∷ later.commands; replies = r ∷ later.replies; applied = then_on applied later.applied; held = dialogue.Holds.asks has later.held }
+      record { commands = c ∷ later.commands; replies = r ∷ later.replies; applied = one-before-well HostStep applied later.applied; held = dialogue.Holds.asks has later.held }
 
   pub broken-off : {at : Dialogue} {old new : Embedding H} → BreaksOff HostStep at old new → IsBegun HostStep at old new
-  broken-off here = record { commands = []; replies = []; applied = none; begun = dialogue.nothing }
-  broken-off (lacked {command = c} r applied lacks) = record { commands = c ∷ []; replies = r ∷ []; applied = then_on applied none; begun = dialogue.lacks lacks }
+  broken-off here = record { commands = []; replies = []; applied = none-well HostStep _; begun = dialogue.nothing }
+  broken-off (lacked {command = c} r applied lacks) = record { commands = c ∷ []; replies = r ∷ []; applied = one-before-well HostStep applied (none-well HostStep _); begun = dialogue.lacks lacks }
   broken-off (went_on {command = c} r applied has rest) =
       let later = broken-off rest in
-      record { commands = c ∷ later.commands; replies = r ∷ later.replies; applied = then_on applied later.applied; begun = dialogue.Begins.asks has later.begun }
+      record { commands = c ∷ later.commands; replies = r ∷ later.replies; applied = one-before-well HostStep applied later.applied; begun = dialogue.Begins.asks has later.begun }
 
 -- ---- replies to a load
 
@@ -96,5 +97,4 @@ linking-other answer.Done other next = refl
 linking-other (answer.Values values) other next = refl
 linking-other (answer.Trap trap) other next = refl
 linking-other (answer.Exhausted what) other next = refl
-linking-other answer.Stuck other next = refl
 linking-other (answer.Refused refusal) other next = refl

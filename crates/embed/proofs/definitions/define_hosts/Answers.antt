@@ -1,14 +1,14 @@
 use Rattle.std.proofs.Common.{◌≡◌, ℕ, ◌+◌, ◌<◌, List, ◌∷◌, [], ◌++◌, get_or, take, drop, length, map, ap, sym, ◌∙◌, arith, take-append-drop, rules}
-use Rattle.std.specs.Prelude.{option_map, slice_get}
 use Rattle.std.proofs.lemmas.Iterator.Adapters.{YieldsList-from_vec}
 use Rattle.std.proofs.lemmas.Iterator.Consumers.{YieldsList-end, YieldsList-so_far, YieldsList-turn}
 use Rattle.std.proofs.lemmas.List.{drop_more, length-append, length-map, map-id}
 use Rattle.std.proofs.lemmas.Result.{err_from_is_err_and}
 use Rattle.meaning.specs.execution.Store.{Store}
+use Rattle.soundness.proofs.Creation.{fresh-ready}
 use Rattle.hostfunc.specs.Boxes.{type_of_host}
 use Rattle.store.specs.Contents.{store_of}
 use Rattle.embed.specs.Definitions.{definition_of}
-use Rattle.embed.proofs.lemmas.Definitions.{fault-first, faultless-taken, hosts-typed, length-functions, names-taken, objects-taken, store-taken}
+use Rattle.embed.proofs.lemmas.Definitions.{fault-first, faultless-taken, length-functions, names-taken, objects-taken, store-taken}
 use Rattle.embed.proofs.definitions.define_hosts.Goals as goal
 
 -- A list in which this is the item behind those that were taken.
@@ -97,8 +97,7 @@ returns-clause-objects g c =
     rw (← same) c.loop-definition.invariant.objects
 
 pub returns-clause-typed : goal.returns-clause-typed
-returns-clause-typed g c address number f there in_host =
+returns-clause-typed g c =
     let inv = c.loop-definition.invariant in
-    let here = ap (λ (s : Store). slice_get s.functions address) (sym inv.store) ∙ there in
-    ap (λ os. option_map type_of_host (slice_get os number)) inv.objects
-    ∙ hosts-typed type_of_host c.args.config.now.pages c.args.config.now.entries (map (definition_of (λ vtable. (g.dyn-1.0.entry vtable).1)) c.loop-definition.yielded) address number f here in_host
+    let definitions = map (definition_of (λ vtable. (g.dyn-1.0.entry vtable).1)) c.loop-definition.yielded in
+    rw (inv.store, inv.objects) (fresh-ready type_of_host c.args.config.now.pages c.args.config.now.entries definitions inv.faultless)

@@ -1,4 +1,4 @@
-use Rattle.std.proofs.Common.{◌≡◌, ◌++◌, ◌+◌, ◌-◌, ℕ, List, drop, take, length, map, reverse, ap, ◌∙◌, arith, length-append}
+use Rattle.std.proofs.Common.{refl, ◌≡◌, ◌++◌, ◌+◌, ◌-◌, ℕ, List, drop, take, length, map, reverse, ap, ◌∙◌, arith, length-append}
 use Rattle.std.proofs.lemmas.Option.{slice_get_within}
 use Rattle.core_types.specs.declared.outcome.Val.{Val}
 use Rattle.core_types.specs.declared.types.FuncType.{FuncType}
@@ -6,7 +6,8 @@ use Rattle.meaning.specs.execution.Configurations.{Configuration, answered}
 use Rattle.meaning.specs.execution.Instructions.{topmost}
 use Rattle.meaning.specs.execution.Runs.{HostTrap, Results}
 use Rattle.meaning.specs.execution.Values.{type_of}
-use Rattle.meaning.proofs.lemmas.HostSteps.{host-there, hosts-kept}
+use Rattle.meaning.proofs.lemmas.HostSteps.{host-there}
+use Rattle.soundness.proofs.Hosts.{ready-kept, ready-still}
 use Rattle.hostfunc.specs.Boxes.{type_of_host}
 use Rattle.exec.specs.declared.machine.Machine.{Machine}
 use Rattle.exec.specs.HostCalls.{first_memory, go_on}
@@ -39,14 +40,14 @@ exchanged added old mid new n k count t values results size is params count_is v
 pub ty-ty-requires : goal.ty-ty-requires
 ty-ty-requires g c =
     let (whole, wait) = c.requires.waits in
-    let there = host_there type_of_host c.args.number (store_with c.args.code.now c.args.state.now) whole c.args.meter.now.left c.args.meter.now.frames c.args.machine.now c.args.hosts.now.objects.items c.requires.hosts wait in
+    let there = host_there type_of_host c.args.number (store_with c.args.code.now c.args.state.now) whole c.args.meter.now.left c.args.meter.now.frames c.args.machine.now c.args.hosts.now.objects.items c.requires.hosts.typed wait in
     let host = host-there type_of_host c.args.hosts.now.objects.items c.args.number wait.t there in
     record { there = slice_get_within c.args.hosts.now.objects.items c.args.number host.0 host.1 }
 
 pub overflow_sub-kept : goal.overflow_sub-kept
 overflow_sub-kept g c =
     let (whole, wait) = c.requires.waits in
-    let same = type_there type_of_host c.args.number (store_with c.args.code.now c.args.state.now) whole c.args.meter.now.left c.args.meter.now.frames c.args.machine.now c.args.hosts.now.objects.items c.requires.hosts wait c.ty-ty.result.now c.ty-ty.ensures in
+    let same = type_there type_of_host c.args.number (store_with c.args.code.now c.args.state.now) whole c.args.meter.now.left c.args.meter.now.frames c.args.machine.now c.args.hosts.now.objects.items c.requires.hosts.typed wait c.ty-ty.result.now c.ty-ty.ensures in
     let params = ap (λ (t : FuncType). length t.params) same in
     let enough = wait.enough in
     omega (arith, params, enough)
@@ -54,7 +55,7 @@ overflow_sub-kept g c =
 pub under_top-args-requires : goal.under_top-args-requires
 under_top-args-requires g c =
     let (whole, wait) = c.requires.waits in
-    let same = type_there type_of_host c.args.number (store_with c.args.code.now c.args.state.now) whole c.args.meter.now.left c.args.meter.now.frames c.args.machine.now c.args.hosts.now.objects.items c.requires.hosts wait c.ty-ty.result.now c.ty-ty.ensures in
+    let same = type_there type_of_host c.args.number (store_with c.args.code.now c.args.state.now) whole c.args.meter.now.left c.args.meter.now.frames c.args.machine.now c.args.hosts.now.objects.items c.requires.hosts.typed wait c.ty-ty.result.now c.ty-ty.ensures in
     let (added, count, is) = c.in-Ok.ensures.pushed in
     let params = ap (λ (t : FuncType). length t.params) same in
     let enough = wait.enough in
@@ -64,8 +65,8 @@ under_top-args-requires g c =
 pub call_lent-requires : goal.call_lent-requires
 call_lent-requires g c =
     let (whole, wait) = c.requires.waits in
-    let there = host_there type_of_host c.args.number (store_with c.args.code.now c.args.state.now) whole c.args.meter.now.left c.args.meter.now.frames c.args.machine.now c.args.hosts.now.objects.items c.requires.hosts wait in
-    let same = type_there type_of_host c.args.number (store_with c.args.code.now c.args.state.now) whole c.args.meter.now.left c.args.meter.now.frames c.args.machine.now c.args.hosts.now.objects.items c.requires.hosts wait c.ty-ty.result.now c.ty-ty.ensures in
+    let there = host_there type_of_host c.args.number (store_with c.args.code.now c.args.state.now) whole c.args.meter.now.left c.args.meter.now.frames c.args.machine.now c.args.hosts.now.objects.items c.requires.hosts.typed wait in
+    let same = type_there type_of_host c.args.number (store_with c.args.code.now c.args.state.now) whole c.args.meter.now.left c.args.meter.now.frames c.args.machine.now c.args.hosts.now.objects.items c.requires.hosts.typed wait c.ty-ty.result.now c.ty-ty.ensures in
     let (added, count, is) = c.in-Ok.ensures.pushed in
     let params = c.len-params.ensures ∙ ap (λ (t : FuncType). length t.params) same in
     let args = passed added c.args.machine.now.operands c.make_room.new.self c.len-results.result c.len-params.result wait.t c.under_top-args.result.now count is params c.under_top-args.ensures in
@@ -74,7 +75,7 @@ call_lent-requires g c =
 pub returns-in-Ok-call_lent-clause-answered : goal.returns-in-Ok-call_lent-clause-answered
 returns-in-Ok-call_lent-clause-answered g c = λ whole wait. (
     let old = c.args.machine.now.operands in
-    let same = type_there type_of_host c.args.number (store_with c.args.code.now c.args.state.now) whole c.args.meter.now.left c.args.meter.now.frames c.args.machine.now c.args.hosts.now.objects.items c.requires.hosts wait c.ty-ty.result.now c.ty-ty.ensures in
+    let same = type_there type_of_host c.args.number (store_with c.args.code.now c.args.state.now) whole c.args.meter.now.left c.args.meter.now.frames c.args.machine.now c.args.hosts.now.objects.items c.requires.hosts.typed wait c.ty-ty.result.now c.ty-ty.ensures in
     let (added, count, is) = c.in-Ok.ensures.pushed in
     let params = c.len-params.ensures ∙ ap (λ (t : FuncType). length t.params) same in
     let args = passed added old c.make_room.new.self c.len-results.result c.len-params.result wait.t c.under_top-args.result.now count is params c.under_top-args.ensures in
@@ -92,12 +93,12 @@ returns-in-Ok-call_lent-clause-answered g c = λ whole wait. (
 
 pub returns-in-Ok-call_lent-clause-hosts : goal.returns-in-Ok-call_lent-clause-hosts
 returns-in-Ok-call_lent-clause-hosts g c =
-    hosts-kept type_of_host _ c.args.hosts.now.objects.items c.call_lent.new.hosts.objects.items c.args.number (first_memory (code_store c.args.code.now) c.args.machine.now.code.instance) c.under_top-args.result.now (store_with c.args.code.now c.args.state.now) (store_with c.args.code.now c.call_lent.new.state) (Results c.in-Ok-call_lent.values.items) c.in-Ok-call_lent.ensures.answered c.requires.hosts
+    ready-kept type_of_host _ c.args.hosts.now.objects.items c.call_lent.new.hosts.objects.items c.args.number (first_memory (code_store c.args.code.now) c.args.machine.now.code.instance) c.under_top-args.result.now (store_with c.args.code.now c.args.state.now) (store_with c.args.code.now c.call_lent.new.state) (Results c.in-Ok-call_lent.values.items) c.in-Ok-call_lent.ensures.answered c.requires.hosts
 
 pub returns-in-Err-Trap-clause-ended : goal.returns-in-Err-Trap-clause-ended
 returns-in-Err-Trap-clause-ended g c = λ whole wait. (
     let old = c.args.machine.now.operands in
-    let same = type_there type_of_host c.args.number (store_with c.args.code.now c.args.state.now) whole c.args.meter.now.left c.args.meter.now.frames c.args.machine.now c.args.hosts.now.objects.items c.requires.hosts wait c.ty-ty.result.now c.ty-ty.ensures in
+    let same = type_there type_of_host c.args.number (store_with c.args.code.now c.args.state.now) whole c.args.meter.now.left c.args.meter.now.frames c.args.machine.now c.args.hosts.now.objects.items c.requires.hosts.typed wait c.ty-ty.result.now c.ty-ty.ensures in
     let (added, count, is) = c.in-Ok.ensures.pushed in
     let params = c.len-params.ensures ∙ ap (λ (t : FuncType). length t.params) same in
     let args = passed added old c.make_room.new.self c.len-results.result c.len-params.result wait.t c.under_top-args.result.now count is params c.under_top-args.ensures in
@@ -106,9 +107,9 @@ returns-in-Err-Trap-clause-ended g c = λ whole wait. (
 
 pub returns-in-Err-Trap-clause-hosts : goal.returns-in-Err-Trap-clause-hosts
 returns-in-Err-Trap-clause-hosts g c =
-    hosts-kept type_of_host _ c.args.hosts.now.objects.items c.call_lent.new.hosts.objects.items c.args.number (first_memory (code_store c.args.code.now) c.args.machine.now.code.instance) c.under_top-args.result.now (store_with c.args.code.now c.args.state.now) (store_with c.args.code.now c.call_lent.new.state) (HostTrap c.in-Err-Trap.why) (c.in-Err-Trap.ensures.trapped c.in-Err-Trap.why (cc)) c.requires.hosts
+    ready-kept type_of_host _ c.args.hosts.now.objects.items c.call_lent.new.hosts.objects.items c.args.number (first_memory (code_store c.args.code.now) c.args.machine.now.code.instance) c.under_top-args.result.now (store_with c.args.code.now c.args.state.now) (store_with c.args.code.now c.call_lent.new.state) (HostTrap c.in-Err-Trap.why) (c.in-Err-Trap.ensures.trapped c.in-Err-Trap.why (cc)) c.requires.hosts
 
 pub returns-in-Err-Memory-clause-hosts : goal.returns-in-Err-Memory-clause-hosts
 returns-in-Err-Memory-clause-hosts g c =
     let same = (c.in-Err-Memory.ensures.unchanged (cc)).0 in
-    rw same c.requires.hosts
+    ready-still type_of_host (store_with c.args.code.now c.args.state.now) (store_with c.args.code.now c.call_lent.new.state) _ refl (rw same c.requires.hosts)

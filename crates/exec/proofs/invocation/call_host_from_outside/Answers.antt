@@ -1,7 +1,7 @@
 use Rattle.std.proofs.Common.{[], refl}
 use Rattle.std.specs.Prelude.{None}
 use Rattle.meaning.specs.execution.Runs.{HostTrap, Results}
-use Rattle.meaning.proofs.lemmas.HostSteps.{hosts-kept}
+use Rattle.soundness.proofs.Hosts.{ready-kept}
 use Rattle.hostfunc.specs.Boxes.{type_of_host}
 use Rattle.exec.proofs.simulation.HostCalls.{outside_memory, outside_results, outside_trap}
 use Rattle.exec.proofs.invocation.call_host_from_outside.Goals as goal
@@ -12,7 +12,7 @@ returns-in-Ok-clause-run g c = λ store bound fuel address t is typed.
 
 pub returns-in-Ok-clause-hosts : goal.returns-in-Ok-clause-hosts
 returns-in-Ok-clause-hosts g c = λ store typed.
-    hosts-kept type_of_host _ c.args.hosts.now.objects.items c.call.new.self.objects.items c.args.number None c.args.args.now store store (Results c.in-Ok.values.items) (c.call.new.memory, c.in-Ok.ensures.answered, refl) typed
+    ready-kept type_of_host _ c.args.hosts.now.objects.items c.call.new.self.objects.items c.args.number None c.args.args.now store store (Results c.in-Ok.values.items) (c.call.new.memory, c.in-Ok.ensures.answered, refl) typed
 
 pub returns-in-Err-Trap-clause-run : goal.returns-in-Err-Trap-clause-run
 returns-in-Err-Trap-clause-run g c = λ store bound fuel address t is typed.
@@ -20,7 +20,7 @@ returns-in-Err-Trap-clause-run g c = λ store bound fuel address t is typed.
 
 pub returns-in-Err-Trap-clause-hosts : goal.returns-in-Err-Trap-clause-hosts
 returns-in-Err-Trap-clause-hosts g c = λ store typed.
-    hosts-kept type_of_host _ c.args.hosts.now.objects.items c.call.new.self.objects.items c.args.number None c.args.args.now store store (HostTrap c.in-Err-Trap.why) (c.call.new.memory, c.in-Err-Trap.ensures.trapped c.in-Err-Trap.why (cc), refl) typed
+    ready-kept type_of_host _ c.args.hosts.now.objects.items c.call.new.self.objects.items c.args.number None c.args.args.now store store (HostTrap c.in-Err-Trap.why) (c.call.new.memory, c.in-Err-Trap.ensures.trapped c.in-Err-Trap.why (cc), refl) typed
 
 pub returns-in-Err-Memory-clause-run : goal.returns-in-Err-Memory-clause-run
 returns-in-Err-Memory-clause-run g c = λ store bound fuel address t is typed.

@@ -1,45 +1,31 @@
-use Rattle.std.proofs.Common.{refl}
-use Rattle.exec.proofs.simulation.Arguments.{argument_types}
-use Rattle.exec.proofs.simulation.Calls.{argument_count}
-use Rattle.store.specs.Contents.{host_function, store_with}
+use Rattle.meaning.specs.execution.Configurations.{no_frame}
+use Rattle.soundness.proofs.Fuel.{run-spends}
+use Rattle.hostfunc.specs.Boxes.{HostStep}
+use Rattle.exec.proofs.simulation.Typing.{call-ends}
 use Rattle.exec.proofs.invocation.invoke.Goals as goal
 
-pub call_code_from_outside-requires-clause-there : goal.call_code_from_outside-requires-clause-there
-call_code_from_outside-requires-clause-there g c = (c.args.address, rw c.in-Some-InModule.field-0-is at c.in-Some-InModule.ensures.found)
+pub call_from_outside-requires : goal.call_from_outside-requires
+call_from_outside-requires g c = record {
+  arguments = rw (← c.store.view_is) at c.requires.arguments;
+  valid = c.store.invariant;
+  hosts = rw (← c.store.view_is) at c.requires.hosts;
+  closed = c.requires.closed;
+}
 
-pub call_code_from_outside-requires-clause-arguments : goal.call_code_from_outside-requires-clause-arguments
-call_code_from_outside-requires-clause-arguments g c =
-    let f = c.in-Some-InModule.callee in
-    argument_count c.args.store.now.code c.args.store.now.state c.args.address c.args.args.now f.ty.now f.func.now f.instance (rw (c.in-Some-InModule.field-0-is, c.parts_mut-state.ensures.code) at c.in-Some-InModule.ensures.found) c.requires.arguments
+pub invariant_of-store : goal.invariant_of-store
+invariant_of-store g c =
+    (call-ends (λ vtable. (g.dyn-1.0.entry vtable).1) _ _ _ _ _ _ _ c.args.address c.args.args.now _ c.store.invariant (rw (← c.store.view_is) at c.requires.hosts) (rw (← c.store.view_is) at c.requires.arguments) c.call_from_outside.ensures.run).valid
 
-pub call_code_from_outside-requires-clause-hosts : goal.call_code_from_outside-requires-clause-hosts
-call_code_from_outside-requires-clause-hosts g c = rw c.parts_mut-state.ensures.code c.requires.hosts
-
-pub call_host_from_outside-requires : goal.call_host_from_outside-requires
-call_host_from_outside-requires g c =
-    let f = c.in-Some-InHost.callee in
-    let is = rw (c.in-Some-InHost.field-0-is, c.parts_mut-state.ensures.code) at c.in-Some-InHost.ensures.found in
-    record {
-      there = (
-        f.ty.now,
-        c.requires.hosts c.args.address f.number (host_function f.number f.ty.now) is refl,
-        argument_types (store_with c.args.store.now.code c.args.store.now.state) c.args.address c.args.args.now (host_function f.number f.ty.now) is c.requires.arguments,
-      );
-    }
-
-pub returns-in-Some-InModule-clause-run : goal.returns-in-Some-InModule-clause-run
-returns-in-Some-InModule-clause-run g c =
-    rw (c.parts_mut-state.ensures.code, c.parts_mut-state.ensures.state) at (c.call_code_from_outside.ensures.run c.args.address (rw c.in-Some-InModule.field-0-is at c.in-Some-InModule.ensures.found))
-
-pub returns-in-Some-InModule-clause-hosts : goal.returns-in-Some-InModule-clause-hosts
-returns-in-Some-InModule-clause-hosts g c = rw c.parts_mut-state.ensures.code at c.call_code_from_outside.ensures.hosts
-
-pub returns-in-Some-InHost-clause-run : goal.returns-in-Some-InHost-clause-run
-returns-in-Some-InHost-clause-run g c =
-    let f = c.in-Some-InHost.callee in
-    let is = rw (c.in-Some-InHost.field-0-is, c.parts_mut-state.ensures.code) at c.in-Some-InHost.ensures.found in
-    let typed = argument_types (store_with c.args.store.now.code c.args.store.now.state) c.args.address c.args.args.now (host_function f.number f.ty.now) is c.requires.arguments in
-    rw c.parts_mut-state.ensures.state (c.call_host_from_outside.ensures.run (store_with c.args.store.now.code c.args.store.now.state) c.args.meter.now.bound c.args.meter.now.left c.args.address f.ty.now is typed)
-
-pub returns-in-Some-InHost-clause-hosts : goal.returns-in-Some-InHost-clause-hosts
-returns-in-Some-InHost-clause-hosts g c = c.call_host_from_outside.ensures.hosts (store_with c.args.store.now.code c.args.store.now.state) c.requires.hosts
+pub returns : goal.returns
+returns g c =
+    let run = c.call_from_outside.ensures.run in
+    let ended = call-ends (λ vtable. (g.dyn-1.0.entry vtable).1) _ _ _ _ _ _ _ c.args.address c.args.args.now _ c.store.invariant (rw (← c.store.view_is) at c.requires.hosts) (rw (← c.store.view_is) at c.requires.arguments) run in
+    rw (← c.store.view_is) (record {
+      run = run;
+      ends = ended.ends;
+      extends = ended.extends;
+      spends = run-spends (HostStep (λ vtable. (g.dyn-1.0.entry vtable).1)) c.args.meter.now.bound no_frame run;
+      hosts = ended.there;
+      bound = c.call_from_outside.ensures.bound;
+      closed = c.call_from_outside.ensures.closed;
+    })

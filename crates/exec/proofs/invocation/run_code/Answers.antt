@@ -1,5 +1,6 @@
 use Rattle.std.proofs.Common.{refl, sym, ◌∙◌}
 use Rattle.meaning.specs.execution.Runs.{none}
+use Rattle.soundness.proofs.Runs.{steps-alone, stuck-alone}
 use Rattle.exec.specs.Simulation.{world_of}
 use Rattle.exec.proofs.simulation.Runs.{one_step_more}
 use Rattle.exec.proofs.invocation.run_code.Goals as goal
@@ -9,7 +10,7 @@ loop-current-init c = (refl, refl, λ whole h. (whole, none, h))
 
 pub step-requires-clause-sound : goal.step-requires-clause-sound
 step-requires-clause-sound c =
-    let (start, h) = c.requires.sound in
+    let (start, h, typed) = c.requires.sound in
     let (then, leads, represents) = c.loop-current.invariant.2 start h in (then, represents)
 
 pub loop-current-preserved : goal.loop-current-preserved
@@ -84,15 +85,9 @@ returns-in-CallsHost-clause-stops c whole h =
       last = c.in-CallsHost.ensures.simulates then represents;
     }
 
-pub returns-in-Stuck-clause-stops : goal.returns-in-Stuck-clause-stops
-returns-in-Stuck-clause-stops c whole h =
+pub unreachable-requires : goal.unreachable-requires
+unreachable-requires c =
+    let (start, h, typed) = c.requires.sound in
     let (current, bound, reaches) = c.loop-current.invariant in
-    let (then, leads, represents) = reaches whole h in
-    record {
-      between = world_of c.args.code.now c.loop-current.state;
-      meter = c.loop-current.meter;
-      then = then;
-      same = bound;
-      leads = leads;
-      last = c.in-Stuck.ensures.simulates then represents;
-    }
+    let (then, leads, represents) = reaches start h in
+    stuck-alone c.loop-current.meter.bound (steps-alone c.args.meter.now.bound typed leads) (c.in-Stuck.ensures.simulates then represents)

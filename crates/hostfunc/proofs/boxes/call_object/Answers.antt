@@ -5,36 +5,36 @@ use Rattle.meaning.specs.execution.Runs.{HostTrap, Results}
 use Rattle.meaning.specs.execution.Values.{type_of}
 use Rattle.hostfunc.proofs.boxes.call_object.Goals as goal
 
-pub call_lent-requires : goal.call_lent-requires
-call_lent-requires g c = record {
+pub call_lent-answer-requires : goal.call_lent-answer-requires
+call_lent-answer-requires g c = record {
   arguments = subst (λ p. map type_of c.args.args.now ≡ ((goal.HostFn-dyn g p).declared p.1).params) (sym c.as_mut.ensures.value.1) c.requires.arguments;
 }
 
 pub returns-clause-same_type : goal.returns-clause-same_type
-returns-clause-same_type g c = c.call_lent.ensures.same_type ∙ ap (λ p. (goal.HostFn-dyn g p).declared p.1) c.as_mut.ensures.value.1
+returns-clause-same_type g c = c.call_lent-answer.ensures.same_type ∙ ap (λ p. (goal.HostFn-dyn g p).declared p.1) c.as_mut.ensures.value.1
 
 pub returns-clause-typed : goal.returns-clause-typed
 returns-clause-typed g c =
-    subst (λ p. IfOk c.call_lent.result (λ values. map type_of values.items ≡ ((goal.HostFn-dyn g p).declared p.1).results))
-    c.as_mut.ensures.value.1 c.call_lent.ensures.typed
+    subst (λ p. IfOk c.call_lent-answer.result (λ values. map type_of values.items ≡ ((goal.HostFn-dyn g p).declared p.1).results))
+    c.as_mut.ensures.value.1 c.call_lent-answer.ensures.typed
 
 pub returns-clause-answered : goal.returns-clause-answered
 returns-clause-answered g c =
-    subst (λ p. IfOk c.call_lent.result (λ values. (w : _)
-    × (dyn_box_with c.args.object.now c.as_mut.result.now.0 c.call_lent.new.object ≡ dyn_box_with c.args.object.now p.0 w)
-    × (goal.HostFn-dyn g p).Answers p.1 c.args.args.now c.args.memory.now (Results values.items) c.call_lent.new.memory w))
+    subst (λ p. IfOk c.call_lent-answer.result (λ values. (w : _)
+    × (dyn_box_with c.args.object.now c.as_mut.result.now.0 c.call_lent-answer.new.object ≡ dyn_box_with c.args.object.now p.0 w)
+    × (goal.HostFn-dyn g p).Answers p.1 c.args.args.now c.args.memory.now (Results values.items) c.call_lent-answer.new.memory w))
     c.as_mut.ensures.value.1
-    (IfOk-weaker c.call_lent.result _ _ (λ values h. (h.0, ap (λ p. dyn_box_with c.args.object.now p.0 p.1) h.1, h.2)) c.call_lent.ensures.answered)
+    (IfOk-weaker c.call_lent-answer.result _ _ (λ values h. (h.0, ap (λ p. dyn_box_with c.args.object.now p.0 p.1) h.1, h.2)) c.call_lent-answer.ensures.answered)
 
 pub returns-clause-trapped : goal.returns-clause-trapped
 returns-clause-trapped g c = λ code e.
     subst (λ p. (w : _)
-    × (dyn_box_with c.args.object.now c.as_mut.result.now.0 c.call_lent.new.object ≡ dyn_box_with c.args.object.now p.0 w)
-    × (goal.HostFn-dyn g p).Answers p.1 c.args.args.now c.args.memory.now (HostTrap code) c.call_lent.new.memory w)
+    × (dyn_box_with c.args.object.now c.as_mut.result.now.0 c.call_lent-answer.new.object ≡ dyn_box_with c.args.object.now p.0 w)
+    × (goal.HostFn-dyn g p).Answers p.1 c.args.args.now c.args.memory.now (HostTrap code) c.call_lent-answer.new.memory w)
     c.as_mut.ensures.value.1
-    (let h = c.call_lent.ensures.trapped code e in (h.0, ap (λ p. dyn_box_with c.args.object.now p.0 p.1) h.1, h.2))
+    (let h = c.call_lent-answer.ensures.trapped code e in (h.0, ap (λ p. dyn_box_with c.args.object.now p.0 p.1) h.1, h.2))
 
 pub returns-clause-unchanged : goal.returns-clause-unchanged
 returns-clause-unchanged g c = λ e.
-    let same = c.call_lent.ensures.unchanged e in
+    let same = c.call_lent-answer.ensures.unchanged e in
     (ap (λ p. dyn_box_with c.args.object.now p.0 p.1) (same.0 ∙ c.as_mut.ensures.value.1), same.1)

@@ -1,7 +1,7 @@
-use Rattle.std.proofs.Common.{◌++◌, List, append_assoc, subst}
+use Rattle.std.proofs.Common.{refl, ◌++◌, List, append_assoc, subst}
 use Rattle.std.proofs.lemmas.Result.{err_from_is_err_and}
 use Rattle.std.specs.Prelude.{Some}
-use Rattle.meaning.specs.execution.Modules.{Task, data_tasks, element_tasks, start_task}
+use Rattle.meaning.specs.execution.Modules.{Task, data_tasks, start_task}
 use Rattle.meaning.specs.execution.Store.{instance_of}
 use Rattle.hostfunc.specs.Boxes.{HostStep}
 use Rattle.exec.specs.Simulation.{run_state}
@@ -9,6 +9,10 @@ use Rattle.store.specs.Contents.{code_store, store_of}
 use Rattle.instantiate.specs.Tasks.{RanTasks, link_state}
 use Rattle.instantiate.proofs.lemmas.Hosts.{ended-over, ran-over}
 use Rattle.instantiate.proofs.lemmas.Tasks.{ran-then}
+use Rattle.soundness.proofs.Hosts.{ready-still}
+use Rattle.hostfunc.specs.Boxes.{type_of_host}
+use Rattle.meaning.specs.execution.Modules.{element_tasks}
+use Rattle.instantiate.proofs.lemmas.Validity.{good-part}
 use Rattle.instantiate.proofs.instantiation.run_tasks.Goals as goal
 
 pub returns-in_err-run_segments-clause-ran : goal.returns-in_err-run_segments-clause-ran
@@ -21,7 +25,12 @@ returns-in_err-run_segments-clause-ran g c =
     (ended-over (HostStep (λ vtable. (g.dyn-1.0.entry vtable).1)) c.args.hosts.now.objects.items c.args.meter.now.bound c.args.instance (instance_of (code_store c.args.store.now.code) (Some c.args.instance)) old new (element_tasks m.elements) (data_tasks m.datas) (start_task m.start) c.in_err-run_segments.ensures.ran)
 
 pub run_start-requires-clause-hosts : goal.run_start-requires-clause-hosts
-run_start-requires-clause-hosts g c = rw c.in_ok-run_segments.ensures.code c.requires.hosts
+run_start-requires-clause-hosts g c = ready-still type_of_host (store_of c.args.store.now) (store_of c.run_segments.new.store) c.args.hosts.now.objects.items (rw c.in_ok-run_segments.ensures.code refl) c.requires.hosts
+
+pub run_segments-requires-clause-good : goal.run_segments-requires-clause-good
+run_segments-requires-clause-good g c =
+    let m = c.args.wanted.now in
+    good-part (store_of c.args.store.now) c.args.instance (instance_of (code_store c.args.store.now.code) (Some c.args.instance)) (element_tasks m.elements) (data_tasks m.datas) (start_task m.start) c.requires.good
 
 pub returns-clause-ran : goal.returns-clause-ran
 returns-clause-ran g c =

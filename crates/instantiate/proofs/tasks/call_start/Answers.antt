@@ -3,6 +3,9 @@ use Rattle.meaning.specs.execution.Configurations.{Invoking}
 use Rattle.meaning.specs.execution.Runs.{end, stuck}
 use Rattle.store.specs.Contents.{store_of}
 use Rattle.instantiate.proofs.lemmas.Starts.{start-refused}
+use Rattle.exec.specs.Simulation.{run_state}
+use Rattle.meaning.specs.execution.Configurations.{no_frame}
+use Rattle.instantiate.proofs.lemmas.Tasks.{called}
 use Rattle.instantiate.proofs.tasks.call_start.Goals as goal
 
 pub returns-then-not-accepts-clause-run : goal.returns-then-not-accepts-clause-run
@@ -10,3 +13,7 @@ returns-then-not-accepts-clause-run g c = record {
   ends = end {configuration = Invoking [] c.args.address} (stuck (start-refused (store_of c.args.store.now) c.args.address (λ takes. absurd (let no = c.if-not-accepts.ensures.1 takes in cc))) refl refl);
   no_values = tt;
 }
+
+pub returns-clause-run : goal.returns-clause-run
+returns-clause-run g c =
+    called _ c.end_of.result c.invoke.result c.args.meter.now.bound no_frame (run_state (store_of c.args.store.now) c.args.hosts.now.objects.items c.args.meter.now.left) (run_state (store_of c.invoke.new.store) c.invoke.new.hosts.objects.items c.invoke.new.meter.left) (Invoking [] c.args.address) c.end_of.ensures c.invoke.ensures.run

@@ -58,12 +58,22 @@ returns c = record {
       globals = none (λ (a : ℕ). a < 0);
       elements = none (λ (a : ℕ). a < 0);
       datas = none (λ (a : ℕ). a < 0);
+      exports = none _;
     });
     tables = none _;
     memories = none _;
     globals = none _;
     elements = none _;
     datas = none _;
+    few = record {
+      functions = omega (arith);
+      instances = omega (arith);
+      tables = omega (arith);
+      memories = omega (arith);
+      globals = omega (arith);
+      elements = omega (arith);
+      datas = omega (arith);
+    };
   };
   typed = (adder, refl, ((refl, omega (arith)), ((refl, omega (arith)), tt)), refl);
   too_few = λ (f, is, typed, same). let wrong = subst (λ (g : FunctionInstance). ValuesHaveTypes adding (I32 1 ∷ []) (reverse g.ty.params)) (adds f is) typed in absurd wrong.1;

@@ -3,6 +3,7 @@ use Rattle.std.proofs.lemmas.List.Elements.{All-replicate}
 use Rattle.std.specs.List.{All}
 use Rattle.core_types.specs.declared.module.DataMode.TheVariants.{Passive}
 use Rattle.core_types.specs.declared.module.DataSegment.{DataSegment}
+use Rattle.core_types.specs.declared.types.Limits.{Limits}
 use Rattle.meaning.specs.validation.Modules.{HasDataMode}
 use Rattle.meaning.specs.validation.Types.{AreFewPages, AreOrdered}
 use Rattle.soundness.specs.Rows.{storing}
@@ -42,9 +43,23 @@ returns c = record {
       few_entries = none _;
       bytes = only (λ (d : DataSegment). AreBytes d.bytes) (record { bytes = 255 ∷ []; mode = Passive }) (only (λ (b : ℕ). b < 2 ^ 8) 255 byte);
     };
+    within = record {
+      few_entries = none _;
+      few_pages = only (λ (l : Limits). l.min ≤ 1) (record { min = 1; max = None }) (omega (arith));
+      room = record {
+        functions = omega (arith);
+        instances = omega (arith);
+        tables = omega (arith);
+        memories = omega (arith);
+        globals = omega (arith);
+        elements = omega (arith);
+        datas = omega (arith);
+      };
+    };
     count = refl;
     fits = tt;
   };
   no_byte = λ linkable. let wrong : 256 < 2 ^ 8 = linkable.sound.bytes 0 (record { bytes = 256 ∷ []; mode = Passive }) (omega (arith)) 0 256 (omega (arith)) in omega (arith, wrong);
+  too_large = λ linkable. let wrong : 1 ≤ 0 = linkable.within.few_pages 0 (record { min = 1; max = None }) (omega (arith)) in omega (arith, wrong);
   too_many = λ given linkable. let wrong : 1 ≡ 0 = linkable.count in omega (arith, wrong);
 }

@@ -5,6 +5,6 @@ use Rattle.soundness.proofs.laws.commands_go_well.Goals as goal
 
 pub returns : goal.returns
 returns c = record {
-  fresh = λ setup ds faultless. fresh-sound own_type setup.pages setup.entries ds faultless;
+  fresh = fresh-sound own_type;
   run = commands-go-well c.writing_is_read.ensures.whole own_type NeverAnswers (λ h h' arguments bytes bytes' answer are_bytes told. absurd told);
 }

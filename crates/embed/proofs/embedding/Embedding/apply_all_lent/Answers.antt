@@ -2,21 +2,20 @@ use Rattle.std.proofs.Common.{◌++◌, ◌∷◌, [], ◌<◌, ◌≤◌, ◌�
 use Rattle.std.proofs.lemmas.Grind.{common_steps}
 use Rattle.std.proofs.lemmas.List.{append-nil, map-append, take_all}
 use Rattle.meaning.proofs.lemmas.Lists.{map-next}
-use Rattle.meaning.specs.embedding.Machine.{none}
+use Rattle.soundness.proofs.Embedding.{none-well, one-more-well}
 use Rattle.embed.specs.Replies.{command_of}
-use Rattle.embed.proofs.lemmas.Runs.{one_more_applied}
 use Rattle.embed.proofs.embedding.Embedding.apply_all_lent.Goals as goal
 
 pub loop-command-init : goal.loop-command-init
 loop-command-init g c = record {
   room = grind (arith, common_steps);
-  run = ([], c.in_ok-try_reserve.ensures.items ∙ sym (append-nil c.args.replies.now.items), none);
+  run = ([], c.in_ok-try_reserve.ensures.items ∙ sym (append-nil c.args.replies.now.items), none-well _ _);
 }
 
 pub loop-command-preserved : goal.loop-command-preserved
 loop-command-preserved g c =
     let run = c.loop-command.invariant.run in
-    let more = one_more_applied _ _ _ run.2 c.apply_lent-reply.ensures in
+    let more = one-more-well _ run.2 (c.apply_lent-reply.ensures.applied, c.apply_lent-reply.ensures.goes_well) in
     let inside : c.loop-command.command-index < length c.args.commands.now = c.loop-command-test.true in
     record {
       room = grind (arith, common_steps);

@@ -1,5 +1,5 @@
 use Rattle.std.proofs.Common.{◌≡◌, ◌≤◌, ◌+◌, ◌-◌, ◌++◌, List, length, map, take, vec_len, vec_capacity}
-use Rattle.meaning.specs.embedding.Machine.{AppliesAll}
+use Rattle.soundness.specs.Embedding.{RunsWell}
 use Rattle.hostfunc.specs.Boxes.{HostStep}
 use Rattle.embed.specs.Contents.{embedding_of}
 use Rattle.embed.specs.Replies.{command_of, reply_of}
@@ -10,5 +10,5 @@ abbrev pub invariant-loop-command : goal.invariant-loop-command
 invariant-loop-command g l = record {
   room : vec_len l.replies + (length l.commands - l.command-index) ≤ vec_capacity l.replies;
   run : (answers : List Reply) × (l.replies.items ≡ l.fn.replies.items ++ answers)
-      × AppliesAll (HostStep (λ vtable. (g.dyn-1.0.entry vtable).1)) (embedding_of l.fn.self) (map command_of (take l.command-index l.commands)) (map reply_of answers) (embedding_of l.self);
+      × RunsWell (HostStep (λ vtable. (g.dyn-1.0.entry vtable).1)) (embedding_of l.fn.self) (map command_of (take l.command-index l.commands)) (map reply_of answers) (embedding_of l.self);
 }

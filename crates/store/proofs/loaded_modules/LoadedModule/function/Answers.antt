@@ -13,7 +13,7 @@ pub returns-in_err-ends-clause-func : goal.returns-in_err-ends-clause-func
 returns-in_err-ends-clause-func c =
     let there = sym (rw (c.as_slice.ensures, c.module-module_read.ensures.same) at c.in_ok-func.ensures) in
     let none = sym (rw c.deref.ensures.value at c.in_err-ends.ensures) in
-    absurd (HaveEnds-there c.self.inside.validated.funcs c.self.inside.ends.items c.args.index c.in_ok-func.func.now c.self.invariant there none)
+    absurd (HaveEnds-there c.self.inside.validated.funcs c.self.inside.ends.items c.args.index c.in_ok-func.func.now c.self.invariant.0 there none)
 
 pub returns-clause-func : goal.returns-clause-func
 returns-clause-func c =
@@ -27,7 +27,7 @@ pub returns-clause-ends : goal.returns-clause-ends
 returns-clause-ends c =
     let there = sym (rw (c.as_slice.ensures, c.module-module_read.ensures.same) at c.in_ok-func.ensures) in
     let found = sym (rw c.deref.ensures.value at c.in_ok-ends.ensures) in
-    rw c.deref-2.ensures.value (HaveEnds-at c.self.inside.validated.funcs c.self.inside.ends.items c.args.index c.in_ok-func.func.now c.in_ok-ends.ends.now c.self.invariant there found)
+    rw c.deref-2.ensures.value (HaveEnds-at c.self.inside.validated.funcs c.self.inside.ends.items c.args.index c.in_ok-func.func.now c.in_ok-ends.ends.now c.self.invariant.0 there found)
 
 pub returns-clause-whole : goal.returns-clause-whole
 returns-clause-whole c =

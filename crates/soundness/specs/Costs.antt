@@ -1,0 +1,40 @@
+-- What runs cost. Fuel is this project's own.
+use Rattle.std.specs.Prelude.{◌≡◌, ℕ, ◌+◌, List, Option}
+use Rattle.core_types.specs.declared.outcome.Val.{Val}
+use Rattle.meaning.specs.execution.Configurations.{Configuration, Frame}
+use Rattle.meaning.specs.execution.Runs.{Answer, Ending, IsEnd, IsStep, Run, State, goes, grows, opens, calls, values_left, trapped, host_trapped, no_fuel, no_depth, no_memory, stuck, end, step}
+use Rattle.meaning.specs.execution.Store.{Store}
+
+module _ {H : Type 0} (HostStep : List H → ℕ → Option ℕ → List Val → Store → Answer → Store
+    → List H → Type 0) (bound : ℕ) (outside : Frame) where
+  abbrev pub cost_of_step : {old new : State H} {first then : Configuration}
+      → IsStep HostStep bound outside old first new then → ℕ
+  cost_of_step (goes {cost = cost} is enough left hosts) = cost
+  cost_of_step (grows {cost = cost} is enough left hosts) = cost
+  cost_of_step (opens {cost = cost} is enough left hosts within) = cost
+  cost_of_step (calls {cost = cost} is enough left told answered) = cost
+
+  -- An instruction that traps is paid for. Nothing else at the end is.
+  abbrev pub cost_of_end : {at last : State H} {c : Configuration} {ending : Ending}
+      → IsEnd HostStep bound outside at c ending last → ℕ
+  cost_of_end (values_left is ending_is last_is) = 0
+  cost_of_end (trapped {cost = cost} is enough ending_is last_is) = cost
+  cost_of_end (host_trapped {cost = cost} is enough left told ending_is) = cost
+  cost_of_end (no_fuel little ending_is last_is) = 0
+  cost_of_end (no_depth is enough deep ending_is last_is) = 0
+  cost_of_end (no_memory ready within enough ending_is last_is) = 0
+  cost_of_end (stuck is ending_is last_is) = 0
+
+  -- The sum over the steps and the end.
+  abbrev pub cost_of_run : {old last : State H} {c : Configuration} {ending : Ending}
+      → Run HostStep bound outside old c ending last → ℕ
+  cost_of_run (end is) = cost_of_end is
+  cost_of_run (step first rest) = cost_of_step first + cost_of_run rest
+
+-- What a run costs is what it spends.
+abbrev pub CostsAreSpent : {H : Type 0} → (List H → ℕ → Option ℕ → List Val → Store → Answer → Store
+    → List H → Type 0) → Type 0
+CostsAreSpent {H} HostStep = (bound : ℕ) (outside : Frame) (old last : State H)
+    (configuration : Configuration) (ending : Ending)
+    (run : Run HostStep bound outside old configuration ending last)
+    → cost_of_run HostStep bound outside run + last.fuel ≡ old.fuel

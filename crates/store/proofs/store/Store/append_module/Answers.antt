@@ -1,0 +1,23 @@
+use Rattle.std.proofs.Common.{ap, ◌∙◌}
+use Rattle.store.specs.Contents.{Contents, lists_of, store_with}
+use Rattle.store.proofs.lemmas.Validity.{allocation-grows, grows-same, module-appended, equal-stores}
+use Rattle.store.proofs.store.Store.append_module.Goals as goal
+
+pub returns-in_err-reserve_all-clause-extends : goal.returns-in_err-reserve_all-clause-extends
+returns-in_err-reserve_all-clause-extends c =
+    rw (← c.self.view_is) (grows-same _ _ c.self.invariant (equal-stores c.self.inside.code c.self.inside.state c.reserve_all.new.self c.reserve_all.ensures.contents c.reserve_all.ensures.bounds)).0
+
+pub returns-in_err-append_instance-clause-extends : goal.returns-in_err-append_instance-clause-extends
+returns-in_err-append_instance-clause-extends c =
+    rw (← c.self.view_is) (grows-same _ _ c.self.invariant
+    (ap (λ (code : Contents). store_with code c.reserve_all.new.self) c.in_err-append_instance.ensures.unchanged ∙ equal-stores c.self.inside.code c.self.inside.state c.reserve_all.new.self c.reserve_all.ensures.contents c.reserve_all.ensures.bounds)).0
+
+pub invariant_of-self-2 : goal.invariant_of-self-2
+invariant_of-self-2 c =
+    rw (module-appended c.self.inside.code c.append_instance.new.self c.self.inside.state c.reserve_all.new.self c.append_all.new.self c.args.loaded.value (lists_of c.args.addresses) c.args.objects c.in_ok-append_instance.ensures.functions c.in_ok-append_instance.ensures.instances c.reserve_all.ensures.contents c.reserve_all.ensures.bounds c.append_all.ensures.contents c.append_all.ensures.bounds)
+    (allocation-grows c.writing_is_read.ensures.whole _ _ _ _ c.self.invariant (rw (← c.self.view_is) at c.requires.linkable)).1
+
+pub returns-clause-extends : goal.returns-clause-extends
+returns-clause-extends c =
+    rw (← c.self.view_is, module-appended c.self.inside.code c.append_instance.new.self c.self.inside.state c.reserve_all.new.self c.append_all.new.self c.args.loaded.value (lists_of c.args.addresses) c.args.objects c.in_ok-append_instance.ensures.functions c.in_ok-append_instance.ensures.instances c.reserve_all.ensures.contents c.reserve_all.ensures.bounds c.append_all.ensures.contents c.append_all.ensures.bounds)
+    (allocation-grows c.writing_is_read.ensures.whole _ _ _ _ c.self.invariant (rw (← c.self.view_is) at c.requires.linkable)).0
