@@ -2,3 +2,4 @@
 pub mod Causes
 pub mod Steps
 pub mod Definitions
+pub mod Headline

@@ -4,3 +4,4 @@ pub mod Causes
 pub mod Definitions
 pub mod Contents
 pub mod Created
+pub mod Headline

@@ -303,8 +303,8 @@ impl Embedding {
     }
 
     /// Applies a command. A refused one changes nothing, and of a link or a call that ends in a trap or an exhaustion what was done
-    /// stays. It goes well: no run gets stuck, values have the types of the function or the global, the store is valid and extends the
-    /// one before, and no command but `SetFuel` leaves more fuel than there was.
+    /// stays. It goes well: values have the types of the function or the global, the store is valid and extends the one before, and no
+    /// command but `SetFuel` leaves more fuel than there was.
     pub fn apply(&mut self, command: &Command) -> Reply
         ensures applied { Applies (HostStep ⟦<dyn HostFn as HostFn>⟧) (embedding_of self.old)
             (command_of command.now)

@@ -5,7 +5,8 @@ use Rattle.core_types.specs.declared.outcome.Exhaustion.TheVariants as exhausted
 use Rattle.meaning.specs.execution.Configurations.{Configuration, Running, no_frame}
 use Rattle.meaning.specs.execution.Instructions.{Next, continuation_of, enter_label, next}
 use Rattle.meaning.specs.execution.Store.{Store}
-use Rattle.meaning.specs.execution.Runs.{IsEnd, IsStep, NoHosts, Run, State, Steps, Ending, WithValues, WithTrap, OutOfFuel, OutOfDepth, OutOfMemory, GotStuck}
+use Rattle.meaning.specs.execution.Runs.{IsEnd, IsStep, NoHosts, Run, State, Steps, Ending, WithValues, WithTrap, OutOfFuel, OutOfDepth, OutOfMemory}
+use Rattle.soundness.specs.Progress.{IsStuck}
 use Rattle.exec.specs.declared.machine.Machine.{Machine}
 use Rattle.exec.specs.declared.machine.Outcome.{Outcome}
 use Rattle.exec.specs.declared.machine.Outcome.TheVariants.{Values, Trap, Exhausted}
@@ -89,7 +90,8 @@ pub record StepsTo (w : World) (old : Configuration) (meter : Metered) (w' : Wor
   pub step : MovesTo meter.bound w meter.left old w' meter'.left whole
   pub represents : Represents new meter'.frames whole
 
--- What a turn is from a configuration: a step, after the last of which the operands are the results; or the end of a run.
+-- What a turn is from a configuration: a step, after the last of which the operands are the results; or the end of a run; or
+-- nothing, where the configuration is stuck.
 abbrev pub IsStepOrEnd : Step → World → Configuration → Metered → World → Machine → Metered → Type 0
 IsStepOrEnd steps.Goes w old meter w' new meter' = StepsTo w old meter w' new meter'
 IsStepOrEnd steps.Crosses w old meter w' new meter' = StepsTo w old meter w' new meter'
@@ -102,8 +104,7 @@ IsStepOrEnd (steps.Lacks what) w old meter w' new meter' =
     EndsWith meter.bound w meter.left old (exhausted_ending what) w' meter'.left
 IsStepOrEnd (steps.CallsHost number) w old meter w' new meter' =
     (w' ≡ w) × (meter' ≡ meter) × WaitsForHost number w.store old meter.left meter.frames new
-IsStepOrEnd steps.Stuck w old meter w' new meter' =
-    EndsWith meter.bound w meter.left old GotStuck w' meter'.left
+IsStepOrEnd steps.Stuck w old meter w' new meter' = IsStuck (next w.store no_frame old)
 
 -- From each configuration that the machine represents with this redex.
 abbrev pub SimulatesAt : Configuration → World → Machine → Metered → Step → World → Machine

@@ -7,8 +7,7 @@ use Rattle.core_types.specs.declared.types.FuncType.{FuncType}
 use Rattle.meaning.specs.execution.Hosts.{HasType, IsHostCall, IsHostStep}
 use Rattle.meaning.specs.execution.Runs.{Answer, HostTrap}
 use Rattle.meaning.specs.execution.Store.{Store}
-use Rattle.soundness.specs.Hosts.{AnswerFits, AreReady}
-use Rattle.soundness.specs.Stores.{AreBytes}
+use Rattle.soundness.specs.Hosts.{AreReady}
 use Rattle.hostfunc.specs.declared.host_function.HostFn.{Ghosts}
 use Rattle.hostfunc.specs.declared.host_object.HostObject.{HostObject}
 
@@ -30,25 +29,24 @@ module _ {I : Type 0} {F : I → Type 0} (members : (i : I) → Ghosts (F i)) wh
   abbrev pub declared_type : DynBox I Global F → FuncType
   declared_type o = (members o.vtable).declared o.value
 
-  -- The relation of the object in a box: the one then is of the same kind.
-  abbrev pub AnswersInBox : DynBox I Global F → List Val → List ℕ → Answer → List ℕ
-      → DynBox I Global F → Type 0
-  AnswersInBox o arguments bytes answer bytes' o' =
-      (w : F o.vtable) × (o' ≡ record o { value = w }) ×
-      (members o.vtable).Answers o.value arguments bytes answer bytes' w
+  -- Its object declares the type that it was taken in with.
+  abbrev pub KeepsItsType : HostObject I F → Type 0
+  KeepsItsType h = declared_type h.object ≡ h.ty
 
-  -- The relation of a host function: that of its object, of answers whose numbers have their widths, and of bytes. One that declared
-  -- another type than it was taken in with, which no host that keeps its contract does, would trap and change nothing.
+  -- The relation of its object alone: the one then is of the same kind.
+  abbrev pub OwnAnswers : HostObject I F → List Val → List ℕ → Answer → List ℕ → HostObject I F
+      → Type 0
+  OwnAnswers h arguments bytes answer bytes' h' =
+      (w : F h.object.vtable) × (h'.object ≡ record h.object { value = w }) ×
+      (members h.object.vtable).Answers h.object.value arguments bytes answer bytes' w
+
+  -- The relation of a host function: that of its object, whose declared type stays. One that declared another type than it was taken
+  -- in with, which no host that keeps its contract does, would trap and change nothing.
   pub record HostAnswers (h : HostObject I F) (arguments : List Val) (bytes : List ℕ)
       (answer : Answer) (bytes' : List ℕ) (h' : HostObject I F) : Type 0 where
-    pub same_type : h'.ty ≡ h.ty
     pub same_declared : declared_type h'.object ≡ declared_type h.object
-    pub fits : AnswerFits answer
-    pub bytes_fit : AreBytes bytes'
-    pub answers : declared_type h.object ≡ h.ty
-        → AnswersInBox h.object arguments bytes answer bytes' h'.object
-    pub traps : (declared_type h.object ≡ h.ty → ⊥)
-        → (answer ≡ HostTrap 0) × (bytes' ≡ bytes) × (h' ≡ h)
+    pub answers : KeepsItsType h → OwnAnswers h arguments bytes answer bytes' h'
+    pub traps : (KeepsItsType h → ⊥) → (answer ≡ HostTrap 0) × (bytes' ≡ bytes) × (h' ≡ h)
 
   -- The host function of a number answers.
   abbrev pub HostCall : List (HostObject I F) → (number : ℕ) → List Val → List ℕ → Answer → List ℕ
@@ -61,3 +59,9 @@ module _ {I : Type 0} {F : I → Type 0} (members : (i : I) → Ghosts (F i)) wh
       → Answer → Store → List (HostObject I F) → Type 0
   HostStep hosts number lent arguments store answer store' hosts' =
       IsHostStep type_of_host HostAnswers hosts number lent arguments store answer store' hosts'
+
+  -- A step of a host function by the relation of its object alone.
+  abbrev pub OwnHostStep : List (HostObject I F) → (number : ℕ) → (lent : Option ℕ) → List Val
+      → Store → Answer → Store → List (HostObject I F) → Type 0
+  OwnHostStep hosts number lent arguments store answer store' hosts' =
+      IsHostStep type_of_host OwnAnswers hosts number lent arguments store answer store' hosts'

@@ -1,9 +1,8 @@
 ghost use Rattle.std.specs.Prelude.{◌≡◌, ℕ, IfOk, Err, map};
 ghost use Rattle.meaning.specs.execution.Runs.{HostTrap, Results};
-ghost use Rattle.meaning.specs.execution.Values.{type_of};
+ghost use Rattle.meaning.specs.execution.Storage.{AreBytes};
+ghost use Rattle.meaning.specs.execution.Values.{FitsWidth, type_of};
 ghost use Rattle.std.specs.List.{All};
-ghost use Rattle.soundness.specs.Hosts.{FitsWidth};
-ghost use Rattle.soundness.specs.Stores.{AreBytes};
 ghost use Rattle.hostfunc.specs.declared.host_function.HostFault.TheVariants.{Trap as TrapFault, Memory as MemoryFault};
 
 use crate::host_function::{HostFault, HostFn};
@@ -34,8 +33,8 @@ fn show_answer_fits(answer: &Result<Vec<Val>, HostFault>)
     }
 }
 
-// Bytes are bytes.
-fn show_bytes(bytes: &[u8])
+/// Bytes are bytes.
+pub fn show_bytes(bytes: &[u8])
     ensures { AreBytes bytes.now }
 {}
 
@@ -87,7 +86,7 @@ pub fn call_object(
     ensures unchanged { result ≡ Err MemoryFault
         → (object.new ≡ object.old) × (memory.new ≡ memory.old) }
     ensures fits { IfOk result (λ values. All FitsWidth values.items) }
-    ensures bytes_fit { AreBytes memory.new }
+    ensures are_bytes { AreBytes memory.new }
 {
     let answer = call_lent(object.as_mut(), args, memory);
     show_answer_fits(&answer);

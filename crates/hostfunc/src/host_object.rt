@@ -1,10 +1,12 @@
 ghost use Rattle.std.specs.Prelude.{◌≡◌, ℕ, IfOk, Err, map};
 ghost use Rattle.meaning.specs.execution.Runs.{HostTrap, Results};
-ghost use Rattle.meaning.specs.execution.Values.{type_of};
+ghost use Rattle.meaning.specs.execution.Storage.{AreBytes};
+ghost use Rattle.meaning.specs.execution.Values.{FitsWidth, type_of};
+ghost use Rattle.std.specs.List.{All};
 ghost use Rattle.hostfunc.specs.Boxes.{HostAnswers};
 ghost use Rattle.hostfunc.specs.declared.host_function.HostFault.TheVariants.{Trap as TrapFault, Memory as MemoryFault};
 
-use crate::boxes::{call_object, object_type};
+use crate::boxes::{call_object, object_type, show_bytes};
 use crate::host_function::{HostFault, HostFn};
 use core_types::{FuncType, Val};
 
@@ -21,7 +23,9 @@ impl HostObject {
     pub fn call(&mut self, args: &[Val], memory: &mut [u8]) -> Result<Vec<Val>, HostFault>
         requires arguments { map type_of args.now ≡ self.old.ty.params }
         ensures same_type { self.new.ty ≡ self.old.ty }
-        ensures typed { IfOk result (λ values. map type_of values.items ≡ self.old.ty.results) }
+        ensures typed { IfOk result (λ values. (map type_of values.items ≡ self.old.ty.results)
+            × All FitsWidth values.items) }
+        ensures are_bytes { AreBytes memory.new }
         ensures answered { IfOk result
             (λ values. HostAnswers ⟦<dyn HostFn as HostFn>⟧ self.old args.now memory.old
             (Results values.items) memory.new self.new) }
@@ -32,6 +36,7 @@ impl HostObject {
             → (self.new ≡ self.old) × (memory.new ≡ memory.old) }
     {
         if !object_type(&self.object).is_same(&self.ty) {
+            show_bytes(memory);
             return Err(HostFault::Trap(0));
         }
         call_object(&mut self.object, args, memory)

@@ -10,8 +10,9 @@ use Rattle.core_types.specs.declared.outcome.Val.{Val}
 use Rattle.core_types.specs.declared.outcome.Val.TheVariants.{I32, I64, FuncRef, ExternRef}
 use Rattle.meaning.specs.execution.Configurations.{Configuration, Frame}
 use Rattle.meaning.specs.execution.Modules.{HasNoValues, RunTasks, Task}
-use Rattle.meaning.specs.execution.Runs.{Answer, Ending, GotStuck, IsStep, Run, State, WithTrap, WithValues}
+use Rattle.meaning.specs.execution.Runs.{Answer, Ending, IsStep, Run, State, WithTrap, WithValues}
 use Rattle.meaning.specs.execution.Store.{ModuleInstance, Store}
+use Rattle.soundness.specs.Progress.{GetsStuck, TasksGetStuck}
 use Rattle.exec.specs.declared.machine.Outcome.{Outcome}
 use Rattle.exec.specs.declared.machine.Outcome.TheVariants.{Values}
 use Rattle.exec.specs.Simulation.{ending_of, exhausted_ending, state, world_of}
@@ -54,11 +55,16 @@ HasNoI32 (Some (I64 n)) = Unit {0}
 HasNoI32 (Some (FuncRef a)) = Unit {0}
 HasNoI32 (Some (ExternRef n)) = Unit {0}
 
--- The end of a run.
-abbrev pub ending_in : TaskEnd → Ending
-ending_in (Trap trap) = WithTrap trap
-ending_in (Exhausted what) = exhausted_ending what
-ending_in Stuck = GotStuck
+-- How a run ended, if it did.
+abbrev pub ending_in : TaskEnd → Option Ending
+ending_in (Trap trap) = Some (WithTrap trap)
+ending_in (Exhausted what) = Some (exhausted_ending what)
+ending_in Stuck = None
+
+-- It did not end with values.
+abbrev pub IsWithoutValues : Option Ending → Type 0
+IsWithoutValues None = Unit {0}
+IsWithoutValues (Some ending) = HasNoValues ending
 
 -- How a link ends where this came of an instruction.
 abbrev pub IsEndOf : TaskEnd → Progress → Type 0
@@ -71,7 +77,7 @@ IsEndOf o p = ⊥
 -- What is left where a call from outside ended so: nothing, after values.
 abbrev pub EndsAs : {U : Type 0} → Result U TaskEnd → Outcome → Type 0
 EndsAs (Ok u) outcome = (values : List Val) × (outcome ≡ Values values)
-EndsAs (Err o) outcome = ending_of outcome ≡ ending_in o
+EndsAs (Err o) outcome = Some (ending_of outcome) ≡ ending_in o
 
 -- How it goes on.
 abbrev pub IsPassed : {U : Type 0} → Result U TaskEnd → Progress → Type 0
@@ -80,11 +86,27 @@ IsPassed (Err o) p = IsEndOf o p
 
 module _ {H : Type 0} (HostStep : List H → ℕ → Option ℕ → List Val → Store → Answer → Store
     → List H → Type 0) where
+  -- A run that ends so, or gets stuck.
+  abbrev pub RunsOn : (bound : ℕ) → Frame → (old : State H) → Configuration → Option Ending
+      → (new : State H) → Type 0
+  RunsOn bound frame old configuration (Some ending) new =
+      Run HostStep bound frame old configuration ending new
+  RunsOn bound frame old configuration None new =
+      GetsStuck HostStep bound frame old configuration
+
+  -- The same of tasks.
+  abbrev pub TasksRunOn : (bound instance : ℕ) → ModuleInstance → (old : State H) → List Task
+      → Option Ending → (new : State H) → Type 0
+  TasksRunOn bound instance i old tasks (Some ending) new =
+      RunTasks HostStep bound instance i old tasks ending new
+  TasksRunOn bound instance i old tasks None new =
+      TasksGetStuck HostStep bound instance i old tasks
+
   -- This outcome ends the run.
   pub record Ends (bound : ℕ) (frame : Frame) (old : State H) (configuration : Configuration)
       (o : TaskEnd) (new : State H) : Type 0 where
-    pub ends : Run HostStep bound frame old configuration (ending_in o) new
-    pub no_values : HasNoValues (ending_in o)
+    pub ends : RunsOn bound frame old configuration (ending_in o) new
+    pub no_values : IsWithoutValues (ending_in o)
 
   -- One step to this configuration, or another end of the run.
   abbrev pub StepsOrEnds : {U : Type 0} → Result U TaskEnd → (bound : ℕ) → Frame → (old : State H)
@@ -105,16 +127,16 @@ module _ {H : Type 0} (HostStep : List H → ℕ → Option ℕ → List Val →
   abbrev pub DoneTasks : (bound instance : ℕ) → ModuleInstance → (old : State H) → List Task
       → (new : State H) → Type 0
   DoneTasks bound instance i old tasks new =
-      (further : List Task) (ending : Ending) (last : State H)
-      → RunTasks HostStep bound instance i new further ending last
-      → RunTasks HostStep bound instance i old (tasks ++ further) ending last
+      (further : List Task) (ending : Option Ending) (last : State H)
+      → TasksRunOn bound instance i new further ending last
+      → TasksRunOn bound instance i old (tasks ++ further) ending last
 
   -- One of the tasks ended the link.
   pub record EndedTasks (bound instance : ℕ) (i : ModuleInstance) (old : State H)
       (tasks : List Task) (o : TaskEnd) (new : State H) : Type 0 where
     pub ended : (further : List Task)
-        → RunTasks HostStep bound instance i old (tasks ++ further) (ending_in o) new
-    pub no_values : HasNoValues (ending_in o)
+        → TasksRunOn bound instance i old (tasks ++ further) (ending_in o) new
+    pub no_values : IsWithoutValues (ending_in o)
 
   abbrev pub RanTasks : {U : Type 0} → Result U TaskEnd → (bound instance : ℕ) → ModuleInstance
       → (old : State H) → List Task → (new : State H) → Type 0

@@ -40,6 +40,8 @@ pub enum LinkEnd {
 }
 
 impl From<LinkRefusal> for LinkEnd {
+    ghost from_gives = { λ refusal end. end ≡ RefusedEnd refusal };
+
     fn from(refusal: LinkRefusal) -> LinkEnd {
         LinkEnd::Refused(refusal)
     }

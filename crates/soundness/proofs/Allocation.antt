@@ -34,6 +34,7 @@ use Rattle.core_types.specs.declared.types.ValType.TheVariants as ty
 use Rattle.meaning.specs.structure.Bodies.{Body, body_of, writing}
 use Rattle.meaning.specs.execution.Memories.{new_memory, page_size}
 use Rattle.meaning.specs.execution.Modules.{code_of, consecutive, constant, constant_value, map_all, function_address, given_addresses, global_address, memory_address, new_data, new_elements, new_function, new_global, new_instance, references, table_address, with_module}
+use Rattle.meaning.specs.execution.Storage.{AreBytes}
 use Rattle.meaning.specs.execution.Store.{FunctionInstance, GlobalInstance, ModuleInstance, ObjectLists, Store, instance_of, item_at, item_of, no_instance}
 use Rattle.meaning.specs.execution.Tables.{ElementInstance, TableInstance, most_entries, new_table}
 use Rattle.meaning.specs.execution.Values.{null_of}
@@ -46,7 +47,7 @@ use Rattle.meaning.proofs.lemmas.Contexts.{HasType-extension}
 use Rattle.meaning.proofs.lemmas.Lists.{map_all-length}
 use Rattle.soundness.specs.Links.{AllocationKeepsValid, IsLinkable}
 use Rattle.soundness.specs.Places.{Place, below, context_at, instance_context, no_limits, types_at}
-use Rattle.soundness.specs.Stores.{AreBytes, AreThere, DataIsValid, InstanceIsValid, DataStays, ElementIsValid, ElementStays, ExportIsThere, GlobalIsValid, body_place, Extends, FunctionIsValid, GlobalStays, HasFewObjects, MemoryIsValid, MemoryStays, SizeIsValid, StoreIsValid, TableIsValid, TableStays}
+use Rattle.soundness.specs.Stores.{AreThere, DataIsValid, InstanceIsValid, DataStays, ElementIsValid, ElementStays, ExportIsThere, GlobalIsValid, body_place, Extends, FunctionIsValid, GlobalStays, HasFewObjects, MemoryIsValid, MemoryStays, SizeIsValid, StoreIsValid, TableIsValid, TableStays}
 use Rattle.soundness.proofs.Appends.{Keeps-append, append-at, append-first, consecutive-length, there-append, types-appended}
 use Rattle.soundness.proofs.Imports.{AreAllThere, functions-given, given-there, globals-given, mapped, memories-given, tables-given}
 use Rattle.soundness.proofs.Objects.{All-map, All-none, made-all, made-same, objects-made}

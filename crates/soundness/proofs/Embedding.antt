@@ -1,5 +1,6 @@
 -- Commands to a sound embedding go well, and leave it sound.
-use Rattle.std.proofs.Common.{◌≡◌, ℕ, zero, suc, ◌<◌, List, [], ◌∷◌, ◌++◌, bytes_eq, length, reverse, Some, refl, ap, sym, subst, arith, slice_get}
+use Rattle.std.proofs.Common.{◌≡◌, ℕ, ◌<◌, List, [], ◌∷◌, ◌++◌, bytes_eq, length, reverse, Some, refl, ap, sym, subst, arith, slice_get}
+use Rattle.std.proofs.lemmas.List.Elements.{All-append}
 use Rattle.std.specs.List.{All}
 use Rattle.std.specs.Prelude.{Option, None, Result, Ok, Err, find, option_and_then, option_map}
 use Rattle.core_types.specs.declared.module.Export.{Export}
@@ -21,22 +22,24 @@ use Rattle.meaning.specs.execution.Configurations.{Invoking, no_frame}
 use Rattle.meaning.specs.execution.Hosts.{IsHostStep}
 use Rattle.meaning.specs.execution.Modules.{Instantiation, IsAllowed, map_all}
 use Rattle.meaning.specs.execution.Runs.{Answer, Ending, State, WithValues}
+use Rattle.meaning.specs.execution.Storage.{AreBytes}
 use Rattle.meaning.specs.execution.Store.{ModuleInstance, Store, instance_of}
 use Rattle.meaning.specs.structure.Bodies.{Body, body_of, writing}
-use Rattle.soundness.specs.Embedding.{AllGoWell, AppliesWell, CommandsGoWell, GoesWell, IsSound, LinksSoundModule, RepliesWell, RunsWell, asked_types, function_results, global_value}
-use Rattle.soundness.specs.Hosts.{AnswersFit, AreReady}
+use Rattle.soundness.specs.Embedding.{AllGoWell, AppliesWell, CommandsGoWell, GoesWell, IsSound, LinksSoundModule, LoadsBytes, RepliesWell, RunsWell, asked_types, function_results, global_value}
+use Rattle.soundness.specs.Hosts.{AreReady}
 use Rattle.soundness.specs.Links.{IsLinkable, IsSoundModule}
 use Rattle.soundness.specs.Places.{outermost}
 use Rattle.soundness.specs.Runs.{EndsTyped}
 use Rattle.soundness.specs.Stores.{Extends, GlobalIsValid, InstanceIsValid, StoreIsValid}
-use Rattle.soundness.proofs.Appends.{append-at}
+use Rattle.soundness.proofs.Decoded.{All-behind, spelt-sound}
 use Rattle.soundness.proofs.Effects.{Extends-same}
 use Rattle.soundness.proofs.Extension.{instance-valid}
 use Rattle.soundness.proofs.Fuel.{applies-spends}
 use Rattle.soundness.proofs.Hosts.{hosts-answer-well, ready-linked, ready-still}
 use Rattle.soundness.proofs.Links.{links-never-go-wrong}
+use Rattle.soundness.proofs.Objects.{All-first, All-none}
 use Rattle.soundness.proofs.Runs.{never-goes-wrong, out}
-use Rattle.soundness.proofs.Values.{All-at, All-from, values-reversed}
+use Rattle.soundness.proofs.Values.{All-at, values-reversed}
 
 -- ---- exported globals
 
@@ -127,25 +130,17 @@ module _ {H : Type 0} (host_type : H → FuncType) where
           sound = record { valid = sound.valid; ready = sound.ready };
         })
 
-    gets-well : (name : List ℕ) (instance : Option ℕ) (found : Result ℕ Refusal) → as_global (export_from old.state.store name instance) ≡ found → GetsAt old found reply new
-        → LeavesWell old (global_value old.state.store found) reply new
-    gets-well name instance (Err refusal) is refuses = refused old new sound [] reply refuses
-    gets-well name instance (Ok address) is (machine.got {g = g} there reply_is new_is) =
+    gets-well : (found : Result ℕ Refusal) → GetsAt old found reply new → LeavesWell old (global_value old.state.store found) reply new
+    gets-well (Err refusal) refuses = refused old new sound [] reply refuses
+    gets-well (Ok address) (machine.got {g = g} there reply_is new_is) =
         let typed : GlobalIsValid old.state.store g = All-at (GlobalIsValid old.state.store) old.state.store.globals address g there sound.valid.globals in
         rw there (still old new sound (g.ty.value ∷ []) reply (ap (λ (e : Embedding H). e.state) new_is)
         (subst (RepliesWell old.state.store (g.ty.value ∷ [])) (sym reply_is) (typed, tt)))
-    gets-well name instance (Ok address) is (machine.lost lost reply_is new_is) =
-        absurd (let inside = global-there old.state.store sound.valid name instance address is in missing old.state.store.globals address inside lost)
-      where
-        missing : {X : Type 0} (items : List X) (k : ℕ) → k < length items → slice_get items k ≡ None → ⊥
-        missing [] k inside is = omega (arith, inside)
-        missing (x ∷ items) zero inside is = cc
-        missing (x ∷ items) (suc k) inside is = missing items k (omega (arith, inside)) is
-    gets-well name instance (Ok address) is (machine.no_memory refuses) = refused old new sound _ reply refuses
+    gets-well (Ok address) (machine.no_memory refuses) = refused old new sound _ reply refuses
 
 -- ---- commands with a run
 
-module _ {H : Type 0} (host_type : H → FuncType) (Answers : H → List Val → List ℕ → Answer → List ℕ → H → Type 0) (fit : AnswersFit Answers) where
+module _ {H : Type 0} (host_type : H → FuncType) (Answers : H → List Val → List ℕ → Answer → List ℕ → H → Type 0) where
   module _ (old new : Embedding H) (sound : IsSound host_type old) (reply : Reply) where
     -- What a run leaves.
     leaves : {ending : Ending} {state : State H} (types : List ValType) → EndsTyped (IsHostStep host_type Answers) (AreReady host_type) types old.state ending state
@@ -166,7 +161,7 @@ module _ {H : Type 0} (host_type : H → FuncType) (Answers : H → List Val →
     calls-well arguments (Err refusal) refuses = refused host_type old new sound [] reply refuses
     calls-well arguments (Ok address) (machine.bad_arguments none refuses) = refused host_type old new sound _ reply refuses
     calls-well arguments (Ok address) (machine.called {ending = ending} {state = state} (f, there, typed) run reply_is new_is) =
-        let ended = never-goes-wrong (IsHostStep host_type Answers) (AreReady host_type) (ready-still host_type) (hosts-answer-well host_type Answers fit) old.setup.depth no_frame outermost old.state state
+        let ended = never-goes-wrong (IsHostStep host_type Answers) (AreReady host_type) (ready-still host_type) (hosts-answer-well host_type Answers) old.setup.depth no_frame outermost old.state state
         (Invoking (reverse arguments) address) f.ty.results ending out sound.valid sound.ready (f, there, values-reversed old.state.store arguments f.ty.params typed, refl) run in
         rw there (leaves f.ty.results ended (ap (λ (e : Embedding H). e.state) new_is) (subst (RepliesWell state.store f.ty.results) (sym reply_is) ended.ends))
 
@@ -176,7 +171,7 @@ module _ {H : Type 0} (host_type : H → FuncType) (Answers : H → List Val →
         → EndsTyped (IsHostStep host_type Answers) (AreReady host_type) [] old.state ending state
     link-ends read m sound_module externs ending state resolved allowed run =
         let linkable : IsLinkable old.state.store m externs = record { sound = sound_module; within = allowed.within; count = map_all-length (λ (i : Import). resolve_name old.state.store old.names i.module_name i.name) m.imports externs resolved; fits = allowed.given } in
-        (links-never-go-wrong read (IsHostStep host_type Answers) (AreReady host_type) (ready-still host_type) (ready-linked host_type) (hosts-answer-well host_type Answers fit) old.setup.depth m externs old.state state
+        (links-never-go-wrong read (IsHostStep host_type Answers) (AreReady host_type) (ready-still host_type) (ready-linked host_type) (hosts-answer-well host_type Answers) old.setup.depth m externs old.state state
         ending sound.valid sound.ready linkable run).0
 
     links-well : ((b : Body) → body_of (writing b) ≡ b) → (m : Module) → IsSoundModule m → Links (IsHostStep host_type Answers) old m reply new → LeavesWell host_type old [] reply new
@@ -201,7 +196,7 @@ module _ {H : Type 0} (host_type : H → FuncType) (Answers : H → List Val →
     applies-well read (Link number) linkable applies = links-at-well read (slice_get old.modules number) linkable applies
     applies-well read (Register number name) linkable applies = registers-well host_type old new sound [] reply name (slice_get old.instances number) applies
     applies-well read (Call number name arguments) linkable applies = calls-well arguments (as_function (export_at old number name)) applies
-    applies-well read (GetGlobal number name) linkable applies = gets-well host_type old new sound reply name (slice_get old.instances number) (as_global (export_at old number name)) refl applies
+    applies-well read (GetGlobal number name) linkable applies = gets-well host_type old new sound reply (as_global (export_at old number name)) applies
     applies-well read (SetFuel fuel) linkable applies = sets-fuel-well host_type old new sound reply fuel applies
 
     -- A command goes well, if the module that it links may be linked, and leaves a sound embedding.
@@ -211,14 +206,14 @@ module _ {H : Type 0} (host_type : H → FuncType) (Answers : H → List Val →
         let left = applies-well read command linkable applies in
         (record { valid = left.sound.valid; extends = left.extends; replies = left.replies; spends = applies-spends (IsHostStep host_type Answers) old new reply command applies }, left.sound)
 
-  -- The module that is linked is one of those of the embedding.
-  one-of : (at : Embedding H) (command : Command) → All IsSoundModule at.modules → LinksSoundModule at command
-  one-of at (Load bytes) all = tt
-  one-of at (Link number) all = λ m there. All-at IsSoundModule at.modules number m there all
-  one-of at (Register number name) all = tt
-  one-of at (Call number name arguments) all = tt
-  one-of at (GetGlobal number name) all = tt
-  one-of at (SetFuel fuel) all = tt
+-- The module that is linked is one of those of the embedding.
+pub one-of : {H : Type 0} (at : Embedding H) (command : Command) → All IsSoundModule at.modules → LinksSoundModule at command
+one-of at (Load bytes) all = tt
+one-of at (Link number) all = λ m there. All-at IsSoundModule at.modules number m there all
+one-of at (Register number name) all = tt
+one-of at (Call number name arguments) all = tt
+one-of at (GetGlobal number name) all = tt
+one-of at (SetFuel fuel) all = tt
 
 -- ---- commands in a row
 
@@ -250,71 +245,59 @@ module _ {H : Type 0} (HostStep : List H → ℕ → Option ℕ → List Val →
 
 -- ---- runs of commands
 
-module _ {H : Type 0} (HostStep : List H → ℕ → Option ℕ → List Val → Store → Answer → Store → List H → Type 0) (P : Module → Type 0) where
-  first-ones : (ms ns : List Module) → All P (ms ++ ns) → All P ms
-  first-ones ms ns all = All-from P ms (λ k m is. All-at P (ms ++ ns) k m (append-at ms ns k m is) all)
+module _ {H : Type 0} (HostStep : List H → ℕ → Option ℕ → List Val → Store → Answer → Store → List H → Type 0) where
+  as-before : (old new : Embedding H) → new.modules ≡ old.modules → All IsSoundModule old.modules → All IsSoundModule new.modules
+  as-before old new same all = subst (All IsSoundModule) (sym same) all
 
-  as-before : (old new : Embedding H) → new.modules ≡ old.modules → All P new.modules → All P old.modules
-  as-before old new same all = subst (All P) same all
+  refused-after : (old new : Embedding H) {refusal : Refusal} {reply : Reply} → (reply ≡ Refused refusal) × (new ≡ old) → All IsSoundModule old.modules → All IsSoundModule new.modules
+  refused-after old new (reply_is, new_is) = as-before old new (ap (λ (e : Embedding H). e.modules) new_is)
 
-  refused-before : (old new : Embedding H) {refusal : Refusal} {reply : Reply} → (reply ≡ Refused refusal) × (new ≡ old) → All P new.modules → All P old.modules
-  refused-before old new (reply_is, new_is) = as-before old new (ap (λ (e : Embedding H). e.modules) new_is)
+  -- The modules may be linked after a command, if they might before.
+  loads-after : (old new : Embedding H) (bytes : List ℕ) (reply : Reply) → AreBytes bytes → Loads old bytes reply new → All IsSoundModule old.modules → All IsSoundModule new.modules
+  loads-after old new bytes reply are (machine.loaded {m = m} decoded valid reply_is new_is) =
+      λ all. subst (All IsSoundModule) (sym (ap (λ (e : Embedding H). e.modules) new_is))
+      (All-append IsSoundModule old.modules (m ∷ []) all (All-first IsSoundModule m [] (spelt-sound bytes m are decoded valid) (All-none IsSoundModule)))
+  loads-after old new bytes reply are (machine.no_module none cause refuses) = refused-after old new refuses
+  loads-after old new bytes reply are (machine.not_valid decoded invalid refuses) = refused-after old new refuses
+  loads-after old new bytes reply are (machine.no_memory refuses) = refused-after old new refuses
 
-  -- What holds of all modules then held of those before.
-  loads-before : (old new : Embedding H) (bytes : List ℕ) (reply : Reply) → Loads old bytes reply new → All P new.modules → All P old.modules
-  loads-before old new bytes reply (machine.loaded {m = m} decoded valid reply_is new_is) =
-      λ all. first-ones old.modules (m ∷ []) (subst (All P) (ap (λ (e : Embedding H). e.modules) new_is) all)
-  loads-before old new bytes reply (machine.no_module none cause refuses) = refused-before old new refuses
-  loads-before old new bytes reply (machine.not_valid decoded invalid refuses) = refused-before old new refuses
-  loads-before old new bytes reply (machine.no_memory refuses) = refused-before old new refuses
+  links-after : (old new : Embedding H) (found : Option Module) (reply : Reply) → LinksAt HostStep old found reply new → All IsSoundModule old.modules → All IsSoundModule new.modules
+  links-after old new None reply refuses = refused-after old new refuses
+  links-after old new (Some m) reply (machine.linked resolved allowed run reply_is new_is) = as-before old new (ap (λ (e : Embedding H). e.modules) new_is)
+  links-after old new (Some m) reply (machine.ended resolved allowed run none reply_is new_is) = as-before old new (ap (λ (e : Embedding H). e.modules) new_is)
+  links-after old new (Some m) reply (machine.unknown none refuses) = refused-after old new refuses
+  links-after old new (Some m) reply (machine.incompatible resolved differs refuses) = refused-after old new refuses
+  links-after old new (Some m) reply (machine.too_large resolved given passes refuses) = refused-after old new refuses
+  links-after old new (Some m) reply (machine.no_memory refuses) = refused-after old new refuses
 
-  links-before : (old new : Embedding H) (found : Option Module) (reply : Reply) → LinksAt HostStep old found reply new → All P new.modules → All P old.modules
-  links-before old new None reply refuses = refused-before old new refuses
-  links-before old new (Some m) reply (machine.linked resolved allowed run reply_is new_is) = as-before old new (ap (λ (e : Embedding H). e.modules) new_is)
-  links-before old new (Some m) reply (machine.ended resolved allowed run none reply_is new_is) = as-before old new (ap (λ (e : Embedding H). e.modules) new_is)
-  links-before old new (Some m) reply (machine.unknown none refuses) = refused-before old new refuses
-  links-before old new (Some m) reply (machine.incompatible resolved differs refuses) = refused-before old new refuses
-  links-before old new (Some m) reply (machine.too_large resolved given passes refuses) = refused-before old new refuses
-  links-before old new (Some m) reply (machine.no_memory refuses) = refused-before old new refuses
+  registers-after : (old new : Embedding H) (name : List ℕ) (instance : Option ℕ) (reply : Reply) → RegistersAt old name instance reply new → All IsSoundModule old.modules → All IsSoundModule new.modules
+  registers-after old new name None reply refuses = refused-after old new refuses
+  registers-after old new name (Some instance) reply (machine.registered free reply_is new_is) = as-before old new (ap (λ (e : Embedding H). e.modules) new_is)
+  registers-after old new name (Some instance) reply (machine.taken has refuses) = refused-after old new refuses
+  registers-after old new name (Some instance) reply (machine.no_memory free refuses) = refused-after old new refuses
 
-  registers-before : (old new : Embedding H) (name : List ℕ) (instance : Option ℕ) (reply : Reply) → RegistersAt old name instance reply new → All P new.modules → All P old.modules
-  registers-before old new name None reply refuses = refused-before old new refuses
-  registers-before old new name (Some instance) reply (machine.registered free reply_is new_is) = as-before old new (ap (λ (e : Embedding H). e.modules) new_is)
-  registers-before old new name (Some instance) reply (machine.taken has refuses) = refused-before old new refuses
-  registers-before old new name (Some instance) reply (machine.no_memory free refuses) = refused-before old new refuses
+  calls-after : (old new : Embedding H) (found : Result ℕ Refusal) (arguments : List Val) (reply : Reply) → CallsAt HostStep old found arguments reply new → All IsSoundModule old.modules → All IsSoundModule new.modules
+  calls-after old new (Err refusal) arguments reply refuses = refused-after old new refuses
+  calls-after old new (Ok address) arguments reply (machine.called takes run reply_is new_is) = as-before old new (ap (λ (e : Embedding H). e.modules) new_is)
+  calls-after old new (Ok address) arguments reply (machine.bad_arguments none refuses) = refused-after old new refuses
 
-  calls-before : (old new : Embedding H) (found : Result ℕ Refusal) (arguments : List Val) (reply : Reply) → CallsAt HostStep old found arguments reply new → All P new.modules → All P old.modules
-  calls-before old new (Err refusal) arguments reply refuses = refused-before old new refuses
-  calls-before old new (Ok address) arguments reply (machine.called takes run reply_is new_is) = as-before old new (ap (λ (e : Embedding H). e.modules) new_is)
-  calls-before old new (Ok address) arguments reply (machine.bad_arguments none refuses) = refused-before old new refuses
+  gets-after : (old new : Embedding H) (found : Result ℕ Refusal) (reply : Reply) → GetsAt old found reply new → All IsSoundModule old.modules → All IsSoundModule new.modules
+  gets-after old new (Err refusal) reply refuses = refused-after old new refuses
+  gets-after old new (Ok address) reply (machine.got there reply_is new_is) = as-before old new (ap (λ (e : Embedding H). e.modules) new_is)
+  gets-after old new (Ok address) reply (machine.no_memory refuses) = refused-after old new refuses
 
-  gets-before : (old new : Embedding H) (found : Result ℕ Refusal) (reply : Reply) → GetsAt old found reply new → All P new.modules → All P old.modules
-  gets-before old new (Err refusal) reply refuses = refused-before old new refuses
-  gets-before old new (Ok address) reply (machine.got there reply_is new_is) = as-before old new (ap (λ (e : Embedding H). e.modules) new_is)
-  gets-before old new (Ok address) reply (machine.lost lost reply_is new_is) = as-before old new (ap (λ (e : Embedding H). e.modules) new_is)
-  gets-before old new (Ok address) reply (machine.no_memory refuses) = refused-before old new refuses
+  pub modules-after : (old new : Embedding H) (command : Command) (reply : Reply) → LoadsBytes command → Applies HostStep old command reply new → All IsSoundModule old.modules → All IsSoundModule new.modules
+  modules-after old new (Load bytes) reply are applies = loads-after old new bytes reply are applies
+  modules-after old new (Link number) reply are applies = links-after old new (slice_get old.modules number) reply applies
+  modules-after old new (Register number name) reply are applies = registers-after old new name (slice_get old.instances number) reply applies
+  modules-after old new (Call number name arguments) reply are applies = calls-after old new (as_function (export_at old number name)) arguments reply applies
+  modules-after old new (GetGlobal number name) reply are applies = gets-after old new (as_global (export_at old number name)) reply applies
+  modules-after old new (SetFuel fuel) reply are applies = as-before old new (ap (λ (e : Embedding H). e.modules) applies.1)
 
-  modules-before : (old new : Embedding H) (command : Command) (reply : Reply) → Applies HostStep old command reply new → All P new.modules → All P old.modules
-  modules-before old new (Load bytes) reply applies = loads-before old new bytes reply applies
-  modules-before old new (Link number) reply applies = links-before old new (slice_get old.modules number) reply applies
-  modules-before old new (Register number name) reply applies = registers-before old new name (slice_get old.instances number) reply applies
-  modules-before old new (Call number name arguments) reply applies = calls-before old new (as_function (export_at old number name)) arguments reply applies
-  modules-before old new (GetGlobal number name) reply applies = gets-before old new (as_global (export_at old number name)) reply applies
-  modules-before old new (SetFuel fuel) reply applies = as-before old new (ap (λ (e : Embedding H). e.modules) applies.1)
-
-  all-before : {old last : Embedding H} {commands : List Command} {replies : List Reply} → AppliesAll HostStep old commands replies last → All P last.modules → All P old.modules
-  all-before machine.none all = all
-  all-before (machine.then_on {old = old} {between = between} {command = command} {reply = reply} first rest) all = modules-before old between command reply first (all-before rest all)
-
-pub commands-go-well : ((b : Body) → body_of (writing b) ≡ b) → {H : Type 0} (host_type : H → FuncType) (Answers : H → List Val → List ℕ → Answer → List ℕ → H → Type 0)
-    → AnswersFit Answers → CommandsGoWell host_type Answers
-commands-go-well read {H} host_type Answers fit old last commands replies run sound linkable = go run sound
-  where
-    go : {at : Embedding H} {cs : List Command} {rs : List Reply} (rest : AppliesAll (IsHostStep host_type Answers) at cs rs last) → IsSound host_type at
-        → AllGoWell (IsHostStep host_type Answers) rest × IsSound host_type last
-    go machine.none at_sound = (tt, at_sound)
-    go (machine.then_on {old = at} {between = between} {command = command} {reply = reply} first rest) at_sound =
-        let before = all-before (IsHostStep host_type Answers) IsSoundModule (machine.then_on {old = at} {between = between} {command = command} {reply = reply} first rest) linkable in
-        let (well, then) = goes-well host_type Answers fit at between at_sound reply read command (one-of host_type Answers fit at command before) first in
-        let (others, sound_then) = go rest then in
-        ((well, others), sound_then)
+pub commands-go-well : ((b : Body) → body_of (writing b) ≡ b) → {H : Type 0} (host_type : H → FuncType) (Answers : H → List Val → List ℕ → Answer → List ℕ → H → Type 0) → CommandsGoWell host_type Answers
+commands-go-well read host_type Answers old last commands replies machine.none sound linkable bytes = (tt, sound)
+commands-go-well read host_type Answers old last (command ∷ commands) (reply ∷ replies) (machine.then_on {between = between} first rest) sound linkable bytes =
+    let (well, then) = goes-well host_type Answers old between sound reply read command (one-of old command linkable) first in
+    let now = modules-after (IsHostStep host_type Answers) old between command reply (bytes 0 command (omega (arith))) first linkable in
+    let (others, sound_then) = commands-go-well read host_type Answers between last commands replies rest then now (All-behind LoadsBytes (command ∷ []) commands bytes) in
+    ((well, others), sound_then)

@@ -8,16 +8,13 @@ use Rattle.meaning.specs.embedding.Commands.{Command, Load, Link, Register, Call
 use Rattle.meaning.specs.embedding.Machine.{Applies, CallsAt, Embedding, GetsAt, LinksAt, Loads, Refuses, RegistersAt, as_function, as_global, export_at}
 use Rattle.meaning.specs.embedding.Machine as machine
 use Rattle.meaning.specs.execution.Configurations.{Configuration, Frame}
-use Rattle.meaning.specs.execution.Modules.{Instantiation, RunTasks, Task, all_done, allocated, done, ended, lost, without_value}
-use Rattle.meaning.specs.execution.Runs.{Answer, Ending, IsEnd, IsStep, Run, State, goes, grows, opens, calls, values_left, trapped, host_trapped, no_fuel, no_depth, no_memory, stuck, end, step}
+use Rattle.meaning.specs.execution.Modules.{Instantiation, RunTasks, Task, all_done, done, ended}
+use Rattle.meaning.specs.execution.Runs.{Answer, Ending, IsEnd, IsStep, Run, State, goes, grows, opens, calls, values_left, trapped, host_trapped, no_fuel, no_depth, no_memory, end, step}
 use Rattle.meaning.specs.execution.Store.{ModuleInstance, Store}
 use Rattle.soundness.specs.Costs.{cost_of_end, cost_of_run, cost_of_step}
 use Rattle.soundness.specs.Embedding.{Spends}
 
 module _ {H : Type 0} (HostStep : List H → ℕ → Option ℕ → List Val → Store → Answer → Store → List H → Type 0) where
-  as-before : (old new : State H) → new ≡ old → new.fuel ≤ old.fuel
-  as-before old new is = let same : new.fuel ≡ old.fuel = ap (λ (s : State H). s.fuel) is in omega (arith, same)
-
   -- ---- runs
 
   module _ (bound : ℕ) (outside : Frame) where
@@ -37,7 +34,6 @@ module _ {H : Type 0} (HostStep : List H → ℕ → Option ℕ → List Val →
     end-costs (no_fuel little ending_is last_is) = nothing-spent last_is
     end-costs (no_depth is enough deep ending_is last_is) = nothing-spent last_is
     end-costs (no_memory ready within enough ending_is last_is) = nothing-spent last_is
-    end-costs (stuck is ending_is last_is) = nothing-spent last_is
 
     pub run-costs : {old last : State H} {c : Configuration} {ending : Ending} (run : Run HostStep bound outside old c ending last) → cost_of_run HostStep bound outside run + last.fuel ≡ old.fuel
     run-costs (end is) = end-costs is
@@ -56,11 +52,9 @@ module _ {H : Type 0} (HostStep : List H → ℕ → Option ℕ → List Val →
       let others : last.fuel ≤ between.fuel = tasks-spend bound n i rest in
       omega (arith, one, others)
   tasks-spend bound n i (ended {a = a} is run none) = run-spends bound a.frame run
-  tasks-spend bound n i (lost is) = omega arith
 
   pub link-spends : (bound : ℕ) (m : Module) (given : List Extern) {old new : State H} {ending : Ending} → Instantiation HostStep bound m given old ending new → new.fuel ≤ old.fuel
-  link-spends bound m given (allocated made run) = tasks-spend bound _ _ run
-  link-spends bound m given {old} {new} (without_value none ending_is new_is) = as-before old new new_is
+  link-spends bound m given link = tasks-spend bound _ _ link.ran
 
   -- ---- commands
 
@@ -110,7 +104,6 @@ module _ {H : Type 0} (HostStep : List H → ℕ → Option ℕ → List Val →
     gets : (found : Result ℕ Refusal) → GetsAt old found reply new → Less
     gets (Err refusal) refuses = refused refuses
     gets (Ok address) (machine.got there reply_is new_is) = still (ap (λ (e : Embedding H). e.state.fuel) new_is)
-    gets (Ok address) (machine.lost nothing reply_is new_is) = still (ap (λ (e : Embedding H). e.state.fuel) new_is)
     gets (Ok address) (machine.no_memory refuses) = refused refuses
 
     pub applies-spends : (command : Command) → Applies HostStep old command reply new → Spends command old.state.fuel new.state.fuel

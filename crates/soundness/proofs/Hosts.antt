@@ -1,4 +1,4 @@
--- Host functions answer well where their numbers have their widths and no results are references to functions.
+-- Host functions answer well where no results are references to functions.
 use Rattle.std.proofs.Common.{◌≡◌, ℕ, zero, suc, List, [], ◌∷◌, length, map, Some, false, refl, ap, sym, subst, ◌∙◌, arith, slice_get}
 use Rattle.std.proofs.lemmas.List.Elements.{All-append}
 use Rattle.std.specs.List.{All}
@@ -15,12 +15,13 @@ use Rattle.meaning.specs.execution.Hosts.{AnswersWith, HasType, IsHostStep, byte
 use Rattle.meaning.specs.execution.Memories.{MemoryInstance}
 use Rattle.meaning.specs.execution.Modules.{new_function, with_module}
 use Rattle.meaning.specs.execution.Runs.{Answer, HostTrap, Results}
+use Rattle.meaning.specs.execution.Storage.{AreBytes}
 use Rattle.meaning.specs.execution.Store.{FunctionInstance, InHost, ModuleInstance, ObjectLists, Store}
-use Rattle.meaning.specs.execution.Values.{type_of}
+use Rattle.meaning.specs.execution.Values.{FitsWidth, type_of}
 use Rattle.meaning.specs.soundness.Values.{ValueHasType, ValuesHaveTypes}
-use Rattle.soundness.specs.Hosts.{AnswerFits, AnswersFit, AreReady, FitsWidth, GivesNoFuncref}
+use Rattle.soundness.specs.Hosts.{AreReady, GivesNoFuncref}
 use Rattle.soundness.specs.Runs.{AnswerHasTypes, HostsAnswerWell}
-use Rattle.soundness.specs.Stores.{AreBytes, Extends, MemoryIsValid, StoreIsValid}
+use Rattle.soundness.specs.Stores.{Extends, MemoryIsValid, StoreIsValid}
 use Rattle.soundness.proofs.Effects.{Extends-same}
 use Rattle.soundness.proofs.Values.{All-at, All-from}
 use Rattle.soundness.proofs.Writes.{All-set, memory-extends, memory-valid}
@@ -44,19 +45,11 @@ module _ (store : Store) where
       let (typed, none_behind) = first-typed v types (subst (λ (u : ValType). has_funcref (u ∷ types) ≡ false) (sym first) none) (fits 0 v (omega (arith))) in
       (subst (λ (u : ValType). ValueHasType store v u) first typed, results-typed values types others none_behind (λ k d inside. fits (suc k) d (omega (arith, inside))))
 
-  answer-typed : (answer : Answer) (types : List ValType) → AnswersWith answer types → has_funcref types ≡ false → AnswerFits answer → AnswerHasTypes store answer types
-  answer-typed (Results values) types same none fits = results-typed values types same none fits
-  answer-typed (HostTrap code) types same none fits = tt
+  answer-typed : (answer : Answer) (types : List ValType) → AnswersWith answer types → has_funcref types ≡ false → AnswerHasTypes store answer types
+  answer-typed (Results values) types (same, fits) none = results-typed values types same none fits
+  answer-typed (HostTrap code) types same none = tt
 
 -- ---- bytes that are lent
-
-lent-are-bytes : (store : Store) → StoreIsValid store → (lent : Option ℕ) → AreBytes (lent_bytes store lent)
-lent-are-bytes store valid None = λ k d inside. let wrong : ⊥ = omega (arith, inside) in absurd wrong
-lent-are-bytes store valid (Some address) = go (slice_get store.memories address) refl
-  where
-    go : (found : Option MemoryInstance) → slice_get store.memories address ≡ found → AreBytes (bytes_in found)
-    go None is = λ k d inside. let wrong : ⊥ = omega (arith, inside) in absurd wrong
-    go (Some memory) is = (All-at (MemoryIsValid store.pages) store.memories address memory is valid.memories).bytes
 
 lent-leaves : (store : Store) → StoreIsValid store → (lent : Option ℕ) (bytes : List ℕ) → length bytes ≡ length (lent_bytes store lent) → AreBytes bytes
     → Extends store (with_lent_bytes store lent bytes) × StoreIsValid (with_lent_bytes store lent bytes)
@@ -113,7 +106,6 @@ module _ {H : Type 0} (host_type : H → FuncType) (Answers : H → List Val →
         no_funcrefs = subst (All (GivesNoFuncref host_type)) (sym call.hosts_are) (All-set (GivesNoFuncref host_type) hosts number call.host' ready.no_funcrefs (ap (λ (u : FuncType). has_funcref u.results) call.same_type ∙ none));
       }
 
-module _ {H : Type 0} (host_type : H → FuncType) (Answers : H → List Val → List ℕ → Answer → List ℕ → H → Type 0) (fit : AnswersFit Answers) where
   pub hosts-answer-well : HostsAnswerWell (IsHostStep host_type Answers) (AreReady host_type)
   hosts-answer-well hosts hosts' number address lent arguments old new answer t valid ready there typed (bytes, call, new_is) =
       let has = ready.typed address number (record { ty = t; implementation = InHost number }) there refl in
@@ -121,14 +113,10 @@ module _ {H : Type 0} (host_type : H → FuncType) (Answers : H → List Val →
       let one : call.host ≡ host = cc in
       let own_type : host_type call.host ≡ t = ap host_type one ∙ type_is in
       let none = All-at (GivesNoFuncref host_type) hosts number call.host call.is ready.no_funcrefs in
-      let (fits, are_bytes) = fit call.host call.host' arguments (lent_bytes old lent) bytes answer (lent-are-bytes old valid lent) call.answers in
-      let (extends, leaves) = lent-leaves old valid lent bytes call.same_length are_bytes in
+      let (extends, leaves) = lent-leaves old valid lent bytes call.same_length call.are_bytes in
       record {
         extends = subst (λ (s : Store). Extends old s) (sym new_is) extends;
         valid = subst StoreIsValid (sym new_is) leaves;
-        there = record {
-          typed = hosts-kept host_type Answers hosts hosts' number lent arguments old new answer (bytes, call, new_is) ready.typed;
-          no_funcrefs = subst (All (GivesNoFuncref host_type)) (sym call.hosts_are) (All-set (GivesNoFuncref host_type) hosts number call.host' ready.no_funcrefs (ap (λ (u : FuncType). has_funcref u.results) call.same_type ∙ none));
-        };
-        typed = subst (λ (u : FuncType). AnswerHasTypes old answer u.results) own_type (answer-typed old answer (host_type call.host).results call.typed none fits);
+        there = ready-kept hosts hosts' number lent arguments old new answer (bytes, call, new_is) ready;
+        typed = subst (λ (u : FuncType). AnswerHasTypes old answer u.results) own_type (answer-typed old answer (host_type call.host).results call.typed none);
       }

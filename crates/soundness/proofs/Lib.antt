@@ -22,7 +22,10 @@ pub mod Allocation
 pub mod Tasks
 pub mod Links
 pub mod Functions
+pub mod Decoded
 pub mod Hosts
 pub mod Fuel
 pub mod Embedding
 pub mod Creation
+pub mod Headline
+pub mod Narrowing

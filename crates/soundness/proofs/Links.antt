@@ -21,8 +21,8 @@ use Rattle.core_types.specs.declared.types.ValType.TheVariants as ty
 use Rattle.meaning.specs.structure.Bodies.{Body, Empty, Then, body_of, writing}
 use Rattle.meaning.specs.execution.Configurations.{Invoking, Running, no_frame}
 use Rattle.meaning.specs.execution.Memories.{new_memory}
-use Rattle.meaning.specs.execution.Modules.{Activity, Copies, Drops, HasNoValues, RunOf, RunTasks, Starts, Task, activity, allocated, constant, constant_value, done, ended, all_done, in_instance, lost, map_all, new_data, new_elements, new_global, new_instance, new_objects, references, tasks_of, with_module, without_value}
-use Rattle.meaning.specs.execution.Runs.{Answer, Ending, NoHosts, WithValues, WithTrap, OutOfFuel, OutOfDepth, OutOfMemory, GotStuck, State}
+use Rattle.meaning.specs.execution.Modules.{Activity, Copies, Drops, HasNoValues, RunOf, RunTasks, Starts, Task, activity, constant, constant_value, done, ended, all_done, in_instance, map_all, new_data, new_elements, new_global, new_instance, new_objects, references, tasks_of, with_module}
+use Rattle.meaning.specs.execution.Runs.{Answer, Ending, NoHosts, WithValues, WithTrap, OutOfFuel, OutOfDepth, OutOfMemory, State}
 use Rattle.meaning.specs.execution.Store.{FunctionInstance, GlobalInstance, ModuleInstance, ObjectLists, Store, instance_of, item_at, item_of, no_instance}
 use Rattle.meaning.specs.execution.Tables.{ElementInstance, new_table}
 use Rattle.meaning.specs.soundness.Values.{ValueHasType, ValuesHaveTypes}
@@ -33,6 +33,7 @@ use Rattle.meaning.specs.validation.Types.{function_type, reference_type}
 use Rattle.meaning.proofs.lemmas.Contexts.{HasType-extension}
 use Rattle.soundness.specs.Links.{InstanceStays, IsLinkable, LinksNeverGoWrong, RunsTyped, TaskIsGood, TasksAreGood}
 use Rattle.soundness.specs.Places.{Place, RunsOn, context_at, instance_context, outermost}
+use Rattle.soundness.specs.Progress.{TasksGetStuck, later, not_there, stuck}
 use Rattle.soundness.specs.Runs.{EndsTyped, EndsWell, HostsAnswerWell, NoConditions}
 use Rattle.soundness.specs.Stores.{Extends, GlobalIsValid, InstanceIsValid, StoreIsValid}
 use Rattle.soundness.proofs.Allocation.{extends, function-given, functions-are, global-given, globals-are, module-carried, store-valid}
@@ -41,7 +42,7 @@ use Rattle.soundness.proofs.Constants.{constant-found, constant-typed}
 use Rattle.soundness.proofs.Effects.{Extends-same}
 use Rattle.soundness.proofs.Extension.{RunsOn-extended, functions-more, instance-valid, types-found}
 use Rattle.soundness.proofs.Objects.{all-found, objects-found, objects-made}
-use Rattle.soundness.proofs.Runs.{Extends-through, never-goes-wrong}
+use Rattle.soundness.proofs.Runs.{Extends-through, never-goes-wrong, never-stuck}
 use Rattle.soundness.proofs.Tasks.{TaskIsTyped, tasks-typed, three}
 use Rattle.soundness.proofs.Values.{All-at}
 
@@ -175,7 +176,6 @@ ends-anyway store results (WithTrap trap) none ends = tt
 ends-anyway store results OutOfFuel none ends = tt
 ends-anyway store results OutOfDepth none ends = tt
 ends-anyway store results OutOfMemory none ends = tt
-ends-anyway store results GotStuck none ends = absurd ends
 
 module _ {H : Type 0} (HostStep : List H → ℕ → Option ℕ → List Val → Store → Answer → Store → List H → Type 0) (HaveHosts : Store → List H → Type 0)
     (kept : (old new : Store) (hosts : List H) → new.functions ≡ old.functions → HaveHosts old hosts → HaveHosts new hosts)
@@ -202,8 +202,21 @@ module _ {H : Type 0} (HostStep : List H → ℕ → Option ℕ → List Val →
         let typed = subst (λ (z : Activity). RunsTyped old.store z) same runs in
         let ran = activity-typed a old last ending valid there typed run in
         record { extends = ran.extends; valid = ran.valid; there = ran.there; ends = ends-anyway last.store typed.results ending none ran.ends }
-    tasks-run (task ∷ tasks) all {old} {last} {ending} valid there more (lost is) =
+
+    tasks-go-on : (tasks : List Task) → All P tasks → {old : State H} → StoreIsValid old.store → HaveHosts old.store old.hosts → Extends start old.store → TasksGetStuck HostStep bound n i old tasks → ⊥
+    tasks-go-on [] all valid there more getting = elim getting [ ]
+    tasks-go-on (task ∷ tasks) all {old} valid there more (not_there is) =
         let (found, here, runs) = each old.store valid more task (all 0 task (omega (arith))) in absurd (let wrong : None ≡ Some found = sym is ∙ here in no-value wrong)
+    tasks-go-on (task ∷ tasks) all {old} valid there more (stuck {a = a} is gets) =
+        let (found, here, runs) = each old.store valid more task (all 0 task (omega (arith))) in
+        let same : found ≡ a = cc in
+        let typed = subst (λ (z : Activity). RunsTyped old.store z) same runs in
+        gets.stuck (never-stuck HostStep HaveHosts kept well bound a.frame typed.place old a.configuration typed.results typed.outside valid there typed.typed gets.at gets.reached gets.steps)
+    tasks-go-on (task ∷ tasks) all {old} valid there more (later {between = between} {a = a} {values = values} is run rest) =
+        let (found, here, runs) = each old.store valid more task (all 0 task (omega (arith))) in
+        let same : found ≡ a = cc in
+        let ran = activity-typed a old between (WithValues values) valid there (subst (λ (z : Activity). RunsTyped old.store z) same runs) run in
+        tasks-go-on tasks (λ k d inside. all (suc k) d (omega (arith, inside))) ran.valid ran.there (Extends-through start old.store between.store more ran.extends) rest
 
 -- ---- the parts of a link, one after the other
 
@@ -230,12 +243,23 @@ module _ {H : Type 0} (HostStep : List H → ℕ → Option ℕ → List Val →
       → RunTasks HostStep bound n i old tasks ending last → EndsTyped HostStep HaveHosts [] old ending last
   tasks-end start n i tasks good valid there more run =
       tasks-run HostStep HaveHosts kept well bound start n i (λ (task : Task). (at : Store) → StoreIsValid at → Extends start at → TaskIsGood at n i task)
-      (λ at at_valid later task holds. holds at at_valid later) tasks (λ k d inside. λ at at_valid later. good at at_valid later k d inside) valid there more run
+      (λ at at_valid onward task holds. holds at at_valid onward) tasks (λ k d inside. λ at at_valid onward. good at at_valid onward k d inside) valid there more run
+
+  -- Nor do they get stuck.
+  pub tasks-never-stuck : (start : Store) (n : ℕ) (i : ModuleInstance) (tasks : List Task) → TasksAreGood start n i tasks → {old : State H} → StoreIsValid old.store → HaveHosts old.store old.hosts → Extends start old.store
+      → TasksGetStuck HostStep bound n i old tasks → ⊥
+  tasks-never-stuck start n i tasks good valid there more getting =
+      tasks-go-on HostStep HaveHosts kept well bound start n i (λ (task : Task). (at : Store) → StoreIsValid at → Extends start at → TaskIsGood at n i task)
+      (λ at at_valid onward task holds. holds at at_valid onward) tasks (λ k d inside. λ at at_valid onward. good at at_valid onward k d inside) valid there more getting
 
 -- The same without host functions.
 pub tasks-end-alone : (bound : ℕ) (start : Store) (n : ℕ) (i : ModuleInstance) (tasks : List Task) → TasksAreGood start n i tasks → {old last : State ⊥} {ending : Ending} → StoreIsValid old.store → Extends start old.store
     → RunTasks NoHosts bound n i old tasks ending last → EndsTyped NoHosts NoConditions [] old ending last
 tasks-end-alone bound start n i tasks good valid more run = tasks-end NoHosts NoConditions (λ old new hosts same there. tt) (λ hosts hosts' number address lent arguments old new answer t valid there is typed told. absurd told) bound start n i tasks good valid tt more run
+
+pub tasks-never-stuck-alone : (bound : ℕ) (start : Store) (n : ℕ) (i : ModuleInstance) (tasks : List Task) → TasksAreGood start n i tasks → {old : State ⊥} → StoreIsValid old.store → Extends start old.store → TasksGetStuck NoHosts bound n i old tasks → ⊥
+tasks-never-stuck-alone bound start n i tasks good valid more getting =
+    tasks-never-stuck NoHosts NoConditions (λ old new hosts same there. tt) (λ hosts hosts' number address lent arguments old new answer t valid there is typed told. absurd told) bound start n i tasks good valid tt more getting
 
 -- ---- links
 
@@ -253,15 +277,15 @@ pub links-never-go-wrong : ((b : Body) → body_of (writing b) ≡ b)
     → ((old new : Store) (hosts : List H) → new.functions ≡ old.functions → HaveHosts old hosts → HaveHosts new hosts)
     → ((old : Store) (m : Module) (i : ModuleInstance) (made : ObjectLists) (hosts : List H) → HaveHosts old hosts → HaveHosts (with_module old i m made) hosts)
     → HostsAnswerWell HostStep HaveHosts → LinksNeverGoWrong HostStep HaveHosts
-links-never-go-wrong read HostStep HaveHosts kept linked well bound m given old new ending valid there linkable (allocated {objects = made} made_is run) =
+links-never-go-wrong read HostStep HaveHosts kept linked well bound m given old new ending valid there linkable link =
+    let made = link.objects in
+    let made_is = link.allocated in
     let (gs, es, globals_made, elements_made, same) = objects-made m (map_all (new_global old.store (new_instance old.store m given)) m.globals) (map_all (new_elements old.store (new_instance old.store m given)) m.elements) made made_is in
     let now = with_module old.store (new_instance old.store m given) m made in
     let now_valid : StoreIsValid now = rw same (store-valid old.store m given linkable gs es globals_made elements_made valid read) in
     let grown : Extends old.store now = rw same (extends old.store m given linkable gs es) in
     let good = tasks-good read old.store m given made valid linkable made_is in
-    let ran = tasks-end HostStep HaveHosts kept well bound now (length old.store.instances) (new_instance old.store m given) (tasks_of m) good now_valid (linked old.store m (new_instance old.store m given) made old.hosts there) (Extends-same now) run in (
+    let ran = tasks-end HostStep HaveHosts kept well bound now (length old.store.instances) (new_instance old.store m given) (tasks_of m) good now_valid (linked old.store m (new_instance old.store m given) made old.hosts there) (Extends-same now) link.ran in (
       record { extends = Extends-through old.store now new.store grown ran.extends; valid = ran.valid; there = ran.there; ends = ran.ends },
       instance-stays old.store now new.store m given refl ran.extends ran.valid,
     )
-links-never-go-wrong read HostStep HaveHosts kept linked well bound m given old new ending valid there linkable (without_value none ending_is new_is) =
-    absurd (objects-there old.store m given linkable none)

@@ -26,7 +26,7 @@ use Rattle.core_types.specs.declared.types.ValType.TheVariants as ty
 use Rattle.meaning.specs.execution.Configurations.{Frame}
 use Rattle.meaning.specs.execution.Effects.{Done, Grown, bulk_cost, grow_memory, growth_cost, instruction_cost, memory_or_data_effect, push_read, write_memory}
 use Rattle.meaning.specs.execution.Memories.{MemoryInstance, can_grow, copy_bytes, fill_bytes, grow_by, load_from, load_size, loaded_value, most_pages, page_size, store_into, store_size, stored_number}
-use Rattle.meaning.specs.execution.Storage.{bytes_of_number, items_at, number_of_bytes, overwrite}
+use Rattle.meaning.specs.execution.Storage.{AreBytes, bytes_of_number, items_at, number_of_bytes, overwrite}
 use Rattle.meaning.specs.execution.Store.{DataInstance, Store, instance_of, with_data, with_memory}
 use Rattle.meaning.specs.soundness.Values.{ValueHasType, ValuesHaveTypes}
 use Rattle.meaning.specs.validation.Instructions.{HasMemory, load_type, memory_rule, store_type}
@@ -34,7 +34,7 @@ use Rattle.meaning.specs.validation.Types.{function_type}
 use Rattle.meaning.proofs.lemmas.OperatorRanges.{conversion_range, unary_range}
 use Rattle.soundness.specs.Configurations.{FrameHasPlace}
 use Rattle.soundness.specs.Places.{Place, context_at}
-use Rattle.soundness.specs.Stores.{AreBytes, DataIsValid, MemoryIsValid, MemoryStays, StoreIsValid}
+use Rattle.soundness.specs.Stores.{DataIsValid, MemoryIsValid, MemoryStays, StoreIsValid}
 use Rattle.soundness.proofs.Effects.{EffectIsGood, stays}
 use Rattle.soundness.proofs.Extension.{instance-valid, types-found}
 use Rattle.soundness.proofs.Locals.{Works, WorksAs}

@@ -6,12 +6,13 @@ use Rattle.core_types.specs.declared.types.GlobalType.{GlobalType}
 use Rattle.core_types.specs.declared.types.ValType.{ValType}
 use Rattle.meaning.specs.execution.Configurations.{Configuration, Frame, no_frame}
 use Rattle.meaning.specs.execution.Instructions.{Next, Goes, Grows, Opens, CallsHost, Traps, Branches, Returns, Over, NotReady, next}
-use Rattle.meaning.specs.execution.Runs.{Answer, Ending, IsEnd, IsStep, GotStuck, IsStuck, NoHosts, Run, State, Steps, none, one_more, goes, grows, opens, calls, values_left, trapped, host_trapped, no_fuel, no_depth, no_memory, stuck, end, step}
+use Rattle.meaning.specs.execution.Runs.{Answer, Ending, IsEnd, IsReady, IsStep, NoHosts, Run, State, Steps, none, one_more, goes, grows, opens, calls, values_left, trapped, host_trapped, no_fuel, no_depth, no_memory, end, step}
 use Rattle.meaning.specs.execution.Store.{DataInstance, FunctionInstance, GlobalInstance, ModuleInstance, Store}
 use Rattle.meaning.specs.execution.Tables.{ElementInstance}
 use Rattle.meaning.specs.soundness.Values.{ValuesHaveTypes}
 use Rattle.soundness.specs.Configurations.{ConfigurationHasType, FrameHasPlace, IsGood}
 use Rattle.soundness.specs.Places.{Place, outermost}
+use Rattle.soundness.specs.Progress.{CanGoOn, IsOver, IsStuck, TypedRunsNeverGetStuck}
 use Rattle.soundness.specs.Runs.{EndsTyped, EndsWell, HostsAnswerWell, IsOutside, IsTyped, NeverGoesWrong, NoConditions}
 use Rattle.soundness.specs.Stores.{DataStays, ElementStays, Extends, GlobalStays, Keeps, MemoryStays, StoreIsValid, TableStays}
 use Rattle.soundness.proofs.Effects.{Extends-same}
@@ -56,14 +57,38 @@ Extends-through a b c first second = record {
   entries = second.entries ∙ first.entries;
 }
 
+-- ---- progress
+
+module _ (frame : Frame) (place : Place) (out : IsOutside frame place) where
+  outside : (store : Store) → FrameHasPlace store frame place
+  outside store = (out.instance, rw (out.frame_locals, out.locals) tt)
+
+  good-goes-on : (store : Store) (results : List ValType) (n : Next) → IsGood store place results n → CanGoOn n
+  good-goes-on store results (Goes cost new own c) fine = inr tt
+  good-goes-on store results (Grows cost new own c) fine = inr tt
+  good-goes-on store results (Opens cost new c) fine = inr tt
+  good-goes-on store results (CallsHost cost number lent arguments c) fine = inr tt
+  good-goes-on store results (Traps cost trap) fine = inr tt
+  good-goes-on store results (Branches label values) (types, named, on_top) = let none : slice_get [] label ≡ Some types = rw out.labels at named in absurd cc
+  good-goes-on store results (Returns values) (types, named, on_top) = let none : None ≡ Some types = rw out.results at named in absurd cc
+  good-goes-on store results (Over values) fine = inl tt
+  good-goes-on store results NotReady fine = absurd fine
+
+  -- A typed configuration can go on.
+  typed-goes-on : (store : Store) (configuration : Configuration) (results : List ValType) → StoreIsValid store → ConfigurationHasType store place configuration results → CanGoOn (next store frame configuration)
+  typed-goes-on store configuration results valid typed =
+      good-goes-on store results (next store frame configuration) (stays-good store place frame configuration results valid (outside store) typed)
+
+-- What is not ready is stuck.
+pub waiting-stuck : {n : Next} → n ≡ NotReady → IsStuck n
+waiting-stuck is (inl over) = subst IsOver is over
+waiting-stuck is (inr ready) = subst IsReady is ready
+
 -- ---- steps and ends
 
 module _ {H : Type 0} (HostStep : List H → ℕ → Option ℕ → List Val → Store → Answer → Store → List H → Type 0) (HaveHosts : Store → List H → Type 0)
     (kept : (old new : Store) (hosts : List H) → new.functions ≡ old.functions → HaveHosts old hosts → HaveHosts new hosts)
     (well : HostsAnswerWell HostStep HaveHosts) (bound : ℕ) (frame : Frame) (place : Place) (out : IsOutside frame place) where
-  outside : (store : Store) → FrameHasPlace store frame place
-  outside store = (out.instance, rw (out.frame_locals, out.locals) tt)
-
   -- What a step from a typed configuration leaves.
   record StepsTyped (results : List ValType) (old : State H) (new : State H) (configuration : Configuration) : Type 0 where
     extends : Extends old.store new.store
@@ -74,7 +99,7 @@ module _ {H : Type 0} (HostStep : List H → ℕ → Option ℕ → List Val →
   module _ (results : List ValType) (old : State H) (configuration : Configuration) (valid : StoreIsValid old.store) (there : HaveHosts old.store old.hosts)
       (typed : ConfigurationHasType old.store place configuration results) where
     good : IsGood old.store place results (next old.store frame configuration)
-    good = stays-good old.store place frame configuration results valid (outside old.store) typed
+    good = stays-good old.store place frame configuration results valid (outside frame place out old.store) typed
 
     at : (n : Next) → next old.store frame configuration ≡ n → IsGood old.store place results n
     at n is = subst (λ (m : Next). IsGood old.store place results m) is good
@@ -99,17 +124,6 @@ module _ {H : Type 0} (HostStep : List H → ℕ → Option ℕ → List Val →
           typed = rw then (configuration-extended old.store new.store valid answer.extends place _ results (call.goes_on _ answer.typed));
         }
 
-    not-stuck : (n : Next) → IsGood old.store place results n → IsStuck n → ⊥
-    not-stuck (Goes cost store frame c) fine is = is
-    not-stuck (Grows cost store frame c) fine is = is
-    not-stuck (Opens cost store c) fine is = is
-    not-stuck (CallsHost cost number lent arguments c) fine is = is
-    not-stuck (Traps cost trap) fine is = is
-    not-stuck (Branches label values) (types, named, on_top) is = let none : slice_get [] label ≡ Some types = rw out.labels at named in absurd cc
-    not-stuck (Returns values) (types, named, on_top) is = let none : None ≡ Some types = rw out.results at named in absurd cc
-    not-stuck (Over values) fine is = is
-    not-stuck NotReady fine is = fine
-
     stays-typed : (ending : Ending) → EndsWell old.store results ending → EndsTyped HostStep HaveHosts results old ending old
     stays-typed ending ends = record { extends = Extends-same old.store; valid = valid; there = there; ends = ends }
 
@@ -125,7 +139,6 @@ module _ {H : Type 0} (HostStep : List H → ℕ → Option ℕ → List Val →
     end-typed (no_fuel little ending_is last_is) = rw (ending_is, last_is) (stays-typed _ tt)
     end-typed (no_depth is enough deep ending_is last_is) = rw (ending_is, last_is) (stays-typed _ tt)
     end-typed (no_memory ready within enough ending_is last_is) = rw (ending_is, last_is) (stays-typed _ tt)
-    end-typed (stuck is ending_is last_is) = absurd (not-stuck (next old.store frame configuration) good is)
 
   run-typed : {old last : State H} {configuration : Configuration} {ending : Ending} (results : List ValType) → StoreIsValid old.store → HaveHosts old.store old.hosts
       → ConfigurationHasType old.store place configuration results → Run HostStep bound frame old configuration ending last → EndsTyped HostStep HaveHosts results old ending last
@@ -135,16 +148,34 @@ module _ {H : Type 0} (HostStep : List H → ℕ → Option ℕ → List Val →
       let ended = run-typed results more.valid more.there more.typed rest in
       record { extends = Extends-through old.store between.store last.store more.extends ended.extends; valid = ended.valid; there = ended.there; ends = ended.ends }
 
-pub never-goes-wrong : {H : Type 0} (HostStep : List H → ℕ → Option ℕ → List Val → Store → Answer → Store → List H → Type 0) (HaveHosts : Store → List H → Type 0)
-    → ((old new : Store) (hosts : List H) → new.functions ≡ old.functions → HaveHosts old hosts → HaveHosts new hosts)
-    → HostsAnswerWell HostStep HaveHosts → NeverGoesWrong HostStep HaveHosts
-never-goes-wrong HostStep HaveHosts kept well bound frame place old last configuration results ending out valid there typed run = run-typed HostStep HaveHosts kept well bound frame place out results valid there typed run
+  -- Steps from a typed configuration lead to a typed one.
+  steps-typed : {old last : State H} {first reached : Configuration} (results : List ValType) → StoreIsValid old.store → HaveHosts old.store old.hosts → ConfigurationHasType old.store place first results
+      → Steps HostStep bound frame old first last reached → StepsTyped results old last reached
+  steps-typed {old} results valid there typed none = record { extends = Extends-same old.store; valid = valid; there = there; typed = typed }
+  steps-typed {old} {last} results valid there typed (one_more {between = between} {second = second} before next_step) =
+      let at = steps-typed results valid there typed before in
+      let more = step-typed results between second at.valid at.there at.typed next_step in
+      record { extends = Extends-through old.store between.store last.store at.extends more.extends; valid = more.valid; there = more.there; typed = more.typed }
 
--- ---- steps in a row, and the end of a machine that steps outside of all frames
+module _ {H : Type 0} (HostStep : List H → ℕ → Option ℕ → List Val → Store → Answer → Store → List H → Type 0) (HaveHosts : Store → List H → Type 0)
+    (kept : (old new : Store) (hosts : List H) → new.functions ≡ old.functions → HaveHosts old hosts → HaveHosts new hosts)
+    (well : HostsAnswerWell HostStep HaveHosts) where
+  pub never-goes-wrong : NeverGoesWrong HostStep HaveHosts
+  never-goes-wrong bound frame place old last configuration results ending out valid there typed run = run-typed HostStep HaveHosts kept well bound frame place out results valid there typed run
 
--- Outside of all frames.
+  pub never-stuck : TypedRunsNeverGetStuck HostStep HaveHosts
+  never-stuck bound frame place old configuration results out valid there typed at reached steps =
+      let then = steps-typed HostStep HaveHosts kept well bound frame place out results valid there typed steps in
+      typed-goes-on frame place out at.store reached results then.valid then.typed
+
+-- ---- outside of all frames
+
 pub out : IsOutside no_frame outermost
 out = record { instance = refl; frame_locals = refl; locals = refl; labels = refl; results = refl }
+
+-- A typed configuration is not stuck.
+pub typed-not-stuck : {store : Store} {configuration : Configuration} → IsTyped store configuration → IsStuck (next store no_frame configuration) → ⊥
+typed-not-stuck {store} {configuration} is stuck = stuck (typed-goes-on no_frame outermost out store configuration is.results is.valid is.typed)
 
 module _ {H : Type 0} (HostStep : List H → ℕ → Option ℕ → List Val → Store → Answer → Store → List H → Type 0) (HaveHosts : Store → List H → Type 0)
     (kept : (old new : Store) (hosts : List H) → new.functions ≡ old.functions → HaveHosts old hosts → HaveHosts new hosts)
@@ -152,21 +183,11 @@ module _ {H : Type 0} (HostStep : List H → ℕ → Option ℕ → List Val →
   -- Steps from a typed configuration lead to a typed one.
   pub steps-stay-typed : {old last : State H} {first then : Configuration} → HaveHosts old.store old.hosts → IsTyped old.store first → Steps HostStep bound no_frame old first last then
       → IsTyped last.store then × HaveHosts last.store last.hosts
-  steps-stay-typed there is none = (is, there)
-  steps-stay-typed {old} {last} {first} {then} there is (one_more {between = between} {second = second} before next_step) =
-      let (at, ready) = steps-stay-typed there is before in
-      let more = step-typed HostStep HaveHosts kept well bound no_frame outermost out at.results between second at.valid ready at.typed next_step in
-      (record { valid = more.valid; results = at.results; typed = more.typed }, more.there)
-
-  -- A typed configuration is no end that is stuck.
-  pub never-stuck : {at last : State H} {configuration : Configuration} → HaveHosts at.store at.hosts → IsTyped at.store configuration → IsEnd HostStep bound no_frame at configuration GotStuck last → ⊥
-  never-stuck {at} {last} {configuration} there is ends =
-      (end-typed HostStep HaveHosts kept well bound no_frame outermost out is.results at configuration is.valid there is.typed ends).ends
+  steps-stay-typed there is steps =
+      let then = steps-typed HostStep HaveHosts kept well bound no_frame outermost out is.results is.valid there is.typed steps in
+      (record { valid = then.valid; results = is.results; typed = then.typed }, then.there)
 
 -- The same without host functions.
-module _ (bound : ℕ) where
-  pub steps-alone : {old last : State ⊥} {first then : Configuration} → IsTyped old.store first → Steps NoHosts bound no_frame old first last then → IsTyped last.store then
-  steps-alone is steps = (steps-stay-typed NoHosts NoConditions (λ old new hosts same there. tt) (λ hosts hosts' number address lent arguments old new answer t valid there is typed told. absurd told) bound tt is steps).0
-
-  pub stuck-alone : {at last : State ⊥} {configuration : Configuration} → IsTyped at.store configuration → IsEnd NoHosts bound no_frame at configuration GotStuck last → ⊥
-  stuck-alone is ends = never-stuck NoHosts NoConditions (λ old new hosts same there. tt) (λ hosts hosts' number address lent arguments old new answer t valid there is typed told. absurd told) bound tt is ends
+pub steps-alone : (bound : ℕ) {old last : State ⊥} {first then : Configuration} → IsTyped old.store first → Steps NoHosts bound no_frame old first last then → IsTyped last.store then
+steps-alone bound is steps =
+    (steps-stay-typed NoHosts NoConditions (λ old new hosts same there. tt) (λ hosts hosts' number address lent arguments old new answer t valid there is typed told. absurd told) bound tt is steps).0

@@ -2,7 +2,7 @@
 use Rattle.std.specs.Prelude.{◌≡◌, ℕ, ◌+◌, List, Option}
 use Rattle.core_types.specs.declared.outcome.Val.{Val}
 use Rattle.meaning.specs.execution.Configurations.{Configuration, Frame}
-use Rattle.meaning.specs.execution.Runs.{Answer, Ending, IsEnd, IsStep, Run, State, goes, grows, opens, calls, values_left, trapped, host_trapped, no_fuel, no_depth, no_memory, stuck, end, step}
+use Rattle.meaning.specs.execution.Runs.{Answer, Ending, IsEnd, IsStep, Run, State, goes, grows, opens, calls, values_left, trapped, host_trapped, no_fuel, no_depth, no_memory, end, step}
 use Rattle.meaning.specs.execution.Store.{Store}
 
 module _ {H : Type 0} (HostStep : List H → ℕ → Option ℕ → List Val → Store → Answer → Store
@@ -23,7 +23,6 @@ module _ {H : Type 0} (HostStep : List H → ℕ → Option ℕ → List Val →
   cost_of_end (no_fuel little ending_is last_is) = 0
   cost_of_end (no_depth is enough deep ending_is last_is) = 0
   cost_of_end (no_memory ready within enough ending_is last_is) = 0
-  cost_of_end (stuck is ending_is last_is) = 0
 
   -- The sum over the steps and the end.
   abbrev pub cost_of_run : {old last : State H} {c : Configuration} {ending : Ending}

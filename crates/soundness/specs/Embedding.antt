@@ -11,6 +11,7 @@ use Rattle.meaning.specs.embedding.Creation.{Creates, HostDefinition}
 use Rattle.meaning.specs.embedding.Machine.{Applies, AppliesAll, Embedding, Setup, as_function, as_global, export_at, none, then_on}
 use Rattle.meaning.specs.execution.Hosts.{IsHostStep}
 use Rattle.meaning.specs.execution.Runs.{Answer}
+use Rattle.meaning.specs.execution.Storage.{AreBytes}
 use Rattle.meaning.specs.execution.Store.{FunctionInstance, GlobalInstance, Store}
 use Rattle.soundness.specs.Hosts.{AreReady}
 use Rattle.soundness.specs.Links.{IsSoundModule}
@@ -34,7 +35,7 @@ abbrev pub global_value : Store → Result ℕ Refusal → List ValType
 global_value store (Ok address) = value_of (slice_get store.globals address)
 global_value store (Err refusal) = []
 
--- A reply is no ending that is stuck, and its values have these types.
+-- The values in a reply have these types.
 abbrev pub RepliesWell : Store → List ValType → Reply → Type 0
 RepliesWell store types (Loaded number) = Unit {0}
 RepliesWell store types (Linked number) = Unit {0}
@@ -50,6 +51,11 @@ Spends (Register number name) old new = new ≤ old
 Spends (Call number name arguments) old new = new ≤ old
 Spends (GetGlobal number name) old new = new ≤ old
 Spends (SetFuel fuel) old new = new ≡ fuel
+
+-- What a command loads are bytes.
+abbrev pub LoadsBytes : Command → Type 0
+LoadsBytes (Load bytes) = AreBytes bytes
+LoadsBytes other = Unit {0}
 
 module _ {H : Type 0} where
   -- The types of the values that a command asks for.
@@ -114,11 +120,11 @@ module _ {H : Type 0} (host_type : H → FuncType) where
 
 module _ {H : Type 0} (host_type : H → FuncType)
     (Answers : H → List Val → List ℕ → Answer → List ℕ → H → Type 0) where
-  -- Each command of a run from a sound embedding goes well, and the embedding at the end is sound, if its modules may be linked.
+  -- Each command of a run from a sound embedding, whose modules may be linked, goes well, and the embedding at the end is sound.
   abbrev pub CommandsGoWell : Type 0
   CommandsGoWell = (old last : Embedding H) (commands : List Command) (replies : List Reply)
       (run : AppliesAll (IsHostStep host_type Answers) old commands replies last)
-      → IsSound host_type old → All IsSoundModule last.modules
+      → IsSound host_type old → All IsSoundModule old.modules → All LoadsBytes commands
       → AllGoWell (IsHostStep host_type Answers) run × IsSound host_type last
 
 -- Host functions that are nothing but their types, and never answer.

@@ -3,8 +3,10 @@ pub mod Stores
 pub mod Configurations
 pub mod Insides
 pub mod Runs
+pub mod Progress
 pub mod Links
 pub mod Hosts
 pub mod Embedding
 pub mod Rows
 pub mod Costs
+pub mod Headline

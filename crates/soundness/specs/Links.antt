@@ -9,13 +9,14 @@ use Rattle.core_types.specs.declared.types.TableType.{TableType}
 use Rattle.core_types.specs.declared.types.ValType.{ValType}
 use Rattle.meaning.specs.execution.Modules.{Activity, AreGiven, Instantiation, IsWithinLimits, Task, activity, new_instance, new_objects, with_module}
 use Rattle.meaning.specs.execution.Runs.{Answer, Ending, State}
+use Rattle.meaning.specs.execution.Storage.{AreBytes}
 use Rattle.meaning.specs.execution.Store.{ModuleInstance, ObjectLists, Store}
 use Rattle.meaning.specs.execution.Tables.{most_entries}
 use Rattle.meaning.specs.validation.Modules.{IsValid}
 use Rattle.soundness.specs.Configurations.{ConfigurationHasType}
 use Rattle.soundness.specs.Places.{Place}
 use Rattle.soundness.specs.Runs.{EndsTyped, IsOutside}
-use Rattle.soundness.specs.Stores.{AreBytes, Extends, InstanceIsValid, StoreIsValid}
+use Rattle.soundness.specs.Stores.{Extends, InstanceIsValid, StoreIsValid}
 
 -- A valid module whose numbers fit: no table has more entries than any may have, and its data are bytes.
 pub record IsSoundModule (m : Module) : Type 0 where

@@ -4,7 +4,7 @@ use Rattle.core_types.specs.declared.outcome.Val.{Val}
 use Rattle.core_types.specs.declared.types.FuncType.{FuncType}
 use Rattle.core_types.specs.declared.types.ValType.{ValType}
 use Rattle.meaning.specs.execution.Configurations.{Configuration, Frame}
-use Rattle.meaning.specs.execution.Runs.{Answer, Results, HostTrap, Ending, WithValues, WithTrap, OutOfFuel, OutOfDepth, OutOfMemory, GotStuck, Run, State}
+use Rattle.meaning.specs.execution.Runs.{Answer, Results, HostTrap, Ending, WithValues, WithTrap, OutOfFuel, OutOfDepth, OutOfMemory, Run, State}
 use Rattle.meaning.specs.execution.Store.{InHost, Store}
 use Rattle.meaning.specs.soundness.Values.{ValuesHaveTypes}
 use Rattle.soundness.specs.Configurations.{ConfigurationHasType}
@@ -23,7 +23,6 @@ EndsWell store results (WithTrap trap) = Unit {0}
 EndsWell store results OutOfFuel = Unit {0}
 EndsWell store results OutOfDepth = Unit {0}
 EndsWell store results OutOfMemory = Unit {0}
-EndsWell store results GotStuck = ⊥
 
 -- A configuration leads to some results outside of all frames, in a valid store.
 pub record IsTyped (store : Store) (configuration : Configuration) : Type 0 where

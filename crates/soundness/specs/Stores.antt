@@ -9,6 +9,7 @@ use Rattle.core_types.specs.declared.types.FuncType.{FuncType}
 use Rattle.core_types.specs.declared.types.Limits.{Limits}
 use Rattle.core_types.specs.declared.types.Mutability.TheVariants.{Const}
 use Rattle.meaning.specs.execution.Memories.{MemoryInstance, page_size, most_pages}
+use Rattle.meaning.specs.execution.Storage.{AreBytes}
 use Rattle.meaning.specs.execution.Store.{Code, DataInstance, FunctionInstance, GlobalInstance, Implementation, InCode, InHost, ModuleInstance, Store}
 use Rattle.meaning.specs.execution.Tables.{ElementInstance, TableInstance, most_entries}
 use Rattle.meaning.specs.soundness.Values.{ValueHasType}
@@ -49,9 +50,6 @@ pub record TableIsValid (store : Store) (table : TableInstance) : Type 0 where
   pub entries_are : length table.entries ≡ table.ty.limits.min
   pub entries : All (λ (v : Val). ValueHasType store v (reference_type table.ty.element))
       table.entries
-
-abbrev pub AreBytes : List ℕ → Type 0
-AreBytes bytes = All (λ (byte : ℕ). byte < 2 ^ 8) bytes
 
 pub record MemoryIsValid (pages : ℕ) (memory : MemoryInstance) : Type 0 where
   pub size : SizeIsValid memory.limits pages most_pages

@@ -13,6 +13,7 @@ ghost use Rattle.soundness.specs.Embedding.{CommandsGoWell, FreshOnesAreSound, N
 ghost use Rattle.soundness.specs.Insides.{InsideIsTyped};
 ghost use Rattle.soundness.specs.Links.{AllocationKeepsValid, IsLinkable, LinksNeverGoWrong};
 ghost use Rattle.soundness.specs.Places.{Place};
+ghost use Rattle.soundness.specs.Progress.{TypedRunsNeverGetStuck};
 ghost use Rattle.soundness.specs.Rows.{AddsTyped, adding, adding_with_a_page, storing};
 ghost use Rattle.soundness.specs.Runs.{NeverGoesWrong, NoConditions};
 ghost use Rattle.soundness.specs.Stores.{Extends, StoreIsValid};
@@ -35,10 +36,16 @@ pub fn typed_configurations_stay_good()
     ensures { StaysGood }
 {}
 
-/// Law: a bounded run from a typed configuration in a valid store, without host functions, is never stuck and ends with values
-/// of its results, or with a trap or an exhaustion, and the store is valid then and extends the one before.
+/// Law: a bounded run from a typed configuration in a valid store, without host functions, ends with values of its results, or
+/// with a trap or an exhaustion, and the store is valid then and extends the one before.
 pub fn typed_runs_never_go_wrong()
     ensures { NeverGoesWrong NoHosts NoConditions }
+{}
+
+/// Law: wherever steps lead from a typed configuration in a valid store, without host functions, it is over with values or a case
+/// of the reduction applies.
+pub fn typed_runs_never_get_stuck()
+    ensures { TypedRunsNeverGetStuck NoHosts NoConditions }
 {}
 
 /// Law: the costs of the steps of a run, and of the instruction by which it traps, sum to the fuel that it spends.
@@ -53,18 +60,17 @@ pub fn allocation_keeps_stores_valid()
     writing_is_read();
 }
 
-/// Law: a link, without host functions, of a valid module whose imports fit, into a valid store, is never stuck: its constants
-/// have values, its segments and its start function end well, and the store is valid then and extends the one before.
+/// Law: a link, without host functions, of a valid module whose imports fit, into a valid store, ends well: its segments and its
+/// start function do, and the store is valid then and extends the one before.
 pub fn links_never_go_wrong()
     ensures { LinksNeverGoWrong NoHosts NoConditions }
 {
     writing_is_read();
 }
 
-/// Law: a fresh embedding is sound, whatever host functions it has, and so is one that commands were given to, if its modules may
-/// be linked. Each command goes well: no reply is an ending that is stuck, values have the types that were asked for, the store is
-/// valid and extends the one before, and no command but the one that sets the fuel leaves more than there was. Host functions are
-/// any types here, and never answer.
+/// Law: a fresh embedding is sound, whatever host functions it has, and so is one that commands were given to. Each command goes
+/// well: values have the types that were asked for, the store is valid and extends the one before, and no command but the one that
+/// sets the fuel leaves more than there was. Host functions are any types here, and never answer.
 pub fn commands_go_well()
     ensures fresh { FreshOnesAreSound own_type }
     ensures run { CommandsGoWell own_type NeverAnswers }

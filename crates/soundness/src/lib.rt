@@ -1,5 +1,5 @@
-//! Progress and preservation: in a valid store a typed configuration is never stuck and stays typed. Definitions and laws, and
-//! no code that runs.
+//! Progress and preservation: in a valid store a typed configuration can go on and stays typed. Definitions and laws, and no code
+//! that runs.
 #![tactic(auto)]
 
 mod laws;
@@ -7,6 +7,6 @@ mod laws;
 pub use laws::{
     a_call_of_a_function_that_adds_is_typed, a_module_of_bytes_can_be_linked,
     allocation_keeps_stores_valid, commands_go_well, costs_are_spent, links_never_go_wrong,
-    the_inside_is_typed, typed_configurations_stay_good, typed_runs_never_go_wrong,
-    what_is_typed_stays_typed,
+    the_inside_is_typed, typed_configurations_stay_good, typed_runs_never_get_stuck,
+    typed_runs_never_go_wrong, what_is_typed_stays_typed,
 };

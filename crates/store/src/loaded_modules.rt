@@ -6,7 +6,7 @@ ghost use Rattle.core_types.specs.declared.module.DataSegment.{DataSegment as An
 ghost use Rattle.core_types.specs.declared.types.TableType.{TableType as AnyTable};
 ghost use Rattle.meaning.specs.execution.Tables.{most_entries};
 ghost use Rattle.soundness.specs.Links.{IsSoundModule};
-ghost use Rattle.soundness.specs.Stores.{AreBytes};
+ghost use Rattle.meaning.specs.execution.Storage.{AreBytes};
 ghost use Rattle.store.specs.Ends.{HasEnds};
 ghost use Rattle.store.specs.LoadedModules.{HaveEnds};
 

@@ -6,14 +6,15 @@ use Rattle.core_types.specs.declared.op.Op.{Op}
 use Rattle.core_types.specs.declared.op.Op.TheVariants.{Block, Loop}
 use Rattle.core_types.specs.declared.types.FuncType.{FuncType}
 use Rattle.meaning.specs.structure.Bodies.{Body, BlockKind, LoopKind, Rests, first_part, rests}
-use Rattle.meaning.specs.execution.Runs.{GotStuck}
 use Rattle.meaning.specs.execution.Configurations.{Configuration}
-use Rattle.meaning.specs.execution.Instructions.{NotReady, type_of_block, enter_label, step_sequence}
+use Rattle.meaning.specs.execution.Instructions.{type_of_block, enter_label, step_sequence}
+use Rattle.soundness.specs.Progress.{IsStuck}
+use Rattle.soundness.proofs.Runs.{waiting-stuck}
 use Rattle.exec.specs.declared.machine.Machine.{Machine}
 use Rattle.exec.specs.Positions.{after_end, rests_at}
 use Rattle.exec.specs.Representation.{IsBefore, Represents, frame_of, redex_of}
-use Rattle.exec.specs.Simulation.{EndsWith, IsEntry, World, next_in}
-use Rattle.exec.proofs.simulation.Configurations.{stuck_ends, whole_waits}
+use Rattle.exec.specs.Simulation.{IsEntry, World, next_in}
+use Rattle.exec.proofs.simulation.Configurations.{whole_next, whole_waits}
 
 -- The machine before an instruction with a body, whose inside begins at the next position.
 module _ (w : World) (m : Machine) where
@@ -44,9 +45,9 @@ module _ (w : World) (m : Machine) where
       target_is = ap rests before;
     }
 
-    module _ (frames : ℕ) (whole : Configuration) (h : Represents m frames whole) (none : type_of_block w.store (frame_of m) type ≡ None) (bound fuel : ℕ) where
-      pub block_untyped : IsBefore m (Block type) → EndsWith bound w fuel whole GotStuck w fuel
-      block_untyped before = stuck_ends w whole NotReady (whole_waits w m frames (redex_of m) whole h (block_next before ∙ ap (λ (o : Option FuncType). enter_label w.store (frame_of m) BlockKind type o inside.here.body m.operands.own rest) none)) bound fuel tt
+    module _ (frames : ℕ) (whole : Configuration) (h : Represents m frames whole) (none : type_of_block w.store (frame_of m) type ≡ None) where
+      pub block_untyped : IsBefore m (Block type) → IsStuck (whole_next w whole)
+      block_untyped before = waiting-stuck (whole_waits w m frames (redex_of m) whole h (block_next before ∙ ap (λ (o : Option FuncType). enter_label w.store (frame_of m) BlockKind type o inside.here.body m.operands.own rest) none))
 
-      pub loop_untyped : IsBefore m (Loop type) → EndsWith bound w fuel whole GotStuck w fuel
-      loop_untyped before = stuck_ends w whole NotReady (whole_waits w m frames (redex_of m) whole h (loop_next before ∙ ap (λ (o : Option FuncType). enter_label w.store (frame_of m) LoopKind type o inside.here.body m.operands.own rest) none)) bound fuel tt
+      pub loop_untyped : IsBefore m (Loop type) → IsStuck (whole_next w whole)
+      loop_untyped before = waiting-stuck (whole_waits w m frames (redex_of m) whole h (loop_next before ∙ ap (λ (o : Option FuncType). enter_label w.store (frame_of m) LoopKind type o inside.here.body m.operands.own rest) none))

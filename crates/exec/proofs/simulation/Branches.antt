@@ -6,8 +6,10 @@ use Rattle.meaning.specs.structure.Bodies.{first_part, other_parts}
 use Rattle.meaning.specs.execution.Configurations.{Configuration, Frame, InLabel as LabelAround, Label as ConfigurationLabel, Running, no_frame, continue_with}
 use Rattle.meaning.specs.execution.Instructions.{Branches, Goes, Next, NotReady, next}
 use Rattle.meaning.specs.execution.Layers.{AroundLabel, Layer, count_frames, outermost, plug}
-use Rattle.meaning.specs.execution.Runs.{OutOfFuel, GotStuck, goes}
+use Rattle.meaning.specs.execution.Runs.{OutOfFuel, goes}
 use Rattle.meaning.proofs.lemmas.Layers.{around_labels, branch-lacks, branch-lands, frames-labels, in_labels, plugged-goes, plugged-labels, plugged-waits}
+use Rattle.soundness.specs.Progress.{IsStuck}
+use Rattle.soundness.proofs.Runs.{waiting-stuck}
 use Rattle.exec.specs.declared.machine.Control.{Control}
 use Rattle.exec.specs.declared.machine.Control.TheVariants.{FromOutside, InFrame, InLabel}
 use Rattle.exec.specs.declared.machine.Label.{Label}
@@ -15,7 +17,7 @@ use Rattle.exec.specs.declared.machine.Machine.{Machine}
 use Rattle.exec.specs.Representation.{IsNoLabel, Represents, RepresentsAt, RepresentsControls, RepresentsLabel, frame_of, label_of, rests_of}
 use Rattle.exec.specs.Simulation.{EndsWith, StepsTo, World, next_in}
 use Rattle.exec.proofs.simulation.Controls.{Reached, branch_out, frame-within, outermost-none, reached}
-use Rattle.exec.proofs.simulation.Configurations.{from_redex, fuel_ends, stuck_ends, whole_next}
+use Rattle.exec.proofs.simulation.Configurations.{from_redex, fuel_ends, whole_next}
 use Rattle.exec.proofs.simulation.Positions.{drop-at, drop-none}
 use Rattle.fuel.specs.Metering.{Metered}
 use Rattle.stacks.specs.Stacked.{OperandStack, operand_stack}
@@ -97,8 +99,8 @@ module _ (m : Machine) (frames : ℕ) (redex whole : Configuration) (h : Represe
       to_label : next w.store (frame_of m) redex ≡ Branches (length at.labels) m.operands.own
       to_label = to ∙ ap (λ (n : ℕ). Branches n m.operands.own) (sym at.count)
 
-      pub branch_lacks : length m.operands.own < label.arity → (bound fuel : ℕ) → EndsWith bound w fuel whole GotStuck w fuel
-      branch_lacks few bound fuel = stuck_ends w whole NotReady (from_label NotReady (plugged-waits w.store aim.further_layers (frame_of m) at_label (branch-lacks w.store (frame_of m) m.operands.own at.labels target_label redex to_label few))) bound fuel tt
+      pub branch_lacks : length m.operands.own < label.arity → IsStuck (whole_next w whole)
+      branch_lacks few = waiting-stuck (from_label NotReady (plugged-waits w.store aim.further_layers (frame_of m) at_label (branch-lacks w.store (frame_of m) m.operands.own at.labels target_label redex to_label few)))
 
       module _ (enough : label.arity ≤ length m.operands.own) where
         abbrev landing : Configuration
@@ -130,5 +132,5 @@ module _ (m : Machine) (frames : ℕ) (redex whole : Configuration) (h : Represe
         }
 
   -- There is no label of this number in the frame.
-  pub branch_none : (w : World) (l : ℕ) → next_in w m redex ≡ Branches l m.operands.own → length m.controls ≤ l + m.outer → (bound fuel : ℕ) → EndsWith bound w fuel whole GotStuck w fuel
-  branch_none w l to le bound fuel = stuck_ends w whole NotReady (from_redex w m frames redex whole h NotReady (branch_out m.code.body.now m.outer m.locals.below l m.controls m.operands.below (rests_of m).around h.layers le h.fits w.store (frame_of m) redex m.operands.own to)) bound fuel tt
+  pub branch_none : (w : World) (l : ℕ) → next_in w m redex ≡ Branches l m.operands.own → length m.controls ≤ l + m.outer → IsStuck (whole_next w whole)
+  branch_none w l to le = waiting-stuck (from_redex w m frames redex whole h NotReady (branch_out m.code.body.now m.outer m.locals.below l m.controls m.operands.below (rests_of m).around h.layers le h.fits w.store (frame_of m) redex m.operands.own to))

@@ -15,10 +15,12 @@ use Rattle.meaning.specs.execution.Configurations.{Activation, Configuration, On
 use Rattle.meaning.specs.execution.Instructions.{NotReady, Opens, call_function, enter_function, function_at as function_under, lent_memory, frame_of as frame_for, function_body}
 use Rattle.meaning.specs.execution.Values.{default_of}
 use Rattle.meaning.specs.execution.Layers.{AroundFrame, AroundLabel, Layer, plug}
-use Rattle.meaning.specs.execution.Runs.{GotStuck, OutOfDepth, OutOfFuel, OutOfMemory, no_depth, opens}
+use Rattle.meaning.specs.execution.Runs.{OutOfDepth, OutOfFuel, OutOfMemory, no_depth, opens}
 use Rattle.meaning.specs.execution.Modules.{code_of}
 use Rattle.meaning.specs.execution.Store.{FunctionInstance}
 use Rattle.meaning.proofs.lemmas.Layers.{if-at-most, if-more}
+use Rattle.soundness.specs.Progress.{IsStuck}
+use Rattle.soundness.proofs.Runs.{waiting-stuck}
 use Rattle.exec.specs.declared.machine.Control.{Control}
 use Rattle.exec.specs.declared.machine.Control.TheVariants.{FromOutside, InFrame, InLabel}
 use Rattle.exec.specs.declared.machine.Machine.{Machine}
@@ -27,7 +29,7 @@ use Rattle.exec.specs.Frames.{IsCodeOf, caller_of, enter_from_outside, enter_cal
 use Rattle.exec.specs.Positions.{continue_at, rests_at}
 use Rattle.exec.specs.Representation.{RepresentsAt, RepresentsControls, IsBefore, Represents, activation_of, frame_of, redex_of, rests_of}
 use Rattle.exec.specs.Simulation.{EndsWith, HasCode, MovesTo, StepsTo, World, next_in}
-use Rattle.exec.proofs.simulation.Configurations.{function_here, fuel_ends, memory_ends, stuck_ends, whole_depth, whole_next, whole_opens, whole_waits}
+use Rattle.exec.proofs.simulation.Configurations.{fuel_ends, function_here, memory_ends, whole_depth, whole_next, whole_opens, whole_waits}
 use Rattle.exec.proofs.simulation.Instructions.{single_next}
 use Rattle.fuel.specs.Metering.{Metered}
 use Rattle.meaning.specs.soundness.Values.{TakesArguments}
@@ -70,8 +72,8 @@ module _ (s : Contents) (w : World) (here : HasCode s w) (m : Machine) (x : ℕ)
   pub call_next : (found : Option FunctionInstance) → function_under (code_store s) (frame_of m) x ≡ found → next_in w m (redex_of m) ≡ call_function 1 w.store (lent_memory w.store (frame_of m)) found m.operands.own (rests_at m.code.body.now (m.position + 1)).here.body
   call_next found is = single_next w m (ControlPlain (Call x)) before ∙ ap (λ (g : Option FunctionInstance). call_function 1 w.store (lent_memory w.store (frame_of m)) g m.operands.own (rests_at m.code.body.now (m.position + 1)).here.body) (function_here s w m here x ∙ is)
 
-  pub call_of_none : (frames : ℕ) (whole : Configuration) → Represents m frames whole → function_under (code_store s) (frame_of m) x ≡ None → (bound fuel : ℕ) → EndsWith bound w fuel whole GotStuck w fuel
-  call_of_none frames whole h is bound fuel = stuck_ends w whole NotReady (whole_waits w m frames (redex_of m) whole h (call_next None is)) bound fuel tt
+  pub call_of_none : (frames : ℕ) (whole : Configuration) → Represents m frames whole → function_under (code_store s) (frame_of m) x ≡ None → IsStuck (whole_next w whole)
+  call_of_none frames whole h is = waiting-stuck (whole_waits w m frames (redex_of m) whole h (call_next None is))
 
 -- A call, with this operation, of a function that is found.
 module _ (w : World) (m : Machine) (frames : ℕ) (redex whole : Configuration) (h : RepresentsAt m frames redex whole) (single : depth redex ≡ 0) (op : PlainOp) (before : IsBefore m (Plain op)) (lent : Option ℕ) (t : FuncType) (f : Func) (instance : ℕ) where
@@ -86,8 +88,8 @@ module _ (w : World) (m : Machine) (frames : ℕ) (redex whole : Configuration) 
   entered = FrameAround activation (frame_for t instance (code_of f) m.operands.own) (function_body t (code_of f))
 
   module _ (is : next_in w m redex ≡ call_function 1 w.store lent (Some (function_of t instance f)) m.operands.own rest) where
-    pub call_lacks : length m.operands.own < length t.params → (bound fuel : ℕ) → EndsWith bound w fuel whole GotStuck w fuel
-    call_lacks few bound fuel = stuck_ends w whole NotReady (whole_waits w m frames redex whole h (is ∙ if-more (length t.params) (length m.operands.own) (Opens 1 w.store entered) NotReady few)) bound fuel tt
+    pub call_lacks : length m.operands.own < length t.params → IsStuck (whole_next w whole)
+    call_lacks few = waiting-stuck (whole_waits w m frames redex whole h (is ∙ if-more (length t.params) (length m.operands.own) (Opens 1 w.store entered) NotReady few))
 
     module _ (enough : length t.params ≤ length m.operands.own) where
       call_opens : whole_next w whole ≡ Opens 1 w.store (plug h.layers (frame_of m) entered)

@@ -11,17 +11,18 @@ use Rattle.core_types.specs.declared.types.FuncType.{FuncType}
 use Rattle.core_types.specs.declared.outcome.Val.{Val}
 use Rattle.core_types.specs.declared.outcome.Val.TheVariants.{I32, I64, FuncRef, ExternRef}
 use Rattle.meaning.specs.structure.Bodies.{Body, Empty, IfKind, Rests, first_part, if_with, other_parts, rests}
-use Rattle.meaning.specs.execution.Runs.{GotStuck}
 use Rattle.meaning.specs.execution.Configurations.{Frame, Configuration}
 use Rattle.meaning.specs.execution.Effects.{Done, Lacks, instruction_cost}
 use Rattle.meaning.specs.execution.Instructions.{Branches, NotReady, continue_after, type_of_block, branch_by_table, branch_if, choose_body, enter_label, step_sequence}
 use Rattle.meaning.specs.execution.Store.{Store}
+use Rattle.soundness.specs.Progress.{IsStuck}
+use Rattle.soundness.proofs.Runs.{waiting-stuck}
 use Rattle.exec.specs.declared.machine.Machine.{Machine}
 use Rattle.exec.specs.Positions.{IsElse, after_end, rests_at}
 use Rattle.exec.specs.Representation.{IsBefore, Represents, RepresentsAt, frame_of, redex_of, rests_of}
-use Rattle.exec.specs.Simulation.{EndsWith, IsEntry, World, next_in}
+use Rattle.exec.specs.Simulation.{IsEntry, World, next_in}
 use Rattle.exec.proofs.simulation.Instructions.{single_next}
-use Rattle.exec.proofs.simulation.Configurations.{stuck_ends, whole_waits}
+use Rattle.exec.proofs.simulation.Configurations.{whole_next, whole_waits}
 use Rattle.plain.specs.Effects.{HasNoI32}
 use Rattle.stacks.specs.Stacked.{OperandStack}
 
@@ -107,9 +108,9 @@ module _ (w : World) (m : Machine) where
     if_next : next_in w m (redex_of m) ≡ choose_body store (frame_of m) type inside.here.body (unwrap_or inside.here.other Empty) own rest
     if_next = ap (λ (ops : List Op). step_sequence store (frame_of m) own (rests ops).here.body) before ∙ step_sequence-if store (frame_of m) rest type inside.here.body inside.here.other own
 
-    module _ (frames : ℕ) (whole : Configuration) (h : Represents m frames whole) (bound fuel : ℕ) where
-      pub choice_lacks : HasNoI32 own → EndsWith bound w fuel whole GotStuck w fuel
-      choice_lacks none = stuck_ends w whole NotReady (whole_waits w m frames (redex_of m) whole h (if_next ∙ choose_body-lacks store (frame_of m) rest type inside.here.body (unwrap_or inside.here.other Empty) own none)) bound fuel tt
+    module _ (frames : ℕ) (whole : Configuration) (h : Represents m frames whole) where
+      pub choice_lacks : HasNoI32 own → IsStuck (whole_next w whole)
+      choice_lacks none = waiting-stuck (whole_waits w m frames (redex_of m) whole h (if_next ∙ choose_body-lacks store (frame_of m) rest type inside.here.body (unwrap_or inside.here.other Empty) own none))
 
     module _ (n : ℕ) (operands : OperandStack) (is : own ≡ I32 n ∷ operands.own) where
       abbrev popped : Machine
@@ -142,9 +143,9 @@ module _ (w : World) (m : Machine) where
           target_is = rw second.around at;
         }
 
-      module _ (frames : ℕ) (whole : Configuration) (h : Represents m frames whole) (untyped : type_of_block store (frame_of m) type ≡ None) (bound fuel : ℕ) where
-        pub choice_untyped : EndsWith bound w fuel whole GotStuck w fuel
-        choice_untyped = stuck_ends w whole NotReady (whole_waits w m frames (redex_of m) whole h (never n refl)) bound fuel tt
+      module _ (frames : ℕ) (whole : Configuration) (h : Represents m frames whole) (untyped : type_of_block store (frame_of m) type ≡ None) where
+        pub choice_untyped : IsStuck (whole_next w whole)
+        choice_untyped = waiting-stuck (whole_waits w m frames (redex_of m) whole h (never n refl))
           where
             never : (k : ℕ) → n ≡ k → next_in w m (redex_of m) ≡ NotReady
             never zero none = second_is none ∙ ap (λ (o : Option FuncType). enter_label store (frame_of m) IfKind type o (unwrap_or inside.here.other Empty) operands.own rest) untyped

@@ -6,7 +6,7 @@ use Rattle.core_types.specs.declared.outcome.Val.{Val}
 use Rattle.meaning.specs.execution.Configurations.{Frame, Configuration, depth, no_frame}
 use Rattle.meaning.specs.execution.Instructions.{Next, CallsHost, Goes, Grows, Opens, Traps, NotReady, function_at, next, type_of_block}
 use Rattle.meaning.specs.execution.Layers.{outermost, plug, count_frames}
-use Rattle.meaning.specs.execution.Runs.{no_fuel, no_memory, stuck, OutOfFuel, OutOfMemory, GotStuck, IsReady, IsStuck, IsWithinBound, price}
+use Rattle.meaning.specs.execution.Runs.{no_fuel, no_memory, OutOfFuel, OutOfMemory, IsReady, IsWithinBound, price}
 use Rattle.meaning.specs.execution.Store.{FunctionInstance, ModuleInstance, Store, item_at, no_instance}
 use Rattle.meaning.specs.validation.Types.{block_type}
 use Rattle.meaning.proofs.lemmas.Layers.{plugged-calls, plugged-depth, plugged-goes, plugged-grows, plugged-opens, plugged-traps, plugged-waits}
@@ -58,9 +58,6 @@ module _ (w : World) (whole : Configuration) (n : Next) (is : whole_next w whole
 
   pub memory_ends : IsReady n → IsWithinBound bound (depth whole) n → price n ≤ fuel → EndsWith bound w fuel whole OutOfMemory w fuel
   memory_ends r b h = no_memory (subst IsReady (sym is) r) (subst (λ (x : Next). IsWithinBound bound (depth whole) x) (sym is) b) (subst (λ (x : Next). price x ≤ fuel) (sym is) h) refl refl
-
-  pub stuck_ends : IsStuck n → EndsWith bound w fuel whole GotStuck w fuel
-  stuck_ends h = stuck (subst IsStuck (sym is) h) refl refl
 
 -- The world of a store has its code.
 pub same_code : (code : Contents) (state : StateContents) → HasCode code (world_of code state)

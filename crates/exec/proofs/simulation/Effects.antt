@@ -5,11 +5,13 @@ use Rattle.core_types.specs.declared.op.Op.{Op}
 use Rattle.core_types.specs.declared.op.Op.TheVariants.{Plain}
 use Rattle.core_types.specs.declared.op.PlainOp.{PlainOp}
 use Rattle.meaning.specs.structure.Bodies.{Body, rests}
-use Rattle.meaning.specs.execution.Runs.{Ending, trapped, WithTrap, OutOfFuel, OutOfMemory, GotStuck, goes, grows}
+use Rattle.meaning.specs.execution.Runs.{Ending, trapped, WithTrap, OutOfFuel, OutOfMemory, goes, grows}
 use Rattle.meaning.specs.execution.Configurations.{Configuration, Running}
 use Rattle.meaning.specs.execution.Effects.{Effect, Done, Fails, Grown, Lacks, instruction_cost}
-use Rattle.meaning.specs.execution.Instructions.{NotReady, continue_after}
+use Rattle.meaning.specs.execution.Instructions.{continue_after}
 use Rattle.meaning.specs.execution.Store.{Store}
+use Rattle.soundness.specs.Progress.{IsStuck}
+use Rattle.soundness.proofs.Runs.{waiting-stuck}
 use Rattle.exec.specs.declared.machine.Machine.{Machine}
 use Rattle.plain.specs.Effects.{IsAffordable, LeadsTo, TrapsWith, price_of}
 use Rattle.meaning.specs.execution.Layers.{plug}
@@ -17,7 +19,7 @@ use Rattle.exec.specs.Positions.{rests_at}
 use Rattle.stacks.specs.Stacked.{LocalStack, OperandStack}
 use Rattle.exec.specs.Representation.{IsBefore, Represents, frame_of, redex_of, rests_of}
 use Rattle.exec.specs.Simulation.{EndsWith, MovesTo, StepsTo, World, next_in}
-use Rattle.exec.proofs.simulation.Configurations.{whole_goes, whole_grows, whole_traps, whole_waits, fuel_ends, memory_ends, stuck_ends}
+use Rattle.exec.proofs.simulation.Configurations.{fuel_ends, memory_ends, whole_goes, whole_grows, whole_next, whole_traps, whole_waits}
 use Rattle.fuel.specs.Metering.{Metered}
 
 -- An end that leaves the store and the fuel as they are.
@@ -32,10 +34,10 @@ module _ (w : World) (m : Machine) (frames : ℕ) (whole : Configuration) (h : R
   abbrev pub HasNext : Effect → Type 0
   HasNext e = next_in w m (redex_of m) ≡ continue_after (frame_of m) e rest
 
-  module _ (bound fuel : ℕ) where
-    pub effect_lacks : (e : Effect) → HasNext e → e ≡ Lacks → EndsWith bound w fuel whole GotStuck w fuel
-    effect_lacks e is l = stuck_ends w whole NotReady (whole_waits w m frames (redex_of m) whole h (is ∙ ap (λ (x : Effect). continue_after (frame_of m) x rest) l)) bound fuel tt
+  pub effect_lacks : (e : Effect) → HasNext e → e ≡ Lacks → IsStuck (whole_next w whole)
+  effect_lacks e is l = waiting-stuck (whole_waits w m frames (redex_of m) whole h (is ∙ ap (λ (x : Effect). continue_after (frame_of m) x rest) l))
 
+  module _ (bound fuel : ℕ) where
     pub effect_traps : (e : Effect) → HasNext e → (trap : Trap) (left : ℕ) → TrapsWith e trap fuel left → EndsWith bound w fuel whole (WithTrap trap) w left
     effect_traps (Done cost store locals values) is trap left t = absurd t
     effect_traps (Grown cost store locals values) is trap left t = absurd t

@@ -13,12 +13,14 @@ use Rattle.meaning.specs.execution.Instructions.{CallsHost, Next, NotReady, call
 use Rattle.meaning.specs.execution.Layers.{plug}
 use Rattle.core_types.specs.declared.outcome.Trap.TheVariants.{Host}
 use Rattle.meaning.specs.execution.Hosts.{HasType, HostsHaveTypes, IsHostCall, IsHostStep}
-use Rattle.meaning.specs.execution.Runs.{Answer, Ending, GotStuck, HostTrap, IsEnd, IsReady, IsStep, IsWithinBound, OutOfFuel, OutOfMemory, Results, Run, WithTrap, WithValues, calls, end, host_trapped, no_memory, price, step, values_left}
+use Rattle.meaning.specs.execution.Runs.{Answer, Ending, HostTrap, IsEnd, IsReady, IsStep, IsWithinBound, OutOfFuel, OutOfMemory, Results, Run, WithTrap, WithValues, calls, end, host_trapped, no_memory, price, step, values_left}
 use Rattle.meaning.specs.execution.Store.{FunctionInstance, Store}
 use Rattle.meaning.specs.execution.Values.{type_of}
 use Rattle.meaning.proofs.lemmas.Layers.{if-at-most, if-more, plugged-answered}
 use Rattle.meaning.proofs.lemmas.SameTypes.{types_decided}
 use Rattle.meaning.specs.validation.Types.{are_same_types}
+use Rattle.soundness.specs.Progress.{IsStuck}
+use Rattle.soundness.proofs.Runs.{waiting-stuck}
 use Rattle.exec.specs.declared.machine.Machine.{Machine}
 use Rattle.exec.specs.declared.machine.Step.{Step}
 use Rattle.exec.specs.declared.machine.Step.TheVariants as step
@@ -26,7 +28,7 @@ use Rattle.exec.specs.HostCalls.{WaitsForHost, go_on}
 use Rattle.exec.specs.Positions.{rests_at}
 use Rattle.exec.specs.Representation.{IsBefore, Represents, RepresentsAt, frame_of, rests_of}
 use Rattle.exec.specs.Simulation.{EndsWith, IfGoes, World, next_in, run_state}
-use Rattle.exec.proofs.simulation.Configurations.{fuel_ends, stuck_ends, whole_calls, whole_next, whole_waits}
+use Rattle.exec.proofs.simulation.Configurations.{fuel_ends, whole_calls, whole_next, whole_waits}
 use Rattle.store.specs.Contents.{host_function}
 
 -- What does not go on has whatever would be had if it went on.
@@ -51,9 +53,9 @@ module _ (w : World) (m : Machine) (frames : ℕ) (redex whole : Configuration) 
   behind = Running (drop (length t.params) m.operands.own) rest
 
   module _ (is : next_in w m redex ≡ call_function 1 w.store (lent_memory w.store (frame_of m)) (Some (host_function number t)) m.operands.own rest) where
-    pub host_lacks : length m.operands.own < length t.params → (bound fuel : ℕ) → EndsWith bound w fuel whole GotStuck w fuel
-    host_lacks few bound fuel =
-        stuck_ends w whole NotReady (whole_waits w m frames redex whole h (is ∙ if-more (length t.params) (length m.operands.own) (call_host 1 number (lent_memory w.store (frame_of m)) t m.operands.own rest) NotReady few)) bound fuel tt
+    pub host_lacks : length m.operands.own < length t.params → IsStuck (whole_next w whole)
+    host_lacks few =
+        waiting-stuck (whole_waits w m frames redex whole h (is ∙ if-more (length t.params) (length m.operands.own) (call_host 1 number (lent_memory w.store (frame_of m)) t m.operands.own rest) NotReady few))
 
     module _ (enough : length t.params ≤ length m.operands.own) where
       host_next : (b : Bool) → (IsTrue b ↔ (map type_of arguments ≡ t.params)) → next_in w m redex ≡ (if b then CallsHost 1 number (lent_memory w.store (frame_of m)) arguments behind else NotReady)
@@ -61,8 +63,8 @@ module _ (w : World) (m : Machine) (frames : ℕ) (redex whole : Configuration) 
           is ∙ if-at-most (length t.params) (length m.operands.own) (call_host 1 number (lent_memory w.store (frame_of m)) t m.operands.own rest) NotReady enough
           ∙ ap (λ (d : Bool). if d then CallsHost 1 number (lent_memory w.store (frame_of m)) arguments behind else NotReady) (types_decided b (map type_of arguments) t.params decided)
 
-      pub host_untyped : (IsTrue false ↔ (map type_of arguments ≡ t.params)) → (bound fuel : ℕ) → EndsWith bound w fuel whole GotStuck w fuel
-      host_untyped decided bound fuel = stuck_ends w whole NotReady (whole_waits w m frames redex whole h (host_next false decided)) bound fuel tt
+      pub host_untyped : (IsTrue false ↔ (map type_of arguments ≡ t.params)) → IsStuck (whole_next w whole)
+      host_untyped decided = waiting-stuck (whole_waits w m frames redex whole h (host_next false decided))
 
       module _ (decided : IsTrue true ↔ (map type_of arguments ≡ t.params)) where
         host_calls : whole_next w whole ≡ CallsHost 1 number (lent_memory w.store (frame_of m)) arguments (plug h.layers (frame_of m) behind)
@@ -133,7 +135,7 @@ pub result_count : {H : Type 0} (host_type : H → FuncType) (Answers : H → Li
     → IsHostStep host_type Answers hosts number lent arguments store (Results results) store' hosts' → HasType host_type hosts number t → length results ≡ length t.results
 result_count host_type Answers hosts hosts' number lent _ results store store' t (bytes', done, is) there =
     let same : host_type done.host ≡ t = one_type host_type hosts number (host_type done.host) t (ap (option_map host_type) done.is) there in
-    sym (length-map results type_of) ∙ ap length done.typed ∙ ap (λ (u : FuncType). length u.results) same
+    sym (length-map results type_of) ∙ ap length done.typed.0 ∙ ap (λ (u : FuncType). length u.results) same
 
 -- Out of memory before the call.
 module _ {H : Type 0} (host_type : H → FuncType) (Answers : H → List Val → List ℕ → Answer → List ℕ → H → Type 0) (number : ℕ) (store : Store) (whole : Configuration) (fuel frames : ℕ) (m : Machine) (hosts : List H) (wait : WaitsForHost number store whole fuel frames m) (bound : ℕ) where

@@ -12,14 +12,16 @@ use Rattle.meaning.specs.structure.Bodies.{Body}
 use Rattle.meaning.specs.execution.Configurations.{Configuration}
 use Rattle.meaning.specs.execution.Effects.{table_at}
 use Rattle.meaning.specs.execution.Instructions.{Next, NotReady, Traps, call_through, lent_memory}
-use Rattle.meaning.specs.execution.Runs.{GotStuck, OutOfFuel, WithTrap, trapped}
+use Rattle.meaning.specs.execution.Runs.{OutOfFuel, WithTrap, trapped}
 use Rattle.meaning.specs.execution.Store.{Store, instance_of}
 use Rattle.meaning.specs.execution.Tables.{TableInstance}
+use Rattle.soundness.specs.Progress.{IsStuck}
+use Rattle.soundness.proofs.Runs.{waiting-stuck}
 use Rattle.exec.specs.declared.machine.Machine.{Machine}
 use Rattle.exec.specs.Positions.{rests_at}
 use Rattle.exec.specs.Representation.{IsBefore, Represents, frame_of, redex_of}
 use Rattle.exec.specs.Simulation.{EndsWith, World, next_in}
-use Rattle.exec.proofs.simulation.Configurations.{fuel_ends, stuck_ends, whole_traps, whole_waits}
+use Rattle.exec.proofs.simulation.Configurations.{fuel_ends, whole_next, whole_traps, whole_waits}
 use Rattle.exec.proofs.simulation.Instructions.{single_next}
 use Rattle.plain.specs.Effects.{HasNoI32}
 
@@ -46,14 +48,14 @@ module _ (w : World) (m : Machine) (ty table : ℕ) (before : IsBefore m (Plain 
   pub through_next : (values : List Val) → m.operands.own ≡ values → (n : Next) → called values ≡ n → next_in w m (redex_of m) ≡ n
   through_next values is n e = single_next w m (ControlPlain (CallIndirect ty table)) before ∙ ap called is ∙ e
 
-  module _ (frames : ℕ) (whole : Configuration) (h : Represents m frames whole) (bound fuel : ℕ) where
-    pub through_waits : (values : List Val) → m.operands.own ≡ values → called values ≡ NotReady → EndsWith bound w fuel whole GotStuck w fuel
-    through_waits values is e = stuck_ends w whole NotReady (whole_waits w m frames (redex_of m) whole h (through_next values is NotReady e)) bound fuel tt
+  module _ (frames : ℕ) (whole : Configuration) (h : Represents m frames whole) where
+    pub through_waits : (values : List Val) → m.operands.own ≡ values → called values ≡ NotReady → IsStuck (whole_next w whole)
+    through_waits values is e = waiting-stuck (whole_waits w m frames (redex_of m) whole h (through_next values is NotReady e))
 
-    pub through_none : HasNoI32 m.operands.own → EndsWith bound w fuel whole GotStuck w fuel
+    pub through_none : HasNoI32 m.operands.own → IsStuck (whole_next w whole)
     through_none none = through_waits m.operands.own refl (through-lacks w.store lent (slice_get (instance_of w.store (frame_of m).instance).types ty) (table_at w.store (frame_of m) table) m.operands.own rest none)
 
-    module _ (values : List Val) (is : m.operands.own ≡ values) (trap : Trap) (e : called values ≡ Traps 1 trap) where
+    module _ (bound fuel : ℕ) (values : List Val) (is : m.operands.own ≡ values) (trap : Trap) (e : called values ≡ Traps 1 trap) where
       pub through_traps : (left : ℕ) → 1 ≤ fuel → left ≡ fuel - 1 → EndsWith bound w fuel whole (WithTrap trap) w left
       through_traps left enough less = rw less (trapped (whole_traps w m frames (redex_of m) whole h 1 trap (through_next values is (Traps 1 trap) e)) enough refl refl)
 

@@ -4,10 +4,12 @@ use Rattle.std.specs.Prelude.{if◌then◌else◌, nat_le}
 use Rattle.core_types.specs.declared.op.BlockType.{BlockType}
 use Rattle.core_types.specs.declared.types.FuncType.{FuncType}
 use Rattle.meaning.specs.structure.Bodies.{Kind, Part, Rests, first_part}
-use Rattle.meaning.specs.execution.Runs.{OutOfFuel, OutOfMemory, GotStuck, goes}
+use Rattle.meaning.specs.execution.Runs.{OutOfFuel, OutOfMemory, goes}
 use Rattle.meaning.specs.execution.Configurations.{Continuation, Configuration, Label, Running, InLabel as LabelAround}
 use Rattle.meaning.specs.execution.Instructions.{Goes, NotReady, continuation_of}
 use Rattle.meaning.specs.validation.Types.{label_types}
+use Rattle.soundness.specs.Progress.{IsStuck}
+use Rattle.soundness.proofs.Runs.{waiting-stuck}
 use Rattle.exec.specs.declared.machine.Control.{Control}
 use Rattle.exec.specs.declared.machine.Control.TheVariants.{InLabel}
 use Rattle.exec.specs.declared.machine.Machine.{Machine}
@@ -17,7 +19,7 @@ use Rattle.exec.specs.Positions.{rests_at}
 use Rattle.stacks.specs.Stacked.{OperandStack, operand_stack}
 use Rattle.exec.specs.Representation.{RepresentsControls, Represents, RepresentsAt, frame_of}
 use Rattle.exec.specs.Simulation.{EndsWith, IsEntry, StepsTo, World, next_in}
-use Rattle.exec.proofs.simulation.Configurations.{whole_goes, whole_waits, fuel_ends, memory_ends, stuck_ends}
+use Rattle.exec.proofs.simulation.Configurations.{fuel_ends, memory_ends, whole_goes, whole_next, whole_waits}
 use Rattle.fuel.specs.Metering.{Metered}
 
 module _ (w : World) (m : Machine) (frames : ℕ) (redex whole : Configuration) (h : RepresentsAt m frames redex whole) (kind : Kind) (type : BlockType) (t : FuncType) (target position : ℕ) (entry : IsEntry w m redex kind type t target position) where
@@ -37,9 +39,9 @@ module _ (w : World) (m : Machine) (frames : ℕ) (redex whole : Configuration) 
   entered_next : next_in w m redex ≡ (if nat_le (length t.params) (length m.operands.own) then Goes 1 w.store (frame_of m) (entered_label (length t.params) (length (label_types kind t))) else NotReady)
   entered_next = entry.next_is
 
-  pub label_lacks : (params : ℕ) → length t.params ≡ params → length m.operands.own < params → (bound fuel : ℕ) → EndsWith bound w fuel whole GotStuck w fuel
-  label_lacks params is lt bound fuel =
-      stuck_ends w whole NotReady (whole_waits w m frames redex whole h (entered_next ∙ if-more (length t.params) (length m.operands.own) (Goes 1 w.store (frame_of m) (entered_label (length t.params) (length (label_types kind t)))) NotReady (rw is lt))) bound fuel tt
+  pub label_lacks : (params : ℕ) → length t.params ≡ params → length m.operands.own < params → IsStuck (whole_next w whole)
+  label_lacks params is lt =
+      waiting-stuck (whole_waits w m frames redex whole h (entered_next ∙ if-more (length t.params) (length m.operands.own) (Goes 1 w.store (frame_of m) (entered_label (length t.params) (length (label_types kind t)))) NotReady (rw is lt)))
 
   module _ (params arity : ℕ) (params_are : length t.params ≡ params) (kept : length (label_types kind t) ≡ arity) (le : params ≤ length m.operands.own) where
     label_goes : next_in w m redex ≡ Goes 1 w.store (frame_of m) (entered_label params arity)

@@ -6,8 +6,10 @@ use Rattle.meaning.specs.structure.Bodies.{Empty, other_parts}
 use Rattle.meaning.specs.execution.Configurations.{Activation, Frame, Configuration, Running, InFrame as FrameAround, no_frame}
 use Rattle.meaning.specs.execution.Instructions.{Next, Returns, Goes, NotReady, next}
 use Rattle.meaning.specs.execution.Layers.{AroundFrame, Layer, count_frames, outermost, plug}
-use Rattle.meaning.specs.execution.Runs.{OutOfFuel, GotStuck, goes}
+use Rattle.meaning.specs.execution.Runs.{OutOfFuel, goes}
 use Rattle.meaning.proofs.lemmas.Layers.{around_labels, frames-labels, in_labels, plugged-goes, plugged-labels, plugged-waits, return-lacks, return-lands}
+use Rattle.soundness.specs.Progress.{IsStuck}
+use Rattle.soundness.proofs.Runs.{waiting-stuck}
 use Rattle.exec.specs.declared.machine.Caller.{Caller}
 use Rattle.exec.specs.declared.machine.Control.{Control}
 use Rattle.exec.specs.declared.machine.Control.TheVariants.{InLabel, InFrame, FromOutside}
@@ -18,7 +20,7 @@ use Rattle.exec.specs.Representation.{RepresentsControls, RepresentsFrame, Repre
 use Rattle.exec.specs.Simulation.{EndsWith, MovesTo, StepsTo, World, next_in}
 use Rattle.exec.proofs.simulation.Branches.{Landed, labels_inside, outer_within}
 use Rattle.exec.proofs.simulation.Controls.{Reached, frame-within, outermost-none}
-use Rattle.exec.proofs.simulation.Configurations.{fuel_ends, stuck_ends, whole_next}
+use Rattle.exec.proofs.simulation.Configurations.{fuel_ends, whole_next}
 use Rattle.exec.proofs.simulation.Positions.{drop-at, drop-none}
 use Rattle.fuel.specs.Metering.{Metered}
 use Rattle.stacks.specs.Stacked.{OperandStack, local_stack, operand_stack}
@@ -103,8 +105,8 @@ module _ (m : Machine) (frames : ℕ) (redex whole : Configuration) (h : Represe
       from_frame : (n : Next) → next w.store (outermost frame.further_layers in_caller) (plug frame.further_layers in_caller at_frame) ≡ n → whole_next w whole ≡ n
       from_frame n e = ap (whole_next w) (whole_at activation in_caller frame.further_layers frame.layers_are) ∙ ap (λ (f : Frame). next w.store f (plug frame.further_layers in_caller at_frame)) (sym outside) ∙ e
 
-      pub return_lacks : length m.operands.own < c.arity → (bound fuel : ℕ) → EndsWith bound w fuel whole GotStuck w fuel
-      return_lacks few bound fuel = stuck_ends w whole NotReady (from_frame NotReady (plugged-waits w.store frame.further_layers in_caller at_frame (return-lacks w.store (frame_of m) m.operands.own at.labels activation in_caller redex to few))) bound fuel tt
+      pub return_lacks : length m.operands.own < c.arity → IsStuck (whole_next w whole)
+      return_lacks few = waiting-stuck (from_frame NotReady (plugged-waits w.store frame.further_layers in_caller at_frame (return-lacks w.store (frame_of m) m.operands.own at.labels activation in_caller redex to few)))
 
       module _ (enough : c.arity ≤ length m.operands.own) where
         abbrev landing : Configuration
@@ -151,8 +153,8 @@ module _ (m : Machine) (frames : ℕ) (redex whole : Configuration) (h : Represe
       from_outside : (n : Next) → next w.store no_frame (FrameAround outer_activation (frame_of m) (in_labels at.labels redex)) ≡ n → whole_next w whole ≡ n
       from_outside n e = ap (whole_next w) (whole_at outer_activation no_frame [] outermost_frame.layers_are) ∙ e
 
-      pub outside_lacks : length m.operands.own < arity → (bound fuel : ℕ) → EndsWith bound w fuel whole GotStuck w fuel
-      outside_lacks few bound fuel = stuck_ends w whole NotReady (from_outside NotReady (return-lacks w.store (frame_of m) m.operands.own at.labels outer_activation no_frame redex to few)) bound fuel tt
+      pub outside_lacks : length m.operands.own < arity → IsStuck (whole_next w whole)
+      outside_lacks few = waiting-stuck (from_outside NotReady (return-lacks w.store (frame_of m) m.operands.own at.labels outer_activation no_frame redex to few))
 
       module _ (enough : arity ≤ length m.operands.own) where
         outside_goes : whole_next w whole ≡ Goes 1 w.store no_frame (Running (take arity m.operands.own ++ []) Empty)

@@ -11,7 +11,7 @@ use Rattle.core_types.specs.declared.outcome.Val.{Val}
 use Rattle.core_types.specs.declared.types.Limits.{Limits}
 use Rattle.core_types.specs.declared.types.TableType.{TableType}
 use Rattle.meaning.specs.execution.Memories.{new_memory}
-use Rattle.meaning.specs.execution.Modules.{AreGiven, Instantiation, RunTasks, Task, all_done, allocated, map_all, new_elements, new_global, new_instance, new_objects, objects_with, tasks_of, with_module}
+use Rattle.meaning.specs.execution.Modules.{AreGiven, Instantiation, RunTasks, Task, all_done, map_all, new_elements, new_global, new_instance, new_objects, objects_with, tasks_of, with_module}
 use Rattle.meaning.specs.execution.Runs.{Answer, Ending, State, WithValues}
 use Rattle.meaning.specs.execution.Store.{GlobalInstance, ModuleInstance, ObjectLists, Store, instance_of, no_instance}
 use Rattle.meaning.specs.execution.Tables.{ElementInstance, new_table}
@@ -28,7 +28,7 @@ use Rattle.soundness.specs.Stores.{StoreIsValid}
 use Rattle.soundness.proofs.Hosts.{ready-linked}
 use Rattle.soundness.proofs.Links.{tasks-good}
 use Rattle.instantiate.specs.Links.{IsAllocated}
-use Rattle.instantiate.specs.Tasks.{DoneTasks, EndedTasks, HasInstance, ending_in}
+use Rattle.instantiate.specs.Tasks.{DoneTasks, EndedTasks, HasInstance, TasksRunOn, ending_in}
 use Rattle.instantiate.proofs.lemmas.Instances.{addresses_in}
 
 -- Each import is given something.
@@ -81,14 +81,22 @@ module _ (number : ℕ) (m : Module) (given : List Extern) (old : Store) (code :
     ran-links : (ending : Ending) (last : State H) → RunTasks HostStep bound number (instance_of (code_store code) (Some number)) (run_state (store_with code s) hosts fuel) (tasks_of m) ending last → Instantiation HostStep bound m given (run_state old hosts fuel) ending last
     ran-links ending last ran =
         let instance_is : instance_of (code_store code) (Some number) ≡ new_instance old m given = ap (λ (o : Option ModuleInstance). unwrap_or o no_instance) numbered in
-        allocated a.objects_are (subst (λ (n : ℕ). RunTasks HostStep bound n (new_instance old m given) (run_state (with_module old (new_instance old m given) m a.objects) hosts fuel) (tasks_of m) ending last) a.number_is (subst (λ (i : ModuleInstance). RunTasks HostStep bound number i (run_state (with_module old (new_instance old m given) m a.objects) hosts fuel) (tasks_of m) ending last) instance_is (subst (λ (store : Store). RunTasks HostStep bound number (instance_of (code_store code) (Some number)) (run_state store hosts fuel) (tasks_of m) ending last) a.store_is ran)))
+        record {
+          objects = a.objects;
+          allocated = a.objects_are;
+          ran = subst (λ (n : ℕ). RunTasks HostStep bound n (new_instance old m given) (run_state (with_module old (new_instance old m given) m a.objects) hosts fuel) (tasks_of m) ending last) a.number_is
+              (subst (λ (i : ModuleInstance). RunTasks HostStep bound number i (run_state (with_module old (new_instance old m given) m a.objects) hosts fuel) (tasks_of m) ending last) instance_is
+              (subst (λ (store : Store). RunTasks HostStep bound number (instance_of (code_store code) (Some number)) (run_state store hosts fuel) (tasks_of m) ending last) a.store_is ran));
+        }
 
     pub done-links : (last : State H) → DoneTasks HostStep bound number (instance_of (code_store code) (Some number)) (run_state (store_with code s) hosts fuel) (tasks_of m) last → Instantiation HostStep bound m given (run_state old hosts fuel) (WithValues []) last
-    done-links last before = ran-links (WithValues []) last (before-all (before [] (WithValues []) last all_done))
+    done-links last before = ran-links (WithValues []) last (before-all (before [] (Some (WithValues [])) last all_done))
       where
         before-all : RunTasks HostStep bound number (instance_of (code_store code) (Some number)) (run_state (store_with code s) hosts fuel) (tasks_of m ++ []) (WithValues []) last → RunTasks HostStep bound number (instance_of (code_store code) (Some number)) (run_state (store_with code s) hosts fuel) (tasks_of m) (WithValues []) last
         before-all = subst (λ (ts : List Task). RunTasks HostStep bound number (instance_of (code_store code) (Some number)) (run_state (store_with code s) hosts fuel) ts (WithValues []) last) (append-nil (tasks_of m))
 
-    pub ended-links : (o : TaskEnd) (last : State H) → EndedTasks HostStep bound number (instance_of (code_store code) (Some number)) (run_state (store_with code s) hosts fuel) (tasks_of m) o last → Instantiation HostStep bound m given (run_state old hosts fuel) (ending_in o) last
-    ended-links o last before =
-        ran-links (ending_in o) last (subst (λ (ts : List Task). RunTasks HostStep bound number (instance_of (code_store code) (Some number)) (run_state (store_with code s) hosts fuel) ts (ending_in o) last) (append-nil (tasks_of m)) (before.ended []))
+    pub ended-links : (o : TaskEnd) (ending : Ending) (last : State H) → ending_in o ≡ Some ending → EndedTasks HostStep bound number (instance_of (code_store code) (Some number)) (run_state (store_with code s) hosts fuel) (tasks_of m) o last
+        → Instantiation HostStep bound m given (run_state old hosts fuel) ending last
+    ended-links o ending last is before =
+        let ran = subst (λ (e : Option Ending). TasksRunOn HostStep bound number (instance_of (code_store code) (Some number)) (run_state (store_with code s) hosts fuel) (tasks_of m ++ []) e last) is (before.ended []) in
+        ran-links ending last (subst (λ (ts : List Task). RunTasks HostStep bound number (instance_of (code_store code) (Some number)) (run_state (store_with code s) hosts fuel) ts ending last) (append-nil (tasks_of m)) ran)

@@ -17,10 +17,14 @@ use Rattle.meaning.specs.execution.Configurations.{Configuration, Frame, Invokin
 use Rattle.meaning.specs.execution.Effects.{Effect, Done, Fails, Grown, Lacks, data_at, drop_data, drop_elements, effect, elements_at, in_memory, init_memory, init_table, table_at}
 use Rattle.meaning.specs.execution.Instructions.{Goes, Grows, NotReady, continue_after, next, with_locals}
 use Rattle.meaning.specs.execution.Memories.{MemoryInstance}
-use Rattle.meaning.specs.execution.Modules.{Activity, Copies, Drops, HasNoValues, RunTasks, Starts, Task, activity, constant_value, done, ended, in_instance, lost, tasks_by}
-use Rattle.meaning.specs.execution.Runs.{Answer, Ending, GotStuck, IsEnd, IsStep, IsStuck, NoHosts, OutOfFuel, OutOfMemory, Run, State, WithTrap, WithValues, end, goes, grows, no_fuel, no_memory, step, stuck, trapped, values_left}
+use Rattle.meaning.specs.execution.Modules.{Activity, Copies, Drops, RunOf, Starts, Task, activity, constant_value, done, ended, in_instance, tasks_by}
+use Rattle.meaning.specs.execution.Runs.{Answer, Ending, IsEnd, IsStep, NoHosts, OutOfFuel, OutOfMemory, Run, State, WithTrap, WithValues, end, goes, grows, no_fuel, no_memory, one_more, step, trapped, values_left}
+use Rattle.meaning.specs.execution.Runs as of
 use Rattle.meaning.specs.execution.Store.{DataInstance, ModuleInstance, Store, instance_of, locate}
 use Rattle.meaning.specs.execution.Tables.{ElementInstance, TableInstance}
+use Rattle.meaning.proofs.lemmas.Runs.{Steps-join}
+use Rattle.soundness.specs.Progress.{GetsStuck, later, not_there, stuck}
+use Rattle.soundness.proofs.Runs.{waiting-stuck}
 use Rattle.instantiate.specs.declared.link_end.TaskEnd.{TaskEnd}
 use Rattle.exec.specs.declared.machine.Outcome.{Outcome}
 use Rattle.exec.specs.Simulation.{ending_of}
@@ -29,7 +33,7 @@ use Rattle.plain.specs.declared.progress.Progress.{Progress}
 use Rattle.plain.specs.declared.progress.Progress.TheVariants as progress
 use Rattle.plain.specs.Effects.{HasEffect, IsAffordable, LeadsTo, TrapsWith, price_of}
 use Rattle.stacks.specs.Stacked.{OperandStack}
-use Rattle.instantiate.specs.Tasks.{DoneTasks, EndedTasks, Ends, EndsAs, HasNoI32, IsDrop, IsEndOf, IsPassed, drops_data, drops_elements, RanTasks, RunsTo, StepsOrEnds, ending_in}
+use Rattle.instantiate.specs.Tasks.{DoneTasks, EndedTasks, Ends, EndsAs, HasNoI32, IsDrop, IsEndOf, IsPassed, IsWithoutValues, drops_data, drops_elements, RanTasks, RunsOn, RunsTo, StepsOrEnds, TasksRunOn, ending_in}
 
 -- The frame of an instance, without locals.
 abbrev pub frame_of : (instance : ℕ) → Frame
@@ -79,8 +83,8 @@ module _ (bound instance : ℕ) (old : Store) (fuel : ℕ) (configuration : Conf
     effect-no_memory (Fails trap) is h same same_fuel = absurd h
     effect-no_memory Lacks is h same same_fuel = absurd h
 
-    effect-lacks : (e : Effect) → IsNext e → e ≡ Lacks → new ≡ old → left ≡ fuel → EndsWith GotStuck
-    effect-lacks e is lacks same same_fuel = rw (same, same_fuel) (stuck (rw (is, lacks) tt) refl refl)
+    effect-lacks : (e : Effect) → IsNext e → e ≡ Lacks → GetsStuck NoHosts bound (frame_of instance) (at old fuel) configuration
+    effect-lacks e is lacks = record { at = at old fuel; reached = configuration; steps = of.none; stuck = waiting-stuck (is ∙ ap (λ (x : Effect). continue_after (frame_of instance) x rest) lacks) }
 
     module _ (e : Effect) (is : IsNext e) (locals : List Val) (operands : OperandStack) (below : List Val) where
       abbrev Had : Progress → Type 0
@@ -96,7 +100,7 @@ module _ (bound instance : ℕ) (old : Store) (fuel : ℕ) (configuration : Conf
       passed-ends (Exhausted exhausted.Memory) p passed had =
           let h = rw passed at had in record { ends = end (effect-no_memory e is h.0 h.1 h.2); no_values = tt }
       passed-ends Stuck p passed had =
-          let h = rw passed at had in record { ends = end (effect-lacks e is h.0 h.1 h.2); no_values = tt }
+          let h = rw passed at had in record { ends = effect-lacks e is h.0; no_values = tt }
 
       -- What was done is a step, if it left no locals.
       passed-steps : (p : Progress) → p ≡ progress.Done → Had p → (LeadsTo e new locals operands.own fuel left → locals ≡ []) → StepsTo operands.own
@@ -111,17 +115,22 @@ module _ (bound instance : ℕ) (old : Store) (fuel : ℕ) (configuration : Conf
 
 -- ---- runs
 
+-- A step before a run, however that goes on.
+step-before : (ending : Option Ending) (bound : ℕ) (frame : Frame) (old mid new : State ⊥) (first second : Configuration) → IsStep NoHosts bound frame old first mid second → RunsOn NoHosts bound frame mid second ending new → RunsOn NoHosts bound frame old first ending new
+step-before (Some ending) bound frame old mid new first second s run = step s run
+step-before None bound frame old mid new first second s gets = record { at = gets.at; reached = gets.reached; steps = Steps-join NoHosts bound frame (one_more of.none s) gets.steps; stuck = gets.stuck }
+
 -- A step before a run.
 pub step-runs : {U : Type 0} (r : Result U TaskEnd) (bound : ℕ) (frame : Frame) (old mid new : State ⊥) (first second : Configuration) → IsStep NoHosts bound frame old first mid second → RunsTo NoHosts r bound frame mid second new → RunsTo NoHosts r bound frame old first new
 step-runs (Ok u) bound frame old mid new first second s run = (run.0, step s run.1)
-step-runs (Err o) bound frame old mid new first second s run = record { ends = step s run.ends; no_values = run.no_values }
+step-runs (Err o) bound frame old mid new first second s run = record { ends = step-before (ending_in o) bound frame old mid new first second s run.ends; no_values = run.no_values }
 
 -- A step to values alone.
 step-over : (bound : ℕ) (frame : Frame) (old new : State ⊥) (first : Configuration) (values : List Val) → IsStep NoHosts bound frame old first new (Running values Empty) → Run NoHosts bound frame old first (WithValues (reverse values)) new
 step-over bound frame old new first values s = step s (end (values_left refl refl refl))
 
 -- No task ends with values.
-no-values : (o : TaskEnd) → HasNoValues (ending_in o)
+no-values : (o : TaskEnd) → IsWithoutValues (ending_in o)
 no-values (Trap trap) = tt
 no-values (Exhausted exhausted.Fuel) = tt
 no-values (Exhausted exhausted.Depth) = tt
@@ -132,7 +141,7 @@ no-values Stuck = tt
 pub called : {H : Type 0} (HostStep : List H → ℕ → Option ℕ → List Val → Store → Answer → Store → List H → Type 0) {U : Type 0} (r : Result U TaskEnd) (outcome : Outcome) (bound : ℕ) (frame : Frame) (old new : State H) (configuration : Configuration)
     → EndsAs r outcome → Run HostStep bound frame old configuration (ending_of outcome) new → RunsTo HostStep r bound frame old configuration new
 called HostStep (Ok u) outcome bound frame old new configuration (values, is) run = (values, subst (λ (o : Outcome). Run HostStep bound frame old configuration (ending_of o) new) is run)
-called HostStep (Err o) outcome bound frame old new configuration is run = record { ends = subst (λ (e : Ending). Run HostStep bound frame old configuration e new) is run; no_values = no-values o }
+called HostStep (Err o) outcome bound frame old new configuration is run = record { ends = subst (λ (e : Option Ending). RunsOn HostStep bound frame old configuration e new) is run; no_values = no-values o }
 
 -- ---- an instruction that drops a segment
 
@@ -171,12 +180,24 @@ module _ (bound instance : ℕ) (old new : Store) (fuel left : ℕ) (op : PlainO
 -- ---- tasks
 
 module _ {H : Type 0} (HostStep : List H → ℕ → Option ℕ → List Val → Store → Answer → Store → List H → Type 0) (bound instance : ℕ) (i : ModuleInstance) where
+  -- A task that is done goes before others, however these go on.
+  done-before : (ending : Option Ending) (old between last : State H) (task : Task) (tasks : List Task) (a : Activity) (values : List Val) → activity old.store instance i task ≡ Some a → RunOf HostStep bound old a (WithValues values) between
+      → TasksRunOn HostStep bound instance i between tasks ending last → TasksRunOn HostStep bound instance i old (task ∷ tasks) ending last
+  done-before (Some ending) old between last task tasks a values is run more = done is run more
+  done-before None old between last task tasks a values is run more = later is run more
+
+  -- A task ends all.
+  ended-here : (ending : Option Ending) (old last : State H) (task : Task) (tasks : List Task) (a : Activity) → activity old.store instance i task ≡ Some a → RunsOn HostStep bound a.frame old a.configuration ending last → IsWithoutValues ending
+      → TasksRunOn HostStep bound instance i old (task ∷ tasks) ending last
+  ended-here (Some ending) old last task tasks a is run none = ended is run none
+  ended-here None old last task tasks a is gets none = stuck is gets
+
   ran-one : {U : Type 0} (r : Result U TaskEnd) (old new : State H) (task : Task) (a : Activity) → activity old.store instance i task ≡ Some a → RunsTo HostStep r bound a.frame old a.configuration new → RanTasks HostStep r bound instance i old (task ∷ []) new
-  ran-one (Ok u) old new task a is run = λ further ending last more. done is run.1 more
-  ran-one (Err o) old new task a is run = record { ended = λ further. ended is run.ends run.no_values; no_values = run.no_values }
+  ran-one (Ok u) old new task a is run = λ further ending last more. done-before ending old new last task further a run.0 is run.1 more
+  ran-one (Err o) old new task a is run = record { ended = λ further. ended-here (ending_in o) old new task further a is run.ends run.no_values; no_values = run.no_values }
 
   lost-one : (old : State H) (task : Task) → activity old.store instance i task ≡ None → EndedTasks HostStep bound instance i old (task ∷ []) Stuck old
-  lost-one old task none = record { ended = λ further. lost none; no_values = tt }
+  lost-one old task none = record { ended = λ further. not_there none; no_values = tt }
 
   -- All of a segment is copied.
   pub copied : {U : Type 0} (r : Result U TaskEnd) (old new : State H) (offset : List Op) (count target : ℕ) (init drop : PlainOp) → constant_value old.store i offset ≡ Some (I32 target) → RunsTo HostStep r bound (frame_of instance) old (Running (I32 (count % 2 ^ 32) ∷ (I32 0 ∷ (I32 target ∷ []))) (Then init (Then drop Empty))) new → RanTasks HostStep r bound instance i old (Copies offset count init drop ∷ []) new
@@ -198,15 +219,15 @@ module _ {H : Type 0} (HostStep : List H → ℕ → Option ℕ → List Val →
 
   pub ran-then : {U : Type 0} (r : Result U TaskEnd) (old mid new : State H) (first second : List Task) → DoneTasks HostStep bound instance i old first mid → RanTasks HostStep r bound instance i mid second new → RanTasks HostStep r bound instance i old (first ++ second) new
   ran-then (Ok u) old mid new first second before after =
-      λ further ending last more. subst (λ (ts : List Task). RunTasks HostStep bound instance i old ts ending last) (sym (append_assoc first second further)) (before (second ++ further) ending last (after further ending last more))
+      λ further ending last more. subst (λ (ts : List Task). TasksRunOn HostStep bound instance i old ts ending last) (sym (append_assoc first second further)) (before (second ++ further) ending last (after further ending last more))
   ran-then (Err o) old mid new first second before after = record {
-    ended = λ further. subst (λ (ts : List Task). RunTasks HostStep bound instance i old ts (ending_in o) new) (sym (append_assoc first second further)) (before (second ++ further) (ending_in o) new (after.ended further));
+    ended = λ further. subst (λ (ts : List Task). TasksRunOn HostStep bound instance i old ts (ending_in o) new) (sym (append_assoc first second further)) (before (second ++ further) (ending_in o) new (after.ended further));
     no_values = after.no_values;
   }
 
   pub ended-then : (old new : State H) (first second : List Task) (o : TaskEnd) → EndedTasks HostStep bound instance i old first o new → EndedTasks HostStep bound instance i old (first ++ second) o new
   ended-then old new first second o before = record {
-    ended = λ further. subst (λ (ts : List Task). RunTasks HostStep bound instance i old ts (ending_in o) new) (sym (append_assoc first second further)) (before.ended (second ++ further));
+    ended = λ further. subst (λ (ts : List Task). TasksRunOn HostStep bound instance i old ts (ending_in o) new) (sym (append_assoc first second further)) (before.ended (second ++ further));
     no_values = before.no_values;
   }
 
@@ -216,9 +237,9 @@ module _ {H : Type 0} (HostStep : List H → ℕ → Option ℕ → List Val →
     -- What runs the rest of them from here runs all from the start.
     abbrev pub SoFar : (now : State H) → ℕ → Type 0
     SoFar now k =
-        (further : List Task) (ending : Ending) (last : State H)
-        → RunTasks HostStep bound instance i now (tasks_by task k (drop k items) ++ further) ending last
-        → RunTasks HostStep bound instance i start (tasks_by task 0 items ++ further) ending last
+        (further : List Task) (ending : Option Ending) (last : State H)
+        → TasksRunOn HostStep bound instance i now (tasks_by task k (drop k items) ++ further) ending last
+        → TasksRunOn HostStep bound instance i start (tasks_by task 0 items ++ further) ending last
 
     rest-is : (k : ℕ) (d : A) → k < length items → (further : List Task) → tasks_by task k (drop k items) ++ further ≡ task k (get_or items k d) ++ (tasks_by task (k + 1) (drop (k + 1) items) ++ further)
     rest-is k d inside further =
@@ -227,17 +248,17 @@ module _ {H : Type 0} (HostStep : List H → ℕ → Option ℕ → List Val →
 
     pub tasks-next : (now new : State H) (k : ℕ) (d : A) → k < length items → SoFar now k → DoneTasks HostStep bound instance i now (task k (get_or items k d)) new → SoFar new (k + 1)
     tasks-next now new k d inside so_far before =
-        λ further ending last more. so_far further ending last (subst (λ (ts : List Task). RunTasks HostStep bound instance i now ts ending last) (sym (rest-is k d inside further)) (before (tasks_by task (k + 1) (drop (k + 1) items) ++ further) ending last more))
+        λ further ending last more. so_far further ending last (subst (λ (ts : List Task). TasksRunOn HostStep bound instance i now ts ending last) (sym (rest-is k d inside further)) (before (tasks_by task (k + 1) (drop (k + 1) items) ++ further) ending last more))
 
     pub tasks-ended : (now new : State H) (k : ℕ) (d : A) → k < length items → SoFar now k → (o : TaskEnd) → EndedTasks HostStep bound instance i now (task k (get_or items k d)) o new → EndedTasks HostStep bound instance i start (tasks_by task 0 items) o new
     tasks-ended now new k d inside so_far o before = record {
-      ended = λ further. so_far further (ending_in o) new (subst (λ (ts : List Task). RunTasks HostStep bound instance i now ts (ending_in o) new) (sym (rest-is k d inside further)) (before.ended (tasks_by task (k + 1) (drop (k + 1) items) ++ further)));
+      ended = λ further. so_far further (ending_in o) new (subst (λ (ts : List Task). TasksRunOn HostStep bound instance i now ts (ending_in o) new) (sym (rest-is k d inside further)) (before.ended (tasks_by task (k + 1) (drop (k + 1) items) ++ further)));
       no_values = before.no_values;
     }
 
     pub tasks-done : (now : State H) (k : ℕ) → length items ≤ k → SoFar now k → DoneTasks HostStep bound instance i start (tasks_by task 0 items) now
     tasks-done now k past so_far =
-        λ further ending last more. so_far further ending last (subst (λ (rest : List A). RunTasks HostStep bound instance i now (tasks_by task k rest ++ further) ending last) (sym (drop_of_length-le items past)) more)
+        λ further ending last more. so_far further ending last (subst (λ (rest : List A). TasksRunOn HostStep bound instance i now (tasks_by task k rest ++ further) ending last) (sym (drop_of_length-le items past)) more)
 
   -- ---- a copy whose offset is no i32
 
@@ -278,7 +299,7 @@ module _ {H : Type 0} (HostStep : List H → ℕ → Option ℕ → List Val →
         go : (found : Option Val) → constant_value old.store i offset ≡ found → HasNoI32 found → EndedTasks HostStep bound instance i old (Copies offset count init drop ∷ []) Stuck old
         go None e none = lost-one old (Copies offset count init drop) (rw e refl)
         go (Some v) e none = record {
-          ended = λ further. ended (rw e refl) (end {configuration = Running (I32 (count % 2 ^ 32) ∷ (I32 0 ∷ (v ∷ []))) (Then init (Then drop Empty))} (stuck (subst IsStuck (sym (lacking v none (Then drop Empty))) tt) refl refl)) tt;
+          ended = λ further. stuck (rw e refl) (record { at = old; reached = Running (I32 (count % 2 ^ 32) ∷ (I32 0 ∷ (v ∷ []))) (Then init (Then drop Empty)); steps = of.none; stuck = waiting-stuck (lacking v none (Then drop Empty)) });
           no_values = tt;
         }
 

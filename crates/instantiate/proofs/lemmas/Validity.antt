@@ -1,22 +1,24 @@
 -- Tasks of a link that go well, and what they leave.
 use Rattle.std.proofs.Common.{◌≡◌, ℕ, List, [], ◌∷◌, ◌++◌, ◌≤◌, length, take, Result, Ok, Err, refl, ap, sym, subst, append_assoc, arith}
 use Rattle.std.specs.List.{All}
-use Rattle.std.proofs.lemmas.List.{append-nil, length-take-le, take_at}
-use Rattle.std.proofs.lemmas.List.Elements.{All-take}
+use Rattle.std.proofs.lemmas.List.{append-nil, length-take-le}
+use Rattle.std.specs.Prelude.{Option, Some, None}
 use Rattle.core_types.specs.declared.module.Import.{Import}
 use Rattle.core_types.specs.declared.module.Module.{Module}
 use Rattle.core_types.specs.declared.outcome.Extern.{Extern}
 use Rattle.meaning.specs.execution.Modules.{AreGiven, Instantiation, IsAllowed, RunTasks, Task, all_done}
-use Rattle.meaning.specs.execution.Runs.{Ending, GotStuck, NoHosts, State, WithValues}
+use Rattle.meaning.specs.execution.Runs.{Ending, NoHosts, State, WithValues}
 use Rattle.meaning.specs.execution.Store.{ModuleInstance, Store}
 use Rattle.soundness.specs.Links.{InstanceStays, IsLinkable, IsSoundModule, TaskIsGood, TasksAreGood}
+use Rattle.soundness.specs.Progress.{TasksGetStuck}
 use Rattle.soundness.specs.Stores.{Extends, StoreIsValid}
+use Rattle.soundness.proofs.Decoded.{All-before}
 use Rattle.soundness.proofs.Effects.{Extends-same}
 use Rattle.meaning.specs.structure.Bodies.{Body, body_of, writing}
 use Rattle.exec.specs.Simulation.{ending_of}
 use Rattle.soundness.proofs.Fuel.{link-spends}
 use Rattle.soundness.proofs.Hosts.{ready-linked, ready-still}
-use Rattle.soundness.proofs.Links.{links-never-go-wrong, tasks-end, tasks-end-alone}
+use Rattle.soundness.proofs.Links.{links-never-go-wrong, tasks-end-alone, tasks-never-stuck, tasks-never-stuck-alone}
 use Rattle.hostfunc.specs.Boxes.{HaveHosts, HostStep, type_of_host}
 use Rattle.hostfunc.specs.declared.host_function.HostFn.{Ghosts}
 use Rattle.hostfunc.specs.declared.host_object.HostObject.{HostObject}
@@ -27,10 +29,7 @@ use Rattle.instantiate.specs.declared.link_end.LinkEnd.TheVariants.{Ended, Refus
 use Rattle.instantiate.specs.declared.link_end.TaskEnd.{TaskEnd}
 use Rattle.instantiate.specs.declared.link_end.TaskEnd.TheVariants.{Stuck}
 use Rattle.instantiate.proofs.lemmas.Links.{given-enough}
-use Rattle.instantiate.specs.Tasks.{EndedTasks, RanTasks, ending_in}
-
-All-before : {X : Type 0} (P : X → Type 0) (xs ys : List X) → All P (xs ++ ys) → All P xs
-All-before P xs ys all = subst (All P) (take_at xs ys (length xs) refl) (All-take P (length xs) (xs ++ ys) all)
+use Rattle.instantiate.specs.Tasks.{EndedTasks, RanTasks, TasksRunOn, ending_in}
 
 -- The first of good tasks are good.
 pub good-part : (store : Store) (n : ℕ) (i : ModuleInstance) (first second third : List Task) → TasksAreGood store n i (first ++ (second ++ third)) → TasksAreGood store n i (first ++ second)
@@ -50,17 +49,22 @@ is-linkable store m externs n count sound allowed =
     rw count (record { sound = sound; within = allowed.within; count = length-take-le (length m.imports) externs enough; fits = given-taken store m m.imports externs allowed.given })
 
 -- Good tasks that ran without host functions leave a valid store.
-pub ran-valid : {U : Type 0} (r : Result U TaskEnd) (bound n : ℕ) (i : ModuleInstance) (old new : State ⊥) (tasks : List Task) → StoreIsValid old.store → TasksAreGood old.store n i tasks → RanTasks NoHosts r bound n i old tasks new → StoreIsValid new.store
-ran-valid (Ok u) bound n i old new tasks valid good ran =
-    (tasks-end-alone bound old.store n i tasks good valid (Extends-same old.store) (subst (λ (ts : List Task). RunTasks NoHosts bound n i old ts (WithValues []) new) (append-nil tasks) (ran [] (WithValues []) new all_done))).valid
-ran-valid (Err o) bound n i old new tasks valid good ran =
-    (tasks-end-alone bound old.store n i tasks good valid (Extends-same old.store) (subst (λ (ts : List Task). RunTasks NoHosts bound n i old ts (ending_in o) new) (append-nil tasks) (ran.ended []))).valid
+on-valid : (ending : Option Ending) (bound n : ℕ) (i : ModuleInstance) (old new : State ⊥) (tasks : List Task) → StoreIsValid old.store → TasksAreGood old.store n i tasks → TasksRunOn NoHosts bound n i old (tasks ++ []) ending new → StoreIsValid new.store
+on-valid (Some ending) bound n i old new tasks valid good ran =
+    (tasks-end-alone bound old.store n i tasks good valid (Extends-same old.store) (subst (λ (ts : List Task). RunTasks NoHosts bound n i old ts ending new) (append-nil tasks) ran)).valid
+on-valid None bound n i old new tasks valid good ran =
+    absurd (tasks-never-stuck-alone bound old.store n i tasks good valid (Extends-same old.store) (subst (λ (ts : List Task). TasksGetStuck NoHosts bound n i old ts) (append-nil tasks) ran))
 
--- Good tasks are never stuck.
+pub ran-valid : {U : Type 0} (r : Result U TaskEnd) (bound n : ℕ) (i : ModuleInstance) (old new : State ⊥) (tasks : List Task) → StoreIsValid old.store → TasksAreGood old.store n i tasks → RanTasks NoHosts r bound n i old tasks new → StoreIsValid new.store
+ran-valid (Ok u) bound n i old new tasks valid good ran = on-valid (Some (WithValues [])) bound n i old new tasks valid good (ran [] (Some (WithValues [])) new all_done)
+ran-valid (Err o) bound n i old new tasks valid good ran = on-valid (ending_in o) bound n i old new tasks valid good (ran.ended [])
+
+-- Good tasks never get stuck.
 pub never-stuck-tasks : {I : Type 0} {F : I → Type 0} (members : (i : I) → Ghosts (F i)) (bound n : ℕ) (i : ModuleInstance) (old new : State (HostObject I F)) (tasks : List Task)
     → StoreIsValid old.store → HaveHosts old.store old.hosts → TasksAreGood old.store n i tasks → EndedTasks (HostStep members) bound n i old tasks Stuck new → ⊥
 never-stuck-tasks members bound n i old new tasks valid ready good ran =
-    (tasks-end (HostStep members) HaveHosts (ready-still type_of_host) (boxes-answer-well members) bound old.store n i tasks good valid ready (Extends-same old.store) (subst (λ (ts : List Task). RunTasks (HostStep members) bound n i old ts GotStuck new) (append-nil tasks) (ran.ended []))).ends
+    tasks-never-stuck (HostStep members) HaveHosts (ready-still type_of_host) (boxes-answer-well members) bound old.store n i tasks good valid ready (Extends-same old.store)
+    (subst (λ (ts : List Task). TasksGetStuck (HostStep members) bound n i old ts) (append-nil tasks) (ran.ended []))
 
 -- What a link of a loaded module leaves, however it ends.
 pub record LeftWell {H : Type 0} (r : Result ℕ LinkEnd) (m : Module) (externs : List Extern) (old new : State H) : Type 0 where

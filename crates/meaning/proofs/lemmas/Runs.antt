@@ -5,7 +5,7 @@ use Rattle.core_types.specs.declared.outcome.Trap.TheVariants.{Host}
 use Rattle.core_types.specs.declared.outcome.Val.{Val}
 use Rattle.meaning.specs.execution.Configurations.{Configuration, Frame, answered, depth}
 use Rattle.meaning.specs.execution.Instructions.{Next, Goes, Grows, Opens, CallsHost, Traps, Branches, Returns, Over, NotReady, next}
-use Rattle.meaning.specs.execution.Runs.{Answer, Results, HostTrap, Ending, WithValues, WithTrap, OutOfFuel, OutOfDepth, OutOfMemory, GotStuck, State, IsStep, goes, grows, opens, calls, IsEnd, values_left, trapped, host_trapped, no_fuel, no_depth, no_memory, stuck, Run, end, step, Steps, none, one_more, IsStuck, price}
+use Rattle.meaning.specs.execution.Runs.{Answer, Results, HostTrap, Ending, WithValues, WithTrap, OutOfFuel, OutOfDepth, OutOfMemory, State, IsStep, goes, grows, opens, calls, IsEnd, values_left, trapped, host_trapped, no_fuel, no_depth, no_memory, Run, end, step, Steps, none, one_more, price}
 use Rattle.meaning.specs.execution.Store.{Store}
 
 module _ {H : Type 0} where
@@ -57,10 +57,10 @@ module _ {H : Type 0} (HostStep : List H → ℕ → Option ℕ → List Val →
         NoFuel cost ending last ⊎ ((code : ℕ) × (cost ≤ at.fuel) × (last.fuel ≡ at.fuel - cost) × HostStep at.hosts number lent arguments at.store (HostTrap code) last.store last.hosts × (ending ≡ WithTrap (Host code)))
     EndsAt (Traps cost trap) ending last =
         NoFuel cost ending last ⊎ ((cost ≤ at.fuel) × (ending ≡ WithTrap trap) × (last ≡ record at { fuel = at.fuel - cost }))
-    EndsAt (Branches label values) ending last = (ending ≡ GotStuck) × (last ≡ at)
-    EndsAt (Returns values) ending last = (ending ≡ GotStuck) × (last ≡ at)
+    EndsAt (Branches label values) ending last = ⊥
+    EndsAt (Returns values) ending last = ⊥
     EndsAt (Over values) ending last = (ending ≡ WithValues (reverse values)) × (last ≡ at)
-    EndsAt NotReady ending last = (ending ≡ GotStuck) × (last ≡ at)
+    EndsAt NotReady ending last = ⊥
 
     abbrev GoesTo : ℕ → Store → Configuration → State H → Configuration → Type 0
     GoesTo cost store configuration new configuration' =
@@ -91,17 +91,6 @@ module _ {H : Type 0} (HostStep : List H → ℕ → Option ℕ → List Val →
     without-fuel (Over values) lt e l = absurd (omega (arith, lt))
     without-fuel NotReady lt e l = absurd (omega (arith, lt))
 
-    at-stuck : (n : Next) {ending : Ending} {last : State H} → IsStuck n → ending ≡ GotStuck → last ≡ at → EndsAt n ending last
-    at-stuck (Goes cost store frame configuration) is e l = absurd is
-    at-stuck (Grows cost store frame configuration) is e l = absurd is
-    at-stuck (Opens cost store configuration) is e l = absurd is
-    at-stuck (CallsHost cost number lent arguments configuration) is e l = absurd is
-    at-stuck (Traps cost trap) is e l = absurd is
-    at-stuck (Branches label values) is e l = (e, l)
-    at-stuck (Returns values) is e l = (e, l)
-    at-stuck (Over values) is e l = absurd is
-    at-stuck NotReady is e l = (e, l)
-
   module _ (at : State H) (configuration : Configuration) where
     abbrev here : Next
     here = next at.store outside configuration
@@ -113,7 +102,6 @@ module _ {H : Type 0} (HostStep : List H → ℕ → Option ℕ → List Val →
     IsEnd-at (no_fuel lt e l) = inr (without-fuel at (depth configuration) here lt e l)
     IsEnd-at (no_depth is le deep e l) = inr (rw is (inr (le, deep, e, l)))
     IsEnd-at (no_memory ready within le e l) = inl e
-    IsEnd-at (stuck is e l) = inr (at-stuck at (depth configuration) here is e l)
 
     IsStep-at : {new : State H} {configuration' : Configuration} → IsStep HostStep bound outside at configuration new configuration' → StepsAt at (depth configuration) here new configuration'
     IsStep-at {new} (goes is le f h) = rw is (le, same-state new _ refl h f, refl)
@@ -147,10 +135,10 @@ module _ {H : Type 0} (HostStep : List H → ℕ → Option ℕ → List Val →
     ends-agree (Traps cost trap) (inl a) (inr b) = absurd (omega arith)
     ends-agree (Traps cost trap) (inr a) (inl b) = absurd (omega arith)
     ends-agree (Traps cost trap) (inr (le, e, s)) (inr (le', f, t)) = (e ∙ sym f, s ∙ sym t)
-    ends-agree (Branches label values) (e, s) (f, t) = (e ∙ sym f, s ∙ sym t)
-    ends-agree (Returns values) (e, s) (f, t) = (e ∙ sym f, s ∙ sym t)
+    ends-agree (Branches label values) a b = absurd a
+    ends-agree (Returns values) a b = absurd a
     ends-agree (Over values) (e, s) (f, t) = (e ∙ sym f, s ∙ sym t)
-    ends-agree NotReady (e, s) (f, t) = (e ∙ sym f, s ∙ sym t)
+    ends-agree NotReady a b = absurd a
 
     steps-agree : (n : Next) {s t : State H} {c d : Configuration} → StepsAt at frames n s c → StepsAt at frames n t d → (s ≡ t) × (c ≡ d)
     steps-agree (Goes cost store frame configuration) (le, s, c) (le', t, d) = (s ∙ sym t, c ∙ sym d)

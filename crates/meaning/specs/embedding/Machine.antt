@@ -11,7 +11,7 @@ use Rattle.meaning.specs.binary.Modules.{SpellsModule}
 use Rattle.meaning.specs.validation.Modules.{IsValid}
 use Rattle.meaning.specs.execution.Configurations.{Invoking, no_frame}
 use Rattle.meaning.specs.execution.Modules.{AreGiven, HasNoValues, Instantiation, IsAllowed, IsWithinLimits, map_all}
-use Rattle.meaning.specs.execution.Runs.{Answer, Ending, GotStuck, Run, State, WithValues}
+use Rattle.meaning.specs.execution.Runs.{Answer, Ending, Run, State, WithValues}
 use Rattle.meaning.specs.execution.Store.{GlobalInstance, Store, extern_type, instance_of}
 use Rattle.meaning.specs.soundness.Values.{TakesArguments}
 use Rattle.meaning.specs.embedding.Commands.{Command, Load, Link, Register, Call, GetGlobal, SetFuel}
@@ -127,13 +127,11 @@ module _ {H : Type 0} where
   RegistersAt old name None reply new = Refuses old UnknownInstance reply new
   RegistersAt old name (Some instance) reply new = Registers old name instance reply new
 
-  -- The value of the global at an address, which the typing of stores puts there.
+  -- The value of the global at an address.
   pub data Gets (old : Embedding H) (address : ℕ) (reply : Reply) (new : Embedding H) : Type 0 where
     got : {g : GlobalInstance} → slice_get old.state.store.globals address ≡ Some g
         → reply ≡ Ended (WithValues (g.value ∷ []))
         → new ≡ old → Gets old address reply new
-    lost : slice_get old.state.store.globals address ≡ None → reply ≡ Ended GotStuck → new ≡ old
-        → Gets old address reply new
     no_memory : Refuses old OutOfMemory reply new → Gets old address reply new
 
   abbrev pub GetsAt : Embedding H → Result ℕ Refusal → Reply → Embedding H → Type 0

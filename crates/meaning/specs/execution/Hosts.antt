@@ -1,17 +1,19 @@
 -- Host functions (Execution, Instructions, Host Functions): objects of any kind, each with a type and a relation of its own between
 -- the object before, arguments, the bytes that it is lent, its answer, the bytes then and the object then.
 use Rattle.std.specs.Prelude.{◌≡◌, ℕ, List, [], length, map, Option, Some, None, option_map, slice_get, slice_set}
+use Rattle.std.specs.List.{All}
 use Rattle.core_types.specs.declared.types.FuncType.{FuncType}
 use Rattle.core_types.specs.declared.types.ValType.{ValType}
 use Rattle.core_types.specs.declared.outcome.Val.{Val}
 use Rattle.meaning.specs.execution.Memories.{MemoryInstance}
 use Rattle.meaning.specs.execution.Runs.{Answer, Results, HostTrap}
 use Rattle.meaning.specs.execution.Store.{FunctionInstance, InHost, Store, with_memory}
-use Rattle.meaning.specs.execution.Values.{type_of}
+use Rattle.meaning.specs.execution.Storage.{AreBytes}
+use Rattle.meaning.specs.execution.Values.{FitsWidth, type_of}
 
--- Results of these types. A trap has none.
+-- Results of these types, whose numbers have their widths. A trap has none.
 abbrev pub AnswersWith : Answer → List ValType → Type 0
-AnswersWith (Results values) types = map type_of values ≡ types
+AnswersWith (Results values) types = (map type_of values ≡ types) × All FitsWidth values
 AnswersWith (HostTrap code) types = Unit {0}
 
 -- The bytes of the memory at an address that is lent, none where none is.
@@ -51,7 +53,8 @@ module _ {H : Type 0} (host_type : H → FuncType) where
 
 module _ {H : Type 0} (host_type : H → FuncType)
     (Answers : H → List Val → List ℕ → Answer → List ℕ → H → Type 0) where
-  -- The host function of a number answers: its type stays, and so does the number of bytes that it is lent, and all other hosts.
+  -- The host function of a number answers: its type stays, and so does the number of bytes that it is lent, and all other hosts. Its
+  -- results have its result types, and the bytes then are bytes.
   pub record IsHostCall (hosts : List H) (number : ℕ) (arguments : List Val) (bytes : List ℕ)
       (answer : Answer) (bytes' : List ℕ) (hosts' : List H) : Type 0 where
     pub host : H
@@ -61,6 +64,7 @@ module _ {H : Type 0} (host_type : H → FuncType)
     pub typed : AnswersWith answer (host_type host).results
     pub same_type : host_type host' ≡ host_type host
     pub same_length : length bytes' ≡ length bytes
+    pub are_bytes : AreBytes bytes'
     pub hosts_are : hosts' ≡ slice_set hosts number host'
 
   -- It is lent the memory at an address, if there is one, and changes nothing else of the store.

@@ -37,7 +37,7 @@ use Rattle.meaning.specs.validation.Matching.{Matches}
 use Rattle.meaning.specs.validation.Modules.{type_at}
 use Rattle.meaning.specs.execution.Configurations.{Configuration, Frame, Invoking, Running, no_frame}
 use Rattle.meaning.specs.execution.Memories.{new_memory}
-use Rattle.meaning.specs.execution.Runs.{Answer, Ending, WithValues, WithTrap, OutOfFuel, OutOfDepth, OutOfMemory, GotStuck, Run, State}
+use Rattle.meaning.specs.execution.Runs.{Answer, Ending, WithValues, WithTrap, OutOfFuel, OutOfDepth, OutOfMemory, Run, State}
 use Rattle.meaning.specs.execution.Store.{Code, DataInstance, FunctionInstance, GlobalInstance, InCode, ModuleInstance, ObjectLists, Store, extern_type, item_at}
 use Rattle.meaning.specs.execution.Tables.{ElementInstance, new_table}
 use Rattle.meaning.specs.execution.Values.{null_of}
@@ -305,7 +305,6 @@ HasNoValues (WithTrap trap) = Unit {0}
 HasNoValues OutOfFuel = Unit {0}
 HasNoValues OutOfDepth = Unit {0}
 HasNoValues OutOfMemory = Unit {0}
-HasNoValues GotStuck = Unit {0}
 
 module _ {H : Type 0} (HostStep : List H → ℕ → Option ℕ → List Val → Store → Answer → Store
     → List H → Type 0) (bound : ℕ) where
@@ -326,20 +325,12 @@ module _ {H : Type 0} (HostStep : List H → ℕ → Option ℕ → List Val →
     ended : {old last : State H} {task : Task} {tasks : List Task} {a : Activity} {ending : Ending}
         → activity old.store instance i task ≡ Some a → RunOf old a ending last → HasNoValues ending
         → RunTasks instance i old (task ∷ tasks) ending last
-    lost : {at : State H} {task : Task} {tasks : List Task}
-        → activity at.store instance i task ≡ None
-        → RunTasks instance i at (task ∷ tasks) GotStuck at
 
-  -- The instantiation of a module with what is given for its imports: its objects are allocated, and its tasks are run. It is stuck
-  -- where a constant expression has no value.
-  pub data Instantiation (m : Module) (given : List Extern) (old : State H) (ending : Ending)
+  -- The instantiation of a module with what is given for its imports: its objects are allocated, and its tasks are run.
+  pub record Instantiation (m : Module) (given : List Extern) (old : State H) (ending : Ending)
       (new : State H) : Type 0 where
-    allocated : {objects : ObjectLists}
-        → new_objects old.store (new_instance old.store m given) m ≡ Some objects
-        → RunTasks (length old.store.instances) (new_instance old.store m given)
+    pub objects : ObjectLists
+    pub allocated : new_objects old.store (new_instance old.store m given) m ≡ Some objects
+    pub ran : RunTasks (length old.store.instances) (new_instance old.store m given)
         (record old { store = with_module old.store (new_instance old.store m given) m objects })
         (tasks_of m) ending new
-        → Instantiation m given old ending new
-    without_value : new_objects old.store (new_instance old.store m given) m ≡ None
-        → ending ≡ GotStuck → new ≡ old
-        → Instantiation m given old ending new

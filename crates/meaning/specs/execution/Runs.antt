@@ -37,18 +37,6 @@ abbrev pub IsWithinBound : (bound frames : ℕ) → Next → Type 0
 IsWithinBound bound frames (Opens cost store configuration) = frames < bound
 IsWithinBound bound frames other = Unit {0}
 
--- Neither an end nor ready.
-abbrev pub IsStuck : Next → Type 0
-IsStuck (Goes cost store frame configuration) = ⊥
-IsStuck (Grows cost store frame configuration) = ⊥
-IsStuck (Opens cost store configuration) = ⊥
-IsStuck (CallsHost cost number lent arguments configuration) = ⊥
-IsStuck (Traps cost trap) = ⊥
-IsStuck (Branches label values) = Unit {0}
-IsStuck (Returns values) = Unit {0}
-IsStuck (Over values) = ⊥
-IsStuck NotReady = Unit {0}
-
 -- The state of a run: the store, the host functions, and the fuel that is left.
 pub record State (H : Type 0) : Type 0 where
   pub store : Store
@@ -60,15 +48,13 @@ pub data Answer : Type 0 where
   Results : (values : List Val) → Answer
   HostTrap : (code : ℕ) → Answer
 
--- How a run ends.
+-- The five ways in which a run ends.
 pub data Ending : Type 0 where
   WithValues : (values : List Val) → Ending
   WithTrap : (trap : Trap) → Ending
   OutOfFuel : Ending
   OutOfDepth : Ending
   OutOfMemory : Ending
-  -- at a configuration that is neither an end nor ready
-  GotStuck : Ending
 
 -- HostStep hosts number lent arguments store answer store' hosts': the host function of this number, which is called with these
 -- arguments and lent the memory at an address, if there is one, gives this answer, and leaves this store and these host functions.
@@ -120,8 +106,6 @@ module _ {H : Type 0} (HostStep : List H → ℕ → Option ℕ → List Val →
     no_memory : IsReady (next at.store outside configuration)
         → IsWithinBound bound (depth configuration) (next at.store outside configuration)
         → price (next at.store outside configuration) ≤ at.fuel → ending ≡ OutOfMemory → last ≡ at
-        → IsEnd at configuration ending last
-    stuck : IsStuck (next at.store outside configuration) → ending ≡ GotStuck → last ≡ at
         → IsEnd at configuration ending last
 
   -- From a state and a configuration to an ending and the state then.

@@ -1,5 +1,10 @@
 -- Numbers as bytes, and items that take the place of others (Execution, Numerics, Storage).
-use Rattle.std.specs.Prelude.{ℕ, zero, suc, ◌+◌, ◌*◌, ◌/◌, ◌%◌, List, [], ◌∷◌, ◌++◌, take, drop, length}
+use Rattle.std.specs.Prelude.{ℕ, zero, suc, ◌+◌, ◌*◌, ◌/◌, ◌%◌, ◌^◌, ◌<◌, List, [], ◌∷◌, ◌++◌, take, drop, length}
+use Rattle.std.specs.List.{All}
+
+-- Each is a byte.
+abbrev pub AreBytes : List ℕ → Type 0
+AreBytes bytes = All (λ (byte : ℕ). byte < 2 ^ 8) bytes
 
 -- The number that bytes represent, the lowest byte first (the inverse of bytes).
 abbrev pub number_of_bytes : List ℕ → ℕ

@@ -1,5 +1,5 @@
 -- Values (Execution, Runtime Structure, Values).
-use Rattle.std.specs.Prelude.{None}
+use Rattle.std.specs.Prelude.{ℕ, ◌<◌, ◌^◌, Option, Some, None}
 use Rattle.core_types.specs.declared.outcome.Val.{Val}
 use Rattle.core_types.specs.declared.outcome.Val.TheVariants.{I32, I64, FuncRef, ExternRef}
 use Rattle.core_types.specs.declared.types.RefType.{RefType}
@@ -24,3 +24,15 @@ default_of ty.ExternRef = ExternRef None
 -- The null of a type of references.
 abbrev pub null_of : RefType → Val
 null_of t = default_of (reference_type t)
+
+-- Null, or a number of the host, which has 32 bits (Reference Values; the width is this project's own).
+abbrev pub IsExternalNumber : Option ℕ → Type 0
+IsExternalNumber None = Unit {0}
+IsExternalNumber (Some n) = n < 2 ^ 32
+
+-- The number of a value has its width. Of the address of a function nothing is said.
+abbrev pub FitsWidth : Val → Type 0
+FitsWidth (I32 n) = n < 2 ^ 32
+FitsWidth (I64 n) = n < 2 ^ 64
+FitsWidth (FuncRef a) = Unit {0}
+FitsWidth (ExternRef x) = IsExternalNumber x

@@ -5,16 +5,12 @@ use Rattle.core_types.specs.declared.types.ValType.TheVariants as ty
 use Rattle.core_types.specs.declared.outcome.Val.{Val}
 use Rattle.core_types.specs.declared.outcome.Val.TheVariants.{I32, I64, FuncRef, ExternRef}
 use Rattle.meaning.specs.execution.Store.{FunctionInstance, Store}
+use Rattle.meaning.specs.execution.Values.{IsExternalNumber}
 
 -- Null, or the address of a function in the store.
 abbrev pub IsFunctionAddress : Store → Option ℕ → Type 0
 IsFunctionAddress store None = Unit {0}
 IsFunctionAddress store (Some a) = a < length store.functions
-
--- Null, or a number of the host, which has 32 bits (Values, Reference Values; the width is this project's own).
-abbrev pub IsExternalNumber : Option ℕ → Type 0
-IsExternalNumber None = Unit {0}
-IsExternalNumber (Some n) = n < 2 ^ 32
 
 -- The value has the type.
 abbrev pub ValueHasType : Store → Val → ValType → Type 0

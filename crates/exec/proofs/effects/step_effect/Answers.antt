@@ -1,5 +1,5 @@
 use Rattle.std.proofs.Common.{[], refl, subst, sym}
-use Rattle.meaning.specs.execution.Runs.{GotStuck, OutOfFuel, OutOfMemory, WithTrap}
+use Rattle.meaning.specs.execution.Runs.{OutOfFuel, OutOfMemory, WithTrap}
 use Rattle.meaning.specs.execution.Store.{Store}
 use Rattle.store.specs.Contents.{store_with}
 use Rattle.exec.specs.Simulation.{EndsWith, world_of}
@@ -29,5 +29,4 @@ returns-in-NoMemory-clause-simulates c before is whole h =
 
 pub returns-in-NotReady-clause-simulates : goal.returns-in-NotReady-clause-simulates
 returns-in-NotReady-clause-simulates c before is whole h =
-    let had = c.in-NotReady.ensures.had in
-    end_unchanged (world_of c.args.code.now c.args.state.now) c.args.meter.now.bound c.args.meter.now.left whole GotStuck (store_with c.args.code.now c.run_plain.new.state) c.run_plain.new.meter.left had.1 had.2 (effect_lacks (world_of c.args.code.now c.args.state.now) c.args.machine.now c.args.meter.now.frames whole h c.args.op.now c.args.meter.now.bound c.args.meter.now.left _ is had.0)
+    effect_lacks (world_of c.args.code.now c.args.state.now) c.args.machine.now c.args.meter.now.frames whole h c.args.op.now _ is c.in-NotReady.ensures.had.0

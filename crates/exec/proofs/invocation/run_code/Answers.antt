@@ -1,6 +1,6 @@
 use Rattle.std.proofs.Common.{refl, sym, ◌∙◌}
 use Rattle.meaning.specs.execution.Runs.{none}
-use Rattle.soundness.proofs.Runs.{steps-alone, stuck-alone}
+use Rattle.soundness.proofs.Runs.{steps-alone, typed-not-stuck}
 use Rattle.exec.specs.Simulation.{world_of}
 use Rattle.exec.proofs.simulation.Runs.{one_step_more}
 use Rattle.exec.proofs.invocation.run_code.Goals as goal
@@ -90,4 +90,4 @@ unreachable-requires c =
     let (start, h, typed) = c.requires.sound in
     let (current, bound, reaches) = c.loop-current.invariant in
     let (then, leads, represents) = reaches start h in
-    stuck-alone c.loop-current.meter.bound (steps-alone c.args.meter.now.bound typed leads) (c.in-Stuck.ensures.simulates then represents)
+    typed-not-stuck (steps-alone c.args.meter.now.bound typed leads) (c.in-Stuck.ensures.simulates then represents)

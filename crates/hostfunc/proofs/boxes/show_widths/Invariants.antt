@@ -1,6 +1,6 @@
 use Rattle.std.proofs.Common.{ℕ, ◌<◌, slice_index_or}
 use Rattle.core_types.specs.declared.outcome.Val.{Val}
-use Rattle.soundness.specs.Hosts.{FitsWidth}
+use Rattle.meaning.specs.execution.Values.{FitsWidth}
 use Rattle.hostfunc.proofs.boxes.show_widths.Given as goal
 
 -- Those before this place have been read.

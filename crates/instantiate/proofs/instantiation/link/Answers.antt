@@ -1,4 +1,4 @@
-use Rattle.std.proofs.Common.{length, sym, take, ◌∙◌}
+use Rattle.std.proofs.Common.{length, refl, sym, take, ◌∙◌}
 use Rattle.std.proofs.lemmas.List.{length-take-le}
 use Rattle.meaning.specs.execution.Modules.{tasks_of}
 use Rattle.exec.specs.Simulation.{run_state}
@@ -42,7 +42,7 @@ returns-in-Err-Trap-clause-linked g c =
     record {
       allowed = rw module_is at c.in_default.ensures;
       no_values = ran.no_values;
-      run = ended-links c.in_ok-instance.instance m (take (length m.imports) c.args.externs.now) (store_of c.args.store.now) c.allocate.new.store.code c.allocate.new.store.state allocated _ c.args.hosts.now.objects.items c.args.meter.now.bound c.args.meter.now.left (end.Trap c.in-Err-Trap.trap) _ ran;
+      run = ended-links c.in_ok-instance.instance m (take (length m.imports) c.args.externs.now) (store_of c.args.store.now) c.allocate.new.store.code c.allocate.new.store.state allocated _ c.args.hosts.now.objects.items c.args.meter.now.bound c.args.meter.now.left (end.Trap c.in-Err-Trap.trap) _ _ refl ran;
     }
 
 pub returns-in-Err-Exhausted-clause-linked : goal.returns-in-Err-Exhausted-clause-linked
@@ -55,7 +55,7 @@ returns-in-Err-Exhausted-clause-linked g c =
     record {
       allowed = rw module_is at c.in_default.ensures;
       no_values = ran.no_values;
-      run = ended-links c.in_ok-instance.instance m (take (length m.imports) c.args.externs.now) (store_of c.args.store.now) c.allocate.new.store.code c.allocate.new.store.state allocated _ c.args.hosts.now.objects.items c.args.meter.now.bound c.args.meter.now.left (end.Exhausted c.in-Err-Exhausted.what) _ ran;
+      run = ended-links c.in_ok-instance.instance m (take (length m.imports) c.args.externs.now) (store_of c.args.store.now) c.allocate.new.store.code c.allocate.new.store.state allocated _ c.args.hosts.now.objects.items c.args.meter.now.bound c.args.meter.now.left (end.Exhausted c.in-Err-Exhausted.what) _ _ refl ran;
     }
 
 pub allocate-requires-clause-linkable : goal.allocate-requires-clause-linkable

@@ -1,6 +1,7 @@
-use Rattle.std.proofs.Common.{[], refl}
+use Rattle.std.proofs.Common.{[]}
 use Rattle.meaning.specs.execution.Configurations.{Invoking}
-use Rattle.meaning.specs.execution.Runs.{end, stuck}
+use Rattle.meaning.specs.execution.Runs.{none}
+use Rattle.soundness.proofs.Runs.{waiting-stuck}
 use Rattle.store.specs.Contents.{store_of}
 use Rattle.instantiate.proofs.lemmas.Starts.{start-refused}
 use Rattle.exec.specs.Simulation.{run_state}
@@ -10,7 +11,12 @@ use Rattle.instantiate.proofs.tasks.call_start.Goals as goal
 
 pub returns-then-not-accepts-clause-run : goal.returns-then-not-accepts-clause-run
 returns-then-not-accepts-clause-run g c = record {
-  ends = end {configuration = Invoking [] c.args.address} (stuck (start-refused (store_of c.args.store.now) c.args.address (λ takes. absurd (let no = c.if-not-accepts.ensures.1 takes in cc))) refl refl);
+  ends = record {
+    at = run_state (store_of c.args.store.now) c.args.hosts.now.objects.items c.args.meter.now.left;
+    reached = Invoking [] c.args.address;
+    steps = none;
+    stuck = waiting-stuck (start-refused (store_of c.args.store.now) c.args.address (λ takes. absurd (let no = c.if-not-accepts.ensures.1 takes in cc)));
+  };
   no_values = tt;
 }
 

@@ -4,10 +4,10 @@ use Rattle.std.specs.List.{All}
 use Rattle.core_types.specs.declared.module.DataMode.TheVariants.{Passive}
 use Rattle.core_types.specs.declared.module.DataSegment.{DataSegment}
 use Rattle.core_types.specs.declared.types.Limits.{Limits}
+use Rattle.meaning.specs.execution.Storage.{AreBytes}
 use Rattle.meaning.specs.validation.Modules.{HasDataMode}
 use Rattle.meaning.specs.validation.Types.{AreFewPages, AreOrdered}
 use Rattle.soundness.specs.Rows.{storing}
-use Rattle.soundness.specs.Stores.{AreBytes}
 use Rattle.soundness.proofs.laws.a_module_of_bytes_can_be_linked.Goals as goal
 
 none : {X : Type 0} (P : X → Type 0) → All P []

@@ -6,5 +6,5 @@ use Rattle.soundness.proofs.laws.commands_go_well.Goals as goal
 pub returns : goal.returns
 returns c = record {
   fresh = fresh-sound own_type;
-  run = commands-go-well c.writing_is_read.ensures.whole own_type NeverAnswers (λ h h' arguments bytes bytes' answer are_bytes told. absurd told);
+  run = commands-go-well c.writing_is_read.ensures.whole own_type NeverAnswers;
 }

@@ -1,6 +1,6 @@
 use Rattle.std.proofs.Common.{ℕ, ◌<◌, slice_index_or}
 use Rattle.core_types.specs.declared.module.DataSegment.{DataSegment}
-use Rattle.soundness.specs.Stores.{AreBytes}
+use Rattle.meaning.specs.execution.Storage.{AreBytes}
 use Rattle.store.proofs.loaded_modules.show_datas.Given as goal
 
 -- Those before this place have been read.

@@ -6,7 +6,7 @@ use Rattle.exec.proofs.control.blocks.enter_label.Goals as goal
 
 pub returns-then-len-params-clause-simulates : goal.returns-then-len-params-clause-simulates
 returns-then-len-params-clause-simulates c w redex kind type t params kept entry whole h =
-    label_lacks w c.args.machine.now c.args.meter.now.frames redex whole h kind type t c.args.target c.args.position entry c.args.params params (omega arith) c.args.meter.now.bound c.args.meter.now.left
+    label_lacks w c.args.machine.now c.args.meter.now.frames redex whole h kind type t c.args.target c.args.position entry c.args.params params (omega arith)
 
 pub returns-then-left-eq0-clause-simulates : goal.returns-then-left-eq0-clause-simulates
 returns-then-left-eq0-clause-simulates c w redex kind type t params kept entry whole h =

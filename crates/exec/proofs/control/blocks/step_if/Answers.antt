@@ -10,11 +10,11 @@ use Rattle.exec.proofs.control.blocks.step_if.Goals.{then-condition-ne0, else-co
 
 pub returns-in_default-clause-simulates : goal.returns-in_default-clause-simulates
 returns-in_default-clause-simulates c w here before whole h =
-    choice_lacks w c.args.machine.now c.args.ty before c.args.meter.now.frames whole h c.args.meter.now.bound c.args.meter.now.left c.in_default.ensures
+    choice_lacks w c.args.machine.now c.args.ty before c.args.meter.now.frames whole h c.in_default.ensures
 
 pub returns-in_default-arity_of-clause-simulates : goal.returns-in_default-arity_of-clause-simulates
 returns-in_default-arity_of-clause-simulates c w here before whole h =
-    choice_untyped w c.args.machine.now c.args.ty before c.in-Some.condition c.pop_i32.new.operands c.in-Some.ensures.0 c.args.meter.now.frames whole h (type_here c.args.code.now w c.args.machine.now here c.args.ty ∙ c.in_default-arity_of.ensures) c.args.meter.now.bound c.args.meter.now.left
+    choice_untyped w c.args.machine.now c.args.ty before c.in-Some.condition c.pop_i32.new.operands c.in-Some.ensures.0 c.args.meter.now.frames whole h (type_here c.args.code.now w c.args.machine.now here c.args.ty ∙ c.in_default-arity_of.ensures)
 
 pub returns-clause-simulates : goal.returns-clause-simulates
 returns-clause-simulates c w here before whole h =

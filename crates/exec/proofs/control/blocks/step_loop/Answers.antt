@@ -7,7 +7,7 @@ use Rattle.exec.proofs.control.blocks.step_loop.Goals as goal
 
 pub returns-in_default-clause-simulates : goal.returns-in_default-clause-simulates
 returns-in_default-clause-simulates c w here before whole h =
-    loop_untyped w c.args.machine.now c.args.ty c.args.meter.now.frames whole h (type_here c.args.code.now w c.args.machine.now here c.args.ty ∙ c.in_default.ensures) c.args.meter.now.bound c.args.meter.now.left before
+    loop_untyped w c.args.machine.now c.args.ty c.args.meter.now.frames whole h (type_here c.args.code.now w c.args.machine.now here c.args.ty ∙ c.in_default.ensures) before
 
 pub returns-clause-simulates : goal.returns-clause-simulates
 returns-clause-simulates c w here before =

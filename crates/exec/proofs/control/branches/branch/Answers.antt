@@ -10,7 +10,7 @@ overflow_sub-len c =
     let within = outer_within c.args.machine.now c.args.meter.now.frames redex whole h in omega arith
 
 pub returns-then-len-machine-clause-simulates : goal.returns-then-len-machine-clause-simulates
-returns-then-len-machine-clause-simulates c w redex to whole h = branch_none c.args.machine.now c.args.meter.now.frames redex whole h w c.args.label to (omega arith) c.args.meter.now.bound c.args.meter.now.left
+returns-then-len-machine-clause-simulates c w redex to whole h = branch_none c.args.machine.now c.args.meter.now.frames redex whole h w c.args.label to (omega arith)
 
 pub returns-in_default-clause-simulates : goal.returns-in_default-clause-simulates
 returns-in_default-clause-simulates c w redex to whole h =
@@ -18,7 +18,7 @@ returns-in_default-clause-simulates c w redex to whole h =
 
 pub returns-then-len-aim-clause-simulates : goal.returns-then-len-aim-clause-simulates
 returns-then-len-aim-clause-simulates c w redex to whole h =
-    branch_lacks c.args.machine.now c.args.meter.now.frames redex whole h c.args.label c.in-Some.aim c.in-Some.ensures (omega arith) w to (omega arith) c.args.meter.now.bound c.args.meter.now.left
+    branch_lacks c.args.machine.now c.args.meter.now.frames redex whole h c.args.label c.in-Some.aim c.in-Some.ensures (omega arith) w to (omega arith)
 
 pub returns-then-not-try_spend-clause-simulates : goal.returns-then-not-try_spend-clause-simulates
 returns-then-not-try_spend-clause-simulates c w redex to whole h =

@@ -11,7 +11,7 @@ use Rattle.exec.proofs.control.branches.step_br_if.Goals as goal
 
 pub returns-in_default-clause-simulates : goal.returns-in_default-clause-simulates
 returns-in_default-clause-simulates c w before whole h =
-    effect_lacks w c.args.machine.now c.args.meter.now.frames whole h (ControlPlain (BrIf c.args.label)) c.args.meter.now.bound c.args.meter.now.left _ (if_lacks w c.args.machine.now c.args.label before c.in_default.ensures) refl
+    effect_lacks w c.args.machine.now c.args.meter.now.frames whole h (ControlPlain (BrIf c.args.label)) _ (if_lacks w c.args.machine.now c.args.label before c.in_default.ensures) refl
 
 pub returns-then-condition-ne0-clause-simulates : goal.returns-then-condition-ne0-clause-simulates
 returns-then-condition-ne0-clause-simulates c w before whole h =

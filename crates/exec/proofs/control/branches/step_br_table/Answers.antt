@@ -8,7 +8,7 @@ use Rattle.exec.proofs.control.branches.step_br_table.Goals as goal
 
 pub returns-in_default-clause-simulates : goal.returns-in_default-clause-simulates
 returns-in_default-clause-simulates c w before whole h =
-    effect_lacks w c.args.machine.now c.args.meter.now.frames whole h (BrTable c.args.table.now) c.args.meter.now.bound c.args.meter.now.left _ (table_lacks w c.args.machine.now c.args.table.now before c.in_default.ensures) refl
+    effect_lacks w c.args.machine.now c.args.meter.now.frames whole h (BrTable c.args.table.now) _ (table_lacks w c.args.machine.now c.args.table.now before c.in_default.ensures) refl
 
 pub returns-clause-simulates : goal.returns-clause-simulates
 returns-clause-simulates c w before whole h =

@@ -7,7 +7,7 @@ use Rattle.exec.proofs.control.calls.call_code.Goals as goal
 
 pub returns-then-len-clause-simulates : goal.returns-then-len-clause-simulates
 returns-then-len-clause-simulates c w redex op lent before single is whole h =
-    call_lacks w c.args.machine.now c.args.meter.now.frames redex whole h single op before lent c.args.callee.now.ty.now c.args.callee.now.func.now c.args.callee.now.instance is (omega arith) c.args.meter.now.bound c.args.meter.now.left
+    call_lacks w c.args.machine.now c.args.meter.now.frames redex whole h single op before lent c.args.callee.now.ty.now c.args.callee.now.func.now c.args.callee.now.instance is (omega arith)
 
 pub returns-then-left-eq0-clause-simulates : goal.returns-then-left-eq0-clause-simulates
 returns-then-left-eq0-clause-simulates c w redex op lent before single is whole h =

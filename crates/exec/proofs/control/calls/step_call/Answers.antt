@@ -10,11 +10,11 @@ use Rattle.exec.proofs.control.calls.step_call.Goals as goal
 
 pub returns-in_default-clause-simulates : goal.returns-in_default-clause-simulates
 returns-in_default-clause-simulates c w here before whole h =
-    call_of_none c.args.code.now w here c.args.machine.now c.args.x before c.args.meter.now.frames whole h (ap (item_of (code_store c.args.code.now).functions) (sym c.function_address.ensures ∙ c.in_default.is)) c.args.meter.now.bound c.args.meter.now.left
+    call_of_none c.args.code.now w here c.args.machine.now c.args.x before c.args.meter.now.frames whole h (ap (item_of (code_store c.args.code.now).functions) (sym c.function_address.ensures ∙ c.in_default.is))
 
 pub returns-in_default-function-clause-simulates : goal.returns-in_default-function-clause-simulates
 returns-in_default-function-clause-simulates c w here before whole h =
-    call_of_none c.args.code.now w here c.args.machine.now c.args.x before c.args.meter.now.frames whole h (ap (item_of (code_store c.args.code.now).functions) (sym c.function_address.ensures ∙ c.in-Some.is) ∙ c.in_default-function.ensures.found) c.args.meter.now.bound c.args.meter.now.left
+    call_of_none c.args.code.now w here c.args.machine.now c.args.x before c.args.meter.now.frames whole h (ap (item_of (code_store c.args.code.now).functions) (sym c.function_address.ensures ∙ c.in-Some.is) ∙ c.in_default-function.ensures.found)
 
 pub returns-clause-simulates : goal.returns-clause-simulates
 returns-clause-simulates c w here before =

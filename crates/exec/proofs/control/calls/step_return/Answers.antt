@@ -26,7 +26,7 @@ unreachable-requires-in-None c =
 
 pub returns-then-len-caller-clause-simulates : goal.returns-then-len-caller-clause-simulates
 returns-then-len-caller-clause-simulates c w before whole h =
-    return_lacks c.args.machine.now c.args.meter.now.frames (redex_of c.args.machine.now) whole h c.in-Some-InFrame.caller (there_at _ _ _ _ c.get.ensures c.len.ensures _ _ c.in-Some-InFrame.is c.in-Some-InFrame.field-0-is) w (single_next w c.args.machine.now (ControlPlain Return) before) (omega arith) c.args.meter.now.bound c.args.meter.now.left
+    return_lacks c.args.machine.now c.args.meter.now.frames (redex_of c.args.machine.now) whole h c.in-Some-InFrame.caller (there_at _ _ _ _ c.get.ensures c.len.ensures _ _ c.in-Some-InFrame.is c.in-Some-InFrame.field-0-is) w (single_next w c.args.machine.now (ControlPlain Return) before) (omega arith)
 
 pub returns-then-not-try_spend-clause-simulates : goal.returns-then-not-try_spend-clause-simulates
 returns-then-not-try_spend-clause-simulates c w before whole h =
@@ -73,7 +73,7 @@ returns-else-not-try_spend-clause-simulates c w before whole h =
 
 pub returns-then-len-arity-clause-simulates : goal.returns-then-len-arity-clause-simulates
 returns-then-len-arity-clause-simulates c w before whole h =
-    outside_lacks c.args.machine.now c.args.meter.now.frames (redex_of c.args.machine.now) whole h c.in-Some-FromOutside.arity (there_at _ _ _ _ c.get.ensures c.len.ensures _ _ c.in-Some-FromOutside.is c.in-Some-FromOutside.field-0-is) w (single_next w c.args.machine.now (ControlPlain Return) before) (omega arith) c.args.meter.now.bound c.args.meter.now.left
+    outside_lacks c.args.machine.now c.args.meter.now.frames (redex_of c.args.machine.now) whole h c.in-Some-FromOutside.arity (there_at _ _ _ _ c.get.ensures c.len.ensures _ _ c.in-Some-FromOutside.is c.in-Some-FromOutside.field-0-is) w (single_next w c.args.machine.now (ControlPlain Return) before) (omega arith)
 
 pub returns-then-not-try_spend-2-clause-simulates : goal.returns-then-not-try_spend-2-clause-simulates
 returns-then-not-try_spend-2-clause-simulates c w before whole h =

@@ -12,7 +12,7 @@ use Rattle.exec.proofs.control.indirect_calls.step_call_indirect.Goals as goal
 
 pub returns-in_default-clause-simulates : goal.returns-in_default-clause-simulates
 returns-in_default-clause-simulates c before whole h =
-    through_none (world_of c.args.code.now c.args.state.now) c.args.machine.now c.args.ty c.args.table before c.args.meter.now.frames whole h c.args.meter.now.bound c.args.meter.now.left c.in_default.ensures
+    through_none (world_of c.args.code.now c.args.state.now) c.args.machine.now c.args.ty c.args.table before c.args.meter.now.frames whole h c.in_default.ensures
 
 pub returns-in-Function-clause-simulates : goal.returns-in-Function-clause-simulates
 returns-in-Function-clause-simulates c before whole h =
@@ -29,4 +29,4 @@ returns-else-try_spend-clause-simulates c before whole h =
 
 pub returns-in-Nothing-clause-simulates : goal.returns-in-Nothing-clause-simulates
 returns-in-Nothing-clause-simulates c before whole h =
-    through_waits (world_of c.args.code.now c.args.state.now) c.args.machine.now c.args.ty c.args.table before c.args.meter.now.frames whole h c.args.meter.now.bound c.args.meter.now.left (I32 c.in-Some.offset ∷ c.pop_i32.new.operands.own) c.in-Some.ensures.0 (c.in-Nothing.ensures.found _ _ _)
+    through_waits (world_of c.args.code.now c.args.state.now) c.args.machine.now c.args.ty c.args.table before c.args.meter.now.frames whole h (I32 c.in-Some.offset ∷ c.pop_i32.new.operands.own) c.in-Some.ensures.0 (c.in-Nothing.ensures.found _ _ _)

@@ -39,6 +39,7 @@ returns-clause-answered g c =
       typed = h.1;
       same_type = c.call.ensures.same_type;
       same_length = c.call.auto.memory;
+      are_bytes = c.call.ensures.are_bytes;
       hosts_are = refl;
     }) (both c.call.result _ _ c.call.ensures.answered c.call.ensures.typed)
 
@@ -56,5 +57,6 @@ returns-clause-trapped g c = λ code e.
       typed = tt;
       same_type = c.call.ensures.same_type;
       same_length = c.call.auto.memory;
+      are_bytes = c.call.ensures.are_bytes;
       hosts_are = refl;
     }
