@@ -1,16 +1,22 @@
 //! Laws and worked rows of runs.
 
-ghost use Rattle.std.specs.Prelude.{◌≡◌, ◌∷◌, [], List, ℕ, ◌⊎◌, Some, None, replicate};
+ghost use Rattle.std.specs.Prelude.{◌≡◌, ◌≤◌, ◌∷◌, [], List, ℕ, ◌⊎◌, Some, None, replicate};
+ghost use Rattle.core_types.specs.declared.op.ControlOp.TheVariants.{Call, Unreachable};
+ghost use Rattle.core_types.specs.declared.op.MemoryOp.TheVariants.{Grow};
 ghost use Rattle.core_types.specs.declared.op.PlainOp.{PlainOp};
+ghost use Rattle.core_types.specs.declared.op.PlainOp.TheVariants.{Control, I32Const, Memory, Table};
+ghost use Rattle.core_types.specs.declared.op.TableOp.TheVariants as table;
+ghost use Rattle.core_types.specs.declared.types.ValType.TheVariants as ty;
 ghost use Rattle.core_types.specs.declared.outcome.Val.{Val};
 ghost use Rattle.core_types.specs.declared.outcome.Val.TheVariants.{I32};
 ghost use Rattle.core_types.specs.declared.outcome.Trap.TheVariants.{Host, IndirectType, MemoryBounds, TableBounds, UndefinedElement, UninitializedElement};
-ghost use Rattle.meaning.specs.execution.Rows.{Calls, CallsEntry, CountsCalls, TrapsAtOneAndTwo, adder, at, caller, copies_and_sets, counting, endless, fills, fills_entries, grows_and_reads, grows_table, inits_entry, last_of_three, null, one_and_two, seven_or_eight, trapping, with_bytes_and_global, with_entries};
-ghost use Rattle.meaning.specs.execution.Configurations.{Configuration, Frame, Invoking, no_frame};
+ghost use Rattle.meaning.specs.execution.Rows.{Asks, Calls, CallsEntry, CountsCalls, TrapsAtOneAndTwo, adder, alone, at, caller, calls_twice, copies_and_sets, counting, endless, fills, fills_entries, grows_and_reads, grows_table, inits_entry, instance_of_two, last_of_three, nothing, null, one_and_two, seven_or_eight, store_with_entries, store_with_host, store_with_pages, trapping, with_bytes_and_global, with_entries};
+ghost use Rattle.meaning.specs.execution.Configurations.{Configuration, Frame, Invoking, depth, no_frame};
 ghost use Rattle.meaning.specs.execution.Effects.{Done, effect, instruction_cost};
+ghost use Rattle.meaning.specs.execution.Instructions.{Next, next};
 ghost use Rattle.meaning.specs.execution.Modules.{constant};
 ghost use Rattle.meaning.specs.execution.Store.{Store, instance_of};
-ghost use Rattle.meaning.specs.execution.Runs.{Ending, NoHosts, OutOfDepth, OutOfFuel, OutOfMemory, Run, State, Steps, WithTrap, WithValues};
+ghost use Rattle.meaning.specs.execution.Runs.{AsksForMemory, Ending, IsEnd, IsReady, IsWithinBound, NoHosts, OutOfDepth, OutOfFuel, OutOfMemory, Run, State, Steps, WithTrap, WithValues, price};
 
 /// Worked rows of runs: a function that adds its two arguments, called with 1 and 2 with fuel 10, 3 and 2, and with no depth.
 pub fn adding_one_and_two_costs_three()
@@ -81,6 +87,32 @@ pub fn tables_change_in_runs()
     ensures refused { Run NoHosts 1 no_frame (with_entries (grows_table 3) (null ∷ null ∷ []) ([])
         3) (Invoking ([]) 0) (WithValues (I32 4294967295 ∷ [])) (with_entries (grows_table 3) (null
         ∷ null ∷ []) ([]) 0) }
+{}
+
+/// Worked rows of steps that ask for memory: the entry from outside, a call of code and of a host function, and a growth that is
+/// done. A growth that answers -1, a constant and a trap ask for none.
+pub fn some_steps_ask_for_memory()
+    ensures entry { AsksForMemory (next (instance_of_two nothing nothing) no_frame (Invoking ([]) 0)) }
+    ensures call { Asks (instance_of_two caller nothing) ([]) (alone (Control (Call 1))) }
+    ensures host { Asks (store_with_host calls_twice ([]) (ty.I32 ∷ [])) ([]) (alone (Control (Call
+        1))) }
+    ensures memory { Asks (store_with_pages 1) (I32 1 ∷ []) (alone (Memory Grow)) }
+    ensures memory_refused { Asks (store_with_pages 0) (I32 1 ∷ []) (alone (Memory Grow)) → ⊥ }
+    ensures table { Asks store_with_entries (I32 2 ∷ null ∷ []) (alone (Table (table.Grow 0))) }
+    ensures table_refused { Asks store_with_entries (I32 3 ∷ null ∷ []) (alone (Table (table.Grow
+        0))) → ⊥ }
+    ensures constant { Asks (store_with_pages 1) ([]) (alone (I32Const 7)) → ⊥ }
+    ensures trap { Asks (store_with_pages 1) ([]) (alone (Control Unreachable)) → ⊥ }
+{}
+
+/// Law: a step that asks for memory is ready; so a run may end out of memory before one that its fuel and the depth bound allow.
+pub fn steps_that_ask_for_memory_may_lack_it()
+    ensures ready { (what : Next) → AsksForMemory what → IsReady what }
+    ensures ends { (bound : ℕ) (outside : Frame) (at : State ⊥) (configuration : Configuration) →
+        AsksForMemory (next at.store outside configuration) → IsWithinBound bound
+        (depth configuration) (next at.store outside configuration) → price
+        (next at.store outside configuration) ≤ at.fuel → IsEnd NoHosts bound outside at
+        configuration OutOfMemory at }
 {}
 
 /// Law: without host functions two bounded runs from one start end alike, in one state, unless one of them ends out of memory.

@@ -21,8 +21,9 @@ use Rattle.core_types.specs.declared.outcome.Val.{Val}
 use Rattle.core_types.specs.declared.outcome.Val.TheVariants.{I32, FuncRef}
 use Rattle.meaning.specs.structure.Bodies.{Body, Empty, Then, Nested, IfElse, BlockKind, LoopKind}
 use Rattle.meaning.specs.validation.Types.{function_type}
-use Rattle.meaning.specs.execution.Configurations.{Invoking, no_frame}
-use Rattle.meaning.specs.execution.Runs.{Answer, Results, HostTrap, Ending, NoHosts, Run, State}
+use Rattle.meaning.specs.execution.Configurations.{Invoking, Running, no_frame}
+use Rattle.meaning.specs.execution.Instructions.{next}
+use Rattle.meaning.specs.execution.Runs.{Answer, AsksForMemory, Results, HostTrap, Ending, NoHosts, Run, State}
 use Rattle.meaning.specs.execution.Store.{FunctionInstance, InCode, InHost, Store}
 
 -- A function of the first instance, without locals of its own.
@@ -299,3 +300,22 @@ inits_entry = function [] (ty.FuncRef ∷ [])
 abbrev pub grows_table : (count : ℕ) → FunctionInstance
 grows_table count = function [] (ty.I32 ∷ [])
     (Then (Reference (Func 1)) (Then (I32Const count) (Then (Table (table.Grow 0)) Empty)))
+
+-- ---- steps that ask for memory
+
+-- In the first instance the next step of these values and this body asks for memory.
+abbrev pub Asks : Store → List Val → Body → Type 0
+Asks store values rest =
+    AsksForMemory (next store (record { instance = Some 0; locals = [] }) (Running values rest))
+
+-- The store of a memory without a page, which this many pages bound.
+abbrev pub store_with_pages : (pages : ℕ) → Store
+store_with_pages pages = record (store_with_memory nothing [] 5) { pages = pages }
+
+-- The store of a table of two entries, which may have four.
+abbrev pub store_with_entries : Store
+store_with_entries = store_with_table nothing (null ∷ null ∷ []) []
+
+-- One instruction alone.
+abbrev pub alone : PlainOp → Body
+alone op = Then op Empty

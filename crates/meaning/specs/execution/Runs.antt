@@ -37,6 +37,18 @@ abbrev pub IsWithinBound : (bound frames : ℕ) → Next → Type 0
 IsWithinBound bound frames (Opens cost store configuration) = frames < bound
 IsWithinBound bound frames other = Unit {0}
 
+-- The step asks for memory: it opens a frame, as the entry from outside does, grows a table or a memory, or calls a host function.
+abbrev pub AsksForMemory : Next → Type 0
+AsksForMemory (Goes cost store frame configuration) = ⊥
+AsksForMemory (Grows cost store frame configuration) = Unit {0}
+AsksForMemory (Opens cost store configuration) = Unit {0}
+AsksForMemory (CallsHost cost number lent arguments configuration) = Unit {0}
+AsksForMemory (Traps cost trap) = ⊥
+AsksForMemory (Branches label values) = ⊥
+AsksForMemory (Returns values) = ⊥
+AsksForMemory (Over values) = ⊥
+AsksForMemory NotReady = ⊥
+
 -- The state of a run: the store, the host functions, and the fuel that is left.
 pub record State (H : Type 0) : Type 0 where
   pub store : Store
