@@ -1,0 +1,12 @@
+mod Annotations
+mod Functions
+mod Growth
+mod Heights
+mod LabelNumbers
+mod Left
+mod Lengths
+mod Making
+mod Measuring
+mod Passing
+mod Shapes
+mod Wholes

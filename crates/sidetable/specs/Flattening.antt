@@ -1,0 +1,120 @@
+-- Flattening, from the first operation with its marks to the last.
+use Rattle.std.specs.Prelude.{◌≡◌, ℕ, suc, ◌+◌, Bool, List, [], ◌∷◌, ◌++◌, length, max, Option, Some, None}
+use Rattle.std.specs.List.{All}
+use Rattle.core_types.specs.declared.op.Op.{Op}
+use Rattle.meaning.specs.structure.Bodies.{Body, Part, Rests, first_part, other_parts, rests}
+use Rattle.sidetable.specs.Counts.{Signatures, height_or_zero}
+use Rattle.sidetable.specs.Flat.{FlatOp, Jump, flat, greatest, size}
+use Rattle.sidetable.specs.Labels.{AllStand, all_entries}
+use Rattle.sidetable.specs.Packing.{IsWithin, made}
+use Rattle.sidetable.specs.Shapes.{Closes}
+use Rattle.sidetable.specs.SideTables.{Grows}
+use Rattle.sidetable.specs.Sizes.{openings_of}
+use Rattle.sidetable.specs.declared.flattening.Flattening.{Flattening}
+use Rattle.sidetable.specs.declared.labels.Label.{Label}
+use Rattle.sidetable.specs.declared.labels.Level.{Level}
+use Rattle.sidetable.specs.declared.operations.PackedOp.{PackedOp}
+
+-- ---- what is left
+
+module _ (s : Signatures) (outermost : Label) where
+  -- Behind the innermost body that is open, which ends at a place: its other body, if there is one, and what is left of each body
+  -- around it.
+  abbrev pub left_around : List Level → Option Body → (at : ℕ) → List Part → List FlatOp
+  left_around [] other at around = []
+  left_around (l ∷ ls) None at around =
+      flat s outermost.entry (all_entries outermost ls) l.after at (first_part around).body
+      ++ left_around ls (first_part around).other (at + size (first_part around).body)
+      (other_parts around)
+  left_around (l ∷ ls) (Some other) at around =
+      Jump l.label.entry ∷
+      (flat s outermost.entry (l.label.entry ∷ all_entries outermost ls) l.inside (suc at) other
+      ++ (flat s outermost.entry (all_entries outermost ls) l.after (suc at + size other)
+      (first_part around).body
+      ++ left_around ls (first_part around).other
+      (suc at + size other + size (first_part around).body) (other_parts around)))
+
+  abbrev pub left : List Level → (height : Option ℕ) → (at : ℕ) → Rests → List FlatOp
+  left levels h at r =
+      flat s outermost.entry (all_entries outermost levels) h at r.here.body
+      ++ left_around levels r.here.other (at + size r.here.body) r.around
+
+-- The greatest height of what is left.
+abbrev pub greatest_around : Signatures → List Level → Option Body → List Part → ℕ
+greatest_around s [] other around = 0
+greatest_around s (l ∷ ls) None around =
+    max (greatest s l.after (first_part around).body)
+    (greatest_around s ls (first_part around).other (other_parts around))
+greatest_around s (l ∷ ls) (Some other) around =
+    max (greatest s l.inside other) (max (greatest s l.after (first_part around).body)
+    (greatest_around s ls (first_part around).other (other_parts around)))
+
+abbrev pub greatest_left : Signatures → List Level → (height : Option ℕ) → Rests → ℕ
+greatest_left s levels h r =
+    max (greatest s h r.here.body) (greatest_around s levels r.here.other r.around)
+
+-- ---- what is made
+
+-- With what was made, what is left of the operations makes this; they close the bodies that are open.
+pub record Makes (s : Signatures) (outermost : Label) (f : Flattening) (ops : List Op)
+    (whole : List FlatOp) (most : ℕ)
+    : Type 0 where
+  pub operations : made f.tables f.operations.items
+      ++ left s outermost f.levels f.height (length (made f.tables f.operations.items)) (rests ops)
+      ≡ whole
+  pub heights : max f.greatest (greatest_left s f.levels f.height (rests ops)) ≡ most
+  pub openings : f.openings ≡ openings_of ops
+  pub shape : (open_bodies : List Bool) × (length open_bodies ≡ length f.levels)
+      × Closes ops open_bodies
+  pub stand : AllStand f.tables outermost f.levels
+  pub within : All (IsWithin f.tables) f.operations.items
+
+-- Some operations, this one first, make something.
+abbrev pub CanMake : Signatures → Label → Flattening → Op → Type 0
+CanMake s outermost f op =
+    (ops : List Op) × (whole : List FlatOp) × (most : ℕ)
+    × Makes s outermost f (op ∷ ops) whole most
+
+-- This operation is passed: what it and the others make, the others make then.
+pub record Passes (s : Signatures) (outermost : Label) (old : Flattening) (op : Op)
+    (new : Flattening)
+    : Type 0 where
+  pub grows : Grows old.tables new.tables
+  pub makes : (ops : List Op) (whole : List FlatOp) (most : ℕ)
+      → Makes s outermost old (op ∷ ops) whole most
+      → Makes s outermost new ops whole most
+
+-- The same for some operations, all of which are passed.
+abbrev pub CanMakeAll : Signatures → Label → Flattening → List Op → Type 0
+CanMakeAll s outermost f ops =
+    (whole : List FlatOp) × (most : ℕ) × Makes s outermost f ops whole most
+
+-- The first operations, up to these, are passed.
+pub record PassesTo (s : Signatures) (outermost : Label) (old : Flattening) (all ops : List Op)
+    (new : Flattening)
+    : Type 0 where
+  pub grows : Grows old.tables new.tables
+  pub makes : (whole : List FlatOp) (most : ℕ) → Makes s outermost old all whole most
+      → Makes s outermost new ops whole most
+
+-- An operation is put behind the others, at this height.
+pub record Pushes (old : Flattening) (p : PackedOp) (after : Option ℕ) (new : Flattening)
+    : Type 0 where
+  pub operations : new.operations.items ≡ old.operations.items ++ p ∷ []
+  pub greatest : new.greatest ≡ max old.greatest (height_or_zero old.height)
+  pub height : new.height ≡ after
+  pub tables : new.tables ≡ old.tables
+  pub levels : new.levels ≡ old.levels
+  pub openings : new.openings ≡ old.openings
+
+-- ---- if
+
+-- Where the second body of an if at a place begins, or what follows where there is none, with bodies of these sizes.
+abbrev pub if_second : (at here : ℕ) → (other : Option ℕ) → ℕ
+if_second at here None = at + 1 + here
+if_second at here (Some other) = at + 1 + here + 1
+
+-- Where what follows begins.
+abbrev pub if_end : (at here : ℕ) → (other : Option ℕ) → ℕ
+if_end at here None = at + 1 + here
+if_end at here (Some other) = at + 1 + here + 1 + other

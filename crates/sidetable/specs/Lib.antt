@@ -1,0 +1,13 @@
+pub mod Counts
+pub mod Ends
+pub mod Flat
+pub mod FlatModules
+pub mod Flattening
+pub mod Heights
+pub mod Labels
+pub mod Packing
+pub mod Rows
+pub mod Shapes
+pub mod SideTables
+pub mod Signatures
+pub mod Sizes

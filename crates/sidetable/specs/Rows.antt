@@ -1,0 +1,129 @@
+-- Worked rows of flat code, and what each form of body leaves.
+use Rattle.std.specs.Prelude.{◌≡◌, ℕ, ◌-◌, List, [], ◌∷◌}
+use Rattle.core_types.specs.declared.op.BinaryOp.TheVariants.{Add, Sub}
+use Rattle.core_types.specs.declared.op.BlockType.{BlockType}
+use Rattle.core_types.specs.declared.op.BlockType.TheVariants as block
+use Rattle.core_types.specs.declared.op.ControlOp.TheVariants as control
+use Rattle.core_types.specs.declared.op.NumericOp.TheVariants.{Binary}
+use Rattle.core_types.specs.declared.op.PlainOp.{PlainOp}
+use Rattle.core_types.specs.declared.op.PlainOp.TheVariants.{Control, I32Const, Numeric, Variable}
+use Rattle.core_types.specs.declared.op.VariableOp.TheVariants.{LocalGet, LocalSet, LocalTee}
+use Rattle.core_types.specs.declared.op.Width.TheVariants.{W32}
+use Rattle.core_types.specs.declared.types.ValType.TheVariants.{I32}
+use Rattle.meaning.specs.structure.Bodies.{Body, BlockKind, LoopKind, IfKind, Empty, Then, Nested, IfElse}
+use Rattle.sidetable.specs.Counts.{Signatures, block_counts}
+use Rattle.sidetable.specs.Flat.{FlatOp, Plain, Enter, If, Jump, Br, BrIf, Return, entry_of, flat_function}
+
+-- ---- functions
+
+abbrev no_types : Signatures
+no_types = record { types = []; functions = [] }
+
+-- The instructions of a body without bodies in it.
+abbrev pub sequence : List PlainOp → Body → Body
+sequence [] rest = rest
+sequence (op ∷ ops) rest = Then op (sequence ops rest)
+
+abbrev pub plain_ops : List PlainOp → List FlatOp → List FlatOp
+plain_ops [] more = more
+plain_ops (op ∷ ops) more = Plain op ∷ plain_ops ops more
+
+abbrev local : ℕ → PlainOp
+local x = Variable (LocalGet x)
+
+abbrev three_constants : List PlainOp
+three_constants = I32Const 7 ∷ I32Const 8 ∷ I32Const 9 ∷ []
+
+-- A block of one result, out of which a branch goes over three constants.
+abbrev pub BranchOverThree : Type 0
+BranchOverThree =
+    flat_function no_types 1
+    (Nested BlockKind (block.Value I32) (sequence three_constants
+    (Then (Control (control.Br 0)) Empty)) Empty)
+    ≡ record {
+      operations = Enter ∷ plain_ops three_constants (Br (entry_of 5 1 0) ∷ []);
+      greatest = 3;
+    }
+
+-- What a turn of the loop does before its branch: it adds the first local to the second, and counts the first one down.
+abbrev turn : List PlainOp
+turn = local 1 ∷ local 0 ∷ Numeric (Binary W32 Add) ∷ Variable (LocalSet 1) ∷ local 0 ∷ I32Const 1 ∷
+    Numeric (Binary W32 Sub) ∷
+    Variable (LocalTee 0) ∷
+    []
+
+-- A sum by a loop.
+abbrev pub Sum : Type 0
+Sum =
+    flat_function no_types 1
+    (Nested LoopKind block.Empty (sequence turn (Then (Control (control.BrIf 0)) Empty))
+    (Then (local 1) Empty))
+    ≡ record {
+      operations = Enter ∷ plain_ops turn (BrIf (entry_of 0 0 0) ∷ Plain (local 1) ∷ []);
+      greatest = 2;
+    }
+
+-- An if of two constants.
+abbrev pub SevenOrEight : Type 0
+SevenOrEight =
+    flat_function no_types 1
+    (Then (local 0) (IfElse (block.Value I32) (Then (I32Const 7) Empty) (Then (I32Const 8) Empty)
+    Empty))
+    ≡ record {
+      operations = Plain (local 0) ∷ If (entry_of 4 0 0) ∷ Plain (I32Const 7) ∷
+          Jump (entry_of 5 1 0) ∷
+          Plain (I32Const 8) ∷
+          [];
+      greatest = 1;
+    }
+
+-- ---- what a form leaves, as the whole code of a function with so many results
+
+abbrev Leaves : Signatures → (results : ℕ) → Body → List FlatOp → Type 0
+Leaves s results body ops = (flat_function s results body).operations ≡ ops
+
+abbrev branch : Body
+branch = Then (Control (control.Br 0)) Empty
+
+-- A block leaves one operation and its inside; a branch out of it goes on behind it, with its results.
+abbrev pub BlockLeaves : Type 0
+BlockLeaves =
+    (s : Signatures) (results : ℕ) (type : BlockType)
+    → Leaves s results (Nested BlockKind type branch Empty)
+    (Enter ∷ Br (entry_of 2 (block_counts s type).gives (0 - (block_counts s type).takes)) ∷ [])
+
+-- So does a loop; a branch to its label begins it anew, with its parameters.
+abbrev pub LoopLeaves : Type 0
+LoopLeaves =
+    (s : Signatures) (results : ℕ) (type : BlockType)
+    → Leaves s results (Nested LoopKind type branch Empty)
+    (Enter ∷ Br (entry_of 0 (block_counts s type).takes (0 - (block_counts s type).takes)) ∷ [])
+
+-- An if without else goes on behind it where the condition is zero, with its parameters.
+abbrev pub IfLeaves : Type 0
+IfLeaves =
+    (s : Signatures) (results : ℕ) (type : BlockType)
+    → Leaves s results (Nested IfKind type branch Empty)
+    (If (entry_of 2 (block_counts s type).takes (0 - (block_counts s type).takes)) ∷
+    Br (entry_of 2 (block_counts s type).gives (0 - (block_counts s type).takes)) ∷
+    [])
+
+-- One with else goes on at its second body then, and an else leaves a jump past that, with the results.
+abbrev pub IfElseLeaves : Type 0
+IfElseLeaves =
+    (s : Signatures) (results : ℕ) (type : BlockType)
+    → Leaves s results (IfElse type branch branch Empty)
+    (If (entry_of 3 (block_counts s type).takes (0 - (block_counts s type).takes)) ∷
+    Br (entry_of 4 (block_counts s type).gives (0 - (block_counts s type).takes)) ∷
+    Jump (entry_of 4 (block_counts s type).gives (0 - (block_counts s type).takes)) ∷
+    Br (entry_of 4 (block_counts s type).gives (0 - (block_counts s type).takes)) ∷
+    [])
+
+-- A branch to the outermost label leaves the function with its results, as a return does.
+abbrev pub BranchLeaves : Type 0
+BranchLeaves = (s : Signatures) (results : ℕ) → Leaves s results branch (Br (entry_of 1 results 0) ∷ [])
+
+abbrev pub ReturnLeaves : Type 0
+ReturnLeaves =
+    (s : Signatures) (results : ℕ)
+    → Leaves s results (Then (Control control.Return) Empty) (Return (entry_of 1 results 0) ∷ [])

@@ -1,0 +1,399 @@
+ghost use Rattle.std.specs.Prelude.{◌≡◌, ◌+◌, ◌-◌, ◌∷◌, [], List, ℕ, max as larger, IfOk, OnOk, None, Some};
+ghost use Rattle.std.specs.List.{All};
+ghost use Rattle.core_types.specs.declared.op.Op.TheVariants.{Block, Else, End, If, Loop, Plain};
+ghost use Rattle.meaning.specs.structure.Bodies.{Body, writing};
+ghost use Rattle.sidetable.specs.Counts.{behind as behind_counts, changed as changed_height, height_or_zero as known_or_zero, less as less_by};
+ghost use Rattle.sidetable.specs.Ends.{HasEnds};
+ghost use Rattle.sidetable.specs.Flat.{flat_function};
+ghost use Rattle.sidetable.specs.FlatModules.{flat_function_of};
+ghost use Rattle.sidetable.specs.Flattening.{CanMake, CanMakeAll, Passes, PassesTo, Pushes, if_end, if_second};
+ghost use Rattle.sidetable.specs.Packing.{IsWithin};
+ghost use Rattle.sidetable.specs.Signatures.{signatures_of};
+ghost use Rattle.sidetable.specs.SideTables.{Grows};
+ghost use Rattle.sidetable.specs.declared.sizes.PartSize.{PartSize as AnySize};
+
+use crate::counts::{Counts, ModuleTypes, counts_of, counts_of_block};
+use crate::instructions::pack;
+use crate::labels::{Label, Level, push_label};
+use crate::operations::{Entry, PackedOp, TransferInstruction};
+use crate::side_tables::{SideTables, number};
+use crate::sizes::{PartSize, measure, sum};
+use core_types::{BlockType, Op, PlainOp, Stack};
+use meaning::writing_is_read;
+use std::alloc::{AllocError, Global};
+
+// What was made of the operations so far: the side tables and the operations, the bodies that are open, the sizes of what lies
+// behind the marks to come, the height here, and the greatest height so far.
+#[derive(Drop)]
+struct Flattening {
+    tables: SideTables,
+    operations: Vec<PackedOp>,
+    levels: Stack<Level>,
+    openings: Stack<PartSize>,
+    height: Option<u64>,
+    greatest: u64,
+}
+
+// ---- heights
+
+// One operand less.
+fn less_one(height: Option<u64>) -> Option<u64>
+    ensures { result ≡ less_by 1 height }
+{
+    match height {
+        Some(h) => Some(h.saturating_sub(1)),
+        None => None,
+    }
+}
+
+// The height behind what takes and gives so many.
+fn changed(c: Counts, height: Option<u64>) -> Result<Option<u64>, AllocError>
+    ensures { IfOk result (λ h. h ≡ changed_height c height) }
+{
+    match height {
+        Some(h) => match h.saturating_sub(c.takes as u64).checked_add(c.gives as u64) {
+            Some(after) => Ok(Some(after)),
+            None => Err(AllocError),
+        },
+        None => Ok(None),
+    }
+}
+
+// The height behind an instruction.
+fn behind(c: Option<Counts>, height: Option<u64>) -> Result<Option<u64>, AllocError>
+    ensures { IfOk result (λ h. h ≡ behind_counts c height) }
+{
+    match c {
+        Some(c) => changed(c, height),
+        None => Ok(None),
+    }
+}
+
+// The height, or 0 where nothing arrives.
+fn known(height: Option<u64>) -> u64
+    ensures { result ≡ known_or_zero height }
+{
+    match height {
+        Some(h) => h,
+        None => 0,
+    }
+}
+
+// The height below the parameters of a block.
+fn base(c: Counts, inside: Option<u64>) -> u64
+    ensures { result ≡ known_or_zero inside - c.takes }
+{
+    known(inside).saturating_sub(c.takes as u64)
+}
+
+// ---- operations
+
+// Puts an operation behind the others, behind which the height is this.
+fn push_operation(f: &mut Flattening, op: PackedOp, after: Option<u64>) -> Result<(), AllocError>
+    ensures { OnOk result (Pushes f.old op after f.new) }
+{
+    f.operations.push(op)?;
+    f.greatest = f.greatest.max(known(f.height));
+    f.height = after;
+    Ok(())
+}
+
+// An instruction without a body.
+fn step_plain(
+    s: &ModuleTypes<'_>,
+    outermost: Label,
+    f: &mut Flattening,
+    op: &PlainOp,
+) -> Result<(), AllocError>
+    requires can { CanMake (signatures_of s.now) outermost f.old (Plain op.now) }
+    ensures { OnOk result (Passes (signatures_of s.now) outermost f.old (Plain op.now) f.new) }
+{
+    let packed = pack(&mut f.tables, outermost, &f.levels, op)?;
+    let after = behind(counts_of(s, op), f.height)?;
+    push_operation(f, packed, after)?;
+    Ok(())
+}
+
+// ---- marks
+
+// The sizes of what lies behind the mark that was reached.
+fn take_opening(openings: &mut Stack<PartSize>) -> PartSize
+    requires { (part : AnySize) × (others : List AnySize) × (openings.old ≡ part ∷ others) }
+    ensures { openings.old ≡ result ∷ openings.new }
+{
+    match openings.pop() {
+        Some(part) => part,
+        None => unreachable!(),
+    }
+}
+
+// A body that begins here: its level.
+fn make_level(c: Counts, label: Label, inside: Option<u64>) -> Result<Level, AllocError>
+    ensures { IfOk result (λ l. (l.label ≡ label) × (l.inside ≡ inside) × (l.after ≡ changed_height c inside)) }
+{
+    let after = changed(c, inside)?;
+    Ok(Level {
+        label,
+        inside,
+        after,
+    })
+}
+
+// The place behind an operation at a place and so many others.
+fn place_behind(at: usize, size: usize) -> Result<usize, AllocError>
+    ensures { IfOk result (λ n. n ≡ at + 1 + size) }
+{
+    let first = sum(at, 1)?;
+    let place = sum(first, size)?;
+    Ok(place)
+}
+
+// A block: a branch to its label goes on behind it, with its results.
+fn step_block(
+    s: &ModuleTypes<'_>,
+    outermost: Label,
+    f: &mut Flattening,
+    ty: BlockType,
+) -> Result<(), AllocError>
+    requires can { CanMake (signatures_of s.now) outermost f.old (Block ty) }
+    ensures { OnOk result (Passes (signatures_of s.now) outermost f.old (Block ty) f.new) }
+{
+    let part = take_opening(&mut f.openings);
+    let c = counts_of_block(s, ty);
+    let end = place_behind(f.operations.len(), part.here)?;
+    let label = push_label(
+        &mut f.tables,
+        Entry {
+            target: number(end)?,
+            kept: number(c.gives)?,
+            height: base(c, f.height),
+        },
+    )?;
+    let level = make_level(c, label, f.height)?;
+    push_operation(f, PackedOp::Enter, level.inside)?;
+    f.levels.push(level)?;
+    Ok(())
+}
+
+// A loop: a branch to its label begins it anew, with its parameters.
+fn step_loop(
+    s: &ModuleTypes<'_>,
+    outermost: Label,
+    f: &mut Flattening,
+    ty: BlockType,
+) -> Result<(), AllocError>
+    requires can { CanMake (signatures_of s.now) outermost f.old (Loop ty) }
+    ensures { OnOk result (Passes (signatures_of s.now) outermost f.old (Loop ty) f.new) }
+{
+    let _part = take_opening(&mut f.openings);
+    let c = counts_of_block(s, ty);
+    let start = f.operations.len();
+    let height = base(c, f.height);
+    let label = push_label(
+        &mut f.tables,
+        Entry {
+            target: number(start)?,
+            kept: number(c.takes)?,
+            height,
+        },
+    )?;
+    let level = make_level(c, label, f.height)?;
+    push_operation(f, PackedOp::Enter, level.inside)?;
+    f.levels.push(level)?;
+    Ok(())
+}
+
+// Where the second body of an `if` begins, or what follows where there is none, and where what follows begins.
+#[derive(Clone, Copy)]
+struct IfPlaces {
+    second: usize,
+    end: usize,
+}
+
+// The places of an `if` at a place, with bodies of these sizes.
+fn places_of_if(at: usize, part: PartSize) -> Result<IfPlaces, AllocError>
+    ensures second { IfOk result (λ places. places.second ≡ if_second at part.here part.other) }
+    ensures end { IfOk result (λ places. places.end ≡ if_end at part.here part.other) }
+{
+    let first_end = place_behind(at, part.here)?;
+    match part.other {
+        Some(other) => {
+            let second = sum(first_end, 1)?;
+            let end = sum(second, other)?;
+            Ok(IfPlaces { second, end })
+        }
+        None => Ok(IfPlaces {
+            second: first_end,
+            end: first_end,
+        }),
+    }
+}
+
+// An `if`: where the condition is zero it goes on with its second body, or behind it.
+fn step_if(
+    s: &ModuleTypes<'_>,
+    outermost: Label,
+    f: &mut Flattening,
+    ty: BlockType,
+) -> Result<(), AllocError>
+    requires can { CanMake (signatures_of s.now) outermost f.old (If ty) }
+    ensures { OnOk result (Passes (signatures_of s.now) outermost f.old (If ty) f.new) }
+{
+    let part = take_opening(&mut f.openings);
+    let c = counts_of_block(s, ty);
+    let places = places_of_if(f.operations.len(), part)?;
+    let inside = less_one(f.height);
+    let height = base(c, inside);
+    let label = push_label(
+        &mut f.tables,
+        Entry {
+            target: number(places.end)?,
+            kept: number(c.gives)?,
+            height,
+        },
+    )?;
+    let second = push_label(
+        &mut f.tables,
+        Entry {
+            target: number(places.second)?,
+            kept: number(c.takes)?,
+            height,
+        },
+    )?;
+    let level = make_level(c, label, inside)?;
+    push_operation(
+        f,
+        PackedOp::Transfer(TransferInstruction::If, second.number),
+        level.inside,
+    )?;
+    f.levels.push(level)?;
+    Ok(())
+}
+
+// An else: the first body goes on behind the `if`, with its results.
+fn step_else(s: &ModuleTypes<'_>, outermost: Label, f: &mut Flattening) -> Result<(), AllocError>
+    requires can { CanMake (signatures_of s.now) outermost f.old Else }
+    ensures { OnOk result (Passes (signatures_of s.now) outermost f.old Else f.new) }
+{
+    let _part = take_opening(&mut f.openings);
+    let Some(level) = f.levels.top() else {
+        unreachable!()
+    };
+    push_operation(
+        f,
+        PackedOp::Transfer(TransferInstruction::Jump, level.label.number),
+        level.inside,
+    )?;
+    Ok(())
+}
+
+// An end, which leaves nothing.
+fn step_end(s: &ModuleTypes<'_>, outermost: Label, f: &mut Flattening)
+    requires can { CanMake (signatures_of s.now) outermost f.old End }
+    ensures { Passes (signatures_of s.now) outermost f.old End f.new }
+{
+    let Some(level) = f.levels.pop() else {
+        unreachable!()
+    };
+    f.greatest = f.greatest.max(known(f.height));
+    f.height = level.after;
+}
+
+// One operation more.
+fn step(
+    s: &ModuleTypes<'_>,
+    outermost: Label,
+    f: &mut Flattening,
+    op: &Op,
+) -> Result<(), AllocError>
+    requires can { CanMake (signatures_of s.now) outermost f.old op.now }
+    ensures { OnOk result (Passes (signatures_of s.now) outermost f.old op.now f.new) }
+{
+    match op {
+        Op::Plain(op) => step_plain(s, outermost, f, op)?,
+        Op::Block(ty) => step_block(s, outermost, f, *ty)?,
+        Op::Loop(ty) => step_loop(s, outermost, f, *ty)?,
+        Op::If(ty) => step_if(s, outermost, f, *ty)?,
+        Op::Else => step_else(s, outermost, f)?,
+        Op::End => step_end(s, outermost, f),
+    }
+    Ok(())
+}
+
+// All operations.
+fn run(
+    s: &ModuleTypes<'_>,
+    outermost: Label,
+    f: &mut Flattening,
+    code: &[Op],
+) -> Result<(), AllocError>
+    requires can { CanMakeAll (signatures_of s.now) outermost f.old code.now }
+    ensures { OnOk result (PassesTo (signatures_of s.now) outermost f.old code.now ([]) f.new) }
+{
+    for op in code {
+        step(s, outermost, f, op)?;
+    }
+    Ok(())
+}
+
+/// A function's flat code, packed: its operations, the greatest height that its operands reach, and for each position of its code
+/// with marks the one at which the body ends in which it stands.
+#[derive(Drop)]
+pub struct PackedFunction {
+    pub operations: Vec<PackedOp>,
+    pub greatest: u64,
+    pub ends: Vec<usize>,
+}
+
+/// A function's flat code, and the side tables with what it names.
+#[derive(Drop)]
+pub struct FlatBody {
+    pub function: PackedFunction,
+    pub tables: SideTables,
+}
+
+/// Flattens a function's code, with so many results, behind others that these side tables are for.
+pub fn flatten_body(
+    alloc: Global,
+    s: &ModuleTypes<'_>,
+    tables: SideTables,
+    results: usize,
+    code: &[Op],
+) -> Result<FlatBody, AllocError>
+    requires written { (body : Body) × (code.now ≡ writing body) }
+    ensures grows { IfOk result (λ b. Grows tables b.tables) }
+    ensures flat { IfOk result (λ b. (body : Body) → code.now ≡ writing body → flat_function_of b.tables
+        b.function ≡ flat_function (signatures_of s.now) results body) }
+    ensures within { IfOk result (λ b. All (IsWithin b.tables) b.function.operations.items) }
+    ensures ends { IfOk result (λ b. HasEnds code.now b.function.ends.items) }
+{
+    writing_is_read();
+    let measured = measure(alloc, code)?;
+    let mut tables = tables;
+    let outermost = push_label(
+        &mut tables,
+        Entry {
+            target: number(measured.size)?,
+            kept: number(results)?,
+            height: 0,
+        },
+    )?;
+    let mut f = Flattening {
+        tables,
+        operations: Vec::new(alloc),
+        levels: Stack::new(alloc),
+        openings: measured.openings,
+        height: Some(0),
+        greatest: results as u64,
+    };
+    run(s, outermost, &mut f, code)?;
+    let greatest = f.greatest.max(known(f.height));
+    Ok(FlatBody {
+        function: PackedFunction {
+            operations: f.operations,
+            greatest,
+            ends: measured.ends,
+        },
+        tables: f.tables,
+    })
+}

@@ -1,0 +1,51 @@
+//! Worked rows and laws of flat code.
+
+ghost use Rattle.std.specs.Prelude.{◌≡◌, ◌≤◌, List, length, ℕ, Option, Some};
+ghost use Rattle.core_types.specs.declared.op.ControlOp.{ControlOp as AnyControlOp};
+ghost use Rattle.core_types.specs.declared.op.PlainOp.{PlainOp as AnyPlainOp};
+ghost use Rattle.core_types.specs.declared.outcome.Val.{Val};
+ghost use Rattle.meaning.specs.execution.Configurations.{Frame};
+ghost use Rattle.meaning.specs.execution.Effects.{effect};
+ghost use Rattle.meaning.specs.execution.Store.{Store};
+ghost use Rattle.meaning.specs.structure.Bodies.{Body};
+ghost use Rattle.sidetable.specs.Counts.{Signatures};
+ghost use Rattle.sidetable.specs.Flat.{flat_function, size, without_annotations};
+ghost use Rattle.sidetable.specs.Heights.{IsReached};
+ghost use Rattle.sidetable.specs.Rows.{BlockLeaves, BranchLeaves, BranchOverThree, IfElseLeaves, IfLeaves, LoopLeaves, ReturnLeaves, SevenOrEight, Sum};
+
+/// Worked rows of flat code: a branch out of a block over three constants, a sum by a loop, and an `if` with two bodies.
+pub fn bodies_are_flattened()
+    ensures branch { BranchOverThree }
+    ensures sum { Sum }
+    ensures choice { SevenOrEight }
+{}
+
+/// Law: what each form of body leaves, and where its entries go on.
+pub fn each_form_leaves_its_operations()
+    ensures block { BlockLeaves }
+    ensures loops { LoopLeaves }
+    ensures if_alone { IfLeaves }
+    ensures if_else { IfElseLeaves }
+    ensures branch { BranchLeaves }
+    ensures returns { ReturnLeaves }
+{}
+
+/// Law: operations stand one for one; an end leaves none.
+pub fn operations_are_as_many_as_the_size()
+    ensures { (s : Signatures) (results : ℕ) (body : Body) → length (flat_function s results
+        body).operations ≡ size body }
+{}
+
+/// Law: the greatest height of a function is at least its number of results, and no height that is reached is over it.
+pub fn no_height_is_over_the_greatest()
+    ensures results { (s : Signatures) (results : ℕ) (body : Body) → results ≤ (flat_function s
+        results body).greatest }
+    ensures reached { (s : Signatures) (results : ℕ) (body : Body) (height : ℕ) → IsReached s (Some
+        0) body height → height ≤ (flat_function s results body).greatest }
+{}
+
+/// Law: an alignment and the types of a select change nothing of what an instruction does.
+pub fn annotations_change_nothing()
+    ensures { (store : Store) (frame : Frame) (op : AnyPlainOp) (values : List Val) → effect store frame
+        (without_annotations op) values ≡ effect store frame op values }
+{}

@@ -1,0 +1,25 @@
+//! Flat code without marks, in packed operations with side tables.
+#![tactic(auto)]
+
+mod counts;
+mod flat_module;
+mod flattening;
+mod instructions;
+mod labels;
+mod laws;
+mod module_types;
+mod operations;
+mod packing;
+mod side_tables;
+mod sizes;
+
+pub use flat_module::{FlatCode, FlatModule, flatten};
+pub use laws::{
+    annotations_change_nothing, bodies_are_flattened, each_form_leaves_its_operations,
+    no_height_is_over_the_greatest, operations_are_as_many_as_the_size,
+};
+pub use operations::{
+    BinaryInstruction, Entry, LoadInstruction, OtherInstruction, PackedOp, StoreInstruction,
+    TransferInstruction, UnaryInstruction,
+};
+pub use side_tables::{BranchRange, IndexPair, SideTables};

@@ -1,0 +1,173 @@
+/// Where a branch, a return, an `if` whose condition is zero or a jump goes on: the place of the next operation, how many operands
+/// are kept, and the height of those below them.
+#[derive(Clone, Copy)]
+pub struct Entry {
+    pub target: u32,
+    pub kept: u32,
+    pub height: u64,
+}
+
+/// An instruction on two integers: all but `i32.add`.
+#[derive(Clone, Copy)]
+pub enum BinaryInstruction {
+    I32Sub,
+    I32Mul,
+    I32DivS,
+    I32DivU,
+    I32RemS,
+    I32RemU,
+    I32And,
+    I32Or,
+    I32Xor,
+    I32Shl,
+    I32ShrS,
+    I32ShrU,
+    I32Rotl,
+    I32Rotr,
+    I64Add,
+    I64Sub,
+    I64Mul,
+    I64DivS,
+    I64DivU,
+    I64RemS,
+    I64RemU,
+    I64And,
+    I64Or,
+    I64Xor,
+    I64Shl,
+    I64ShrS,
+    I64ShrU,
+    I64Rotl,
+    I64Rotr,
+    I32Eq,
+    I32Ne,
+    I32LtS,
+    I32LtU,
+    I32GtS,
+    I32GtU,
+    I32LeS,
+    I32LeU,
+    I32GeS,
+    I32GeU,
+    I64Eq,
+    I64Ne,
+    I64LtS,
+    I64LtU,
+    I64GtS,
+    I64GtU,
+    I64LeS,
+    I64LeU,
+    I64GeS,
+    I64GeU,
+}
+
+/// An instruction on one integer.
+#[derive(Clone, Copy)]
+pub enum UnaryInstruction {
+    I32Eqz,
+    I64Eqz,
+    I32Clz,
+    I32Ctz,
+    I32Popcnt,
+    I32Extend8S,
+    I32Extend16S,
+    I64Clz,
+    I64Ctz,
+    I64Popcnt,
+    I64Extend8S,
+    I64Extend16S,
+    I32WrapI64,
+    I64ExtendI32S,
+    I64ExtendI32U,
+    I64Extend32S,
+}
+
+/// A load: all but `i32.load` and `i32.load8_u`.
+#[derive(Clone, Copy)]
+pub enum LoadInstruction {
+    I64Load,
+    I32Load8S,
+    I64Load8S,
+    I64Load8U,
+    I32Load16S,
+    I32Load16U,
+    I64Load16S,
+    I64Load16U,
+    I64Load32S,
+    I64Load32U,
+}
+
+/// A store: all but `i32.store8`.
+#[derive(Clone, Copy)]
+pub enum StoreInstruction {
+    I32Store,
+    I64Store,
+    I64Store8,
+    I32Store16,
+    I64Store16,
+    I64Store32,
+}
+
+/// An operation that does not go on with the next one, or calls.
+#[derive(Clone, Copy)]
+pub enum TransferInstruction {
+    Unreachable,
+    If,
+    Jump,
+    Br,
+    BrTable,
+    Return,
+    Call,
+    CallIndirect,
+}
+
+/// An instruction that is rarer.
+#[derive(Clone, Copy)]
+pub enum OtherInstruction {
+    Nop,
+    DropOperand,
+    Select,
+    GlobalGet,
+    GlobalSet,
+    I64Const,
+    RefNullFunc,
+    RefNullExtern,
+    RefIsNull,
+    RefFunc,
+    MemorySize,
+    MemoryGrow,
+    MemoryFill,
+    MemoryCopy,
+    MemoryInit,
+    DataDrop,
+    TableGet,
+    TableSet,
+    TableSize,
+    TableGrow,
+    TableFill,
+    TableCopy,
+    TableInit,
+    ElemDrop,
+}
+
+/// An operation, packed into eight bytes: of the sixteen kinds the frequent instructions are one each, and the others share one. A
+/// number is an index, a constant, an offset, or a place in a side table.
+#[derive(Clone, Copy)]
+pub enum PackedOp {
+    LocalGet(u32),
+    LocalSet(u32),
+    LocalTee(u32),
+    I32Const(u32),
+    I32Add,
+    Enter,
+    BrIf(u32),
+    I32Load(u32),
+    I32Load8U(u32),
+    I32Store8(u32),
+    Binary(BinaryInstruction),
+    Unary(UnaryInstruction),
+    Load(LoadInstruction, u32),
+    Store(StoreInstruction, u32),
+    Transfer(TransferInstruction, u32),
+    Other(OtherInstruction, u32),
+}
