@@ -11,7 +11,7 @@ use Rattle.exec.specs.declared.machine.FunctionCode.{FunctionCode}
 use Rattle.exec.specs.declared.machine.Machine.{Machine}
 use Rattle.meaning.specs.structure.Bodies.{rests}
 use Rattle.stacks.specs.Stacked.{operand_stack, local_stack}
-use Rattle.store.specs.Ends.{HasEnds}
+use Rattle.sidetable.specs.Ends.{HasEnds}
 
 -- This is the code of a function in an instance, with the positions at which its bodies end.
 pub record IsCodeOf (code : FunctionCode) (f : Func) (instance : ℕ) : Type 0 where

@@ -1,4 +1,4 @@
--- Positions in flat code, and the rest of each body there.
+-- Positions in flat operations, and the rest of each body there.
 use Rattle.std.specs.Prelude.{◌≡◌, ℕ, List, Option, Some, None, drop, unwrap_or}
 use Rattle.core_types.specs.declared.op.Op.{Op}
 use Rattle.core_types.specs.declared.op.Op.TheVariants.{Plain, Block, Loop, If, Else, End}

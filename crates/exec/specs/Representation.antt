@@ -11,7 +11,7 @@ use Rattle.exec.specs.declared.machine.Control.TheVariants.{InLabel, InFrame, Fr
 use Rattle.exec.specs.declared.machine.Label.{Label}
 use Rattle.exec.specs.declared.machine.Machine.{Machine}
 use Rattle.exec.specs.Positions.{rests_at, continue_at}
-use Rattle.store.specs.Ends.{HasEnds}
+use Rattle.sidetable.specs.Ends.{HasEnds}
 
 abbrev pub IsNoLabel : Option Control → Type 0
 IsNoLabel None = Unit {0}

@@ -13,7 +13,7 @@ ghost use Rattle.soundness.specs.Stores.{Extends, StoreIsValid};
 ghost use Rattle.hostfunc.specs.Boxes.{HaveHosts, HostStep, IsHost};
 ghost use Rattle.hostfunc.specs.declared.host_function.HostFault.TheVariants.{Trap as TrapFault, Memory as MemoryFault};
 ghost use Rattle.store.specs.Contents.{code_store, function_of, functions_in, host_function, store_of, store_with};
-ghost use Rattle.store.specs.Ends.{HasEnds};
+ghost use Rattle.sidetable.specs.Ends.{HasEnds};
 ghost use Rattle.exec.specs.Frames.{enter_from_outside};
 ghost use Rattle.exec.specs.HostCalls.{WaitsForHost, first_memory};
 ghost use Rattle.exec.specs.Representation.{Represents};
@@ -264,7 +264,7 @@ fn call_code_from_outside<'a>(
         callee.now.ty.now callee.now.instance callee.now.func.now))
         × IsTyped (store_with code.now state.old) (Invoking (reverse args.now) address) }
     requires arguments { length args.now ≡ length callee.now.ty.now.params }
-    requires ends { HasEnds callee.now.func.now.body callee.now.ends.now }
+    requires ends { HasEnds callee.now.func.now.body callee.now.flat.ends.now }
     requires whole { (rests callee.now.func.now.body).around ≡ [] }
     requires hosts { HaveHosts (store_with code.now state.old)
         hosts.old.objects.items }

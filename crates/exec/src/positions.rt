@@ -1,7 +1,7 @@
 ghost use Rattle.std.specs.Prelude.{◌≡◌, ◌<◌, ◌≤◌, Some, length, slice_get};
 ghost use Rattle.std.specs.Bool.{OnTrue, OnFalse};
 ghost use Rattle.core_types.specs.declared.op.Op.TheVariants.{Else};
-ghost use Rattle.store.specs.Ends.{HasEnds};
+ghost use Rattle.sidetable.specs.Ends.{HasEnds};
 ghost use Rattle.exec.specs.Positions.{after_end, rests_at, IsElse, IsNoElse};
 
 use core_types::Op;

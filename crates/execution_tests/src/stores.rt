@@ -1,86 +1,33 @@
-//! Functions, types and instances by address, the ends of bodies, and the arguments that a function takes.
+//! Functions, types and instances by address, the flat code of functions, and the arguments that a function takes.
 
 use crate::modules::{append, empty_store, loaded_module, store_with};
 use crate::runs::calls_so;
-use core_types::{BlockType, Extern, ExternType, Op, PlainOp, RefType, Val, ValType};
-use std::alloc::{AllocError, Global};
-use store::{Callee, Store, accepts, ends_of};
+use core_types::{Extern, ExternType, Op, PlainOp, RefType, Val, ValType};
+use std::alloc::Global;
+use store::{Callee, ModuleFunction, Store, accepts};
 
-// A flat operation, as the rows list it; `Other` has no body and is no mark.
-#[derive(Clone, Copy)]
-enum Mark {
-    Other,
-    Block,
-    Loop,
-    If,
-    Else,
-    End,
+// Whether a function has so many operations, this greatest height and bodies that end so.
+fn has_flat_code(function: &ModuleFunction<'_>) -> bool {
+    function.flat.operations.len() == 4
+        && function.flat.greatest == 1
+        && function.flat.ends == [6, 6, 4, 3, 4, 5, 6].as_slice()
 }
 
-use Mark::{Block, Else, End, If, Loop, Other};
-
-// Flat code, and for each index, that behind the last operation too, where the body ends in which it stands.
-struct Ends {
-    name: &'static str,
-    code: &'static [Mark],
-    ends: &'static [usize],
-}
-
-#[rattlefmt::skip]
-static ENDS: [Ends; 8] = [
-    Ends { name: "no operation", code: &[], ends: &[0] },
-    Ends { name: "no body", code: &[Other, Other], ends: &[2, 2, 2] },
-    Ends { name: "a block", code: &[Block, Other, End, Other], ends: &[4, 2, 2, 4, 4] },
-    Ends { name: "a loop in a block", code: &[Block, Loop, Other, End, Other, End], ends: &[6, 5, 3, 3, 5, 5, 6] },
-    Ends { name: "an if", code: &[Other, If, Other, End], ends: &[4, 4, 3, 3, 4] },
-    Ends { name: "an if with an else", code: &[If, Other, Else, Other, End, Other], ends: &[6, 2, 2, 4, 4, 6, 6] },
-    Ends { name: "a loop in an if in a block", code: &[Block, If, Loop, End, Else, Other, End, End], ends: &[8, 7, 4, 3, 4, 6, 6, 7, 8] },
-    Ends { name: "the writing of no body", code: &[If, Else, Other, Else, End], ends: &[5, 1, 3, 3, 4, 5] },
-];
-
-fn operation_of(mark: Mark) -> Op {
-    match mark {
-        Other => Op::Plain(PlainOp::I32Const(0)),
-        Block => Op::Block(BlockType::Empty),
-        Loop => Op::Loop(BlockType::Empty),
-        If => Op::If(BlockType::Empty),
-        Else => Op::Else,
-        End => Op::End,
-    }
-}
-
-fn code_of(alloc: Global, marks: &[Mark]) -> Result<Vec<Op>, AllocError> {
-    marks.iter().map(|mark| operation_of(*mark)).collect(alloc)
-}
-
-// Whether the bodies of a row's code end so.
-fn end_so(alloc: Global, row: &Ends) -> Result<bool, AllocError> {
-    let code = code_of(alloc, row.code)?;
-    Ok(ends_of(alloc, &code)?.as_slice() == row.ends)
-}
-
-#[test]
-fn finds_the_ends_of_bodies(rt: HostRuntime) {
-    for row in &ENDS {
-        assert!(rt; end_so(rt.alloc(), row) == Ok(true), "{}", row.name);
-    }
-}
-
-// Whether the function of a module is kept with the ends of its bodies.
-fn keeps_ends(alloc: Global) -> bool {
+// Whether the function of a module is kept with its flat code, and with the ends of its bodies.
+fn keeps_flat_code(alloc: Global) -> bool {
     let text = "(func i32.const 0 if block end else end)";
     match store_with(alloc, &[text]) {
-        Some(store) => {
-            matches!(store.code().function(0), Some(Callee::InModule(function))
-                if function.ends == [6, 6, 4, 3, 4, 5, 6].as_slice())
-        }
+        Some(store) => match store.code().function(0) {
+            Some(Callee::InModule(function)) => has_flat_code(&function),
+            _ => false,
+        },
         None => false,
     }
 }
 
 #[test]
-fn keeps_the_ends_of_bodies(rt: HostRuntime) {
-    assert!(rt; keeps_ends(rt.alloc()));
+fn keeps_the_flat_code_of_functions(rt: HostRuntime) {
+    assert!(rt; keeps_flat_code(rt.alloc()));
 }
 
 // Whether the instance at a number has the function at that address, which takes no arguments.

@@ -1,5 +1,5 @@
 -- The functions of a module: their types, and their flat code in order.
-use Rattle.std.proofs.Common.{◌≡◌, ℕ, zero, suc, ◌<◌, slice_get, List, [], ◌∷◌, ◌++◌, length, map, get_or, refl, ap, ap₂, sym, subst}
+use Rattle.std.proofs.Common.{◌≡◌, ℕ, ◌<◌, List, [], ◌∷◌, ◌++◌, length, map, get_or, refl, ap, ap₂, sym}
 use Rattle.std.proofs.lemmas.List.Elements.{All-head, All-tail}
 use Rattle.std.specs.List.{All}
 use Rattle.std.proofs.lemmas.Option.{slice_get-get_or}
@@ -9,7 +9,6 @@ use Rattle.core_types.specs.declared.module.Import.{Import}
 use Rattle.core_types.specs.declared.module.ImportDesc.{ImportDesc}
 use Rattle.core_types.specs.declared.module.ImportDesc.TheVariants as import
 use Rattle.meaning.specs.validation.Modules.{imported_functions, type_at}
-use Rattle.std.specs.Prelude.{Some}
 use Rattle.sidetable.specs.Counts.{Signatures}
 use Rattle.sidetable.specs.Flat.{FlatOp}
 use Rattle.sidetable.specs.FlatModules.{AreFlat, FunctionCode, IsFlat, IsFunctionWithin, code_of}
@@ -38,16 +37,6 @@ module _ (s : Signatures) where
   flat-more [] (c ∷ codes) f code are is = absurd are
   flat-more (g ∷ fs) [] f code are is = absurd are
   flat-more (g ∷ fs) (c ∷ codes) f code are is = (are.0, flat-more fs codes f code are.1 is)
-
-  -- The flat code of a function of an index.
-  pub flat-at : (fs : List Func) (codes : List FunctionCode) (k : ℕ) (f : Func) (code : FunctionCode) → AreFlat s fs codes → slice_get fs k ≡ Some f → slice_get codes k ≡ Some code → IsFlat s f code
-  flat-at [] codes k f code are found there = absurd cc
-  flat-at (g ∷ fs) [] k f code are found there = absurd are
-  flat-at (g ∷ fs) (c ∷ codes) zero f code are found there =
-      let same : g ≡ f = cc in
-      let same_code : c ≡ code = cc in
-      subst (λ (x : Func). IsFlat s x code) same (subst (IsFlat s g) same_code are.0)
-  flat-at (g ∷ fs) (c ∷ codes) (suc k) f code are found there = flat-at fs codes k f code are.1 found there
 
 -- ---- where the side tables grow
 

@@ -94,7 +94,8 @@ fn memory(op: MemoryOp) -> Counts
 
 // The counts of a function type, none where there is no such type.
 fn of_type(found: Option<&FuncType>) -> Counts
-    ensures some { MatchOption found.entry (result ≡ counts_of_type None) (λ t. result ≡ counts_of_type (Some t.now)) }
+    ensures some { MatchOption found.entry (result ≡ counts_of_type None)
+        (λ t. result ≡ counts_of_type (Some t.now)) }
     ensures few { result.takes < 9223372036854775808 }
 {
     match found {

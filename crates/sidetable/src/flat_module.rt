@@ -47,7 +47,8 @@ pub struct FlatCode<'a> {
 impl FlatModule {
     /// The flat code of the function of an index among the module's own, if there is one.
     pub fn function(&self, index: u32) -> Option<FlatCode<'_>>
-        ensures code { MatchOption result (slice_get self.now index ≡ None) (λ c. slice_get self.now index ≡ Some (seen c)) }
+        ensures code { MatchOption result (slice_get self.now index ≡ None)
+            (λ c. slice_get self.now index ≡ Some (seen c)) }
         ensures within { IfSome result (λ c. All (IsWithin c.tables.now) c.operations.now) }
     {
         let function = self.functions.get(index as usize)?;
@@ -69,7 +70,8 @@ fn flatten_function(
 ) -> Result<FlatModule, AllocError>
     requires body { HasBody func.now }
     requires ty { func.now.ty < length s.now.types.now }
-    ensures { IfOk result (λ m. (code : FunctionCode) × (m ≡ flat ++ code ∷ []) × IsFlat (signatures_of s.now) func.now code) }
+    ensures { IfOk result (λ m. (code : FunctionCode) × (m ≡ flat ++ code ∷ [])
+        × IsFlat (signatures_of s.now) func.now code) }
 {
     let ty = &s.types[func.ty as usize];
     let FlatModule { functions, tables } = flat;

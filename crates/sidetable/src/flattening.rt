@@ -1,8 +1,8 @@
-ghost use Rattle.std.specs.Prelude.{◌≡◌, ◌+◌, ◌-◌, ◌∷◌, [], List, ℕ, max as larger, IfOk, OnOk, None, Some};
+ghost use Rattle.std.specs.Prelude.{◌≡◌, ◌+◌, ◌∷◌, [], List, IfOk, OnOk};
 ghost use Rattle.std.specs.List.{All};
 ghost use Rattle.core_types.specs.declared.op.Op.TheVariants.{Block, Else, End, If, Loop, Plain};
 ghost use Rattle.meaning.specs.structure.Bodies.{Body, writing};
-ghost use Rattle.sidetable.specs.Counts.{behind as behind_counts, changed as changed_height, height_or_zero as known_or_zero, less as less_by};
+ghost use Rattle.sidetable.specs.Counts.{changed as changed_height};
 ghost use Rattle.sidetable.specs.Ends.{HasEnds};
 ghost use Rattle.sidetable.specs.Flat.{flat_function};
 ghost use Rattle.sidetable.specs.FlatModules.{flat_function_of};
@@ -15,6 +15,7 @@ ghost use Rattle.sidetable.specs.declared.sizes.PartSize.{PartSize as AnySize};
 use crate::counts::{Counts, ModuleTypes, counts_of, counts_of_block};
 use crate::instructions::pack;
 use crate::labels::{Label, Level, push_label};
+use crate::operand_heights::{base, behind, changed, known, less_one};
 use crate::operations::{Entry, PackedOp, TransferInstruction};
 use crate::side_tables::{SideTables, number};
 use crate::sizes::{PartSize, measure, sum};
@@ -32,58 +33,6 @@ struct Flattening {
     openings: Stack<PartSize>,
     height: Option<u64>,
     greatest: u64,
-}
-
-// ---- heights
-
-// One operand less.
-fn less_one(height: Option<u64>) -> Option<u64>
-    ensures { result ≡ less_by 1 height }
-{
-    match height {
-        Some(h) => Some(h.saturating_sub(1)),
-        None => None,
-    }
-}
-
-// The height behind what takes and gives so many.
-fn changed(c: Counts, height: Option<u64>) -> Result<Option<u64>, AllocError>
-    ensures { IfOk result (λ h. h ≡ changed_height c height) }
-{
-    match height {
-        Some(h) => match h.saturating_sub(c.takes as u64).checked_add(c.gives as u64) {
-            Some(after) => Ok(Some(after)),
-            None => Err(AllocError),
-        },
-        None => Ok(None),
-    }
-}
-
-// The height behind an instruction.
-fn behind(c: Option<Counts>, height: Option<u64>) -> Result<Option<u64>, AllocError>
-    ensures { IfOk result (λ h. h ≡ behind_counts c height) }
-{
-    match c {
-        Some(c) => changed(c, height),
-        None => Ok(None),
-    }
-}
-
-// The height, or 0 where nothing arrives.
-fn known(height: Option<u64>) -> u64
-    ensures { result ≡ known_or_zero height }
-{
-    match height {
-        Some(h) => h,
-        None => 0,
-    }
-}
-
-// The height below the parameters of a block.
-fn base(c: Counts, inside: Option<u64>) -> u64
-    ensures { result ≡ known_or_zero inside - c.takes }
-{
-    known(inside).saturating_sub(c.takes as u64)
 }
 
 // ---- operations
@@ -129,7 +78,8 @@ fn take_opening(openings: &mut Stack<PartSize>) -> PartSize
 
 // A body that begins here: its level.
 fn make_level(c: Counts, label: Label, inside: Option<u64>) -> Result<Level, AllocError>
-    ensures { IfOk result (λ l. (l.label ≡ label) × (l.inside ≡ inside) × (l.after ≡ changed_height c inside)) }
+    ensures { IfOk result (λ l. (l.label ≡ label) × (l.inside ≡ inside)
+        × (l.after ≡ changed_height c inside)) }
 {
     let after = changed(c, inside)?;
     Ok(Level {
@@ -362,8 +312,9 @@ pub fn flatten_body(
 ) -> Result<FlatBody, AllocError>
     requires written { (body : Body) × (code.now ≡ writing body) }
     ensures grows { IfOk result (λ b. Grows tables b.tables) }
-    ensures flat { IfOk result (λ b. (body : Body) → code.now ≡ writing body → flat_function_of b.tables
-        b.function ≡ flat_function (signatures_of s.now) results body) }
+    ensures flat { IfOk result (λ b. (body : Body) → code.now ≡ writing body
+        → flat_function_of b.tables b.function
+        ≡ flat_function (signatures_of s.now) results body) }
     ensures within { IfOk result (λ b. All (IsWithin b.tables) b.function.operations.items) }
     ensures ends { IfOk result (λ b. HasEnds code.now b.function.ends.items) }
 {
@@ -380,7 +331,7 @@ pub fn flatten_body(
     )?;
     let mut f = Flattening {
         tables,
-        operations: Vec::new(alloc),
+        operations: Vec::with_capacity(alloc, measured.size)?,
         levels: Stack::new(alloc),
         openings: measured.openings,
         height: Some(0),

@@ -57,7 +57,8 @@ fn push_entries(
 ) -> Result<(), AllocError>
     requires { AllStand tables.old outermost levels.now }
     ensures grows { OnOk result (Grows tables.old tables.new) }
-    ensures entries { OnOk result (tables.new.entries.items ≡ tables.old.entries.items ++ map (entry_at outermost.entry (all_entries outermost levels.now)) indices.now) }
+    ensures entries { OnOk result (tables.new.entries.items ≡ tables.old.entries.items
+        ++ map (entry_at outermost.entry (all_entries outermost levels.now)) indices.now) }
 {
     for index in indices {
         let label = label_at(tables, outermost, levels, *index);
@@ -75,7 +76,10 @@ pub fn push_branch(
 ) -> Result<u32, AllocError>
     requires { AllStand tables.old outermost levels.now }
     ensures grows { OnOk result (Grows tables.old tables.new) }
-    ensures packs { IfOk result (λ n. Packs tables.new (packed.Transfer transfer.BrTable n) (BrTable (map (entry_at outermost.entry (all_entries outermost levels.now)) branch.now.labels) (entry_at outermost.entry (all_entries outermost levels.now) branch.now.default))) }
+    ensures packs { IfOk result (λ n. Packs tables.new (packed.Transfer transfer.BrTable n)
+        (BrTable
+        (map (entry_at outermost.entry (all_entries outermost levels.now)) branch.now.labels)
+        (entry_at outermost.entry (all_entries outermost levels.now) branch.now.default))) }
 {
     let first = number(tables.entries.len())?;
     let count = number(branch.labels.len())?;

@@ -8,6 +8,7 @@ mod instructions;
 mod labels;
 mod laws;
 mod module_types;
+mod operand_heights;
 mod operations;
 mod packing;
 mod side_tables;

@@ -7,7 +7,8 @@ use std::alloc::{AllocError, Global};
 
 // Puts the type index of an imported function behind the others, if the import is one.
 fn push_imported(functions: &mut Vec<u32>, import: &Import) -> Result<(), AllocError>
-    ensures { OnOk result (functions.new.items ≡ functions.old.items ++ imported_functions (import.now ∷ [])) }
+    ensures { OnOk result (functions.new.items ≡ functions.old.items
+        ++ imported_functions (import.now ∷ [])) }
 {
     match import.desc {
         ImportDesc::Func(ty) => functions.push(ty)?,
@@ -29,7 +30,8 @@ fn imported(alloc: Global, imports: &[Import]) -> Result<Vec<u32>, AllocError>
 
 // Puts the type index of each function behind the others.
 fn push_declared(functions: &mut Vec<u32>, funcs: &[Func]) -> Result<(), AllocError>
-    ensures { OnOk result (functions.new.items ≡ functions.old.items ++ map (λ (f : AnyFunc). f.ty) funcs.now) }
+    ensures { OnOk result (functions.new.items ≡ functions.old.items
+        ++ map (λ (f : AnyFunc). f.ty) funcs.now) }
 {
     for func in funcs {
         functions.push(func.ty)?;

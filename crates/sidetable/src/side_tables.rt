@@ -40,7 +40,7 @@ pub fn number(count: usize) -> Result<u32, AllocError>
 
 impl SideTables {
     /// Empty side tables. Takes no memory.
-    pub fn new(alloc: Global) -> SideTables {
+    pub(crate) fn new(alloc: Global) -> SideTables {
         SideTables {
             entries: Vec::new(alloc),
             branch_ranges: Vec::new(alloc),
@@ -50,9 +50,10 @@ impl SideTables {
     }
 
     /// Puts an entry behind the others, and answers its number.
-    pub fn push_entry(&mut self, entry: Entry) -> Result<u32, AllocError>
+    pub(crate) fn push_entry(&mut self, entry: Entry) -> Result<u32, AllocError>
         ensures grows { OnOk result (Grows self.old self.new) }
-        ensures entries { OnOk result (self.new.entries.items ≡ self.old.entries.items ++ entry ∷ []) }
+        ensures entries { OnOk result (self.new.entries.items ≡ self.old.entries.items
+            ++ entry ∷ []) }
         ensures within { IfOk result (λ n. n < length self.new.entries.items) }
         ensures entry { IfOk result (λ n. entry_of_number self.new n ≡ entry) }
     {
@@ -62,7 +63,7 @@ impl SideTables {
     }
 
     /// Puts a branch's range behind the others, and answers its number.
-    pub fn push_branch_range(&mut self, range: BranchRange) -> Result<u32, AllocError>
+    pub(crate) fn push_branch_range(&mut self, range: BranchRange) -> Result<u32, AllocError>
         ensures grows { OnOk result (Grows self.old self.new) }
         ensures entries { self.new.entries.items ≡ self.old.entries.items }
         ensures within { IfOk result (λ n. n < length self.new.branch_ranges.items) }
@@ -74,7 +75,7 @@ impl SideTables {
     }
 
     /// Puts a constant behind the others, and answers its number.
-    pub fn push_constant(&mut self, constant: u64) -> Result<u32, AllocError>
+    pub(crate) fn push_constant(&mut self, constant: u64) -> Result<u32, AllocError>
         ensures grows { OnOk result (Grows self.old self.new) }
         ensures within { IfOk result (λ n. n < length self.new.constants.items) }
         ensures constant { IfOk result (λ n. constant_of self.new n ≡ constant) }
@@ -85,10 +86,11 @@ impl SideTables {
     }
 
     /// Puts a pair of indices behind the others, and answers its number.
-    pub fn push_pair(&mut self, first: u32, second: u32) -> Result<u32, AllocError>
+    pub(crate) fn push_pair(&mut self, first: u32, second: u32) -> Result<u32, AllocError>
         ensures grows { OnOk result (Grows self.old self.new) }
         ensures within { IfOk result (λ n. n < length self.new.pairs.items) }
-        ensures pair { IfOk result (λ n. ((pair_of self.new n).first ≡ first) × ((pair_of self.new n).second ≡ second)) }
+        ensures pair { IfOk result (λ n. ((pair_of self.new n).first ≡ first)
+            × ((pair_of self.new n).second ≡ second)) }
     {
         let place = number(self.pairs.len())?;
         self.pairs.push(IndexPair { first, second })?;

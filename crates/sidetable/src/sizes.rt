@@ -74,8 +74,10 @@ fn take_first(around: &mut Stack<OpenPart>, last: usize) -> OpenPart
 // A block or a loop, which leaves one operation and what is inside.
 fn measure_block(sizes: &mut Sizes, position: usize, last: usize) -> Result<(), AllocError>
     requires { position < last }
-    ensures blocks { OnOk result ((t : AnyType) → MeasuresOn position last (Block t) sizes.old sizes.new) }
-    ensures loops { OnOk result ((t : AnyType) → MeasuresOn position last (Loop t) sizes.old sizes.new) }
+    ensures blocks { OnOk result ((t : AnyType)
+        → MeasuresOn position last (Block t) sizes.old sizes.new) }
+    ensures loops { OnOk result ((t : AnyType)
+        → MeasuresOn position last (Loop t) sizes.old sizes.new) }
 {
     let inside = sizes.here.size;
     sizes.openings.push(inside)?;

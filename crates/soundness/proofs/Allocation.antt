@@ -45,7 +45,7 @@ use Rattle.meaning.specs.validation.Types.{AreFewPages, AreOrdered, function_typ
 use Rattle.meaning.specs.soundness.Values.{ValueHasType}
 use Rattle.meaning.proofs.lemmas.Contexts.{HasType-extension}
 use Rattle.meaning.proofs.lemmas.Lists.{map_all-length}
-use Rattle.soundness.specs.Links.{AllocationKeepsValid, IsLinkable}
+use Rattle.soundness.specs.Links.{AllocationKeepsValid, ContextHasModuleTypes, IsLinkable}
 use Rattle.soundness.specs.Places.{Place, below, context_at, instance_context, no_limits, types_at}
 use Rattle.soundness.specs.Stores.{AreThere, DataIsValid, InstanceIsValid, DataStays, ElementIsValid, ElementStays, ExportIsThere, GlobalIsValid, body_place, Extends, FunctionIsValid, GlobalStays, HasFewObjects, MemoryIsValid, MemoryStays, SizeIsValid, StoreIsValid, TableIsValid, TableStays}
 use Rattle.soundness.proofs.Appends.{Keeps-append, append-at, append-first, consecutive-length, there-append, types-appended}
@@ -346,3 +346,6 @@ pub allocation-keeps-valid : ((b : Body) → body_of (writing b) ≡ b) → Allo
 allocation-keeps-valid read old m given objects valid linkable made_is =
     let (gs, es, globals_made, elements_made, same) = objects-made m (map_all (new_global old (new_instance old m given)) m.globals) (map_all (new_elements old (new_instance old m given)) m.elements) objects made_is in
     rw same (extends old m given linkable gs es, store-valid old m given linkable gs es globals_made elements_made valid read)
+
+pub context-has-module-types : ContextHasModuleTypes
+context-has-module-types old m given objects linkable = (refl, functions-are old m given linkable objects.globals objects.elements)

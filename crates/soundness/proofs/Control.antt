@@ -40,7 +40,7 @@ module _ (stack : List ValType) (operands results between : List OperandType) (f
       )
 
   -- Operands between others and an i32 are known.
-  carried-known : (below carried : List OperandType) → operands ≡ below ++ (carried ++ Known ty.I32 ∷ []) → (types : List ValType) × (carried ≡ known types)
+  pub carried-known : (below carried : List OperandType) → operands ≡ below ++ (carried ++ Known ty.I32 ∷ []) → (types : List ValType) × (carried ≡ known types)
   carried-known below carried is =
       let (bs, gs, parts, operands_are, after) = taken operands results (reverse stack) between frame in
       let (low, top, split, below_is, top_is) = known-parts gs below (carried ++ Known ty.I32 ∷ []) (sym operands_are ∙ is) in

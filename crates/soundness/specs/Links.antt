@@ -12,9 +12,9 @@ use Rattle.meaning.specs.execution.Runs.{Answer, Ending, State}
 use Rattle.meaning.specs.execution.Storage.{AreBytes}
 use Rattle.meaning.specs.execution.Store.{ModuleInstance, ObjectLists, Store}
 use Rattle.meaning.specs.execution.Tables.{most_entries}
-use Rattle.meaning.specs.validation.Modules.{IsValid}
+use Rattle.meaning.specs.validation.Modules.{IsValid, functions_of}
 use Rattle.soundness.specs.Configurations.{ConfigurationHasType}
-use Rattle.soundness.specs.Places.{Place}
+use Rattle.soundness.specs.Places.{Place, instance_context}
 use Rattle.soundness.specs.Runs.{EndsTyped, IsOutside}
 use Rattle.soundness.specs.Stores.{Extends, InstanceIsValid, StoreIsValid}
 
@@ -63,6 +63,18 @@ AllocationKeepsValid = (old : Store) (m : Module) (given : List Extern) (objects
     → new_objects old (new_instance old m given) m ≡ Some objects
     → Extends old (with_module old (new_instance old m given) m objects)
     × StoreIsValid (with_module old (new_instance old m given) m objects)
+
+-- In the context of its instance the types are those of the module, and so are the types of its functions.
+abbrev pub ContextHasModuleTypes : Type 0
+ContextHasModuleTypes =
+    (old : Store) (m : Module) (given : List Extern) (objects : ObjectLists)
+    → IsLinkable old m given
+    → ((instance_context (with_module old (new_instance old m given) m objects)
+    (new_instance old m given)).types
+    ≡ m.types)
+    × ((instance_context (with_module old (new_instance old m given) m objects)
+    (new_instance old m given)).functions
+    ≡ functions_of m)
 
 -- The instance of a module that was linked is there, and is valid.
 pub record InstanceStays (old new : Store) (m : Module) (given : List Extern) : Type 0 where

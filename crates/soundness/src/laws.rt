@@ -11,7 +11,7 @@ ghost use Rattle.soundness.specs.Configurations.{ConfigurationHasType, StaysGood
 ghost use Rattle.soundness.specs.Costs.{CostsAreSpent};
 ghost use Rattle.soundness.specs.Embedding.{CommandsGoWell, FreshOnesAreSound, NeverAnswers, own_type};
 ghost use Rattle.soundness.specs.Insides.{InsideIsTyped};
-ghost use Rattle.soundness.specs.Links.{AllocationKeepsValid, IsLinkable, LinksNeverGoWrong};
+ghost use Rattle.soundness.specs.Links.{AllocationKeepsValid, ContextHasModuleTypes, IsLinkable, LinksNeverGoWrong};
 ghost use Rattle.soundness.specs.Places.{Place};
 ghost use Rattle.soundness.specs.Progress.{TypedRunsNeverGetStuck};
 ghost use Rattle.soundness.specs.Rows.{AddsTyped, adding, adding_with_a_page, storing};
@@ -59,6 +59,11 @@ pub fn allocation_keeps_stores_valid()
 {
     writing_is_read();
 }
+
+/// Law: in the context of a module's instance the types are those of the module, and so are the types of its functions.
+pub fn contexts_have_the_types_of_their_modules()
+    ensures { ContextHasModuleTypes }
+{}
 
 /// Law: a link, without host functions, of a valid module whose imports fit, into a valid store, ends well: its segments and its
 /// start function do, and the store is valid then and extends the one before.

@@ -1,6 +1,5 @@
 -- What the proofs of the calls rest on.
 pub mod Arguments
-pub mod BodyEnds
 pub mod Entries
 pub mod Instantiation
 pub mod LoadedModules

@@ -1,5 +1,6 @@
 -- What the store holds, in the terms of the definitions.
 use Rattle.std.specs.Prelude.{◌≡◌, ℕ, List, [], ◌∷◌, ◌++◌, map, Option, Some, None, IsSome, option_map, unwrap_or, slice_get}
+use Rattle.std.specs.List.{All}
 use Rattle.core_types.specs.declared.types.FuncType.{FuncType}
 use Rattle.core_types.specs.declared.module.Func.{Func}
 use Rattle.core_types.specs.declared.module.Module.{Module}
@@ -12,7 +13,10 @@ use Rattle.store.specs.declared.instances.Callee.TheVariants as callee
 use Rattle.store.specs.declared.instances.FunctionInstance.{FunctionInstance}
 use Rattle.store.specs.declared.instances.FunctionInstance.TheVariants.{InModule, InHost}
 use Rattle.store.specs.declared.instances.Instance.{Instance}
-use Rattle.store.specs.Ends.{HasEnds}
+use Rattle.sidetable.specs.Counts.{Signatures}
+use Rattle.sidetable.specs.Ends.{HasEnds}
+use Rattle.sidetable.specs.FlatModules.{IsFlat, module_signatures, seen}
+use Rattle.sidetable.specs.Packing.{IsWithin}
 use Rattle.store.specs.State.{StateContents}
 
 -- The functions, the instances and the types of the host functions, as they are kept.
@@ -80,8 +84,20 @@ callee_function (callee.InHost f) = host_function f.number f.ty.now
 -- The code of a function of a module comes with the positions at which its bodies end, and nothing is around it.
 abbrev pub HasWholeCode : Callee → Type 0
 HasWholeCode (callee.InModule f) =
-    HasEnds f.func.now.body f.ends.now × ((rests f.func.now.body).around ≡ [])
+    HasEnds f.func.now.body f.flat.ends.now × ((rests f.func.now.body).around ≡ [])
 HasWholeCode (callee.InHost f) = Unit {0}
+
+-- The types that the code of an instance refers to: those of its module.
+abbrev pub signatures_of_instance : Option Instance → Signatures
+signatures_of_instance None = record { types = []; functions = [] }
+signatures_of_instance (Some i) = module_signatures i.loaded.value
+
+-- The flat code of a function of a module is that of its body, and what it names by number is there.
+abbrev pub HasFlatCode : List Instance → Callee → Type 0
+HasFlatCode instances (callee.InModule f) =
+    IsFlat (signatures_of_instance (slice_get instances f.instance)) f.func.now (seen f.flat)
+    × All (IsWithin f.flat.tables.now) f.flat.operations.now
+HasFlatCode instances (callee.InHost f) = Unit {0}
 
 -- The addresses of what an instance has, a list a kind.
 pub record AddressLists : Type 0 where

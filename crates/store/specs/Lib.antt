@@ -1,5 +1,3 @@
-pub mod Ends
-pub mod LoadedModules
 pub mod Contents
 pub mod Memories
 pub mod Tables

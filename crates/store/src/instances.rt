@@ -2,13 +2,16 @@ ghost use Rattle.std.specs.Prelude.{◌≡◌, [], ◌∷◌, ◌++◌, ◌+◌,
 ghost use Rattle.meaning.specs.structure.Bodies.{rests};
 ghost use Rattle.meaning.specs.execution.Modules.{new_function};
 ghost use Rattle.meaning.specs.execution.Store.{instance_of};
-ghost use Rattle.store.specs.Ends.{HasEnds};
-ghost use Rattle.store.specs.Contents.{callee_function, code_store, contents_of, functions_in, function_of, host_function, HasWholeCode, instance_function, instances_in, lists_of, module_instance};
+ghost use Rattle.std.specs.List.{All};
+ghost use Rattle.sidetable.specs.FlatModules.{IsFlat, seen};
+ghost use Rattle.sidetable.specs.Packing.{IsWithin};
+ghost use Rattle.store.specs.Contents.{callee_function, code_store, contents_of, functions_in, function_of, host_function, HasFlatCode, HasWholeCode, instance_function, instances_in, lists_of, module_instance, signatures_of_instance};
 
 use crate::entries::push_entries;
 use crate::loaded_modules::LoadedModule;
 use crate::lookups::item;
 use core_types::{Func, FuncType};
+use sidetable::FlatCode;
 use std::alloc::{AllocError, Global};
 use std::marker::Model;
 use std::rc::Rc;
@@ -40,13 +43,12 @@ pub struct Instance {
     pub addresses: Addresses,
 }
 
-/// A function of a module, for reading: its type, its code, the positions at which the bodies of its code end, and the number of
-/// its instance.
+/// A function of a module, for reading: its type, its code, its flat code, and the number of its instance.
 #[derive(Clone, Copy)]
 pub struct ModuleFunction<'a> {
     pub ty: &'a FuncType,
     pub func: &'a Func,
-    pub ends: &'a [usize],
+    pub flat: FlatCode<'a>,
     pub instance: u32,
 }
 
@@ -204,7 +206,11 @@ impl Code {
             (λ found. instance_function instance index (slice_get self.now.instances instance) ≡
             Some
             (function_of found.ty.now found.instance found.func.now)) }
-        ensures ends { IfSome result (λ found. HasEnds found.func.now.body found.ends.now) }
+        ensures instance { IfSome result (λ found. found.instance ≡ instance) }
+        ensures flat { IfSome result (λ found. IsFlat (signatures_of_instance
+            (slice_get self.now.instances instance)) found.func.now (seen found.flat)) }
+        ensures within { IfSome result (λ found. All (IsWithin found.flat.tables.now)
+            found.flat.operations.now) }
         ensures whole { IfSome result (λ found. (rests found.func.now.body).around ≡ []) }
     {
         let holder = item(&self.instances, instance)?;
@@ -212,7 +218,7 @@ impl Code {
         Some(ModuleFunction {
             ty: found.ty,
             func: found.func,
-            ends: found.ends,
+            flat: found.flat,
             instance,
         })
     }
@@ -222,6 +228,7 @@ impl Code {
         ensures found { MatchOption result (slice_get (functions_in self.now) address ≡ None)
             (λ callee. slice_get (functions_in self.now) address ≡ Some (callee_function callee)) }
         ensures whole { IfSome result HasWholeCode }
+        ensures flat { IfSome result (HasFlatCode self.now.instances) }
     {
         match item(&self.functions, address)? {
             FunctionInstance::InModule { instance, index } => {

@@ -1,9 +1,8 @@
-//! The store of a run, in two parts: functions and module instances by address, with the positions at which the bodies of code end;
-//! and tables, memories, globals and segments by address, which a run may change.
+//! The store of a run, in two parts: functions and module instances by address, with the flat code of functions; and tables,
+//! memories, globals and segments by address, which a run may change.
 #![tactic(auto)]
 
 mod arguments;
-mod ends;
 mod entries;
 mod exports;
 mod externs;
@@ -18,7 +17,6 @@ mod store;
 mod tables;
 
 pub use arguments::accepts;
-pub use ends::ends_of;
 pub use globals::GlobalVariable;
 pub use instances::{
     Addresses, Callee, Code, FunctionInstance, HostFunction, Instance, ModuleFunction,

@@ -7,59 +7,42 @@ ghost use Rattle.core_types.specs.declared.types.TableType.{TableType as AnyTabl
 ghost use Rattle.meaning.specs.execution.Tables.{most_entries};
 ghost use Rattle.soundness.specs.Links.{IsSoundModule};
 ghost use Rattle.meaning.specs.execution.Storage.{AreBytes};
-ghost use Rattle.store.specs.Ends.{HasEnds};
-ghost use Rattle.store.specs.LoadedModules.{HaveEnds};
+ghost use Rattle.sidetable.specs.FlatModules.{IsFlat, module_signatures, seen};
+ghost use Rattle.sidetable.specs.Packing.{IsWithin};
 
-use crate::ends::ends_of;
 use crate::lookups::item;
 use core_types::{DataSegment, Func, FuncType, Limits, Module, TableType};
+use sidetable::{FlatCode, FlatModule, flatten};
 use std::alloc::{AllocError, Global};
 use std::marker::Model;
 use validator::ValidModule;
 
-/// For each position of a function's code the position at which the body ends in which it stands.
-#[derive(Drop)]
-pub struct BodyEnds {
-    pub positions: Vec<usize>,
-}
-
-/// A module that is loaded, which all its instances share: the module, and where the bodies of its functions' code end.
+/// A module that is loaded, which all its instances share: the module, and the flat code of its functions.
 #[derive(Drop)]
 pub struct LoadedModule {
     validated: ValidModule,
-    ends: Vec<BodyEnds>,
+    flat: FlatModule,
 }
 
-/// A function of a module, for reading: its type, its code, and the positions at which the bodies of its code end.
+/// A function of a module, for reading: its type, its code, and its flat code.
 #[derive(Clone, Copy)]
 pub struct LoadedFunction<'a> {
     pub ty: &'a FuncType,
     pub func: &'a Func,
-    pub ends: &'a [usize],
+    pub flat: FlatCode<'a>,
 }
 
 impl Model for LoadedModule {
     ghost use Rattle.core_types.specs.declared.module.Module.{Module};
     ghost use Rattle.soundness.specs.Links.{IsSoundModule};
-    ghost use Rattle.store.specs.LoadedModules.{HaveEnds};
+    ghost use Rattle.sidetable.specs.FlatModules.{AreFlat, module_signatures};
 
     ghost Value = { Module };
 
     ghost view = { λ m. m.validated };
 
-    ghost invariant = { λ m. HaveEnds m.validated.funcs m.ends.items × IsSoundModule m.validated };
-}
-
-// Where the bodies of each function's code end.
-fn ends_of_functions(alloc: Global, funcs: &[Func]) -> Result<Vec<BodyEnds>, AllocError>
-    ensures { IfOk result (λ ends. HaveEnds funcs.now ends.items) }
-{
-    let mut ends = Vec::new(alloc);
-    for index in 0..funcs.len() {
-        let positions = ends_of(alloc, funcs[index].body.as_slice())?;
-        ends.push(BodyEnds { positions })?;
-    }
-    Ok(ends)
+    ghost invariant = { λ m. AreFlat (module_signatures m.validated) m.validated.funcs m.flat
+        × IsSoundModule m.validated };
 }
 
 // The calls that show something do nothing: they say what is known by the types of numbers.
@@ -93,15 +76,15 @@ fn show_tables(tables: &[TableType])
 }
 
 impl LoadedModule {
-    /// Loads a module, which takes two numbers for each position of its code. Fails where there is no memory for them.
+    /// Loads a module, whose functions are flattened. Fails where there is no memory for their flat code.
     pub fn new(alloc: Global, validated: ValidModule) -> Result<LoadedModule, AllocError>
         ensures { IfOk result (λ loaded. loaded ≡ validated) }
     {
         let wanted = validated.module();
         show_tables(wanted.tables.as_slice());
         show_datas(wanted.datas.as_slice());
-        let ends = ends_of_functions(alloc, wanted.funcs.as_slice())?;
-        Ok(LoadedModule { validated, ends })
+        let flat = flatten(alloc, &validated)?;
+        Ok(LoadedModule { validated, flat })
     }
 
     /// The module, for reading.
@@ -118,17 +101,15 @@ impl LoadedModule {
         ensures func { MatchOption result (slice_get self.now.funcs index ≡ None) (λ f. slice_get
             self.now.funcs index ≡ Some f.func.now) }
         ensures ty { IfSome result (λ f. slice_get self.now.types f.func.now.ty ≡ Some f.ty.now) }
-        ensures ends { IfSome result (λ f. HasEnds f.func.now.body f.ends.now) }
+        ensures flat { IfSome result (λ f. IsFlat (module_signatures self.now) f.func.now
+            (seen f.flat)) }
+        ensures within { IfSome result (λ f. All (IsWithin f.flat.tables.now) f.flat.operations.now) }
         ensures whole { IfSome result (λ f. (rests f.func.now.body).around ≡ []) }
     {
         let module_read = self.validated.module();
         let func = item(module_read.funcs.as_slice(), index)?;
         let ty = item(module_read.types.as_slice(), func.ty)?;
-        let ends = item(&self.ends, index)?;
-        Some(LoadedFunction {
-            ty,
-            func,
-            ends: &ends.positions,
-        })
+        let flat = self.flat.function(index)?;
+        Some(LoadedFunction { ty, func, flat })
     }
 }

@@ -6,7 +6,7 @@ use Rattle.core_types.specs.declared.op.Op.{Op}
 use Rattle.core_types.specs.declared.op.Op.TheVariants.{Plain, Block, Loop, If, Else, End}
 use Rattle.meaning.specs.structure.Bodies.{Body, Empty, Rests, if_with, rests}
 use Rattle.exec.specs.Positions.{IsElse, IsNoElse, after_end, rests_at}
-use Rattle.store.specs.Ends.{IsEnd}
+use Rattle.sidetable.specs.Ends.{IsEnd}
 
 if_with-some : (type : BlockType) (inner : Body) (other : Option Body) (rest : Body) → if_with type inner other rest ≡ Empty → ⊥
 if_with-some type inner None rest e = absurd cc

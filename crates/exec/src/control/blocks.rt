@@ -6,7 +6,7 @@ ghost use Rattle.meaning.specs.structure.Bodies.{Kind};
 ghost use Rattle.meaning.specs.execution.Configurations.{Configuration};
 ghost use Rattle.meaning.specs.execution.Store.{instance_of};
 ghost use Rattle.meaning.specs.validation.Types.{block_type, label_types};
-ghost use Rattle.store.specs.Ends.{HasEnds};
+ghost use Rattle.sidetable.specs.Ends.{HasEnds};
 ghost use Rattle.store.specs.Contents.{code_store};
 ghost use Rattle.exec.specs.Representation.{IsBefore};
 ghost use Rattle.exec.specs.Simulation.{HasCode, Simulates, SimulatesAt, IfGoes, IsEntry, HasArity, World, measure};

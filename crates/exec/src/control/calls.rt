@@ -6,7 +6,7 @@ ghost use Rattle.core_types.specs.declared.op.PlainOp.TheVariants.{Control as Co
 ghost use Rattle.meaning.specs.execution.Configurations.{Configuration, depth};
 ghost use Rattle.meaning.specs.execution.Instructions.{call_function, lent_memory};
 ghost use Rattle.store.specs.Contents.{HasWholeCode, callee_function, function_of};
-ghost use Rattle.store.specs.Ends.{HasEnds};
+ghost use Rattle.sidetable.specs.Ends.{HasEnds};
 ghost use Rattle.meaning.specs.structure.Bodies.{rests};
 ghost use Rattle.exec.specs.Frames.{ReturnsTo, enter, enter_callee};
 ghost use Rattle.exec.specs.Positions.{after_end, rests_at};
@@ -107,12 +107,12 @@ pub fn step_return(machine: &mut Machine<'_>, meter: &mut Meter) -> Step
 /// The code of a function that was found.
 #[inline(always)]
 pub fn code_of<'a>(callee: &ModuleFunction<'a>) -> FunctionCode<'a>
-    ensures { (result.body.now ≡ callee.now.func.now.body) × (result.ends ≡ callee.now.ends) ×
+    ensures { (result.body.now ≡ callee.now.func.now.body) × (result.ends ≡ callee.now.flat.ends) ×
         (result.instance ≡ callee.now.instance) }
 {
     FunctionCode {
         body: callee.func.body.as_slice(),
-        ends: callee.ends,
+        ends: callee.flat.ends,
         instance: callee.instance,
     }
 }
@@ -179,7 +179,7 @@ fn open_frame<'a>(
 #[inline(always)]
 fn call_code<'a>(callee: &ModuleFunction<'a>, machine: &mut Machine<'a>, meter: &mut Meter) -> Step
     requires position { machine.old.position + 1 < 2 ^ 64 }
-    requires ends { HasEnds callee.now.func.now.body callee.now.ends.now }
+    requires ends { HasEnds callee.now.func.now.body callee.now.flat.ends.now }
     requires whole { (rests callee.now.func.now.body).around ≡ [] }
     ensures simulates { (w : World) (redex : Configuration) (op : AnyPlainOp) (lent : Option ℕ) →
         IsBefore machine.old (Plain op) → depth redex ≡ 0 → next_in w machine.old redex ≡

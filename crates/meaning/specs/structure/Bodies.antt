@@ -40,7 +40,7 @@ joined (Then op rest) b = Then op (joined rest b)
 joined (Nested kind type inner rest) b = Nested kind type inner (joined rest b)
 joined (IfElse type inner other rest) b = IfElse type inner other (joined rest b)
 
--- What is left of a body at a position in flat code, and the else body behind it if it goes down to an else.
+-- What is left of a body at a position in flat operations, and the else body behind it if it goes down to an else.
 pub record Part : Type 0 where
   pub body : Body
   pub other : Option Body
@@ -48,7 +48,7 @@ pub record Part : Type 0 where
 abbrev pub nothing_left : Part
 nothing_left = record { body = Empty; other = None }
 
--- What is left of the body at a position in flat code, and of each body around it, from the inside out.
+-- What is left of the body at a position in flat operations, and of each body around it, from the inside out.
 pub record Rests : Type 0 where
   pub here : Part
   pub around : List Part
@@ -95,6 +95,6 @@ rests (Else ∷ ops) = record {
 }
 rests (End ∷ ops) = record { here = nothing_left; around = (rests ops).here ∷ (rests ops).around }
 
--- What is left of the body at a position in flat code: down to its end, its else, or the last operation.
+-- What is left of the body at a position in flat operations: down to its end, its else, or the last operation.
 abbrev pub body_of : List Op → Body
 body_of ops = (rests ops).here.body

@@ -1,5 +1,6 @@
 use Rattle.std.proofs.Common.{sym}
-use Rattle.store.proofs.lemmas.LoadedModules.{HaveEnds-at, HaveEnds-there}
+use Rattle.sidetable.specs.FlatModules.{module_signatures}
+use Rattle.store.proofs.lemmas.LoadedModules.{flat-at, flat-there}
 use Rattle.store.proofs.lemmas.Lookups.{nothing-around, type-there}
 use Rattle.store.proofs.loaded_modules.LoadedModule.function.Goals as goal
 
@@ -9,11 +10,10 @@ returns-in_err-ty-clause-func c =
     let none = sym (rw (c.as_slice-2.ensures, c.module-module_read.ensures.same) at c.in_err-ty.ensures) in
     absurd (type-there c.self.inside.validated c.args.index c.in_ok-func.func.now c.module-module_read.ensures.valid there none)
 
-pub returns-in_err-ends-clause-func : goal.returns-in_err-ends-clause-func
-returns-in_err-ends-clause-func c =
+pub returns-in_err-flat-clause-func : goal.returns-in_err-flat-clause-func
+returns-in_err-flat-clause-func c =
     let there = sym (rw (c.as_slice.ensures, c.module-module_read.ensures.same) at c.in_ok-func.ensures) in
-    let none = sym (rw c.deref.ensures.value at c.in_err-ends.ensures) in
-    absurd (HaveEnds-there c.self.inside.validated.funcs c.self.inside.ends.items c.args.index c.in_ok-func.func.now c.self.invariant.0 there none)
+    absurd (flat-there (module_signatures c.self.inside.validated) c.self.inside.validated.funcs c.self.inside.flat c.args.index c.in_ok-func.func.now c.self.invariant.0 there c.in_err-flat.ensures.code)
 
 pub returns-clause-func : goal.returns-clause-func
 returns-clause-func c =
@@ -23,11 +23,10 @@ pub returns-clause-ty : goal.returns-clause-ty
 returns-clause-ty c =
     rw (← c.self.view_is) (sym (rw (c.as_slice-2.ensures, c.module-module_read.ensures.same) at c.in_ok-ty.ensures))
 
-pub returns-clause-ends : goal.returns-clause-ends
-returns-clause-ends c =
+pub returns-clause-flat : goal.returns-clause-flat
+returns-clause-flat c =
     let there = sym (rw (c.as_slice.ensures, c.module-module_read.ensures.same) at c.in_ok-func.ensures) in
-    let found = sym (rw c.deref.ensures.value at c.in_ok-ends.ensures) in
-    rw c.deref-2.ensures.value (HaveEnds-at c.self.inside.validated.funcs c.self.inside.ends.items c.args.index c.in_ok-func.func.now c.in_ok-ends.ends.now c.self.invariant.0 there found)
+    rw (← c.self.view_is) (flat-at (module_signatures c.self.inside.validated) c.self.inside.validated.funcs c.self.inside.flat c.args.index c.in_ok-func.func.now _ c.self.invariant.0 there c.in_ok-flat.ensures.code)
 
 pub returns-clause-whole : goal.returns-clause-whole
 returns-clause-whole c =

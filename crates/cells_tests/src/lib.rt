@@ -1,0 +1,5 @@
+//! Tests of cells.
+#![tactic(auto)]
+
+#[cfg(test)]
+mod values;

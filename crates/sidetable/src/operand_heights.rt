@@ -1,0 +1,55 @@
+ghost use Rattle.std.specs.Prelude.{◌≡◌, ◌-◌, IfOk};
+ghost use Rattle.sidetable.specs.Counts.{behind as behind_counts, changed as changed_height, height_or_zero as known_or_zero, less as less_by};
+
+use crate::counts::Counts;
+use std::alloc::AllocError;
+
+/// One operand less.
+pub fn less_one(height: Option<u64>) -> Option<u64>
+    ensures { result ≡ less_by 1 height }
+{
+    match height {
+        Some(h) => Some(h.saturating_sub(1)),
+        None => None,
+    }
+}
+
+/// The height behind what takes and gives so many.
+pub fn changed(c: Counts, height: Option<u64>) -> Result<Option<u64>, AllocError>
+    ensures { IfOk result (λ h. h ≡ changed_height c height) }
+{
+    match height {
+        Some(h) => match h.saturating_sub(c.takes as u64).checked_add(c.gives as u64) {
+            Some(after) => Ok(Some(after)),
+            None => Err(AllocError),
+        },
+        None => Ok(None),
+    }
+}
+
+/// The height behind an instruction.
+pub fn behind(c: Option<Counts>, height: Option<u64>) -> Result<Option<u64>, AllocError>
+    ensures { IfOk result (λ h. h ≡ behind_counts c height) }
+{
+    match c {
+        Some(c) => changed(c, height),
+        None => Ok(None),
+    }
+}
+
+/// The height, or 0 where nothing arrives.
+pub fn known(height: Option<u64>) -> u64
+    ensures { result ≡ known_or_zero height }
+{
+    match height {
+        Some(h) => h,
+        None => 0,
+    }
+}
+
+/// The height below the parameters of a block.
+pub fn base(c: Counts, inside: Option<u64>) -> u64
+    ensures { result ≡ known_or_zero inside - c.takes }
+{
+    known(inside).saturating_sub(c.takes as u64)
+}

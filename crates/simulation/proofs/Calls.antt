@@ -1,0 +1,73 @@
+-- Frames over frames.
+use Rattle.std.proofs.Common.{◌≡◌, ℕ, ◌≤◌, List, [], ◌∷◌, ◌++◌, length, take, drop, refl, ap, sym, ◌∙◌}
+use Rattle.std.specs.Prelude.{Some}
+use Rattle.core_types.specs.declared.op.ControlOp.TheVariants as control
+use Rattle.core_types.specs.declared.op.PlainOp.TheVariants as plain
+use Rattle.core_types.specs.declared.outcome.Val.{Val}
+use Rattle.core_types.specs.declared.types.FuncType.{FuncType}
+use Rattle.meaning.specs.structure.Bodies.{Body, Empty, Then}
+use Rattle.meaning.specs.execution.Configurations.{Configuration, Frame, InFrame, InLabel, Label, Running}
+use Rattle.meaning.specs.execution.Instructions.{Goes, NotReady, Opens, Returns, frame_of, function_at, next, step_in_frame, step_in_label}
+use Rattle.meaning.specs.execution.Layers.{AroundFrame, Layer, outermost, plug}
+use Rattle.meaning.specs.execution.Store.{Code, InCode, Store}
+use Rattle.meaning.proofs.lemmas.Layers.{if-at-most, plugged-goes, plugged-opens}
+use Rattle.simulation.specs.Calls.{FramesComeAndGo, activation_of, around}
+use Rattle.simulation.specs.Laws.{function_label}
+use Rattle.simulation.specs.Settling.{in_frame, inside_labels}
+use Rattle.simulation.proofs.Settling.{labels-go}
+
+plug-around : (labels : List Label) (layers : List Layer) (frame : Frame) (x : Configuration) → plug (around labels layers) frame x ≡ plug layers frame (inside_labels labels x)
+plug-around [] layers frame x = refl
+plug-around (label ∷ labels) layers frame x = plug-around labels layers frame (InLabel label x)
+
+module _ (store : Store) (frame : Frame) where
+  labels-open : (labels : List Label) (cost : ℕ) (store' : Store) (x y : Configuration) → next store frame x ≡ Opens cost store' y → next store frame (inside_labels labels x) ≡ Opens cost store' (inside_labels labels y)
+  labels-open [] cost store' x y e = e
+  labels-open (label ∷ labels) cost store' x y e = labels-open labels cost store' (InLabel label x) (InLabel label y) (ap (step_in_label store frame label) e)
+
+  labels-return : (labels : List Label) (kept : List Val) (x : Configuration) → next store frame x ≡ Returns kept → next store frame (inside_labels labels x) ≡ Returns kept
+  labels-return [] kept x e = e
+  labels-return (label ∷ labels) kept x e = labels-return labels kept (InLabel label x) (ap (step_in_label store frame label) e)
+
+called-goes : (store : Store) (layers : List Layer) (frame : Frame) (x : ℕ) (t : FuncType) (instance : ℕ) (code : Code) (values : List Val) (labels : List Label) (rest : Body)
+    → function_at store frame x ≡ Some (record { ty = t; implementation = InCode instance code }) → length t.params ≤ length values
+    → next store (outermost layers frame) (plug layers frame (in_frame values labels (Then (plain.Control (control.Call x)) rest)))
+    ≡ Opens 1 store (plug (AroundFrame (activation_of (length t.results) (drop (length t.params) values) rest) frame ∷ around labels layers) (frame_of t instance code values)
+    (in_frame [] (function_label (length t.results) ∷ []) code.body))
+called-goes store layers frame x t instance code values labels rest there enough =
+    plugged-opens store layers frame store 1 (in_frame values labels (Then (plain.Control (control.Call x)) rest)) (inside_labels labels entered) (labels-open store frame labels 1 store (Running values (Then (plain.Control (control.Call x)) rest)) entered opens)
+    ∙ ap (λ (c : Configuration). Opens 1 store c) (sym (plug-around labels layers frame entered))
+  where
+    entered : Configuration
+    entered = InFrame (activation_of (length t.results) (drop (length t.params) values) rest) (frame_of t instance code values) (in_frame [] (function_label (length t.results) ∷ []) code.body)
+
+    opens : next store frame (Running values (Then (plain.Control (control.Call x)) rest)) ≡ Opens 1 store entered
+    opens = rw there (if-at-most (length t.params) (length values) (Opens 1 store entered) NotReady enough)
+
+module _ (store : Store) (layers : List Layer) (outer own : Frame) (arity : ℕ) (under values : List Val) (behind : Body) where
+  left-frame : (waiting : List Label) (cost : ℕ) (x : Configuration) (kept : List Val) → next store outer (InFrame (activation_of arity under behind) own x) ≡ Goes cost store outer (Running kept behind)
+      → next store (outermost layers outer) (plug (AroundFrame (activation_of arity under behind) outer ∷ around waiting layers) own x) ≡ Goes cost store (outermost layers outer) (plug layers outer (in_frame kept waiting behind))
+  left-frame waiting cost x kept e =
+      ap (next store (outermost layers outer)) (plug-around waiting layers outer (InFrame (activation_of arity under behind) own x))
+      ∙ plugged-goes store layers outer outer store cost (inside_labels waiting (InFrame (activation_of arity under behind) own x)) (in_frame kept waiting behind)
+      (labels-go store outer waiting cost store outer (InFrame (activation_of arity under behind) own x) (Running kept behind) e)
+
+  returned-goes : (labels waiting : List Label) (rest : Body) → arity ≤ length values
+      → next store (outermost layers outer) (plug (AroundFrame (activation_of arity under behind) outer ∷ around waiting layers) own (in_frame values labels (Then (plain.Control control.Return) rest)))
+      ≡ Goes 1 store (outermost layers outer) (plug layers outer (in_frame (take arity values ++ under) waiting behind))
+  returned-goes labels waiting rest enough =
+      left-frame waiting 1 (in_frame values labels (Then (plain.Control control.Return) rest)) (take arity values ++ under)
+      (ap (step_in_frame store outer (activation_of arity under behind) own) (labels-return store own labels values (Running values (Then (plain.Control control.Return) rest)) refl)
+      ∙ if-at-most arity (length values) (Goes 1 store outer (Running (take arity values ++ under) behind)) NotReady enough)
+
+  over-goes : (waiting : List Label)
+      → next store (outermost layers outer) (plug (AroundFrame (activation_of arity under behind) outer ∷ around waiting layers) own (in_frame values [] Empty))
+      ≡ Goes 0 store (outermost layers outer) (plug layers outer (in_frame (values ++ under) waiting behind))
+  over-goes waiting = left-frame waiting 0 (in_frame values [] Empty) (values ++ under) refl
+
+pub frames-come-and-go : FramesComeAndGo
+frames-come-and-go = record {
+  called = called-goes;
+  returned = λ store layers outer own arity under values behind labels waiting rest. returned-goes store layers outer own arity under values behind labels waiting rest;
+  over = λ store layers outer own arity under values behind waiting. over-goes store layers outer own arity under values behind waiting;
+}

@@ -1,0 +1,13 @@
+pub mod Branches
+pub mod Calls
+pub mod Cells
+pub mod Control
+pub mod Entries
+pub mod Frames
+pub mod Heights
+pub mod Ifs
+pub mod Places
+pub mod Plain
+pub mod Settling
+pub mod Steps
+pub mod Typed

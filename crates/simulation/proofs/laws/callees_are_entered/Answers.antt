@@ -1,0 +1,5 @@
+use Rattle.simulation.proofs.Entries.{call-enters}
+use Rattle.simulation.proofs.laws.callees_are_entered.Goals as goal
+
+pub returns : goal.returns
+returns c = λ g cells at top runs s t instance code good below typed enough same. call-enters g cells at top runs s t instance code good below typed enough same.types same.functions

@@ -1,0 +1,10 @@
+//! How flat code over cells stands for configurations of the reduction: definitions and laws, without code that runs.
+#![tactic(auto)]
+
+mod laws;
+
+pub use laws::{
+    callees_are_entered, callers_go_on, cells_are_values, code_ends, control_operations_are_steps,
+    ends_typed, frames_come_and_go, functions_are_entered, some_instructions_are_steps,
+    steps_are_lifted,
+};
