@@ -7,8 +7,9 @@ use byteorder::{ByteOrder, LittleEndian};
 use core_types::{LoadOp, Sign, Trap, UnaryOp, Val, Width};
 use intops::{extend_low_signed, unary_32, unary_64};
 
-// The byte at an offset.
-fn read_8(bytes: &[u8], offset: u64) -> Result<u8, Trap>
+/// The byte at an offset, or a trap past the end (Execution, Memory Instructions, t.loadN_sx).
+#[inline(always)]
+pub fn read_8(bytes: &[u8], offset: u64) -> Result<u8, Trap>
     ensures { result ≡ number_from bytes.now offset 1 }
 {
     if offset >= bytes.len() as u64 {
@@ -17,9 +18,10 @@ fn read_8(bytes: &[u8], offset: u64) -> Result<u8, Trap>
     Ok(bytes[offset as usize])
 }
 
-// The number of the two bytes from an offset on.
+/// The number of the two bytes from an offset on, or a trap past the end (Execution, Memory Instructions, t.loadN_sx).
 #[tactic(auto, using(crate::proofs::lemmas::Numbers::little_number_is))]
-fn read_16(bytes: &[u8], offset: u64) -> Result<u16, Trap>
+#[inline(always)]
+pub fn read_16(bytes: &[u8], offset: u64) -> Result<u16, Trap>
     requires { offset < 2 ^ 33 }
     ensures { result ≡ number_from bytes.now offset 2 }
 {
@@ -29,9 +31,10 @@ fn read_16(bytes: &[u8], offset: u64) -> Result<u16, Trap>
     Ok(LittleEndian::read_u16(&bytes[offset as usize..]))
 }
 
-// The number of the four bytes from an offset on.
+/// The number of the four bytes from an offset on, or a trap past the end (Execution, Memory Instructions, t.load and t.loadN_sx).
 #[tactic(auto, using(crate::proofs::lemmas::Numbers::little_number_is))]
-fn read_32(bytes: &[u8], offset: u64) -> Result<u32, Trap>
+#[inline(always)]
+pub fn read_32(bytes: &[u8], offset: u64) -> Result<u32, Trap>
     requires { offset < 2 ^ 33 }
     ensures { result ≡ number_from bytes.now offset 4 }
 {
@@ -41,9 +44,10 @@ fn read_32(bytes: &[u8], offset: u64) -> Result<u32, Trap>
     Ok(LittleEndian::read_u32(&bytes[offset as usize..]))
 }
 
-// The number of the eight bytes from an offset on.
+/// The number of the eight bytes from an offset on, or a trap past the end (Execution, Memory Instructions, t.load).
 #[tactic(auto, using(crate::proofs::lemmas::Numbers::little_number_is))]
-fn read_64(bytes: &[u8], offset: u64) -> Result<u64, Trap>
+#[inline(always)]
+pub fn read_64(bytes: &[u8], offset: u64) -> Result<u64, Trap>
     requires { offset < 2 ^ 33 }
     ensures { result ≡ number_from bytes.now offset 8 }
 {

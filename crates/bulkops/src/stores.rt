@@ -31,9 +31,11 @@ fn put_64(bytes: &mut [u8], offset: usize, n: u64)
     LittleEndian::write_u64(&mut bytes[offset..offset + 8], n);
 }
 
-// Writes the low byte of a number at an offset.
+/// Writes the low byte of a number at an offset, or traps past the end and writes nothing (Execution, Memory Instructions,
+/// t.storeN).
 #[tactic(auto, using(crate::proofs::lemmas::Numbers::slice_set_byte))]
-fn write_8(bytes: &mut [u8], offset: u64, n: u64) -> Result<(), Trap>
+#[inline(always)]
+pub fn write_8(bytes: &mut [u8], offset: u64, n: u64) -> Result<(), Trap>
     ensures { Wrote result bytes.old bytes.new (store_into bytes.old offset 1 n) }
 {
     if offset >= bytes.len() as u64 {
@@ -43,9 +45,11 @@ fn write_8(bytes: &mut [u8], offset: u64, n: u64) -> Result<(), Trap>
     Ok(())
 }
 
-// Writes the low two bytes of a number from an offset on.
+/// Writes the low two bytes of a number from an offset on, or traps past the end and writes nothing (Execution, Memory
+/// Instructions, t.storeN).
 #[tactic(auto, using(crate::proofs::lemmas::Numbers::low_2_bytes))]
-fn write_16(bytes: &mut [u8], offset: u64, n: u64) -> Result<(), Trap>
+#[inline(always)]
+pub fn write_16(bytes: &mut [u8], offset: u64, n: u64) -> Result<(), Trap>
     requires { offset < 2 ^ 33 }
     ensures { Wrote result bytes.old bytes.new (store_into bytes.old offset 2 n) }
 {
@@ -56,9 +60,11 @@ fn write_16(bytes: &mut [u8], offset: u64, n: u64) -> Result<(), Trap>
     Ok(())
 }
 
-// Writes the low four bytes of a number from an offset on.
+/// Writes the low four bytes of a number from an offset on, or traps past the end and writes nothing (Execution, Memory
+/// Instructions, t.store and t.storeN).
 #[tactic(auto, using(crate::proofs::lemmas::Numbers::low_4_bytes))]
-fn write_32(bytes: &mut [u8], offset: u64, n: u64) -> Result<(), Trap>
+#[inline(always)]
+pub fn write_32(bytes: &mut [u8], offset: u64, n: u64) -> Result<(), Trap>
     requires { offset < 2 ^ 33 }
     ensures { Wrote result bytes.old bytes.new (store_into bytes.old offset 4 n) }
 {
@@ -69,9 +75,11 @@ fn write_32(bytes: &mut [u8], offset: u64, n: u64) -> Result<(), Trap>
     Ok(())
 }
 
-// Writes the eight bytes of a number from an offset on.
+/// Writes the eight bytes of a number from an offset on, or traps past the end and writes nothing (Execution, Memory
+/// Instructions, t.store).
 #[tactic(auto, using(crate::proofs::lemmas::Numbers::all_8_bytes))]
-fn write_64(bytes: &mut [u8], offset: u64, n: u64) -> Result<(), Trap>
+#[inline(always)]
+pub fn write_64(bytes: &mut [u8], offset: u64, n: u64) -> Result<(), Trap>
     requires { offset < 2 ^ 33 }
     ensures { Wrote result bytes.old bytes.new (store_into bytes.old offset 8 n) }
 {

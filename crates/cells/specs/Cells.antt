@@ -1,5 +1,6 @@
 -- Cells: values without their types (Execution, Runtime Structure, Values).
-use Rattle.std.specs.Prelude.{ℕ, zero, suc, ◌<◌, ◌≤◌, ◌^◌, List, [], ◌∷◌, Option, Some, None}
+use Rattle.std.specs.Prelude.{ℕ, zero, suc, ◌<◌, ◌≤◌, ◌^◌, List, [], ◌∷◌, Option, Some, None, Result, Ok, Err}
+use Rattle.core_types.specs.declared.outcome.Trap.{Trap}
 use Rattle.core_types.specs.declared.outcome.Val.{Val}
 use Rattle.core_types.specs.declared.outcome.Val.TheVariants.{I32, I64, FuncRef, ExternRef}
 use Rattle.core_types.specs.declared.types.ValType.{ValType}
@@ -28,6 +29,11 @@ value_of ty.I32 n = I32 n
 value_of ty.I64 n = I64 n
 value_of ty.FuncRef n = FuncRef (reference_of n)
 value_of ty.ExternRef n = ExternRef (reference_of n)
+
+-- A result's cell, read at a type, or its trap.
+abbrev pub value_of_result : ValType → Result ℕ Trap → Result Val Trap
+value_of_result t (Ok n) = Ok (value_of t n)
+value_of_result t (Err trap) = Err trap
 
 -- The cell is that of a value of the type, whose number has its width.
 abbrev pub IsCellOf : ValType → ℕ → Type 0

@@ -8,7 +8,7 @@ use store::{Callee, ModuleFunction, Store, accepts};
 
 // Whether a function has so many operations, this greatest height and bodies that end so.
 fn has_flat_code(function: &ModuleFunction<'_>) -> bool {
-    function.flat.operations.len() == 4
+    function.flat.operations.len() == 5
         && function.flat.greatest == 1
         && function.flat.ends == [6, 6, 4, 3, 4, 5, 6].as_slice()
 }

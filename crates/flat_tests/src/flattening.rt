@@ -15,9 +15,11 @@ enum Expected {
     Code(&'static str, u64),
     // For each position of its code with marks, that behind the last operation too, where the body ends in which it stands.
     Ends(&'static [usize]),
+    // How many parameters, locals with these, and results it has.
+    Counts(usize, usize, u32),
 }
 
-use Expected::{Code, Ends};
+use Expected::{Code, Counts, Ends};
 
 // A row: a name, a module, and what its last function is.
 struct Row {
@@ -27,45 +29,45 @@ struct Row {
 }
 
 #[rattlefmt::skip]
-static ROWS: [Row; 26] = [
+static ROWS: [Row; 27] = [
     Row { name: "an empty body", source: "(func)",
-        expected: Code("", 0) },
+        expected: Code(" leave", 0) },
     Row { name: "a branch out of a block over three constants", source: "(func (result i32) block (result i32) i32.const 7 i32.const 8 i32.const 9 br 0 end)",
-        expected: Code(" enter plain plain plain br(5,1,0)", 3) },
+        expected: Code(" enter plain plain plain br(5,1,0) leave", 3) },
     Row { name: "a sum by a loop", source: "(func (param i32 i32) (result i32) loop local.get 1 local.get 0 i32.add local.set 1 local.get 0 i32.const 1 i32.sub local.tee 0 br_if 0 end local.get 1)",
-        expected: Code(" enter plain plain plain plain plain plain plain plain br_if(0,0,0) plain", 2) },
+        expected: Code(" enter plain plain plain plain plain plain plain plain br_if(0,0,0) plain leave", 2) },
     Row { name: "an if with two bodies", source: "(func (param i32) (result i32) local.get 0 if (result i32) i32.const 7 else i32.const 8 end)",
-        expected: Code(" plain if(4,0,0) plain jump(5,1,0) plain", 1) },
+        expected: Code(" plain if(4,0,0) plain jump(5,1,0) plain leave", 1) },
     Row { name: "an if without else", source: "(func (param i32) local.get 0 if nop end nop)",
-        expected: Code(" plain if(3,0,0) plain plain", 1) },
+        expected: Code(" plain if(3,0,0) plain plain leave", 1) },
     Row { name: "a branch to the body", source: "(func (result i32) i32.const 5 i32.const 1 br 0)",
-        expected: Code(" plain plain br(3,1,0)", 2) },
+        expected: Code(" plain plain br(3,1,0) leave", 2) },
     Row { name: "a return from a block", source: "(func (result i32) i64.const 1 block i32.const 7 return end unreachable)",
-        expected: Code(" plain enter plain return(5,1,0) plain", 2) },
+        expected: Code(" plain enter plain return(5,1,0) plain leave", 2) },
     Row { name: "a branch out of two blocks", source: "(func (result i32) block (result i32) i64.const 1 block i32.const 7 br 1 end drop i32.const 8 end)",
-        expected: Code(" enter plain enter plain br(7,1,0) plain plain", 2) },
+        expected: Code(" enter plain enter plain br(7,1,0) plain plain leave", 2) },
     Row { name: "a loop with a parameter", source: "(func (param i32) (result i32) i32.const 5 loop (param i32) (result i32) i32.const 1 i32.sub local.tee 0 local.get 0 br_if 0 end)",
-        expected: Code(" plain enter plain plain plain plain br_if(1,1,0)", 2) },
+        expected: Code(" plain enter plain plain plain plain br_if(1,1,0) leave", 2) },
     Row { name: "a branch above an operand", source: "(func (result i32) i32.const 1 block (result i32) i32.const 2 br 0 end i32.add)",
-        expected: Code(" plain enter plain br(4,1,1) plain", 2) },
+        expected: Code(" plain enter plain br(4,1,1) plain leave", 2) },
     Row { name: "a branch by number", source: "(func (param i32) block block local.get 0 br_table 0 1 2 end nop end)",
-        expected: Code(" enter enter plain br_table(4,0,0)(5,0,0) else(5,0,0) plain", 1) },
+        expected: Code(" enter enter plain br_table(4,0,0)(5,0,0) else(5,0,0) plain leave", 1) },
     Row { name: "a branch by a default alone", source: "(func (param i32) block local.get 0 br_table 0 end)",
-        expected: Code(" enter plain br_table else(3,0,0)", 1) },
+        expected: Code(" enter plain br_table else(3,0,0) leave", 1) },
     Row { name: "an if with a parameter", source: "(func (param i32) (result i32) i32.const 9 local.get 0 if (param i32) (result i32) drop i32.const 1 else i32.const 2 i32.add end)",
-        expected: Code(" plain plain if(6,1,0) plain plain jump(8,1,0) plain plain", 2) },
+        expected: Code(" plain plain if(6,1,0) plain plain jump(8,1,0) plain plain leave", 2) },
     Row { name: "bodies behind a branch", source: "(func block br 0 block br 0 br 1 end end)",
-        expected: Code(" enter br(5,0,0) enter br(5,0,0) br(5,0,0)", 0) },
+        expected: Code(" enter br(5,0,0) enter br(5,0,0) br(5,0,0) leave", 0) },
     Row { name: "a branch behind unreachable", source: "(func (result i32) block (result i32) unreachable br 0 end)",
-        expected: Code(" enter plain br(3,1,0)", 1) },
+        expected: Code(" enter plain br(3,1,0) leave", 1) },
     Row { name: "results that are not reached", source: "(func (result i32 i32) unreachable)",
-        expected: Code(" plain", 2) },
+        expected: Code(" plain leave", 2) },
     Row { name: "a call of three results", source: "(func (result i32 i32 i32) i32.const 1 i32.const 2 i32.const 3) (func call 0 drop drop drop)",
-        expected: Code(" plain plain plain plain", 3) },
+        expected: Code(" plain plain plain plain leave", 3) },
     Row { name: "a call of an import", source: "(import \"m\" \"f\" (func (param i64) (result i32 i32))) (func i64.const 1 call 0 drop drop)",
-        expected: Code(" plain plain plain plain", 2) },
+        expected: Code(" plain plain plain plain leave", 2) },
     Row { name: "a call through a table", source: "(type (func (param i32) (result i32 i32 i32))) (table 1 funcref) (func i32.const 1 i32.const 0 call_indirect (type 0) drop drop drop)",
-        expected: Code(" plain plain plain plain plain plain", 3) },
+        expected: Code(" plain plain plain plain plain plain leave", 3) },
     Row { name: "ends of no operation", source: "(func)",
         expected: Ends(&[0]) },
     Row { name: "ends of no body", source: "(func nop nop)",
@@ -80,6 +82,8 @@ static ROWS: [Row; 26] = [
         expected: Ends(&[7, 7, 3, 3, 5, 5, 7, 7]) },
     Row { name: "the ends of a loop in an if in a block", source: "(func block i32.const 0 if loop end else nop end end)",
         expected: Ends(&[9, 8, 8, 5, 4, 5, 7, 7, 8, 9]) },
+    Row { name: "what a function has", source: "(func (param i32 i64) (result i32) (local i32 i64 i64) i32.const 1)",
+        expected: Counts(2, 5, 1) },
 ];
 
 // Why a row's module gives no flat code.
@@ -117,6 +121,9 @@ fn is_so(alloc: Global, code: &FlatCode<'_>, expected: &Expected) -> Result<bool
             Ok(code.greatest == *greatest && list(alloc, code)?.as_str() == *listing)
         }
         Ends(ends) => Ok(code.ends == *ends),
+        Counts(params, locals, results) => {
+            Ok(code.params == *params && code.locals == *locals && code.results == *results)
+        }
     }
 }
 

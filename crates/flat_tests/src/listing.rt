@@ -45,6 +45,7 @@ fn write_transfer(
             text.push_str(" br_table")?;
             return write_range(text, tables, number);
         }
+        TransferInstruction::Leave => return text.push_str(" leave"),
         _ => return text.push_str(" plain"),
     };
     text.push_str(word)?;

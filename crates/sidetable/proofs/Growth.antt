@@ -93,6 +93,7 @@ module _ (t u : SideTables) (g : Grows t u) where
   transfer-kept transfer.Return n within = rw (entry-kept n within) refl
   transfer-kept transfer.Call n within = refl
   transfer-kept transfer.CallIndirect n within = rw (pair-kept n within) refl
+  transfer-kept transfer.Leave n within = absurd within
 
   transfer-within : (op : TransferInstruction) (n : ℕ) → IsTransferWithin t op n → IsTransferWithin u op n
   transfer-within transfer.Unreachable n within = within
@@ -108,6 +109,7 @@ module _ (t u : SideTables) (g : Grows t u) where
   transfer-within transfer.Return n within = entry-within n within
   transfer-within transfer.Call n within = within
   transfer-within transfer.CallIndirect n within = continued-within t.pairs.items u.pairs.items n g.pairs within
+  transfer-within transfer.Leave n within = absurd within
 
   other-kept : (op : OtherInstruction) (n : ℕ) → IsOtherWithin t op n → other_op u op n ≡ other_op t op n
   other-kept other.Nop n within = refl

@@ -1,5 +1,5 @@
 -- The flat code of a module's functions.
-use Rattle.std.specs.Prelude.{◌≡◌, ℕ, List, [], ◌∷◌, length}
+use Rattle.std.specs.Prelude.{◌≡◌, ℕ, ◌+◌, ◌-◌, List, [], ◌∷◌, ◌++◌, length, take}
 use Rattle.std.specs.List.{All}
 use Rattle.core_types.specs.declared.module.Func.{Func}
 use Rattle.core_types.specs.declared.module.Module.{Module}
@@ -11,30 +11,59 @@ use Rattle.sidetable.specs.Flat.{FlatFunction, flat_function}
 use Rattle.sidetable.specs.Packing.{IsWithin, made}
 use Rattle.sidetable.specs.SideTables.{SideTables}
 use Rattle.sidetable.specs.declared.flat_module.FlatCode.{FlatCode}
-use Rattle.sidetable.specs.declared.flattening.PackedFunction.{PackedFunction}
+use Rattle.sidetable.specs.declared.flat_module.PackedFunction.{PackedFunction}
+use Rattle.sidetable.specs.declared.operations.PackedOp.{PackedOp}
+use Rattle.sidetable.specs.declared.operations.PackedOp.TheVariants as packed
+use Rattle.sidetable.specs.declared.operations.TransferInstruction.TheVariants as transfer
 
 -- ---- what is packed
 
-abbrev pub flat_function_of : SideTables → PackedFunction → FlatFunction
-flat_function_of t f = record { operations = made t f.operations.items; greatest = f.greatest }
+abbrev pub flat_function_of : SideTables → List PackedOp → (greatest : ℕ) → FlatFunction
+flat_function_of t ops greatest = record { operations = made t ops; greatest = greatest }
 
--- A function's flat code, and for each position of its code with marks the one at which its body ends.
+-- What stands behind a function's operations: there its frame is left with so many results.
+abbrev pub leave : (results : ℕ) → PackedOp
+leave results = packed.Transfer transfer.Leave results
+
+-- The operations before it.
+abbrev pub before_leave : List PackedOp → List PackedOp
+before_leave ops = take (length ops - 1) ops
+
+-- It stands behind operations whose places in the side tables are there.
+pub record AreWithin (t : SideTables) (ops : List PackedOp) (results : ℕ) : Type 0 where
+  pub ends : ops ≡ before_leave ops ++ leave results ∷ []
+  pub within : All (IsWithin t) (before_leave ops)
+
+-- A function's flat code; how many parameters, locals with these, and results it has; and for each position of its code with
+-- marks the one at which its body ends.
 pub record FunctionCode : Type 0 where
   pub flat : FlatFunction
+  pub params : ℕ
+  pub locals : ℕ
+  pub results : ℕ
   pub ends : List ℕ
 
 abbrev pub code_of : SideTables → PackedFunction → FunctionCode
-code_of t f = record { flat = flat_function_of t f; ends = f.ends.items }
+code_of t f = record {
+  flat = flat_function_of t (before_leave f.operations.items) f.greatest;
+  params = f.params;
+  locals = f.locals;
+  results = f.results;
+  ends = f.ends.items;
+}
 
 -- What a function's flat code that was lent is seen as.
 abbrev pub seen : FlatCode → FunctionCode
 seen c = record {
-  flat = record { operations = made c.tables.now c.operations.now; greatest = c.greatest };
+  flat = flat_function_of c.tables.now (before_leave c.operations.now) c.greatest;
+  params = c.params;
+  locals = c.locals;
+  results = c.results;
   ends = c.ends.now;
 }
 
 abbrev pub IsFunctionWithin : SideTables → PackedFunction → Type 0
-IsFunctionWithin t f = All (IsWithin t) f.operations.items
+IsFunctionWithin t f = AreWithin t f.operations.items f.results
 
 -- ---- what a module's flat code is
 
@@ -50,6 +79,9 @@ HasBody f = (body : Body) × (f.body ≡ writing body)
 pub record IsFlat (s : Signatures) (f : Func) (code : FunctionCode) : Type 0 where
   pub flat : (body : Body) → f.body ≡ writing body
       → code.flat ≡ flat_function s (length (type_at s.types f.ty).results) body
+  pub params : code.params ≡ length (type_at s.types f.ty).params
+  pub locals : code.locals ≡ length (type_at s.types f.ty).params + length f.locals
+  pub results : code.results ≡ length (type_at s.types f.ty).results
   pub ends : HasEnds f.body code.ends
 
 -- The same for functions in their order.

@@ -149,6 +149,8 @@ transfer_op t transfer.Return n = Return (entry_of_number t n)
 transfer_op t transfer.Call n = Plain (plain.Control (control.Call n))
 transfer_op t transfer.CallIndirect n =
     Plain (plain.Control (control.CallIndirect (pair_of t n).first (pair_of t n).second))
+-- stands for no operation, and is none within
+transfer_op t transfer.Leave n = Plain (plain.Control control.Nop)
 
 abbrev pub other_op : SideTables → OtherInstruction → (number : ℕ) → PlainOp
 other_op t other.Nop n = plain.Control control.Nop
@@ -216,6 +218,7 @@ IsTransferWithin t transfer.BrTable n =
 IsTransferWithin t transfer.Return n = n < length t.entries.items
 IsTransferWithin t transfer.Call n = Unit {0}
 IsTransferWithin t transfer.CallIndirect n = n < length t.pairs.items
+IsTransferWithin t transfer.Leave n = ⊥
 
 abbrev pub IsOtherWithin : SideTables → OtherInstruction → (number : ℕ) → Type 0
 IsOtherWithin t other.I64Const n = n < length t.constants.items

@@ -1,19 +1,32 @@
 ghost use Rattle.std.specs.Prelude.{◌≡◌, ◌<◌, ◌++◌, ◌∷◌, [], List, length, map, slice_get, IfOk, IfSome, MatchOption, None, Some};
 ghost use Rattle.std.specs.List.{All};
 ghost use Rattle.core_types.specs.declared.module.Func.{Func as AnyFunc};
-ghost use Rattle.sidetable.specs.FlatModules.{AreFlat, FunctionCode, HasBody, IsFlat, module_signatures, seen};
-ghost use Rattle.sidetable.specs.Packing.{IsWithin};
+ghost use Rattle.sidetable.specs.FlatModules.{AreFlat, AreWithin, FunctionCode, HasBody, IsFlat, module_signatures, seen};
 ghost use Rattle.sidetable.specs.Signatures.{signatures_of};
 
 use crate::counts::ModuleTypes;
-use crate::flattening::{PackedFunction, flatten_body};
+use crate::flattening::flatten_body;
 use crate::module_types::indices_of_types;
-use crate::operations::PackedOp;
-use crate::side_tables::SideTables;
+use crate::operations::{PackedOp, TransferInstruction};
+use crate::side_tables::{SideTables, number};
+use crate::sizes::sum;
 use core_types::Func;
 use std::alloc::{AllocError, Global};
 use std::marker::Model;
 use validator::ValidModule;
+
+/// A function's flat code, packed: its operations, with one behind them that leaves the frame, the greatest height that its operands
+/// reach, how many parameters, locals with these, and results it has, and for each position of its code with marks the one at which
+/// the body ends in which it stands.
+#[derive(Drop)]
+pub struct PackedFunction {
+    pub operations: Vec<PackedOp>,
+    pub greatest: u64,
+    pub params: usize,
+    pub locals: usize,
+    pub results: u32,
+    pub ends: Vec<usize>,
+}
 
 /// The flat code of a module's functions, in their order, which contracts see as such.
 #[derive(Drop)]
@@ -34,13 +47,17 @@ impl Model for FlatModule {
     ghost invariant = { λ m. All (IsFunctionWithin m.tables) m.functions.items };
 }
 
-/// A function's flat code, for reading: its operations and the side tables that have what these name by number, the greatest height
-/// of its operands, and for each position of its code with marks the one at which the body ends in which it stands.
+/// A function's flat code, for reading: its operations, with one behind them that leaves the frame, the side tables that have what
+/// these name by number, the greatest height of its operands, how many parameters, locals with these, and results it has, and for
+/// each position of its code with marks the one at which the body ends in which it stands.
 #[derive(Clone, Copy)]
 pub struct FlatCode<'a> {
     pub operations: &'a [PackedOp],
     pub tables: &'a SideTables,
     pub greatest: u64,
+    pub params: usize,
+    pub locals: usize,
+    pub results: u32,
     pub ends: &'a [usize],
 }
 
@@ -49,13 +66,16 @@ impl FlatModule {
     pub fn function(&self, index: u32) -> Option<FlatCode<'_>>
         ensures code { MatchOption result (slice_get self.now index ≡ None)
             (λ c. slice_get self.now index ≡ Some (seen c)) }
-        ensures within { IfSome result (λ c. All (IsWithin c.tables.now) c.operations.now) }
+        ensures within { IfSome result (λ c. AreWithin c.tables.now c.operations.now c.results) }
     {
         let function = self.functions.get(index as usize)?;
         Some(FlatCode {
             operations: &function.operations,
             tables: &self.tables,
             greatest: function.greatest,
+            params: function.params,
+            locals: function.locals,
+            results: function.results,
             ends: &function.ends,
         })
     }
@@ -74,10 +94,22 @@ fn flatten_function(
         × IsFlat (signatures_of s.now) func.now code) }
 {
     let ty = &s.types[func.ty as usize];
+    let params = ty.params.len();
+    let results = number(ty.results.len())?;
     let FlatModule { functions, tables } = flat;
     let mut functions = functions;
-    let made = flatten_body(alloc, s, tables, ty.results.len(), func.body.as_slice())?;
-    functions.push(made.function)?;
+    let made = flatten_body(alloc, s, tables, results, func.body.as_slice())?;
+    let locals = sum(params, func.locals.len() as usize)?;
+    let mut operations = made.operations;
+    operations.push(PackedOp::Transfer(TransferInstruction::Leave, results))?;
+    functions.push(PackedFunction {
+        operations,
+        greatest: made.greatest,
+        params,
+        locals,
+        results,
+        ends: made.ends,
+    })?;
     Ok(FlatModule {
         functions,
         tables: made.tables,

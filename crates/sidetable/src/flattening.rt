@@ -286,19 +286,13 @@ fn run(
     Ok(())
 }
 
-/// A function's flat code, packed: its operations, the greatest height that its operands reach, and for each position of its code
-/// with marks the one at which the body ends in which it stands.
+/// A function's flat code, packed: its operations, with room for one more, the greatest height that its operands reach, for each
+/// position of its code with marks the one at which the body ends in which it stands, and the side tables with what it names.
 #[derive(Drop)]
-pub struct PackedFunction {
+pub struct FlatBody {
     pub operations: Vec<PackedOp>,
     pub greatest: u64,
     pub ends: Vec<usize>,
-}
-
-/// A function's flat code, and the side tables with what it names.
-#[derive(Drop)]
-pub struct FlatBody {
-    pub function: PackedFunction,
     pub tables: SideTables,
 }
 
@@ -307,16 +301,16 @@ pub fn flatten_body(
     alloc: Global,
     s: &ModuleTypes<'_>,
     tables: SideTables,
-    results: usize,
+    results: u32,
     code: &[Op],
 ) -> Result<FlatBody, AllocError>
     requires written { (body : Body) × (code.now ≡ writing body) }
     ensures grows { IfOk result (λ b. Grows tables b.tables) }
     ensures flat { IfOk result (λ b. (body : Body) → code.now ≡ writing body
-        → flat_function_of b.tables b.function
+        → flat_function_of b.tables b.operations.items b.greatest
         ≡ flat_function (signatures_of s.now) results body) }
-    ensures within { IfOk result (λ b. All (IsWithin b.tables) b.function.operations.items) }
-    ensures ends { IfOk result (λ b. HasEnds code.now b.function.ends.items) }
+    ensures within { IfOk result (λ b. All (IsWithin b.tables) b.operations.items) }
+    ensures ends { IfOk result (λ b. HasEnds code.now b.ends.items) }
 {
     writing_is_read();
     let measured = measure(alloc, code)?;
@@ -325,13 +319,13 @@ pub fn flatten_body(
         &mut tables,
         Entry {
             target: number(measured.size)?,
-            kept: number(results)?,
+            kept: results,
             height: 0,
         },
     )?;
     let mut f = Flattening {
         tables,
-        operations: Vec::with_capacity(alloc, measured.size)?,
+        operations: Vec::with_capacity(alloc, measured.size + 1)?,
         levels: Stack::new(alloc),
         openings: measured.openings,
         height: Some(0),
@@ -340,11 +334,9 @@ pub fn flatten_body(
     run(s, outermost, &mut f, code)?;
     let greatest = f.greatest.max(known(f.height));
     Ok(FlatBody {
-        function: PackedFunction {
-            operations: f.operations,
-            greatest,
-            ends: measured.ends,
-        },
+        operations: f.operations,
+        greatest,
+        ends: measured.ends,
         tables: f.tables,
     })
 }

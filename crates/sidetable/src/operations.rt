@@ -119,6 +119,8 @@ pub enum TransferInstruction {
     Return,
     Call,
     CallIndirect,
+    /// Behind the last operation: the frame is left with so many results.
+    Leave,
 }
 
 /// An instruction that is rarer.

@@ -1,5 +1,5 @@
 -- Cells of values.
-use Rattle.std.proofs.Common.{◌≡◌, ℕ, suc, ◌+◌, ◌-◌, ◌<◌, ◌≤◌, List, [], ◌∷◌, ◌++◌, length, map, reverse, take, drop, get_or, refl, ap, sym, ◌∙◌, arith, append_assoc, length-append, take-append-drop}
+use Rattle.std.proofs.Common.{◌≡◌, ℕ, zero, suc, ◌+◌, ◌-◌, ◌<◌, ◌≤◌, List, [], ◌∷◌, ◌++◌, length, map, reverse, take, drop, get_or, refl, ap, sym, ◌∙◌, arith, append_assoc, length-append, take-append-drop}
 use Rattle.std.specs.Prelude.{Some}
 use Rattle.std.proofs.lemmas.List.{get_or-take, get_or_append_left, length-drop, length-map, length-reverse, length-take-le, map-append, reverse-append, take-take}
 use Rattle.std.proofs.Math.Seq.{drop-append_seam, get_or-append_seam, take-append_seam}
@@ -121,6 +121,16 @@ value-read store (I32 n) t typed = rw typed.0 refl
 value-read store (I64 n) t typed = rw typed.0 refl
 value-read store (FuncRef a) t typed = rw typed.0 (ap FuncRef (reference-read a))
 value-read store (ExternRef x) t typed = rw typed.0 (ap ExternRef (reference-read x))
+
+reference-cell : (n : ℕ) → reference_cell (reference_of n) ≡ n
+reference-cell zero = refl
+reference-cell (suc n) = refl
+
+pub cell-of-value : (t : ValType) (n : ℕ) → cell_of (value_of t n) ≡ n
+cell-of-value ty.I32 n = refl
+cell-of-value ty.I64 n = refl
+cell-of-value ty.FuncRef n = reference-cell n
+cell-of-value ty.ExternRef n = reference-cell n
 
 first-cell : (t : ValType) → cell_of (default_of t) ≡ 0
 first-cell ty.I32 = refl

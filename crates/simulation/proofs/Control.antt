@@ -36,13 +36,13 @@ module _ (g : Ghost) (cells : List ℕ) (at top : ℕ) (values : List Val) (labe
     (leaves : LeavesTo g.store (frame_of g) (config_of g) (in_frame values labels rest)) where
   pub moved : (cost : ℕ) (values' : List Val) (labels' : List Label) (rest' : Body) → next g.store (frame_of g) (in_frame values labels rest) ≡ Goes cost g.store (frame_of g) (in_frame values' labels' rest')
       → (cells' : List ℕ) (at' top' fuel left : ℕ) → StandsIn g.code at' values' labels' rest' → length cells' ≡ length cells → take top' cells' ≡ map cell_of g.locals ++ cells_of (values' ++ values_under labels')
-      → top' ≡ length g.locals + (length values' + under labels') → cost ≤ fuel → left ≡ fuel - cost → Leads g fuel cells' at' top' left
+      → top' ≡ length g.locals + (length values' + under labels') → cost ≤ fuel → left ≡ fuel - cost → Leads g fuel g.store cells' at' top' left
   moved cost values' labels' rest' goes cells' at' top' fuel left stands size held top_is enough left_is =
-      leads-then g g.locals values' labels' rest' (in_frame values labels rest) (in_frame values' labels' rest') cost fuel left cells' at' top' leaves goes refl enough left_is
+      leads-then g g.store g.locals values' labels' rest' (in_frame values labels rest) (in_frame values' labels' rest') cost fuel left cells' at' top' leaves goes refl enough left_is
       (record {
         stands = stands;
         holds = record { held = held; top_is = top_is; room = omega (arith, r.holds.room, size) };
-        typed = typed-then (on g g.locals values labels rest) r.typed cost g.locals values' labels' rest' goes;
+        typed = typed-then (on g g.locals values labels rest) r.typed cost g.store g.locals values' labels' rest' refl goes;
       })
 
   -- Without fuel for it.
@@ -50,7 +50,8 @@ module _ (g : Ghost) (cells : List ℕ) (at top : ℕ) (values : List Val) (labe
   dear cost c frame goes fuel few = record {
     leads = record {
       new = on g g.locals values labels rest;
-      same = record { code = refl; store = refl; instance = refl; types = refl; results = refl };
+      same = record { code = refl; instance = refl; types = refl; results = refl };
+      store = refl;
       steps = leaves-steps g.store (frame_of g) (config_of g) (in_frame values labels rest) fuel leaves;
       runs = r;
     };
@@ -81,7 +82,7 @@ module _ (g : Ghost) (cells : List ℕ) (at top : ℕ) where
       → (kind : Kind) (type : BlockType) (t : FuncType) (inside rest : Body) (values : List Val) → length t.params ≤ length values
       → next g.store (frame_of g) (Running values₀ rest₀) ≡ enter_label g.store (frame_of g) kind type (Some t) inside values rest
       → (at' top' fuel left : ℕ) → StandsIn g.code at' (take (length t.params) values) (label_of kind type t inside values rest ∷ labels) inside
-      → take top' cells ≡ map cell_of g.locals ++ cells_of (values ++ values_under labels) → top' ≡ length g.locals + (length values + under labels) → 1 ≤ fuel → left ≡ fuel - 1 → Leads g fuel cells at' top' left
+      → take top' cells ≡ map cell_of g.locals ++ cells_of (values ++ values_under labels) → top' ≡ length g.locals + (length values + under labels) → 1 ≤ fuel → left ≡ fuel - 1 → Leads g fuel g.store cells at' top' left
   label-entered values₀ rest₀ labels r leaves kind type t inside rest values le is at' top' fuel left stands held top_is enough left_is =
       let goes = labels-go g.store (frame_of g) labels 1 g.store (frame_of g) (Running values₀ rest₀) _ (is ∙ enter-goes g.store (frame_of g) kind type t inside rest values le) in
       let first = length-take-le (length t.params) values le in

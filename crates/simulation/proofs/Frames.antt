@@ -63,13 +63,13 @@ functions-entered context s types functions t body typed =
     height-kept : 0 + length t.results ≡ length t.results
     height-kept = omega arith
 
-pub steps-lifted : (store : Store) (bound : ℕ) (layers : List Layer) (outside : (f : Frame) → outermost layers f ≡ no_frame) (frame frame' : Frame) (c d : Configuration) (fuel left : ℕ) → StepsIn store frame c fuel frame' d left
-    → Steps NoHosts bound no_frame (record { store = store; hosts = []; fuel = fuel }) (plug layers frame c) (record { store = store; hosts = []; fuel = left }) (plug layers frame' d)
-steps-lifted store bound layers outside frame frame' c d fuel left none-in = none
-steps-lifted store bound layers outside frame frame' c d fuel left (then {frame' = middle} {d = e} {cost = cost} is enough further) =
-    let whole : next store no_frame (plug layers frame c) ≡ Goes cost store no_frame (plug layers middle e) =
-    rw (outside frame, outside middle) at (plugged-goes store layers frame middle store cost c e is) in
-    Steps-join NoHosts bound no_frame (one_more none (goes whole enough refl refl)) (steps-lifted store bound layers outside middle frame' e d (fuel - cost) left further)
+pub steps-lifted : (store store' : Store) (bound : ℕ) (layers : List Layer) (outside : (f : Frame) → outermost layers f ≡ no_frame) (frame frame' : Frame) (c d : Configuration) (fuel left : ℕ) → StepsIn store frame c fuel store' frame' d left
+    → Steps NoHosts bound no_frame (record { store = store; hosts = []; fuel = fuel }) (plug layers frame c) (record { store = store'; hosts = []; fuel = left }) (plug layers frame' d)
+steps-lifted store store' bound layers outside frame frame' c d fuel left none-in = none
+steps-lifted store store' bound layers outside frame frame' c d fuel left (then {store' = between} {frame' = middle} {d = e} {cost = cost} is enough further) =
+    let whole : next store no_frame (plug layers frame c) ≡ Goes cost between no_frame (plug layers middle e) =
+    rw (outside frame, outside middle) at (plugged-goes store layers frame middle between cost c e is) in
+    Steps-join NoHosts bound no_frame (one_more none (goes whole enough refl refl)) (steps-lifted between store' bound layers outside middle frame' e d (fuel - cost) left further)
 
 pub callers-on : (f : FrameCode) (at : ℕ) (values rest_values results : List Val) (labels : List Label) (op : PlainOp) (rest : Body) (takes gives : ℕ)
     → counts_of f.signatures op ≡ Some (counts takes gives) → takes ≤ length values → length rest_values ≡ length values - takes → length results ≡ gives

@@ -1,4 +1,7 @@
+pub mod Advances
+pub mod BranchTables
 pub mod Branches
+pub mod Callees
 pub mod Calls
 pub mod Cells
 pub mod Control
@@ -6,8 +9,13 @@ pub mod Entries
 pub mod Frames
 pub mod Heights
 pub mod Ifs
+pub mod Instructions
+pub mod Memories
+pub mod Numbers
+pub mod Operands
 pub mod Places
 pub mod Plain
 pub mod Settling
 pub mod Steps
 pub mod Typed
+pub mod Variables

@@ -1,12 +1,12 @@
 -- What runs in a frame stays typed.
 use Rattle.std.proofs.Common.{◌≡◌, ℕ, ◌+◌, ◌-◌, ◌≤◌, List, [], ◌∷◌, ◌++◌, length, refl, ap, subst, ◌∙◌, arith, length-append}
-use Rattle.std.specs.Prelude.{Some}
+use Rattle.std.specs.Prelude.{Some, slice_get, unwrap_or}
 use Rattle.core_types.specs.declared.outcome.Val.{Val}
 use Rattle.core_types.specs.declared.types.ValType.{ValType}
 use Rattle.meaning.specs.structure.Bodies.{Body}
 use Rattle.meaning.specs.execution.Configurations.{Configuration, Frame, InLabel, Label, Running}
 use Rattle.meaning.specs.execution.Instructions.{Goes, Next, next}
-use Rattle.meaning.specs.execution.Store.{Store}
+use Rattle.meaning.specs.execution.Store.{ModuleInstance, Store, instance_of, no_instance}
 use Rattle.meaning.specs.soundness.Values.{ValuesHaveTypes}
 use Rattle.soundness.specs.Configurations.{ConfigurationHasType, FrameHasPlace, IsGood}
 use Rattle.soundness.specs.Places.{Place, RunsOn}
@@ -17,11 +17,11 @@ use Rattle.simulation.specs.Settling.{IsSettled, LeavesTo, Settles, in_frame, in
 use Rattle.simulation.specs.Standing.{under, values_under}
 use Rattle.simulation.proofs.Settling.{settles}
 
--- The ghost with other locals, values, labels and rest.
-abbrev pub on : Ghost → List Val → List Val → List Label → Body → Ghost
-on g locals values labels rest = record {
+-- The ghost with another store, and with other locals, values, labels and rest.
+abbrev pub over : Ghost → Store → List Val → List Val → List Label → Body → Ghost
+over g store locals values labels rest = record {
   code = g.code;
-  store = g.store;
+  store = store;
   instance = g.instance;
   types = g.types;
   results = g.results;
@@ -31,6 +31,10 @@ on g locals values labels rest = record {
   rest = rest;
 }
 
+-- The same with its own store.
+abbrev pub on : Ghost → List Val → List Val → List Label → Body → Ghost
+on g locals values labels rest = over g g.store locals values labels rest
+
 module _ (g : Ghost) (t : IsTyped g) where
   pub good : IsGood g.store (place_of g) g.results (next g.store (frame_of g) (config_of g))
   good = stays-good g.store (place_of g) (frame_of g) (config_of g) g.results t.valid (refl, t.own) t.typed
@@ -38,17 +42,18 @@ module _ (g : Ghost) (t : IsTyped g) where
   pub is-good : (n : Next) → next g.store (frame_of g) (config_of g) ≡ n → IsGood g.store (place_of g) g.results n
   is-good n e = rw e at good
 
-  -- A step keeps it.
-  pub typed-then : (cost : ℕ) (locals values : List Val) (labels : List Label) (rest : Body)
-      → next g.store (frame_of g) (config_of g) ≡ Goes cost g.store (record { instance = Some g.instance; locals = locals }) (in_frame values labels rest)
-      → IsTyped (on g locals values labels rest)
-  typed-then cost locals values labels rest e =
-      let (more, valid, own, typed) = is-good _ e in record {
+  -- A step keeps it. Instances stay, and so do functions.
+  pub typed-then : (cost : ℕ) (store' : Store) (locals values : List Val) (labels : List Label) (rest : Body) → store'.instances ≡ g.store.instances
+      → next g.store (frame_of g) (config_of g) ≡ Goes cost store' (record { instance = Some g.instance; locals = locals }) (in_frame values labels rest)
+      → IsTyped (over g store' locals values labels rest)
+  typed-then cost store' locals values labels rest instances e =
+      let (more, valid, own, typed) = is-good _ e in
+      let same : instance_of store' (Some g.instance) ≡ instance_of g.store (Some g.instance) = ap (λ (is : List ModuleInstance). unwrap_or (slice_get is g.instance) no_instance) instances in record {
         valid = valid;
         own = own.1;
         typed = typed;
-        types = t.types;
-        functions = t.functions;
+        types = ap (λ (i : ModuleInstance). i.types) same ∙ t.types;
+        functions = rw (same, more.functions) t.functions;
       }
 
 -- Labels that are left keep it, too.
@@ -59,7 +64,7 @@ config-typed store place frame results c d valid own (leave {d = between} e furt
     let good : IsGood store place results (Goes 0 store frame between) = rw e at (stays-good store place frame c results valid own typed) in
     config-typed store place frame results between d valid own further good.3
 
-pub leaves-steps : (store : Store) (frame : Frame) (c d : Configuration) (fuel : ℕ) → LeavesTo store frame c d → StepsIn store frame c fuel frame d fuel
+pub leaves-steps : (store : Store) (frame : Frame) (c d : Configuration) (fuel : ℕ) → LeavesTo store frame c d → StepsIn store frame c fuel store frame d fuel
 leaves-steps store frame c d fuel stay = none
 leaves-steps store frame c d fuel (leave {d = between} e further) =
     let same : fuel - 0 ≡ fuel = omega arith in
@@ -107,8 +112,8 @@ under-length (label ∷ labels) = length-append label.values (values_under label
 pub all-length : (values : List Val) (labels : List Label) → length (values ++ values_under labels) ≡ length values + under labels
 all-length values labels = length-append values (values_under labels) ∙ ap (λ (n : ℕ). length values + n) (under-length labels)
 
-pub same-frame : (g : Ghost) (locals values : List Val) (labels : List Label) (rest : Body) → IsSameFrame g (on g locals values labels rest)
-same-frame g locals values labels rest = record { code = refl; store = refl; instance = refl; types = refl; results = refl }
+pub same-frame : (g : Ghost) (store' : Store) (locals values : List Val) (labels : List Label) (rest : Body) → IsSameFrame g (over g store' locals values labels rest)
+same-frame g store' locals values labels rest = record { code = refl; instance = refl; types = refl; results = refl }
 
 -- Where no label can be left.
 pub record Settled (g : Ghost) (cells : List ℕ) (at top : ℕ) : Type 0 where
@@ -148,16 +153,17 @@ settled g cells at top r =
     }
 
 -- Labels that are left, and then a step.
-pub leads-then : (g : Ghost) (locals values : List Val) (labels : List Label) (rest : Body) (c d : Configuration) (cost fuel left : ℕ) (cells : List ℕ) (at top : ℕ)
-    → LeavesTo g.store (frame_of g) (config_of g) c → next g.store (frame_of g) c ≡ Goes cost g.store (record { instance = Some g.instance; locals = locals }) d → d ≡ in_frame values labels rest
-    → cost ≤ fuel → left ≡ fuel - cost → Runs (on g locals values labels rest) cells at top → Leads g fuel cells at top left
-leads-then g locals values labels rest c d cost fuel left cells at top leaves e same enough left_is runs = record {
-  new = on g locals values labels rest;
-  same = same-frame g locals values labels rest;
+pub leads-then : (g : Ghost) (store' : Store) (locals values : List Val) (labels : List Label) (rest : Body) (c d : Configuration) (cost fuel left : ℕ) (cells : List ℕ) (at top : ℕ)
+    → LeavesTo g.store (frame_of g) (config_of g) c → next g.store (frame_of g) c ≡ Goes cost store' (record { instance = Some g.instance; locals = locals }) d → d ≡ in_frame values labels rest
+    → cost ≤ fuel → left ≡ fuel - cost → Runs (over g store' locals values labels rest) cells at top → Leads g fuel store' cells at top left
+leads-then g store' locals values labels rest c d cost fuel left cells at top leaves e same enough left_is runs = record {
+  new = over g store' locals values labels rest;
+  same = same-frame g store' locals values labels rest;
+  store = refl;
   steps = rw (left_is, ← same) (go (config_of g) leaves);
   runs = runs;
 }
   where
-    go : (from : Configuration) → LeavesTo g.store (frame_of g) from c → StepsIn g.store (frame_of g) from fuel (record { instance = Some g.instance; locals = locals }) d (fuel - cost)
+    go : (from : Configuration) → LeavesTo g.store (frame_of g) from c → StepsIn g.store (frame_of g) from fuel store' (record { instance = Some g.instance; locals = locals }) d (fuel - cost)
     go from stay = then e enough none
     go from (leave {d = between} f further) = let zero_off : fuel - 0 ≡ fuel = omega arith in then f (omega arith) (rw zero_off (go between further))

@@ -1,15 +1,21 @@
 -- Frames over frames: what a caller keeps while a function that it called runs, and what calls and returns do to the whole.
-use Rattle.std.specs.Prelude.{◌≡◌, ℕ, ◌≤◌, List, [], ◌∷◌, ◌++◌, length, take, drop, Some}
+use Rattle.std.specs.Prelude.{◌≡◌, ℕ, ◌≤◌, List, [], ◌∷◌, ◌++◌, length, reverse, take, drop, Some, slice_get}
 use Rattle.core_types.specs.declared.op.ControlOp.TheVariants as control
 use Rattle.core_types.specs.declared.op.PlainOp.TheVariants as plain
 use Rattle.core_types.specs.declared.outcome.Val.{Val}
 use Rattle.core_types.specs.declared.types.FuncType.{FuncType}
+use Rattle.core_types.specs.declared.types.ValType.{ValType}
 use Rattle.meaning.specs.structure.Bodies.{Body, Empty, Then}
 use Rattle.meaning.specs.execution.Configurations.{Activation, Frame, Label}
 use Rattle.meaning.specs.execution.Instructions.{Goes, Opens, frame_of, function_at, next}
 use Rattle.meaning.specs.execution.Layers.{AroundFrame, AroundLabel, Layer, outermost, plug}
-use Rattle.meaning.specs.execution.Store.{Code, InCode, Store}
+use Rattle.meaning.specs.execution.Store.{Code, FunctionInstance, InCode, Store, instance_of}
+use Rattle.meaning.specs.soundness.Values.{ValuesHaveTypes}
+use Rattle.soundness.specs.Stores.{ImplementationIsValid}
+use Rattle.sidetable.specs.Flat.{Plain}
 use Rattle.simulation.specs.Laws.{function_label}
+use Rattle.simulation.specs.Operations.{IsDear}
+use Rattle.simulation.specs.Runs.{Ghost, IsBefore, IsSameFrame, Runs, StepsIn, config_of, frame_of as frame_around}
 use Rattle.simulation.specs.Settling.{in_frame}
 
 -- Layers behind labels, the innermost first.
@@ -25,6 +31,33 @@ activation_of arity values rest = record { arity = arity; values = values; rest 
 abbrev pub opened_in : (arity : ℕ) → List Val → Body → Frame → List Label → List Layer → List Layer
 opened_in arity values rest frame labels layers =
     AroundFrame (activation_of arity values rest) frame ∷ around labels layers
+
+-- Before a call of the function under an index, once labels were left: the function is there and valid, and its arguments lie
+-- on top.
+pub record CallsFunction (x : ℕ) (g : Ghost) (cells : List ℕ) (at top : ℕ) : Type 0 where
+  pub new : Ghost
+  pub same : IsSameFrame g new
+  pub store : new.store ≡ g.store
+  pub steps : (fuel : ℕ) → StepsIn g.store (frame_around g) (config_of g) fuel g.store
+      (frame_around new) (config_of new) fuel
+  pub runs : Runs new cells at top
+  pub rest : Body
+  pub rest_is : new.rest ≡ Then (plain.Control (control.Call x)) rest
+  pub address : ℕ
+  pub function : FunctionInstance
+  pub named : slice_get (instance_of new.store (Some new.instance)).functions x ≡ Some address
+  pub there : slice_get new.store.functions address ≡ Some function
+  pub valid : ImplementationIsValid new.store function.ty function.implementation
+  pub below : List ValType
+  pub typed : ValuesHaveTypes new.store new.values (reverse function.ty.params ++ below)
+  pub enough : length function.ty.params ≤ length new.values
+
+-- Before a call the function is there, and without a unit of fuel it lacks fuel.
+abbrev pub CallsFindFunctions : Type 0
+CallsFindFunctions =
+    (g : Ghost) (cells : List ℕ) (at top : ℕ) (x : ℕ)
+    → IsBefore (Plain (plain.Control (control.Call x))) g cells at top
+    → CallsFunction x g cells at top × IsDear g cells at top
 
 -- What calls and returns do to the whole.
 pub record FramesComeAndGo : Type 0 where

@@ -64,12 +64,13 @@ with_fuel store fuel = record { store = store; hosts = []; fuel = fuel }
 -- Steps in a frame are steps of it inside of layers, with nothing outside of these.
 abbrev pub StepsAreLifted : Type 0
 StepsAreLifted =
-    (store : Store) (bound : ℕ) (layers : List Layer) (frame frame' : Frame) (c d : Configuration)
-    (fuel left : ℕ)
+    (store store' : Store) (bound : ℕ) (layers : List Layer) (frame frame' : Frame)
+    (c d : Configuration) (fuel left : ℕ)
     → outermost layers frame ≡ no_frame → outermost layers frame' ≡ no_frame
-    → ((f : Frame) → outermost layers f ≡ no_frame) → StepsIn store frame c fuel frame' d left
+    → ((f : Frame) → outermost layers f ≡ no_frame)
+    → StepsIn store frame c fuel store' frame' d left
     → Steps NoHosts bound no_frame (with_fuel store fuel) (plug layers frame c)
-    (with_fuel store left) (plug layers frame' d)
+    (with_fuel store' left) (plug layers frame' d)
 
 -- Behind an instruction with these counts, with its results on what was under its operands, the code stands at the next place.
 abbrev pub CallersGoOn : Type 0

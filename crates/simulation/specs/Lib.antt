@@ -1,8 +1,12 @@
 pub mod Calls
 pub mod Entries
+pub mod Instructions
 pub mod Laws
+pub mod Memories
+pub mod Numbers
 pub mod Operations
 pub mod Piles
 pub mod Runs
 pub mod Settling
 pub mod Standing
+pub mod Variables

@@ -1,10 +1,11 @@
 -- The machine in a frame, and the configuration that runs there.
 use Rattle.std.specs.Prelude.{◌≡◌, ℕ, ◌+◌, ◌-◌, ◌<◌, ◌≤◌, List, ◌∷◌, ◌++◌, length, map, take, drop, Some}
+use Rattle.core_types.specs.declared.outcome.Trap.{Trap}
 use Rattle.core_types.specs.declared.outcome.Val.{Val}
 use Rattle.core_types.specs.declared.types.ValType.{ValType}
 use Rattle.meaning.specs.structure.Bodies.{Body}
 use Rattle.meaning.specs.execution.Configurations.{Configuration, Frame, Label}
-use Rattle.meaning.specs.execution.Instructions.{Goes, next}
+use Rattle.meaning.specs.execution.Instructions.{Goes, Traps, next}
 use Rattle.meaning.specs.execution.Runs.{price}
 use Rattle.meaning.specs.execution.Store.{Store}
 use Rattle.meaning.specs.soundness.Values.{ValuesHaveTypes}
@@ -66,29 +67,40 @@ pub record IsBefore (o : FlatOp) (g : Ghost) (cells : List ℕ) (at top : ℕ) :
   pub there : drop at g.code.operations ≡ o ∷ more
 
 -- Steps in a frame, none of which asks for memory.
-pub data StepsIn (store : Store) : Frame → Configuration → (fuel : ℕ) → Frame → Configuration
+pub data StepsIn : Store → Frame → Configuration → (fuel : ℕ) → Store → Frame → Configuration
     → (left : ℕ) → Type 0 where
-  none : {frame : Frame} {c : Configuration} {fuel : ℕ} → StepsIn store frame c fuel frame c fuel
-  then : {frame frame' frame'' : Frame} {c d e : Configuration} {cost fuel left : ℕ}
-      → next store frame c ≡ Goes cost store frame' d → cost ≤ fuel
-      → StepsIn store frame' d (fuel - cost) frame'' e left → StepsIn store frame c fuel frame'' e left
+  none : {store : Store} {frame : Frame} {c : Configuration} {fuel : ℕ}
+      → StepsIn store frame c fuel store frame c fuel
+  then : {store store' store'' : Store} {frame frame' frame'' : Frame} {c d e : Configuration}
+      {cost fuel left : ℕ}
+      → next store frame c ≡ Goes cost store' frame' d → cost ≤ fuel
+      → StepsIn store' frame' d (fuel - cost) store'' frame'' e left
+      → StepsIn store frame c fuel store'' frame'' e left
 
--- The same frame.
+-- The same frame, over any store.
 pub record IsSameFrame (old new : Ghost) : Type 0 where
   pub code : new.code ≡ old.code
-  pub store : new.store ≡ old.store
   pub instance : new.instance ≡ old.instance
   pub types : new.types ≡ old.types
   pub results : new.results ≡ old.results
 
--- What runs leads, with this fuel, to what the machine runs then.
-pub record Leads (g : Ghost) (fuel : ℕ) (cells : List ℕ) (at top left : ℕ) : Type 0 where
+-- What runs leads, with this fuel, to this store and to what the machine runs then.
+pub record Leads (g : Ghost) (fuel : ℕ) (store' : Store) (cells : List ℕ) (at top left : ℕ)
+    : Type 0 where
   pub new : Ghost
   pub same : IsSameFrame g new
-  pub steps : StepsIn g.store (frame_of g) (config_of g) fuel (frame_of new) (config_of new) left
+  pub store : new.store ≡ store'
+  pub steps : StepsIn g.store (frame_of g) (config_of g) fuel store' (frame_of new) (config_of new)
+      left
   pub runs : Runs new cells at top
 
--- It leads to where the next step costs more than is left.
+-- It leads, with the store as it is, to where the next step costs more than is left.
 pub record Lacks (g : Ghost) (fuel : ℕ) (cells : List ℕ) (at top left : ℕ) : Type 0 where
-  pub leads : Leads g fuel cells at top left
+  pub leads : Leads g fuel g.store cells at top left
   pub dear : left < price (next leads.new.store (frame_of leads.new) (config_of leads.new))
+
+-- It leads, with the store as it is, to where the next step traps, for one unit of fuel.
+pub record Fails (g : Ghost) (fuel : ℕ) (cells : List ℕ) (at top left : ℕ) (trap : Trap)
+    : Type 0 where
+  pub leads : Leads g fuel g.store cells at top (left + 1)
+  pub traps : next leads.new.store (frame_of leads.new) (config_of leads.new) ≡ Traps 1 trap

@@ -1,9 +1,13 @@
 //! Laws of flat code over cells.
 
-ghost use Rattle.simulation.specs.Calls.{FramesComeAndGo};
+ghost use Rattle.simulation.specs.Calls.{CallsFindFunctions, FramesComeAndGo};
 ghost use Rattle.simulation.specs.Entries.{CalleesAreEntered, CodeEnds};
-ghost use Rattle.simulation.specs.Operations.{Adds, Branches, BranchesIf, Chooses, Drops, Enters, GetsLocal, Jumps, PutsConstant};
+ghost use Rattle.simulation.specs.Memories.{LoadsNumber, MeasuresMemory, StoresNumber};
+ghost use Rattle.simulation.specs.Numbers.{ComputesFromOne, ComputesFromTwo, PutsI32, PutsI64};
+ghost use Rattle.simulation.specs.Operations.{Branches, BranchesByTable, BranchesIf, Chooses, Enters, Jumps};
+ghost use Rattle.simulation.specs.Instructions.{AlwaysFails, DoesNothing, Drops, PutsNull, RefersToFunction, Selects, TestsNull};
 ghost use Rattle.simulation.specs.Laws.{CallersGoOn, CellsAreValues, EndsTyped, FunctionsAreEntered, StepsAreLifted};
+ghost use Rattle.simulation.specs.Variables.{GetsGlobal, GetsLocal, SetsGlobal, SetsLocal, TeesLocal};
 
 /// Law: a typed body that leads from operands to others ends as many operands higher, if its end is reached.
 pub fn ends_typed()
@@ -43,14 +47,51 @@ pub fn control_operations_are_steps()
     ensures jumps { Jumps }
     ensures branches { Branches }
     ensures branches_if { BranchesIf }
+    ensures branches_by_table { BranchesByTable }
 {}
 
-/// Law: so are instructions that get a local, put a constant, add, and drop.
-pub fn some_instructions_are_steps()
-    ensures gets_local { GetsLocal }
-    ensures puts_constant { PutsConstant }
-    ensures adds { Adds }
+/// Law: so are nop, drop and select, whatever types it was written with; an unreachable fails.
+pub fn simple_instructions_are_steps()
+    ensures does_nothing { DoesNothing }
+    ensures always_fails { AlwaysFails }
     ensures drops { Drops }
+    ensures selects { Selects }
+{}
+
+/// Law: so are a null, the test for it, and a reference to a function.
+pub fn references_are_steps()
+    ensures puts_null { PutsNull }
+    ensures tests_null { TestsNull }
+    ensures refers_to_function { RefersToFunction }
+{}
+
+/// Law: so are instructions on locals and globals.
+pub fn variables_are_steps()
+    ensures gets_local { GetsLocal }
+    ensures sets_local { SetsLocal }
+    ensures tees_local { TeesLocal }
+    ensures gets_global { GetsGlobal }
+    ensures sets_global { SetsGlobal }
+{}
+
+/// Law: so are constants and operators, by whatever result the operator has.
+pub fn numbers_are_steps()
+    ensures puts_i32 { PutsI32 }
+    ensures puts_i64 { PutsI64 }
+    ensures computes_from_one { ComputesFromOne }
+    ensures computes_from_two { ComputesFromTwo }
+{}
+
+/// Law: so are loads and stores, whatever alignment they were written with, and the size of a memory.
+pub fn memories_are_steps()
+    ensures loads_number { LoadsNumber }
+    ensures stores_number { StoresNumber }
+    ensures measures_memory { MeasuresMemory }
+{}
+
+/// Law: before a call the function is there and valid, and its arguments lie on top.
+pub fn calls_find_functions()
+    ensures { CallsFindFunctions }
 {}
 
 /// Law: the frame of a function that is called begins at the arguments where they lie.

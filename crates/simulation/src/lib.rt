@@ -4,7 +4,8 @@
 mod laws;
 
 pub use laws::{
-    callees_are_entered, callers_go_on, cells_are_values, code_ends, control_operations_are_steps,
-    ends_typed, frames_come_and_go, functions_are_entered, some_instructions_are_steps,
-    steps_are_lifted,
+    callees_are_entered, callers_go_on, calls_find_functions, cells_are_values, code_ends,
+    control_operations_are_steps, ends_typed, frames_come_and_go, functions_are_entered,
+    memories_are_steps, numbers_are_steps, references_are_steps, simple_instructions_are_steps,
+    steps_are_lifted, variables_are_steps,
 };

@@ -45,7 +45,7 @@ there-append xs ys given count there same =
 -- ---- types at addresses
 
 module _ {X Y : Type 0} (type : X → Y) (missing : Y) where
-  types-before : (xs ys : List X) (addresses : List ℕ) → AreThere xs addresses → types_at type missing (xs ++ ys) addresses ≡ types_at type missing xs addresses
+  pub types-before : (xs ys : List X) (addresses : List ℕ) → AreThere xs addresses → types_at type missing (xs ++ ys) addresses ≡ types_at type missing xs addresses
   types-before xs ys [] there = refl
   types-before xs ys (a ∷ addresses) there =
       ap₂ (λ (t : Y) (ts : List Y). t ∷ ts) (ap (λ (o : Option X). unwrap_or (option_map type o) missing) (same-below xs ys a (there 0 a (omega (arith)))))

@@ -1,5 +1,6 @@
 -- What the proofs of the calls rest on.
 pub mod Arguments
+pub mod ContextTypes
 pub mod Entries
 pub mod Instantiation
 pub mod LoadedModules

@@ -1,12 +1,17 @@
 -- What the store holds, in the terms of the definitions.
-use Rattle.std.specs.Prelude.{◌≡◌, ℕ, List, [], ◌∷◌, ◌++◌, map, Option, Some, None, IsSome, option_map, unwrap_or, slice_get}
 use Rattle.std.specs.List.{All}
+use Rattle.std.specs.Prelude.{◌≡◌, ℕ, List, [], ◌∷◌, ◌++◌, map, Option, Some, None, IsSome, option_map, unwrap_or, slice_get}
 use Rattle.core_types.specs.declared.types.FuncType.{FuncType}
 use Rattle.core_types.specs.declared.module.Func.{Func}
 use Rattle.core_types.specs.declared.module.Module.{Module}
 use Rattle.meaning.specs.structure.Bodies.{Empty, rests}
 use Rattle.meaning.specs.execution.Modules.{code_of}
-use Rattle.meaning.specs.execution.Store.{FunctionInstance as Function, InCode, InHost as InHostNumber, ModuleInstance, Store}
+use Rattle.meaning.specs.execution.Store.{FunctionInstance as Function, InCode, InHost as InHostNumber, ModuleInstance, Store, instance_of}
+use Rattle.meaning.specs.validation.Context.{Context}
+use Rattle.meaning.specs.validation.Modules.{functions_of}
+use Rattle.meaning.specs.validation.Types.{function_type}
+use Rattle.soundness.specs.Places.{instance_context, types_at}
+use Rattle.soundness.specs.Stores.{AreThere}
 use Rattle.store.specs.declared.instances.Addresses.{Addresses}
 use Rattle.store.specs.declared.instances.Callee.{Callee}
 use Rattle.store.specs.declared.instances.Callee.TheVariants as callee
@@ -15,8 +20,7 @@ use Rattle.store.specs.declared.instances.FunctionInstance.TheVariants.{InModule
 use Rattle.store.specs.declared.instances.Instance.{Instance}
 use Rattle.sidetable.specs.Counts.{Signatures}
 use Rattle.sidetable.specs.Ends.{HasEnds}
-use Rattle.sidetable.specs.FlatModules.{IsFlat, module_signatures, seen}
-use Rattle.sidetable.specs.Packing.{IsWithin}
+use Rattle.sidetable.specs.FlatModules.{AreWithin, IsFlat, module_signatures, seen}
 use Rattle.store.specs.State.{StateContents}
 
 -- The functions, the instances and the types of the host functions, as they are kept.
@@ -61,7 +65,7 @@ entry_function hosts instances (InHost number) =
 abbrev pub IsFound : List FuncType → List Instance → FunctionInstance → Type 0
 IsFound hosts instances f = IsSome (entry_function hosts instances f)
 
--- What a store keeps to.
+-- Each of these entries does.
 abbrev pub AllFound : List FuncType → List Instance → List FunctionInstance → Type 0
 AllFound hosts instances [] = Unit {0}
 AllFound hosts instances (f ∷ fs) = IsFound hosts instances f × AllFound hosts instances fs
@@ -96,7 +100,7 @@ signatures_of_instance (Some i) = module_signatures i.loaded.value
 abbrev pub HasFlatCode : List Instance → Callee → Type 0
 HasFlatCode instances (callee.InModule f) =
     IsFlat (signatures_of_instance (slice_get instances f.instance)) f.func.now (seen f.flat)
-    × All (IsWithin f.flat.tables.now) f.flat.operations.now
+    × AreWithin f.flat.tables.now f.flat.operations.now f.flat.results
 HasFlatCode instances (callee.InHost f) = Unit {0}
 
 -- The addresses of what an instance has, a list a kind.
@@ -141,6 +145,18 @@ functions_in s = map (function_at s.hosts s.instances) s.functions
 abbrev pub instances_in : Contents → List ModuleInstance
 instances_in s = map module_instance_of s.instances
 
+-- The functions of an instance are there, and have the types that they have in its module.
+pub record HasModuleTypes (functions : List Function) (i : Instance) : Type 0 where
+  pub there : AreThere functions i.addresses.functions.items
+  pub types : types_at (λ (f : Function). f.ty) (function_type [] []) functions
+      i.addresses.functions.items
+      ≡ functions_of i.loaded.value
+
+-- What a store's code keeps to.
+pub record IsSound (c : Contents) : Type 0 where
+  pub found : AllFound c.hosts c.instances c.functions
+  pub types : All (HasModuleTypes (functions_in c)) c.instances
+
 -- The store of this code, with these objects.
 abbrev pub store_with : Contents → StateContents → Store
 store_with code state = record {
@@ -168,6 +184,17 @@ code_store code = record {
   pages = 0;
   entries = 0;
 }
+
+-- The types that a module's code refers to are those of the context of its instance.
+pub record AreOfContext (s : Signatures) (context : Context) : Type 0 where
+  pub types : context.types ≡ s.types
+  pub functions : context.functions ≡ s.functions
+
+abbrev pub HasContextTypes : Contents → Callee → Type 0
+HasContextTypes code (callee.InModule f) =
+    AreOfContext (signatures_of_instance (slice_get code.instances f.instance))
+    (instance_context (code_store code) (instance_of (code_store code) (Some f.instance)))
+HasContextTypes code (callee.InHost f) = Unit {0}
 
 -- Both parts of what the store holds.
 pub record BothParts : Type 0 where

@@ -2,10 +2,9 @@ ghost use Rattle.std.specs.Prelude.{◌≡◌, [], ◌∷◌, ◌++◌, ◌+◌,
 ghost use Rattle.meaning.specs.structure.Bodies.{rests};
 ghost use Rattle.meaning.specs.execution.Modules.{new_function};
 ghost use Rattle.meaning.specs.execution.Store.{instance_of};
-ghost use Rattle.std.specs.List.{All};
-ghost use Rattle.sidetable.specs.FlatModules.{IsFlat, seen};
-ghost use Rattle.sidetable.specs.Packing.{IsWithin};
-ghost use Rattle.store.specs.Contents.{callee_function, code_store, contents_of, functions_in, function_of, host_function, HasFlatCode, HasWholeCode, instance_function, instances_in, lists_of, module_instance, signatures_of_instance};
+ghost use Rattle.soundness.specs.Places.{instance_context};
+ghost use Rattle.sidetable.specs.FlatModules.{AreWithin, IsFlat, seen};
+ghost use Rattle.store.specs.Contents.{AreOfContext, callee_function, code_store, contents_of, functions_in, function_of, host_function, HasContextTypes, HasFlatCode, HasModuleTypes, HasWholeCode, instance_function, instances_in, lists_of, module_instance, signatures_of_instance};
 
 use crate::entries::push_entries;
 use crate::loaded_modules::LoadedModule;
@@ -87,13 +86,14 @@ pub struct Code {
 }
 
 impl Model for Code {
-    ghost use Rattle.store.specs.Contents.{Contents, contents_of, AllFound};
+    ghost use Rattle.store.specs.Contents.{Contents, IsSound, contents_of};
 
     ghost Value = { Contents };
 
     ghost view = { λ s. contents_of s.functions.items s.instances.items s.hosts.items };
 
-    ghost invariant = { λ s. AllFound s.hosts.items s.instances.items s.functions.items };
+    ghost invariant = { λ s. IsSound
+        (contents_of s.functions.items s.instances.items s.hosts.items) };
 }
 
 // Adds an instance. Where memory runs out, the list is as before.
@@ -209,9 +209,13 @@ impl Code {
         ensures instance { IfSome result (λ found. found.instance ≡ instance) }
         ensures flat { IfSome result (λ found. IsFlat (signatures_of_instance
             (slice_get self.now.instances instance)) found.func.now (seen found.flat)) }
-        ensures within { IfSome result (λ found. All (IsWithin found.flat.tables.now)
-            found.flat.operations.now) }
+        ensures within { IfSome result (λ found. AreWithin found.flat.tables.now
+            found.flat.operations.now found.flat.results) }
         ensures whole { IfSome result (λ found. (rests found.func.now.body).around ≡ []) }
+        ensures types { IfSome result (λ found. AreOfContext
+            (signatures_of_instance (slice_get self.now.instances instance))
+            (instance_context (code_store self.now)
+            (instance_of (code_store self.now) (Some instance)))) }
     {
         let holder = item(&self.instances, instance)?;
         let found = holder.loaded.as_ref().function(index)?;
@@ -229,6 +233,7 @@ impl Code {
             (λ callee. slice_get (functions_in self.now) address ≡ Some (callee_function callee)) }
         ensures whole { IfSome result HasWholeCode }
         ensures flat { IfSome result (HasFlatCode self.now.instances) }
+        ensures types { IfSome result (HasContextTypes self.now) }
     {
         match item(&self.functions, address)? {
             FunctionInstance::InModule { instance, index } => {
@@ -272,6 +277,9 @@ impl Code {
         requires functions { length self.old.functions + length instance.loaded.value.funcs < 2 ^
             32 }
         requires instances { length self.old.instances + 1 < 2 ^ 32 }
+        requires types { HasModuleTypes (functions_in self.old ++ map (new_function
+            (length (instances_in self.old)) instance.loaded.value) instance.loaded.value.funcs)
+            instance }
         ensures functions { OnOk result
             (functions_in self.new ≡ functions_in self.old ++ map (new_function
             (length (instances_in self.old)) instance.loaded.value) instance.loaded.value.funcs) }

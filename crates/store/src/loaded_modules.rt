@@ -7,8 +7,7 @@ ghost use Rattle.core_types.specs.declared.types.TableType.{TableType as AnyTabl
 ghost use Rattle.meaning.specs.execution.Tables.{most_entries};
 ghost use Rattle.soundness.specs.Links.{IsSoundModule};
 ghost use Rattle.meaning.specs.execution.Storage.{AreBytes};
-ghost use Rattle.sidetable.specs.FlatModules.{IsFlat, module_signatures, seen};
-ghost use Rattle.sidetable.specs.Packing.{IsWithin};
+ghost use Rattle.sidetable.specs.FlatModules.{AreWithin, IsFlat, module_signatures, seen};
 
 use crate::lookups::item;
 use core_types::{DataSegment, Func, FuncType, Limits, Module, TableType};
@@ -103,7 +102,8 @@ impl LoadedModule {
         ensures ty { IfSome result (λ f. slice_get self.now.types f.func.now.ty ≡ Some f.ty.now) }
         ensures flat { IfSome result (λ f. IsFlat (module_signatures self.now) f.func.now
             (seen f.flat)) }
-        ensures within { IfSome result (λ f. All (IsWithin f.flat.tables.now) f.flat.operations.now) }
+        ensures within { IfSome result (λ f. AreWithin f.flat.tables.now f.flat.operations.now
+            f.flat.results) }
         ensures whole { IfSome result (λ f. (rests f.func.now.body).around ≡ []) }
     {
         let module_read = self.validated.module();

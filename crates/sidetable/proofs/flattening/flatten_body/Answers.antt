@@ -23,7 +23,7 @@ pub returns-clause-flat : goal.returns-clause-flat
 returns-clause-flat c body e =
     let whole = ap (λ (ops : List Op). (rests ops).here.body) e ∙ c.writing_is_read.ensures.whole body in
     made-function (signatures_of c.args.s.now) c.args.results c.in_ok-outermost.outermost c.run.new.f body
-    (c.in_ok-outermost.ensures.entry ∙ entry-same _ _ _ _ _ _ (c.in_ok-number.ensures ∙ c.in_ok-measured.ensures.size ∙ ap size whole) c.in_ok-number-2.ensures refl)
+    (c.in_ok-outermost.ensures.entry ∙ entry-same _ _ _ _ _ _ (c.in_ok-number.ensures ∙ c.in_ok-measured.ensures.size ∙ ap size whole) refl refl)
     (c.in_ok-run.ensures.makes _ _ (makes-first (signatures_of c.args.s.now) c.in_ok-outermost.outermost _ c.args.code.now body e (ap (λ (ops : List Op). (rests ops).here.body) e ∙ c.writing_is_read.ensures.whole body)
     c.in_ok-with_capacity.ensures.items c.new.ensures c.in_ok-measured.ensures.openings refl _ refl c.in_ok-outermost.ensures.stands))
     c.max-greatest.result (c.max-greatest.ensures ∙ ap (max c.run.new.f.greatest) c.known.ensures)

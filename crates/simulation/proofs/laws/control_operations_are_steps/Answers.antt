@@ -1,4 +1,5 @@
 use Rattle.simulation.proofs.Branches.{branches-if, branches-on}
+use Rattle.simulation.proofs.BranchTables.{branches-table}
 use Rattle.simulation.proofs.Control.{enters}
 use Rattle.simulation.proofs.Ifs.{chooses, jump-later, jumps-on}
 use Rattle.simulation.proofs.laws.control_operations_are_steps.Goals as goal
@@ -17,3 +18,6 @@ returns-clause-branches c = branches-on
 
 pub returns-clause-branches_if : goal.returns-clause-branches_if
 returns-clause-branches_if c = branches-if
+
+pub returns-clause-branches_by_table : goal.returns-clause-branches_by_table
+returns-clause-branches_by_table c = branches-table

@@ -1,4 +1,5 @@
 use Rattle.std.proofs.Common.{◌≡◌, length, rules}
+use Rattle.store.proofs.lemmas.ContextTypes.{all-stay}
 use Rattle.store.proofs.lemmas.Instantiation.{AllFound-hosted, functions-hosted}
 use Rattle.store.proofs.instances.Code.append_host.Goals as goal
 
@@ -6,10 +7,14 @@ pub invariant_of-self-2 : goal.invariant_of-self-2
 invariant_of-self-2 c =
     let number : c.len-number.result ≡ length c.self.inside.hosts.items = search rules in
     rw (c.push-2.ensures.items, c.unwrap.ensures, c.in_ok-try_reserve.ensures.items, c.in_ok-push.ensures.items, number)
-    (AllFound-hosted c.self.inside.hosts.items c.self.inside.instances.items c.args.ty c.self.inside.functions.items c.self.invariant)
+    (record {
+      found = AllFound-hosted c.self.inside.hosts.items c.self.inside.instances.items c.args.ty c.self.inside.functions.items c.self.invariant.found;
+      types = rw (functions-hosted c.self.inside.hosts.items c.self.inside.instances.items c.args.ty c.self.inside.functions.items c.self.invariant.found)
+          (all-stay _ _ c.self.inside.instances.items c.self.invariant.types);
+    })
 
 pub returns-clause-functions : goal.returns-clause-functions
 returns-clause-functions c =
     let number : c.len-number.result ≡ length c.self.inside.hosts.items = search rules in
     rw (c.push-2.ensures.items, c.unwrap.ensures, c.in_ok-try_reserve.ensures.items, c.in_ok-push.ensures.items, number, ← c.self.view_is)
-    (functions-hosted c.self.inside.hosts.items c.self.inside.instances.items c.args.ty c.self.inside.functions.items c.self.invariant)
+    (functions-hosted c.self.inside.hosts.items c.self.inside.instances.items c.args.ty c.self.inside.functions.items c.self.invariant.found)

@@ -1,5 +1,6 @@
 use Rattle.std.proofs.Common.{◌≡◌, length, rules}
 use Rattle.meaning.specs.validation.Modules.{IsValid}
+use Rattle.store.proofs.lemmas.ContextTypes.{all-stay, all-with}
 use Rattle.store.proofs.lemmas.Instantiation.{AllFound-added, functions-added}
 use Rattle.store.proofs.instances.Code.append_instance.Goals as goal
 
@@ -9,7 +10,12 @@ invariant_of-self-in-Ok c =
     let count : c.len-count.result ≡ length c.args.instance.loaded.value.funcs = search rules in
     let valid : IsValid c.args.instance.loaded.value = rw c.as_ref.ensures at c.module.ensures.valid in
     let added = rw (number, count) at c.in_ok-push_entries.ensures.pushed in
-    rw c.in-Ok.ensures.pushed (AllFound-added c.self.inside.hosts.items c.self.inside.instances.items c.args.instance valid c.self.inside.functions.items c.push_entries.new.functions.items c.self.invariant added)
+    let inside = c.self.inside in
+    let functions = functions-added inside.hosts.items inside.instances.items c.args.instance valid inside.functions.items c.push_entries.new.functions.items c.self.invariant.found added in
+    rw c.in-Ok.ensures.pushed (record {
+      found = AllFound-added inside.hosts.items inside.instances.items c.args.instance valid inside.functions.items c.push_entries.new.functions.items c.self.invariant.found added;
+      types = rw functions (all-with _ inside.instances.items c.args.instance (all-stay _ _ inside.instances.items c.self.invariant.types) (rw (← c.self.view_is) at c.requires.types));
+    })
 
 pub returns-in-Ok-clause-functions : goal.returns-in-Ok-clause-functions
 returns-in-Ok-clause-functions c =
@@ -18,4 +24,4 @@ returns-in-Ok-clause-functions c =
     let valid : IsValid c.args.instance.loaded.value = rw c.as_ref.ensures at c.module.ensures.valid in
     let added = rw (number, count) at c.in_ok-push_entries.ensures.pushed in
     rw (c.in-Ok.ensures.pushed, ← c.self.view_is)
-    (functions-added c.self.inside.hosts.items c.self.inside.instances.items c.args.instance valid c.self.inside.functions.items c.push_entries.new.functions.items c.self.invariant added)
+    (functions-added c.self.inside.hosts.items c.self.inside.instances.items c.args.instance valid c.self.inside.functions.items c.push_entries.new.functions.items c.self.invariant.found added)

@@ -9,7 +9,7 @@ returns-in_err-module_function-in-InModule-clause-found c =
     let inside = c.self.inside in
     let kept = contents_of inside.functions.items inside.instances.items inside.hosts.items in
     let there = rw (c.deref.ensures.value, c.in-InModule.is) at c.in_ok-instance.ensures in
-    absurd (never kept c.self.invariant c.args.address _ there (rw (← c.self.view_is) at c.in_err-module_function-in-InModule.ensures.found))
+    absurd (never kept c.self.invariant.found c.args.address _ there (rw (← c.self.view_is) at c.in_err-module_function-in-InModule.ensures.found))
 
 pub returns-in_err-ty-in-InHost-clause-found : goal.returns-in_err-ty-in-InHost-clause-found
 returns-in_err-ty-in-InHost-clause-found c =
@@ -17,14 +17,14 @@ returns-in_err-ty-in-InHost-clause-found c =
     let kept = contents_of inside.functions.items inside.instances.items inside.hosts.items in
     let there = rw (c.deref.ensures.value, c.in-InHost.is) at c.in_ok-instance.ensures in
     let none = rw c.deref-in-InHost.ensures.value at c.in_err-ty-in-InHost.ensures in
-    absurd (never kept c.self.invariant c.args.address _ there (ap (option_map (host_function c.in-InHost.number)) (sym none)))
+    absurd (never kept c.self.invariant.found c.args.address _ there (ap (option_map (host_function c.in-InHost.number)) (sym none)))
 
 pub returns-in_ok-module_function-in-InModule-clause-found : goal.returns-in_ok-module_function-in-InModule-clause-found
 returns-in_ok-module_function-in-InModule-clause-found c =
     let inside = c.self.inside in
     let kept = contents_of inside.functions.items inside.instances.items inside.hosts.items in
     let there = rw (c.deref.ensures.value, c.in-InModule.is) at c.in_ok-instance.ensures in
-    rw (← c.self.view_is) (function-there kept c.self.invariant c.args.address _ there _ (rw (← c.self.view_is) at c.in_ok-module_function-in-InModule.ensures.found))
+    rw (← c.self.view_is) (function-there kept c.self.invariant.found c.args.address _ there _ (rw (← c.self.view_is) at c.in_ok-module_function-in-InModule.ensures.found))
 
 pub returns-in_ok-ty-in-InHost-clause-found : goal.returns-in_ok-ty-in-InHost-clause-found
 returns-in_ok-ty-in-InHost-clause-found c =
@@ -32,4 +32,4 @@ returns-in_ok-ty-in-InHost-clause-found c =
     let kept = contents_of inside.functions.items inside.instances.items inside.hosts.items in
     let there = rw (c.deref.ensures.value, c.in-InHost.is) at c.in_ok-instance.ensures in
     let is = rw c.deref-in-InHost.ensures.value at c.in_ok-ty-in-InHost.ensures in
-    rw (← c.self.view_is) (function-there kept c.self.invariant c.args.address _ there _ (ap (option_map (host_function c.in-InHost.number)) (sym is)))
+    rw (← c.self.view_is) (function-there kept c.self.invariant.found c.args.address _ there _ (ap (option_map (host_function c.in-InHost.number)) (sym is)))

@@ -1,5 +1,6 @@
 use Rattle.std.proofs.Common.{ap, ◌∙◌}
 use Rattle.store.specs.Contents.{Contents, lists_of, store_with}
+use Rattle.store.proofs.lemmas.ContextTypes.{allocated}
 use Rattle.store.proofs.lemmas.Validity.{allocation-grows, grows-same, module-appended, equal-stores}
 use Rattle.store.proofs.store.Store.append_module.Goals as goal
 
@@ -11,6 +12,10 @@ pub returns-in_err-append_instance-clause-extends : goal.returns-in_err-append_i
 returns-in_err-append_instance-clause-extends c =
     rw (← c.self.view_is) (grows-same _ _ c.self.invariant
     (ap (λ (code : Contents). store_with code c.reserve_all.new.self) c.in_err-append_instance.ensures.unchanged ∙ equal-stores c.self.inside.code c.self.inside.state c.reserve_all.new.self c.reserve_all.ensures.contents c.reserve_all.ensures.bounds)).0
+
+pub append_instance-requires-clause-types : goal.append_instance-requires-clause-types
+append_instance-requires-clause-types c =
+    allocated c.writing_is_read.ensures.whole (store_with c.self.inside.code c.self.inside.state) _ c.args.objects c.self.invariant (rw (← c.self.view_is) at c.requires.linkable)
 
 pub invariant_of-self-2 : goal.invariant_of-self-2
 invariant_of-self-2 c =
