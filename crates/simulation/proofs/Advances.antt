@@ -1,5 +1,5 @@
 -- Steps of instructions, once their operands were taken off.
-use Rattle.std.proofs.Common.{◌≡◌, ℕ, suc, ◌<◌, List, [], ◌∷◌, ◌++◌, length, map, take, refl, sym, subst, ◌∙◌, arith}
+use Rattle.std.proofs.Common.{◌≡◌, ℕ, suc, ◌<◌, List, [], ◌∷◌, ◌++◌, length, map, take, refl, sym, subst, ◌∙◌, arith, inl}
 use Rattle.std.specs.Prelude.{Some, Result, Ok, Err}
 use Rattle.core_types.specs.declared.op.PlainOp.{PlainOp}
 use Rattle.core_types.specs.declared.outcome.Trap.{Trap}
@@ -35,7 +35,7 @@ module _ (op : PlainOp) (g : Ghost) (cells : List ℕ) (at top : ℕ) (p : AtPla
         let count = w.count in
         let low_is = w.low_is in
         let put' : take (suc low) cells' ≡ take low cells ++ (cell_of v ∷ []) = subst (λ (k : ℕ). take (suc low) cells' ≡ take low cells ++ (k ∷ [])) (sym is) put in
-        advance op g cells at top p g.store g.locals (v ∷ w.others) goes refl (counts n 1) counted (omega (arith, count)) refl cells' at' top' fuel left size at_is (omega (arith, top_new, top_is, count, low_is))
+        advance op g cells at top p 1 g.store g.locals (v ∷ w.others) (inl goes) refl (counts n 1) counted (omega (arith, count)) refl cells' at' top' fuel left size at_is (omega (arith, top_new, top_is, count, low_is))
         (rw top_new (pile-push cells (map cell_of g.locals) low v (w.others ++ values_under p.labels) w.held cells' (suc low) put')) enough left_is
 
     -- Nothing in their place.
@@ -45,7 +45,7 @@ module _ (op : PlainOp) (g : Ghost) (cells : List ℕ) (at top : ℕ) (p : AtPla
         let top_is = p.runs.holds.top_is in
         let count = w.count in
         let low_is = w.low_is in
-        advance op g cells at top p store' g.locals w.others goes instances (counts n 0) counted (omega (arith, count)) refl cells' at' top' fuel left size at_is (omega (arith, top_new, top_is, count, low_is))
+        advance op g cells at top p 1 store' g.locals w.others (inl goes) instances (counts n 0) counted (omega (arith, count)) refl cells' at' top' fuel left size at_is (omega (arith, top_new, top_is, count, low_is))
         (rw top_new (kept ∙ w.held)) enough left_is
 
     -- A result in their place, or its trap.

@@ -1,15 +1,16 @@
 -- Frames over frames.
 use Rattle.std.proofs.Common.{◌≡◌, ℕ, ◌≤◌, List, [], ◌∷◌, ◌++◌, length, take, drop, refl, ap, sym, ◌∙◌}
-use Rattle.std.specs.Prelude.{Some}
+use Rattle.std.specs.Prelude.{Option, Some}
 use Rattle.core_types.specs.declared.op.ControlOp.TheVariants as control
+use Rattle.core_types.specs.declared.op.PlainOp.{PlainOp}
 use Rattle.core_types.specs.declared.op.PlainOp.TheVariants as plain
 use Rattle.core_types.specs.declared.outcome.Val.{Val}
 use Rattle.core_types.specs.declared.types.FuncType.{FuncType}
 use Rattle.meaning.specs.structure.Bodies.{Body, Empty, Then}
 use Rattle.meaning.specs.execution.Configurations.{Configuration, Frame, InFrame, InLabel, Label, Running}
-use Rattle.meaning.specs.execution.Instructions.{Goes, NotReady, Opens, Returns, frame_of, function_at, next, step_in_frame, step_in_label}
+use Rattle.meaning.specs.execution.Instructions.{Goes, NotReady, Opens, Returns, call_function, frame_of, lent_memory, next, step_in_frame, step_in_label, step_instruction}
 use Rattle.meaning.specs.execution.Layers.{AroundFrame, Layer, outermost, plug}
-use Rattle.meaning.specs.execution.Store.{Code, InCode, Store}
+use Rattle.meaning.specs.execution.Store.{Code, FunctionInstance, InCode, Store}
 use Rattle.meaning.proofs.lemmas.Layers.{if-at-most, plugged-goes, plugged-opens}
 use Rattle.simulation.specs.Calls.{FramesComeAndGo, activation_of, around}
 use Rattle.simulation.specs.Laws.{function_label}
@@ -29,20 +30,20 @@ module _ (store : Store) (frame : Frame) where
   labels-return [] kept x e = e
   labels-return (label ∷ labels) kept x e = labels-return labels kept (InLabel label x) (ap (step_in_label store frame label) e)
 
-called-goes : (store : Store) (layers : List Layer) (frame : Frame) (x : ℕ) (t : FuncType) (instance : ℕ) (code : Code) (values : List Val) (labels : List Label) (rest : Body)
-    → function_at store frame x ≡ Some (record { ty = t; implementation = InCode instance code }) → length t.params ≤ length values
-    → next store (outermost layers frame) (plug layers frame (in_frame values labels (Then (plain.Control (control.Call x)) rest)))
-    ≡ Opens 1 store (plug (AroundFrame (activation_of (length t.results) (drop (length t.params) values) rest) frame ∷ around labels layers) (frame_of t instance code values)
+called-goes : (store : Store) (layers : List Layer) (frame : Frame) (op : PlainOp) (lent : Option ℕ) (t : FuncType) (instance : ℕ) (code : Code) (values others : List Val) (labels : List Label) (rest : Body)
+    → step_instruction store frame op values rest ≡ call_function 1 store lent (Some (record { ty = t; implementation = InCode instance code })) others rest → length t.params ≤ length others
+    → next store (outermost layers frame) (plug layers frame (in_frame values labels (Then op rest)))
+    ≡ Opens 1 store (plug (AroundFrame (activation_of (length t.results) (drop (length t.params) others) rest) frame ∷ around labels layers) (frame_of t instance code others)
     (in_frame [] (function_label (length t.results) ∷ []) code.body))
-called-goes store layers frame x t instance code values labels rest there enough =
-    plugged-opens store layers frame store 1 (in_frame values labels (Then (plain.Control (control.Call x)) rest)) (inside_labels labels entered) (labels-open store frame labels 1 store (Running values (Then (plain.Control (control.Call x)) rest)) entered opens)
+called-goes store layers frame op lent t instance code values others labels rest step enough =
+    plugged-opens store layers frame store 1 (in_frame values labels (Then op rest)) (inside_labels labels entered) (labels-open store frame labels 1 store (Running values (Then op rest)) entered opens)
     ∙ ap (λ (c : Configuration). Opens 1 store c) (sym (plug-around labels layers frame entered))
   where
     entered : Configuration
-    entered = InFrame (activation_of (length t.results) (drop (length t.params) values) rest) (frame_of t instance code values) (in_frame [] (function_label (length t.results) ∷ []) code.body)
+    entered = InFrame (activation_of (length t.results) (drop (length t.params) others) rest) (frame_of t instance code others) (in_frame [] (function_label (length t.results) ∷ []) code.body)
 
-    opens : next store frame (Running values (Then (plain.Control (control.Call x)) rest)) ≡ Opens 1 store entered
-    opens = rw there (if-at-most (length t.params) (length values) (Opens 1 store entered) NotReady enough)
+    opens : next store frame (Running values (Then op rest)) ≡ Opens 1 store entered
+    opens = step ∙ if-at-most (length t.params) (length others) (Opens 1 store entered) NotReady enough
 
 module _ (store : Store) (layers : List Layer) (outer own : Frame) (arity : ℕ) (under values : List Val) (behind : Body) where
   left-frame : (waiting : List Label) (cost : ℕ) (x : Configuration) (kept : List Val) → next store outer (InFrame (activation_of arity under behind) own x) ≡ Goes cost store outer (Running kept behind)
@@ -67,7 +68,9 @@ module _ (store : Store) (layers : List Layer) (outer own : Frame) (arity : ℕ)
 
 pub frames-come-and-go : FramesComeAndGo
 frames-come-and-go = record {
-  called = called-goes;
+  called = λ store layers frame x t instance code values labels rest there enough. called-goes store layers frame (plain.Control (control.Call x)) (lent_memory store frame) t instance code values values labels rest
+      (ap (λ (o : Option FunctionInstance). call_function 1 store (lent_memory store frame) o values rest) there) enough;
+  called_by = called-goes;
   returned = λ store layers outer own arity under values behind labels waiting rest. returned-goes store layers outer own arity under values behind labels waiting rest;
   over = λ store layers outer own arity under values behind waiting. over-goes store layers outer own arity under values behind waiting;
 }

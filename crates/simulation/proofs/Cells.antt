@@ -142,7 +142,7 @@ pub first-cells : (ts : List ValType) → map cell_of (map default_of ts) ≡ re
 first-cells [] = refl
 first-cells (t ∷ ts) = rw (first-cell t, first-cells ts) refl
 
-map-reversed : (vs : List Val) → map cell_of (reverse vs) ≡ reverse (map cell_of vs)
+pub map-reversed : (vs : List Val) → map cell_of (reverse vs) ≡ reverse (map cell_of vs)
 map-reversed [] = refl
 map-reversed (v ∷ vs) = ap (map cell_of) (reverse-append (v ∷ []) vs) ∙ map-append cell_of (reverse vs) (v ∷ []) ∙ ap (λ (z : List ℕ). z ++ (cell_of v ∷ [])) (map-reversed vs) ∙ sym (reverse-append (cell_of v ∷ []) (map cell_of vs))
 

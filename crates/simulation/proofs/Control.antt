@@ -38,11 +38,11 @@ module _ (g : Ghost) (cells : List ℕ) (at top : ℕ) (values : List Val) (labe
       → (cells' : List ℕ) (at' top' fuel left : ℕ) → StandsIn g.code at' values' labels' rest' → length cells' ≡ length cells → take top' cells' ≡ map cell_of g.locals ++ cells_of (values' ++ values_under labels')
       → top' ≡ length g.locals + (length values' + under labels') → cost ≤ fuel → left ≡ fuel - cost → Leads g fuel g.store cells' at' top' left
   moved cost values' labels' rest' goes cells' at' top' fuel left stands size held top_is enough left_is =
-      leads-then g g.store g.locals values' labels' rest' (in_frame values labels rest) (in_frame values' labels' rest') cost fuel left cells' at' top' leaves goes refl enough left_is
+      leads-then g g.store g.locals values' labels' rest' (in_frame values labels rest) (in_frame values' labels' rest') cost fuel left cells' at' top' leaves (inl goes) refl enough left_is
       (record {
         stands = stands;
         holds = record { held = held; top_is = top_is; room = omega (arith, r.holds.room, size) };
-        typed = typed-then (on g g.locals values labels rest) r.typed cost g.store g.locals values' labels' rest' refl goes;
+        typed = typed-then (on g g.locals values labels rest) r.typed cost g.store g.locals values' labels' rest' refl (inl goes);
       })
 
   -- Without fuel for it.

@@ -10,19 +10,19 @@ use Rattle.meaning.specs.execution.Store.{Code, InCode}
 use Rattle.meaning.specs.execution.Values.{default_of}
 use Rattle.meaning.specs.soundness.Values.{ValuesHaveTypes}
 use Rattle.soundness.specs.Places.{context_at, inside_frame}
-use Rattle.soundness.specs.Stores.{ImplementationIsValid, body_place}
+use Rattle.soundness.specs.Stores.{ImplementationIsValid, StoreIsValid, body_place}
 use Rattle.soundness.proofs.Calls.{empty-runs}
 use Rattle.soundness.proofs.Values.{defaults-typed, values-joined, values-parts, values-reversed}
 use Rattle.sidetable.specs.Counts.{Signatures}
 use Rattle.cells.specs.Cells.{cell_of}
 use Rattle.simulation.specs.Entries.{callee}
-use Rattle.simulation.specs.Runs.{Ghost, IsTyped, Runs}
+use Rattle.simulation.specs.Runs.{Ghost, Holds, IsTyped, Runs}
 use Rattle.simulation.specs.Standing.{values_under}
 use Rattle.simulation.proofs.Cells.{argument-cells, first-cells}
 use Rattle.simulation.proofs.Frames.{functions-entered}
-use Rattle.simulation.proofs.Plain.{pile-high, top-within}
+use Rattle.simulation.proofs.Typed.{all-length}
 
-module _ (g : Ghost) (cells : List ℕ) (at top : ℕ) (r : Runs g cells at top) (s : Signatures) (t : FuncType) (instance : ℕ) (code : Code)
+module _ (g : Ghost) (cells : List ℕ) (top : ℕ) (valid : StoreIsValid g.store) (h : Holds g cells top) (inside : top ≤ length cells) (s : Signatures) (t : FuncType) (instance : ℕ) (code : Code)
     (good : ImplementationIsValid g.store t (InCode instance code)) (below : List ValType) (typed : ValuesHaveTypes g.store g.values (reverse t.params ++ below)) (enough : length t.params ≤ length g.values)
     (types : (context_at g.store (body_place t instance code)).types ≡ s.types) (functions : (context_at g.store (body_place t instance code)).functions ≡ s.functions) where
   abbrev new : Ghost
@@ -35,7 +35,7 @@ module _ (g : Ghost) (cells : List ℕ) (at top : ℕ) (r : Runs g cells at top)
 
   callee-typed : IsTyped new
   callee-typed = record {
-    valid = r.typed.valid;
+    valid = valid;
     own = values-joined g.store (topmost t.params g.values) (map default_of code.locals) t.params code.locals arguments (defaults-typed g.store code.locals);
     typed = (
       [],
@@ -73,5 +73,5 @@ module _ (g : Ghost) (cells : List ℕ) (at top : ℕ) (r : Runs g cells at top)
 
       lies : take (length t.params) (drop (top - length t.params) cells) ≡ map cell_of (topmost t.params g.values)
       lies =
-          argument-cells cells (map cell_of g.locals) top t.params (g.values ++ values_under g.labels) r.holds.held (omega (arith, enough, length-append g.values (values_under g.labels))) (pile-high g cells at top r) (top-within g cells at top r)
+          argument-cells cells (map cell_of g.locals) top t.params (g.values ++ values_under g.labels) h.held (omega (arith, enough, length-append g.values (values_under g.labels))) (omega (arith, h.top_is, length-map g.locals cell_of, all-length g.values g.labels)) inside
           ∙ ap (λ (vs : List Val). map cell_of (reverse vs)) (take-append-le (length t.params) g.values (values_under g.labels) enough)

@@ -1,24 +1,24 @@
 -- Frames: how their code is entered, and what steps in them are for the whole.
-use Rattle.std.proofs.Common.{◌≡◌, ℕ, suc, ◌+◌, ◌-◌, ◌≤◌, List, [], ◌∷◌, ◌++◌, length, drop, refl, ap, sym, ◌∙◌, arith, length-append, inl}
+use Rattle.std.proofs.Common.{◌≡◌, ℕ, suc, ◌+◌, ◌-◌, ◌≤◌, List, [], ◌∷◌, ◌++◌, length, drop, refl, ap, sym, ◌∙◌, arith, length-append, inl, inr}
 use Rattle.std.proofs.lemmas.List.{append-nil, length-map}
-use Rattle.std.specs.Prelude.{Some}
+use Rattle.std.specs.Prelude.{Option, Some}
 use Rattle.core_types.specs.declared.op.PlainOp.{PlainOp}
 use Rattle.core_types.specs.declared.outcome.Val.{Val}
 use Rattle.core_types.specs.declared.types.FuncType.{FuncType}
 use Rattle.meaning.specs.structure.Bodies.{Body, Empty, Then}
 use Rattle.meaning.specs.execution.Configurations.{Configuration, Frame, Label, no_frame}
-use Rattle.meaning.specs.execution.Instructions.{Goes, next}
+use Rattle.meaning.specs.execution.Instructions.{Goes, Grows, next}
 use Rattle.meaning.specs.execution.Layers.{Layer, outermost, plug}
-use Rattle.meaning.specs.execution.Runs.{NoHosts, Steps, goes, none, one_more}
+use Rattle.meaning.specs.execution.Runs.{Answer, IsStep, NoHosts, State, Steps, goes, grows, none, one_more}
 use Rattle.meaning.specs.execution.Store.{Store}
 use Rattle.meaning.specs.validation.Context.{Context}
 use Rattle.meaning.specs.validation.Instructions.{HasType, known}
-use Rattle.meaning.proofs.lemmas.Layers.{plugged-goes}
+use Rattle.meaning.proofs.lemmas.Layers.{plugged-goes, plugged-grows}
 use Rattle.meaning.proofs.lemmas.Runs.{Steps-join}
 use Rattle.sidetable.specs.Counts.{Signatures, counts, counts_of}
 use Rattle.sidetable.specs.Flat.{function_entry, size}
 use Rattle.simulation.specs.Laws.{code_of, function_label}
-use Rattle.simulation.specs.Runs.{StepsIn, none as none-in, then}
+use Rattle.simulation.specs.Runs.{GoesOn, StepsIn, none as none-in, then}
 use Rattle.simulation.specs.Standing.{EndsAt, FrameCode, StandsAt, StandsIn, last_height, under}
 use Rattle.simulation.proofs.Heights.{last-typed}
 use Rattle.simulation.proofs.Places.{flat-size, past-flat}
@@ -63,13 +63,28 @@ functions-entered context s types functions t body typed =
     height-kept : 0 + length t.results ≡ length t.results
     height-kept = omega arith
 
+-- With whatever host functions there are.
+module _ {H : Type 0} (HostStep : List H → ℕ → Option ℕ → List Val → Store → Answer → Store → List H → Type 0) (hosts : List H) (bound : ℕ) (layers : List Layer) (outside : (f : Frame) → outermost layers f ≡ no_frame) where
+  abbrev state : Store → (fuel : ℕ) → State H
+  state store fuel = record { store = store; hosts = hosts; fuel = fuel }
+
+  pub steps-lifted-over : (store store' : Store) (frame frame' : Frame) (c d : Configuration) (fuel left : ℕ) → StepsIn store frame c fuel store' frame' d left
+      → Steps HostStep bound no_frame (record { store = store; hosts = hosts; fuel = fuel }) (plug layers frame c) (record { store = store'; hosts = hosts; fuel = left }) (plug layers frame' d)
+  steps-lifted-over store store' frame frame' c d fuel left none-in = none
+  steps-lifted-over store store' frame frame' c d fuel left (then {store' = between} {frame' = middle} {d = e} {cost = cost} is enough further) =
+      Steps-join HostStep bound no_frame (one_more none (by is)) (steps-lifted-over between store' middle frame' e d (fuel - cost) left further)
+    where
+      by : GoesOn (next store frame c) cost between middle e → IsStep HostStep bound no_frame (state store fuel) (plug layers frame c) (state between (fuel - cost)) (plug layers middle e)
+      by (inl is) =
+          let whole : next store no_frame (plug layers frame c) ≡ Goes cost between no_frame (plug layers middle e) = rw (outside frame, outside middle) at (plugged-goes store layers frame middle between cost c e is) in
+          goes whole enough refl refl
+      by (inr is) =
+          let whole : next store no_frame (plug layers frame c) ≡ Grows cost between no_frame (plug layers middle e) = rw (outside frame, outside middle) at (plugged-grows store layers frame middle between cost c e is) in
+          grows whole enough refl refl
+
 pub steps-lifted : (store store' : Store) (bound : ℕ) (layers : List Layer) (outside : (f : Frame) → outermost layers f ≡ no_frame) (frame frame' : Frame) (c d : Configuration) (fuel left : ℕ) → StepsIn store frame c fuel store' frame' d left
     → Steps NoHosts bound no_frame (record { store = store; hosts = []; fuel = fuel }) (plug layers frame c) (record { store = store'; hosts = []; fuel = left }) (plug layers frame' d)
-steps-lifted store store' bound layers outside frame frame' c d fuel left none-in = none
-steps-lifted store store' bound layers outside frame frame' c d fuel left (then {store' = between} {frame' = middle} {d = e} {cost = cost} is enough further) =
-    let whole : next store no_frame (plug layers frame c) ≡ Goes cost between no_frame (plug layers middle e) =
-    rw (outside frame, outside middle) at (plugged-goes store layers frame middle between cost c e is) in
-    Steps-join NoHosts bound no_frame (one_more none (goes whole enough refl refl)) (steps-lifted between store' bound layers outside middle frame' e d (fuel - cost) left further)
+steps-lifted store store' bound layers outside = steps-lifted-over NoHosts [] bound layers outside store store'
 
 pub callers-on : (f : FrameCode) (at : ℕ) (values rest_values results : List Val) (labels : List Label) (op : PlainOp) (rest : Body) (takes gives : ℕ)
     → counts_of f.signatures op ≡ Some (counts takes gives) → takes ≤ length values → length rest_values ≡ length values - takes → length results ≡ gives

@@ -1,6 +1,7 @@
 pub mod Advances
 pub mod BranchTables
 pub mod Branches
+pub mod Bulk
 pub mod Callees
 pub mod Calls
 pub mod Cells
@@ -8,14 +9,19 @@ pub mod Control
 pub mod Entries
 pub mod Frames
 pub mod Heights
+pub mod Hosts
 pub mod Ifs
 pub mod Instructions
 pub mod Memories
 pub mod Numbers
+pub mod OperandCells
 pub mod Operands
+pub mod Outcomes
 pub mod Places
 pub mod Plain
 pub mod Settling
 pub mod Steps
+pub mod TableCalls
+pub mod Tables
 pub mod Typed
 pub mod Variables

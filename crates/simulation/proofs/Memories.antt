@@ -3,7 +3,6 @@ use Rattle.std.proofs.Common.{◌≡◌, ℕ, ◌+◌, ◌-◌, List, [], ◌∷
 use Rattle.std.specs.Prelude.{Option, Some, Result, Ok, Err}
 use Rattle.core_types.specs.declared.op.LoadOp.{LoadOp}
 use Rattle.core_types.specs.declared.op.MemArg.{MemArg}
-use Rattle.core_types.specs.declared.op.MemoryOp.{MemoryOp}
 use Rattle.core_types.specs.declared.op.MemoryOp.TheVariants as memory
 use Rattle.core_types.specs.declared.op.PlainOp.{PlainOp}
 use Rattle.core_types.specs.declared.op.PlainOp.TheVariants as plain
@@ -24,6 +23,7 @@ use Rattle.meaning.specs.structure.Bodies.{Body}
 use Rattle.meaning.specs.validation.Instructions.{HasMemory as HasMemoryType, load_type, store_type}
 use Rattle.meaning.specs.validation.Types.{function_type}
 use Rattle.soundness.specs.Places.{context_at}
+use Rattle.soundness.specs.Stores.{StoreIsValid}
 use Rattle.soundness.proofs.Extension.{instance-valid, types-found}
 use Rattle.sidetable.specs.Counts.{counts, counts_of}
 use Rattle.sidetable.specs.Flat.{at_offset, without_annotations}
@@ -64,12 +64,11 @@ module _ (offset : ℕ) where
 
 -- ---- the memory
 
-module _ (op : MemoryOp) (g : Ghost) (cells : List ℕ) (at top : ℕ) (p : AtPlain (plain.Memory op) g cells at top) where
-  -- The memory that the context has is there.
-  memory-there : (carried : List (List ValType)) → HasMemoryType (context_at g.store (with_labels (place_of g) carried)) → (address : ℕ) × (m : MemoryInstance) × HasMemory g address m
-  memory-there carried (limits, has) =
-      let (address, m, is, there, same) = types-found _ _ g.store.memories (instance_of g.store (Some g.instance)).memories 0 limits (instance-valid g.store p.runs.typed.valid (Some g.instance)).memories has in
-      (address, m, rw (is, there) refl)
+-- The memory that the context has is there.
+pub memory-there : (g : Ghost) → StoreIsValid g.store → (carried : List (List ValType)) → HasMemoryType (context_at g.store (with_labels (place_of g) carried)) → (address : ℕ) × (m : MemoryInstance) × HasMemory g address m
+memory-there g valid carried (limits, has) =
+    let (address, m, is, there, same) = types-found _ _ g.store.memories (instance_of g.store (Some g.instance)).memories 0 limits (instance-valid g.store valid (Some g.instance)).memories has in
+    (address, m, rw (is, there) refl)
 
 -- ---- loads
 
@@ -95,7 +94,7 @@ loads-number g cells at top op offset b =
     let p : AtPlain (plain.Memory (memory.Load op argument)) g cells at top = subst (λ (q : PlainOp). AtPlain q g cells at top) written_is p₀ in
     let f : Inner (here (plain.Memory (memory.Load op argument)) g cells at top p) = found o g cells at top p in
     let (operands, results, between, (has, aligned, type), frames, runs) = f.runs in
-    let (address, m, located) = memory-there (memory.Load op argument) g cells at top p f.carried has in
+    let (address, m, located) = memory-there g p.runs.typed.valid f.carried has in
     let w : Operands (plain.Memory (memory.Load op argument)) g cells at top p (ty.I32 ∷ []) = operands-here o g cells at top p (function_type (ty.I32 ∷ []) (load_type op ∷ [])) (ty.I32 ∷ []) refl operands results between type f frames in
     let i : ℕ = get_or cells (top - 1) 0 in
     let step : step_instruction g.store (frame_of g) (plain.Memory (memory.Load op argument)) p.values p.rest ≡ continue_after (frame_of g) (push_read g.store (frame_of g) (load_from op m.bytes (get_or cells (top - 1) 0 + offset)) w.popped.others) p.rest =
@@ -139,7 +138,7 @@ stores-number g cells at top op offset b =
     let p : AtPlain (plain.Memory (memory.Store op argument)) g cells at top = subst (λ (q : PlainOp). AtPlain q g cells at top) written_is p₀ in
     let f : Inner (here (plain.Memory (memory.Store op argument)) g cells at top p) = found o g cells at top p in
     let (operands, results, between, (has, aligned, type), frames, runs) = f.runs in
-    let (address, m, located) = memory-there (memory.Store op argument) g cells at top p f.carried has in
+    let (address, m, located) = memory-there g p.runs.typed.valid f.carried has in
     let w : Operands (plain.Memory (memory.Store op argument)) g cells at top p (store_type op ∷ ty.I32 ∷ []) = operands-here o g cells at top p (function_type (ty.I32 ∷ store_type op ∷ []) []) (store_type op ∷ ty.I32 ∷ []) refl operands results between type f frames in
     let i : ℕ = get_or cells (top - 2) 0 in
     let n : ℕ = get_or cells (top - 1) 0 in
@@ -169,7 +168,7 @@ measures-memory g cells at top b =
     let p : AtPlain (plain.Memory memory.Size) g cells at top = at-plain op (tt {0}) g cells at top b in
     let f : Inner (here (plain.Memory memory.Size) g cells at top p) = found op g cells at top p in
     let (operands, results, between, (has, type), frames, runs) = f.runs in
-    let (address, m, located) = memory-there memory.Size g cells at top p f.carried has in
+    let (address, m, located) = memory-there g p.runs.typed.valid f.carried has in
     let (more, put, dear) = pushes op g cells at top p m.limits.min (I32 m.limits.min) refl refl
     (ap (λ (found : Option (ℕ × MemoryInstance)). continue_after (frame_of g) (in_memory g.store (frame_of g) found memory.Size p.values) p.rest) located) in
     (address, m, located, more, put, dear)

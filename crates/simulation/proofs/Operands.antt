@@ -43,14 +43,14 @@ AreOperands cells top read [] = Unit {0}
 AreOperands cells top read (t ∷ ts) = IsCellOf t (get_or cells (top - suc read) 0) × AreOperands cells top (suc read) ts
 
 module _ (store : Store) (few : length store.functions < 2 ^ 32) (cells base : List ℕ) (top : ℕ) (inside : top ≤ length cells) (lower : List Val) (below : List ValType) where
-  record Reads (read : ℕ) (ts : List ValType) (values : List Val) : Type 0 where
+  pub record Reads (read : ℕ) (ts : List ValType) (values : List Val) : Type 0 where
     pub others : List Val
     pub are : values ≡ operands_of cells top read ts ++ others
     pub fits : AreOperands cells top read ts
     pub count : length values ≡ length ts + length others
     pub held : take (top - (read + length ts)) cells ≡ base ++ cells_of (others ++ lower)
 
-  reads : (read : ℕ) (ts : List ValType) (values : List Val) → ValuesHaveTypes store values (ts ++ below) → take (top - read) cells ≡ base ++ cells_of (values ++ lower)
+  pub reads : (read : ℕ) (ts : List ValType) (values : List Val) → ValuesHaveTypes store values (ts ++ below) → take (top - read) cells ≡ base ++ cells_of (values ++ lower)
       → top - read ≡ length base + length (values ++ lower) → Reads read ts values
   reads read [] values typed held high =
       let same : read ≡ read + 0 = omega arith in

@@ -1,5 +1,5 @@
 -- Where an instruction without a body stands, and its step: on values, and on their cells.
-use Rattle.std.proofs.Common.{◌≡◌, ℕ, suc, ◌+◌, ◌-◌, ◌≤◌, List, [], ◌∷◌, ◌++◌, length, map, take, refl, ap, subst, arith}
+use Rattle.std.proofs.Common.{◌≡◌, ℕ, suc, ◌+◌, ◌-◌, ◌<◌, ◌≤◌, List, [], ◌∷◌, ◌++◌, length, map, take, refl, ap, subst, arith}
 use Rattle.std.proofs.lemmas.List.{length-map}
 use Rattle.std.specs.Prelude.{Some}
 use Rattle.core_types.specs.declared.op.PlainOp.{PlainOp}
@@ -7,7 +7,7 @@ use Rattle.core_types.specs.declared.outcome.Trap.{Trap}
 use Rattle.core_types.specs.declared.outcome.Val.{Val}
 use Rattle.meaning.specs.structure.Bodies.{Body, Then}
 use Rattle.meaning.specs.execution.Configurations.{Configuration, Frame, InLabel, Label, Running}
-use Rattle.meaning.specs.execution.Instructions.{CallsHost, Goes, Next, Opens, Traps, next, step_in_label, step_instruction}
+use Rattle.meaning.specs.execution.Instructions.{CallsHost, Goes, Grows, Next, Opens, Traps, next, step_in_label, step_instruction}
 use Rattle.meaning.specs.execution.Runs.{price}
 use Rattle.meaning.specs.execution.Store.{Store}
 use Rattle.sidetable.specs.Counts.{counts_of}
@@ -17,40 +17,48 @@ use Rattle.cells.specs.Cells.{cell_of}
 use Rattle.simulation.specs.Piles.{cells_of}
 use Rattle.simulation.specs.Instructions.{IsTrapped}
 use Rattle.simulation.specs.Operations.{IsDear}
-use Rattle.simulation.specs.Runs.{Ghost, IsBefore, Leads, Runs, StepsIn, config_of, frame_of}
+use Rattle.simulation.specs.Runs.{AsksToGrow, Ghost, GoesOn, IsBefore, Lacks, Leads, Runs, StepsIn, config_of, frame_of}
 use Rattle.simulation.specs.Settling.{HasNoAnnotations, LeavesTo, in_frame, inside_labels}
 use Rattle.simulation.specs.Standing.{under, values_under}
-use Rattle.simulation.proofs.Settling.{begins, labels-go, written-so}
+use Rattle.simulation.proofs.Settling.{begins, labels-go-on, labels-grow, written-so}
 use Rattle.simulation.proofs.Steps.{advanced, within}
 use Rattle.simulation.proofs.Typed.{Inner, Settled, all-length, inner, leads-then, on, leaves-steps, settled, typed-then}
 
 -- ---- what a step costs
 
--- It goes on, calls or traps for one unit of fuel.
+-- It goes on, calls or traps for so many units of fuel.
+abbrev pub Costs : (units : ℕ) → Next → Type 0
+Costs units (Goes cost store frame c) = cost ≡ units
+Costs units (Grows cost store frame c) = cost ≡ units
+Costs units (Opens cost store c) = cost ≡ units
+Costs units (CallsHost cost number lent arguments c) = cost ≡ units
+Costs units (Traps cost trap) = cost ≡ units
+Costs units other = ⊥
+
+-- For one unit.
 abbrev pub CostsOne : Next → Type 0
-CostsOne (Goes cost store frame c) = cost ≡ 1
-CostsOne (Opens cost store c) = cost ≡ 1
-CostsOne (CallsHost cost number lent arguments c) = cost ≡ 1
-CostsOne (Traps cost trap) = cost ≡ 1
-CostsOne other = ⊥
+CostsOne = Costs 1
 
-price-one : (n : Next) → CostsOne n → price n ≡ 1
-price-one (Goes cost store frame c) costs = costs
-price-one (Opens cost store c) costs = costs
-price-one (CallsHost cost number lent arguments c) costs = costs
-price-one (Traps cost trap) costs = costs
-price-one other costs = absurd costs
+module _ (units : ℕ) where
+  price-of : (n : Next) → Costs units n → price n ≡ units
+  price-of (Goes cost store frame c) costs = costs
+  price-of (Grows cost store frame c) costs = costs
+  price-of (Opens cost store c) costs = costs
+  price-of (CallsHost cost number lent arguments c) costs = costs
+  price-of (Traps cost trap) costs = costs
+  price-of other costs = absurd costs
 
-label-costs : (store : Store) (frame : Frame) (label : Label) (n : Next) → CostsOne n → CostsOne (step_in_label store frame label n)
-label-costs store frame label (Goes cost store' frame' c) costs = costs
-label-costs store frame label (Opens cost store' c) costs = costs
-label-costs store frame label (CallsHost cost number lent arguments c) costs = costs
-label-costs store frame label (Traps cost trap) costs = costs
-label-costs store frame label other costs = absurd costs
+  label-costs : (store : Store) (frame : Frame) (label : Label) (n : Next) → Costs units n → Costs units (step_in_label store frame label n)
+  label-costs store frame label (Goes cost store' frame' c) costs = costs
+  label-costs store frame label (Grows cost store' frame' c) costs = costs
+  label-costs store frame label (Opens cost store' c) costs = costs
+  label-costs store frame label (CallsHost cost number lent arguments c) costs = costs
+  label-costs store frame label (Traps cost trap) costs = costs
+  label-costs store frame label other costs = absurd costs
 
-labels-cost : (store : Store) (frame : Frame) (labels : List Label) (x : Configuration) → CostsOne (next store frame x) → CostsOne (next store frame (inside_labels labels x))
-labels-cost store frame [] x costs = costs
-labels-cost store frame (label ∷ labels) x costs = labels-cost store frame labels (InLabel label x) (label-costs store frame label (next store frame x) costs)
+  labels-cost : (store : Store) (frame : Frame) (labels : List Label) (x : Configuration) → Costs units (next store frame x) → Costs units (next store frame (inside_labels labels x))
+  labels-cost store frame [] x costs = costs
+  labels-cost store frame (label ∷ labels) x costs = labels-cost store frame labels (InLabel label x) (label-costs store frame label (next store frame x) costs)
 
 -- A trap goes through labels.
 labels-trap : (store : Store) (frame : Frame) (trap : Trap) (labels : List Label) (x : Configuration) → next store frame x ≡ Traps 1 trap → next store frame (inside_labels labels x) ≡ Traps 1 trap
@@ -116,15 +124,15 @@ module _ (op : PlainOp) (g : Ghost) (cells : List ℕ) (at top : ℕ) (p : AtPla
   pub found : Inner here
   found = inner here p.runs.typed
 
-  module _ (store' : Store) (locals values : List Val) (goes : step_instruction g.store (frame_of g) op p.values p.rest ≡ Goes 1 store' (record { instance = Some g.instance; locals = locals }) (Running values p.rest)) where
-    goes_here : next g.store (frame_of g) (in_frame p.values p.labels (Then op p.rest)) ≡ Goes 1 store' (record { instance = Some g.instance; locals = locals }) (in_frame values p.labels p.rest)
-    goes_here = labels-go g.store (frame_of g) p.labels 1 store' (record { instance = Some g.instance; locals = locals }) (Running p.values (Then op p.rest)) (Running values p.rest) goes
+  module _ (cost : ℕ) (store' : Store) (locals values : List Val) (goes : GoesOn (step_instruction g.store (frame_of g) op p.values p.rest) cost store' (record { instance = Some g.instance; locals = locals }) (Running values p.rest)) where
+    goes_here : GoesOn (next g.store (frame_of g) (in_frame p.values p.labels (Then op p.rest))) cost store' (record { instance = Some g.instance; locals = locals }) (in_frame values p.labels p.rest)
+    goes_here = labels-go-on g.store (frame_of g) p.labels cost store' (record { instance = Some g.instance; locals = locals }) (Running p.values (Then op p.rest)) (Running values p.rest) goes
 
     pub advance : store'.instances ≡ g.store.instances → (c : Counts) → counts_of g.code.signatures op ≡ Some c → length values + under p.labels ≡ length p.values + under p.labels - c.takes + c.gives → length locals ≡ length g.locals
         → (cells' : List ℕ) (at' top' fuel left : ℕ) → length cells' ≡ length cells → at' ≡ suc at → top' ≡ length locals + (length values + under p.labels) → take top' cells' ≡ map cell_of locals ++ cells_of (values ++ values_under p.labels)
-        → 1 ≤ fuel → left ≡ fuel - 1 → Leads g fuel store' cells' at' top' left
+        → cost ≤ fuel → left ≡ fuel - cost → Leads g fuel store' cells' at' top' left
     advance instances c is many same cells' at' top' fuel left size at_is top_is held enough left_is =
-        leads-then g store' locals values p.labels p.rest (in_frame p.values p.labels (Then op p.rest)) (in_frame values p.labels p.rest) 1 fuel left cells' at' top' p.leaves goes_here refl enough left_is
+        leads-then g store' locals values p.labels p.rest (in_frame p.values p.labels (Then op p.rest)) (in_frame values p.labels p.rest) cost fuel left cells' at' top' p.leaves goes_here refl enough left_is
         (record {
           stands = rw at_is (record {
             entries = p.runs.stands.entries;
@@ -134,24 +142,41 @@ module _ (op : PlainOp) (g : Ghost) (cells : List ℕ) (at top : ℕ) (p : AtPla
             around = p.runs.stands.around;
           });
           holds = record { held = held; top_is = top_is; room = omega (arith, p.runs.holds.room, size, same) };
-          typed = typed-then here p.runs.typed 1 store' locals values p.labels p.rest instances goes_here;
+          typed = typed-then here p.runs.typed cost store' locals values p.labels p.rest instances goes_here;
         })
 
   -- The height behind it is within the room.
   pub high-then : (c : Counts) → counts_of g.code.signatures op ≡ Some c → length p.values + under p.labels - c.takes + c.gives ≤ g.code.greatest
   high-then c is = within g.code p.runs.stands.entries _ (suc at) p.rest p.runs.stands.end p.runs.stands.last (advanced g.code p.runs.stands.entries _ at op p.rest p.runs.stands.end p.runs.stands.last c is p.runs.stands.here)
 
+  -- It leads there for nothing.
+  abbrev leads-here : (fuel : ℕ) → Leads g fuel g.store cells at top fuel
+  leads-here fuel = record {
+    new = here;
+    same = record { code = refl; instance = refl; types = refl; results = refl };
+    store = refl;
+    steps = leaves-steps g.store (frame_of g) (config_of g) (config_of here) fuel p.leaves;
+    runs = p.runs;
+  }
+
   -- Without fuel for it.
+  pub lacks-here : (units : ℕ) → Costs units (step_instruction g.store (frame_of g) op p.values p.rest) → (fuel : ℕ) → fuel < units → Lacks g fuel cells at top fuel
+  lacks-here units costs fuel few = record {
+    leads = leads-here fuel;
+    dear = let price_is = price-of units _ (labels-cost units g.store (frame_of g) p.labels (Running p.values (Then op p.rest)) costs) in omega (arith, price_is, few);
+  }
+
   pub dear-here : CostsOne (step_instruction g.store (frame_of g) op p.values p.rest) → IsDear g cells at top
-  dear-here costs fuel few = record {
-    leads = record {
-      new = here;
-      same = record { code = refl; instance = refl; types = refl; results = refl };
-      store = refl;
-      steps = leaves-steps g.store (frame_of g) (config_of g) (config_of here) fuel p.leaves;
-      runs = p.runs;
-    };
-    dear = let price_is = price-one _ (labels-cost g.store (frame_of g) p.labels (Running p.values (Then op p.rest)) costs) in omega (arith, price_is, few);
+  dear-here = lacks-here 1
+
+  -- Where a table or a memory grows.
+  pub asks-here : (cost : ℕ) (store' : Store) (frame' : Frame) (y : Configuration) → step_instruction g.store (frame_of g) op p.values p.rest ≡ Grows cost store' frame' y → (fuel : ℕ) → AsksToGrow g fuel cells at top cost
+  asks-here cost store' frame' y grows fuel = record {
+    leads = leads-here fuel;
+    grown = store';
+    frame = frame';
+    behind = inside_labels p.labels y;
+    grows = labels-grow g.store (frame_of g) p.labels cost store' frame' (Running p.values (Then op p.rest)) y grows;
   }
 
   -- Where it traps.

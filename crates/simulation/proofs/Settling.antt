@@ -8,10 +8,11 @@ use Rattle.core_types.specs.declared.op.PlainOp.TheVariants as plain
 use Rattle.core_types.specs.declared.outcome.Val.{Val}
 use Rattle.meaning.specs.structure.Bodies.{Body, BlockKind, LoopKind, IfKind, Empty, Then, Nested, IfElse}
 use Rattle.meaning.specs.execution.Configurations.{Configuration, Frame, InLabel, Label, Running}
-use Rattle.meaning.specs.execution.Instructions.{Goes, next, step_in_label}
+use Rattle.meaning.specs.execution.Instructions.{Goes, Grows, next, step_in_label}
 use Rattle.meaning.specs.execution.Store.{Store}
 use Rattle.sidetable.specs.Flat.{FlatOp, Jump, entry_of, flat_op, without_annotations}
 use Rattle.sidetable.specs.declared.operations.Entry.{Entry}
+use Rattle.simulation.specs.Runs.{GoesOn}
 use Rattle.simulation.specs.Standing.{FrameCode, GoesOnAt, StandsIn, values_under}
 use Rattle.simulation.specs.Settling.{BeginsWith, HasNoAnnotations, IsSettled, leave, stay, Settles, in_frame, inside_labels}
 use Rattle.simulation.proofs.Places.{drop-end}
@@ -21,6 +22,14 @@ module _ (store : Store) (frame : Frame) where
   pub labels-go : (labels : List Label) (cost : ℕ) (store' : Store) (frame' : Frame) (x y : Configuration) → next store frame x ≡ Goes cost store' frame' y → next store frame (inside_labels labels x) ≡ Goes cost store' frame' (inside_labels labels y)
   labels-go [] cost store' frame' x y e = e
   labels-go (label ∷ labels) cost store' frame' x y e = labels-go labels cost store' frame' (InLabel label x) (InLabel label y) (ap (step_in_label store frame label) e)
+
+  pub labels-grow : (labels : List Label) (cost : ℕ) (store' : Store) (frame' : Frame) (x y : Configuration) → next store frame x ≡ Grows cost store' frame' y → next store frame (inside_labels labels x) ≡ Grows cost store' frame' (inside_labels labels y)
+  labels-grow [] cost store' frame' x y e = e
+  labels-grow (label ∷ labels) cost store' frame' x y e = labels-grow labels cost store' frame' (InLabel label x) (InLabel label y) (ap (step_in_label store frame label) e)
+
+  pub labels-go-on : (labels : List Label) (cost : ℕ) (store' : Store) (frame' : Frame) (x y : Configuration) → GoesOn (next store frame x) cost store' frame' y → GoesOn (next store frame (inside_labels labels x)) cost store' frame' (inside_labels labels y)
+  labels-go-on labels cost store' frame' x y (inl e) = inl (labels-go labels cost store' frame' x y e)
+  labels-go-on labels cost store' frame' x y (inr e) = inr (labels-grow labels cost store' frame' x y e)
 
   -- The inside is over.
   left-goes : (values : List Val) (label : Label) (labels : List Label) → next store frame (in_frame values (label ∷ labels) Empty) ≡ Goes 0 store frame (in_frame (values ++ label.values) labels label.rest)

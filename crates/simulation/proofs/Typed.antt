@@ -1,5 +1,5 @@
 -- What runs in a frame stays typed.
-use Rattle.std.proofs.Common.{◌≡◌, ℕ, ◌+◌, ◌-◌, ◌≤◌, List, [], ◌∷◌, ◌++◌, length, refl, ap, subst, ◌∙◌, arith, length-append}
+use Rattle.std.proofs.Common.{◌≡◌, ℕ, ◌+◌, ◌-◌, ◌≤◌, List, [], ◌∷◌, ◌++◌, length, refl, ap, sym, subst, ◌∙◌, arith, length-append, inl, inr}
 use Rattle.std.specs.Prelude.{Some, slice_get, unwrap_or}
 use Rattle.core_types.specs.declared.outcome.Val.{Val}
 use Rattle.core_types.specs.declared.types.ValType.{ValType}
@@ -12,7 +12,7 @@ use Rattle.soundness.specs.Configurations.{ConfigurationHasType, FrameHasPlace, 
 use Rattle.soundness.specs.Places.{Place, RunsOn}
 use Rattle.soundness.specs.Stores.{StoreIsValid}
 use Rattle.soundness.proofs.Steps.{stays-good}
-use Rattle.simulation.specs.Runs.{Ghost, IsSameFrame, IsTyped, Leads, Runs, StepsIn, config_of, frame_of, none, place_of, then}
+use Rattle.simulation.specs.Runs.{Ghost, GoesOn, IsSameFrame, IsTyped, Leads, Runs, StepsIn, config_of, frame_of, none, place_of, then}
 use Rattle.simulation.specs.Settling.{IsSettled, LeavesTo, Settles, in_frame, inside_labels, leave, stay}
 use Rattle.simulation.specs.Standing.{under, values_under}
 use Rattle.simulation.proofs.Settling.{settles}
@@ -42,12 +42,16 @@ module _ (g : Ghost) (t : IsTyped g) where
   pub is-good : (n : Next) → next g.store (frame_of g) (config_of g) ≡ n → IsGood g.store (place_of g) g.results n
   is-good n e = rw e at good
 
+  good-then : (cost : ℕ) (store' : Store) (frame' : Frame) (c : Configuration) → GoesOn (next g.store (frame_of g) (config_of g)) cost store' frame' c → IsGood g.store (place_of g) g.results (Goes cost store' frame' c)
+  good-then cost store' frame' c (inl e) = is-good _ e
+  good-then cost store' frame' c (inr e) = is-good _ e
+
   -- A step keeps it. Instances stay, and so do functions.
   pub typed-then : (cost : ℕ) (store' : Store) (locals values : List Val) (labels : List Label) (rest : Body) → store'.instances ≡ g.store.instances
-      → next g.store (frame_of g) (config_of g) ≡ Goes cost store' (record { instance = Some g.instance; locals = locals }) (in_frame values labels rest)
+      → GoesOn (next g.store (frame_of g) (config_of g)) cost store' (record { instance = Some g.instance; locals = locals }) (in_frame values labels rest)
       → IsTyped (over g store' locals values labels rest)
   typed-then cost store' locals values labels rest instances e =
-      let (more, valid, own, typed) = is-good _ e in
+      let (more, valid, own, typed) = good-then cost store' (record { instance = Some g.instance; locals = locals }) (in_frame values labels rest) e in
       let same : instance_of store' (Some g.instance) ≡ instance_of g.store (Some g.instance) = ap (λ (is : List ModuleInstance). unwrap_or (slice_get is g.instance) no_instance) instances in record {
         valid = valid;
         own = own.1;
@@ -68,7 +72,7 @@ pub leaves-steps : (store : Store) (frame : Frame) (c d : Configuration) (fuel :
 leaves-steps store frame c d fuel stay = none
 leaves-steps store frame c d fuel (leave {d = between} e further) =
     let same : fuel - 0 ≡ fuel = omega arith in
-    then e (omega arith) (rw same (leaves-steps store frame between d fuel further))
+    then (inl e) (omega arith) (rw same (leaves-steps store frame between d fuel further))
 
 -- ---- inside of labels
 
@@ -84,12 +88,19 @@ with_labels place carried = record { instance = place.instance; locals = place.l
 
 pub labels-typed : (store : Store) (place : Place) (empty : place.labels ≡ []) (labels : List Label) (x : Configuration) (results : List ValType) → ConfigurationHasType store place (inside_labels labels x) results
     → (carried : List (List ValType)) × (given : List ValType) × Arities labels carried × ConfigurationHasType store (with_labels place carried) x given
-labels-typed store place empty [] x results typed = ([], results, tt, subst (λ (ls : List (List ValType)). ConfigurationHasType store (with_labels place ls) x results) empty typed)
+    × ((y : Configuration) → ConfigurationHasType store (with_labels place carried) y given → ConfigurationHasType store place (inside_labels labels y) results)
+labels-typed store place empty [] x results typed = (
+  [],
+  results,
+  tt,
+  subst (λ (ls : List (List ValType)). ConfigurationHasType store (with_labels place ls) x results) empty typed,
+  λ y other. subst (λ (ls : List (List ValType)). ConfigurationHasType store (with_labels place ls) y results) (sym empty) other,
+)
 labels-typed store place empty (label ∷ labels) x results typed =
-    let (carried, given, arities, (stack, inner_given, own, arity, values, inner, onward, again)) = labels-typed store place empty labels (InLabel label x) results typed in
-    (own ∷ carried, inner_given, (arity, arities), inner)
+    let (carried, given, arities, (stack, inner_given, own, arity, values, inner, onward, again), filled) = labels-typed store place empty labels (InLabel label x) results typed in
+    (own ∷ carried, inner_given, (arity, arities), inner, λ y other. filled (InLabel label y) (stack, inner_given, own, arity, values, other, onward, again))
 
--- The types of the values, and the typing of what is left.
+-- The types of the values, and the typing of what is left; and of what may take its place inside of the labels.
 pub record Inner (g : Ghost) : Type 0 where
   pub carried : List (List ValType)
   pub given : List ValType
@@ -97,11 +108,12 @@ pub record Inner (g : Ghost) : Type 0 where
   pub stack : List ValType
   pub values : ValuesHaveTypes g.store g.values stack
   pub runs : RunsOn g.store (with_labels (place_of g) carried) g.rest stack given
+  pub filled : (y : Configuration) → ConfigurationHasType g.store (with_labels (place_of g) carried) y given → ConfigurationHasType g.store (place_of g) (inside_labels g.labels y) g.results
 
 pub inner : (g : Ghost) → IsTyped g → Inner g
 inner g t =
-    let (carried, given, arities, (stack, values, runs)) = labels-typed g.store (place_of g) refl g.labels (Running g.values g.rest) g.results t.typed in
-    record { carried = carried; given = given; arities = arities; stack = stack; values = values; runs = runs }
+    let (carried, given, arities, (stack, values, runs), filled) = labels-typed g.store (place_of g) refl g.labels (Running g.values g.rest) g.results t.typed in
+    record { carried = carried; given = given; arities = arities; stack = stack; values = values; runs = runs; filled = filled }
 
 -- ---- settling
 
@@ -154,7 +166,7 @@ settled g cells at top r =
 
 -- Labels that are left, and then a step.
 pub leads-then : (g : Ghost) (store' : Store) (locals values : List Val) (labels : List Label) (rest : Body) (c d : Configuration) (cost fuel left : ℕ) (cells : List ℕ) (at top : ℕ)
-    → LeavesTo g.store (frame_of g) (config_of g) c → next g.store (frame_of g) c ≡ Goes cost store' (record { instance = Some g.instance; locals = locals }) d → d ≡ in_frame values labels rest
+    → LeavesTo g.store (frame_of g) (config_of g) c → GoesOn (next g.store (frame_of g) c) cost store' (record { instance = Some g.instance; locals = locals }) d → d ≡ in_frame values labels rest
     → cost ≤ fuel → left ≡ fuel - cost → Runs (over g store' locals values labels rest) cells at top → Leads g fuel store' cells at top left
 leads-then g store' locals values labels rest c d cost fuel left cells at top leaves e same enough left_is runs = record {
   new = over g store' locals values labels rest;
@@ -166,4 +178,4 @@ leads-then g store' locals values labels rest c d cost fuel left cells at top le
   where
     go : (from : Configuration) → LeavesTo g.store (frame_of g) from c → StepsIn g.store (frame_of g) from fuel store' (record { instance = Some g.instance; locals = locals }) d (fuel - cost)
     go from stay = then e enough none
-    go from (leave {d = between} f further) = let zero_off : fuel - 0 ≡ fuel = omega arith in then f (omega arith) (rw zero_off (go between further))
+    go from (leave {d = between} f further) = let zero_off : fuel - 0 ≡ fuel = omega arith in then (inl f) (omega arith) (rw zero_off (go between further))

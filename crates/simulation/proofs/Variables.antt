@@ -1,5 +1,5 @@
 -- Instructions on locals and globals: on values, and on their cells.
-use Rattle.std.proofs.Common.{◌≡◌, ℕ, zero, suc, ◌+◌, ◌-◌, ◌<◌, ◌≤◌, List, [], ◌∷◌, ◌++◌, length, map, take, set, get_or, slice_get, slice_set, refl, ap, sym, ◌∙◌, arith}
+use Rattle.std.proofs.Common.{◌≡◌, ℕ, zero, suc, ◌+◌, ◌-◌, ◌<◌, ◌≤◌, List, [], ◌∷◌, ◌++◌, length, map, take, set, get_or, slice_get, slice_set, refl, ap, sym, ◌∙◌, arith, inl}
 use Rattle.std.proofs.lemmas.List.{length-map, length-set, map-set, set-append_left}
 use Rattle.std.proofs.Math.Seq.{take-set-lt}
 use Rattle.std.specs.Prelude.{Option, Some}
@@ -71,7 +71,7 @@ module _ (op : PlainOp) (g : Ghost) (cells : List ℕ) (at top : ℕ) (p : AtPla
   local-written c gives is counted many low_is held some cells' at' top' fuel left kept size at_is top_new enough left_is =
       let same = length-set g.locals x v in
       let size' = length-set cells x c in
-      advance op g cells at top p g.store (set g.locals x v) values goes refl (counts 1 gives) counted (omega (arith, many, some)) same cells' at' top' fuel left (omega (arith, size, size')) at_is (omega (arith, top_new, low_is, same))
+      advance op g cells at top p 1 g.store (set g.locals x v) values (inl goes) refl (counts 1 gives) counted (omega (arith, many, some)) same cells' at' top' fuel left (omega (arith, size, size')) at_is (omega (arith, top_new, low_is, same))
       (rw top_new (kept ∙ written-cells cells g.locals (values ++ values_under p.labels) x low c v held inside (omega (arith, inside, low_is)) is)) enough left_is
 
 module _ (op : PlainOp) (g : Ghost) (cells : List ℕ) (at top : ℕ) (p : AtPlain op g cells at top) (x : ℕ) (t : ValType) (local : slice_get g.types x ≡ Some t) (w : Operands op g cells at top p (t ∷ [])) where

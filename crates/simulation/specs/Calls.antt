@@ -1,13 +1,14 @@
 -- Frames over frames: what a caller keeps while a function that it called runs, and what calls and returns do to the whole.
-use Rattle.std.specs.Prelude.{◌≡◌, ℕ, ◌≤◌, List, [], ◌∷◌, ◌++◌, length, reverse, take, drop, Some, slice_get}
+use Rattle.std.specs.Prelude.{◌≡◌, ℕ, ◌≤◌, List, [], ◌∷◌, ◌++◌, length, reverse, take, drop, Option, Some, slice_get}
 use Rattle.core_types.specs.declared.op.ControlOp.TheVariants as control
+use Rattle.core_types.specs.declared.op.PlainOp.{PlainOp}
 use Rattle.core_types.specs.declared.op.PlainOp.TheVariants as plain
 use Rattle.core_types.specs.declared.outcome.Val.{Val}
 use Rattle.core_types.specs.declared.types.FuncType.{FuncType}
 use Rattle.core_types.specs.declared.types.ValType.{ValType}
 use Rattle.meaning.specs.structure.Bodies.{Body, Empty, Then}
 use Rattle.meaning.specs.execution.Configurations.{Activation, Frame, Label}
-use Rattle.meaning.specs.execution.Instructions.{Goes, Opens, frame_of, function_at, next}
+use Rattle.meaning.specs.execution.Instructions.{Goes, Opens, call_function, frame_of, function_at, next, step_instruction}
 use Rattle.meaning.specs.execution.Layers.{AroundFrame, AroundLabel, Layer, outermost, plug}
 use Rattle.meaning.specs.execution.Store.{Code, FunctionInstance, InCode, Store, instance_of}
 use Rattle.meaning.specs.soundness.Values.{ValuesHaveTypes}
@@ -72,6 +73,20 @@ pub record FramesComeAndGo : Type 0 where
       ≡ Opens 1 store
       (plug (opened_in (length t.results) (drop (length t.params) values) rest frame labels layers)
       (frame_of t instance code values)
+      (in_frame [] (function_label (length t.results) ∷ []) code.body))
+  -- so does any instruction that does this call, with these values up to the arguments
+  pub called_by : (store : Store) (layers : List Layer) (frame : Frame) (op : PlainOp)
+      (lent : Option ℕ) (t : FuncType) (instance : ℕ) (code : Code) (values others : List Val)
+      (labels : List Label) (rest : Body)
+      → step_instruction store frame op values rest
+      ≡ call_function 1 store lent (Some (record { ty = t; implementation = InCode instance code }))
+      others rest
+      → length t.params ≤ length others
+      → next store (outermost layers frame)
+      (plug layers frame (in_frame values labels (Then op rest)))
+      ≡ Opens 1 store
+      (plug (opened_in (length t.results) (drop (length t.params) others) rest frame labels layers)
+      (frame_of t instance code others)
       (in_frame [] (function_label (length t.results) ∷ []) code.body))
   -- a return leaves its frame from inside of labels, with the topmost values
   pub returned : (store : Store) (layers : List Layer) (outer own : Frame) (arity : ℕ)

@@ -10,10 +10,10 @@ use Rattle.meaning.specs.execution.Store.{Code, InCode}
 use Rattle.meaning.specs.execution.Values.{default_of}
 use Rattle.meaning.specs.soundness.Values.{ValuesHaveTypes}
 use Rattle.soundness.specs.Places.{context_at}
-use Rattle.soundness.specs.Stores.{ImplementationIsValid, body_place}
+use Rattle.soundness.specs.Stores.{ImplementationIsValid, StoreIsValid, body_place}
 use Rattle.sidetable.specs.Counts.{Signatures}
 use Rattle.simulation.specs.Laws.{HasSignatures, code_of, function_label}
-use Rattle.simulation.specs.Runs.{Ghost, Runs}
+use Rattle.simulation.specs.Runs.{Ghost, Holds, Runs}
 use Rattle.simulation.specs.Settling.{IsSettled}
 use Rattle.simulation.specs.Standing.{FrameCode, StandsIn}
 
@@ -34,8 +34,8 @@ callee g s t instance code values = record {
 -- A callee's frame begins at the arguments where they lie, behind which its other locals are zero.
 abbrev pub CalleesAreEntered : Type 0
 CalleesAreEntered =
-    (g : Ghost) (cells : List ℕ) (at top : ℕ) → Runs g cells at top
-    → (s : Signatures) (t : FuncType) (instance : ℕ) (code : Code)
+    (g : Ghost) (cells : List ℕ) (top : ℕ) → StoreIsValid g.store → Holds g cells top
+    → top ≤ length cells → (s : Signatures) (t : FuncType) (instance : ℕ) (code : Code)
     → ImplementationIsValid g.store t (InCode instance code) → (below : List ValType)
     → ValuesHaveTypes g.store g.values (reverse t.params ++ below)
     → length t.params ≤ length g.values

@@ -1,3 +1,5 @@
+pub mod Bulk
+pub mod Callees
 pub mod Calls
 pub mod Entries
 pub mod Instructions
@@ -5,8 +7,10 @@ pub mod Laws
 pub mod Memories
 pub mod Numbers
 pub mod Operations
+pub mod Outcomes
 pub mod Piles
 pub mod Runs
 pub mod Settling
 pub mod Standing
+pub mod Tables
 pub mod Variables

@@ -1,11 +1,11 @@
 -- The machine in a frame, and the configuration that runs there.
-use Rattle.std.specs.Prelude.{◌≡◌, ℕ, ◌+◌, ◌-◌, ◌<◌, ◌≤◌, List, ◌∷◌, ◌++◌, length, map, take, drop, Some}
+use Rattle.std.specs.Prelude.{◌≡◌, ◌⊎◌, ℕ, ◌+◌, ◌-◌, ◌<◌, ◌≤◌, List, ◌∷◌, ◌++◌, length, map, take, drop, Some}
 use Rattle.core_types.specs.declared.outcome.Trap.{Trap}
 use Rattle.core_types.specs.declared.outcome.Val.{Val}
 use Rattle.core_types.specs.declared.types.ValType.{ValType}
 use Rattle.meaning.specs.structure.Bodies.{Body}
 use Rattle.meaning.specs.execution.Configurations.{Configuration, Frame, Label}
-use Rattle.meaning.specs.execution.Instructions.{Goes, Traps, next}
+use Rattle.meaning.specs.execution.Instructions.{Goes, Grows, Next, Traps, next}
 use Rattle.meaning.specs.execution.Runs.{price}
 use Rattle.meaning.specs.execution.Store.{Store}
 use Rattle.meaning.specs.soundness.Values.{ValuesHaveTypes}
@@ -66,14 +66,18 @@ pub record IsBefore (o : FlatOp) (g : Ghost) (cells : List ℕ) (at top : ℕ) :
   pub more : List FlatOp
   pub there : drop at g.code.operations ≡ o ∷ more
 
--- Steps in a frame, none of which asks for memory.
+-- What is next goes on, at this cost; for it a table or a memory may grow.
+abbrev pub GoesOn : Next → (cost : ℕ) → Store → Frame → Configuration → Type 0
+GoesOn n cost store frame c = (n ≡ Goes cost store frame c) ⊎ (n ≡ Grows cost store frame c)
+
+-- Steps in a frame, none of which opens another one or calls a host function.
 pub data StepsIn : Store → Frame → Configuration → (fuel : ℕ) → Store → Frame → Configuration
     → (left : ℕ) → Type 0 where
   none : {store : Store} {frame : Frame} {c : Configuration} {fuel : ℕ}
       → StepsIn store frame c fuel store frame c fuel
   then : {store store' store'' : Store} {frame frame' frame'' : Frame} {c d e : Configuration}
       {cost fuel left : ℕ}
-      → next store frame c ≡ Goes cost store' frame' d → cost ≤ fuel
+      → GoesOn (next store frame c) cost store' frame' d → cost ≤ fuel
       → StepsIn store' frame' d (fuel - cost) store'' frame'' e left
       → StepsIn store frame c fuel store'' frame'' e left
 
@@ -104,3 +108,12 @@ pub record Fails (g : Ghost) (fuel : ℕ) (cells : List ℕ) (at top left : ℕ)
     : Type 0 where
   pub leads : Leads g fuel g.store cells at top (left + 1)
   pub traps : next leads.new.store (frame_of leads.new) (config_of leads.new) ≡ Traps 1 trap
+
+-- It leads, with the store as it is, to where next a table or a memory grows, at this cost.
+pub record AsksToGrow (g : Ghost) (fuel : ℕ) (cells : List ℕ) (at top cost : ℕ) : Type 0 where
+  pub leads : Leads g fuel g.store cells at top fuel
+  pub grown : Store
+  pub frame : Frame
+  pub behind : Configuration
+  pub grows : next leads.new.store (frame_of leads.new) (config_of leads.new) ≡
+      Grows cost grown frame behind

@@ -1,5 +1,7 @@
 //! Laws of flat code over cells.
 
+ghost use Rattle.simulation.specs.Bulk.{CopiesMemory, DropsData, FillsMemory, GrowsMemory, InitializesMemory};
+ghost use Rattle.simulation.specs.Callees.{CallsByName, CallsReachHosts, CallsThroughTables, ChangesLentBytes};
 ghost use Rattle.simulation.specs.Calls.{CallsFindFunctions, FramesComeAndGo};
 ghost use Rattle.simulation.specs.Entries.{CalleesAreEntered, CodeEnds};
 ghost use Rattle.simulation.specs.Memories.{LoadsNumber, MeasuresMemory, StoresNumber};
@@ -7,6 +9,8 @@ ghost use Rattle.simulation.specs.Numbers.{ComputesFromOne, ComputesFromTwo, Put
 ghost use Rattle.simulation.specs.Operations.{Branches, BranchesByTable, BranchesIf, Chooses, Enters, Jumps};
 ghost use Rattle.simulation.specs.Instructions.{AlwaysFails, DoesNothing, Drops, PutsNull, RefersToFunction, Selects, TestsNull};
 ghost use Rattle.simulation.specs.Laws.{CallersGoOn, CellsAreValues, EndsTyped, FunctionsAreEntered, StepsAreLifted};
+ghost use Rattle.simulation.specs.Outcomes.{ActsOnStore};
+ghost use Rattle.simulation.specs.Tables.{CopiesTable, DropsElements, FillsTable, GetsEntry, GrowsTable, InitializesTable, MeasuresTable, SetsEntry};
 ghost use Rattle.simulation.specs.Variables.{GetsGlobal, GetsLocal, SetsGlobal, SetsLocal, TeesLocal};
 
 /// Law: a typed body that leads from operands to others ends as many operands higher, if its end is reached.
@@ -89,9 +93,49 @@ pub fn memories_are_steps()
     ensures measures_memory { MeasuresMemory }
 {}
 
+/// Law: so are the other instructions on tables, the memory and segments, by whatever outcome their effect has on their operands;
+/// one that grows a table or the memory asks for it first.
+pub fn store_instructions_are_steps()
+    ensures { ActsOnStore }
+{}
+
+/// Law: what those on tables and element segments are, by what is found there.
+pub fn tables_are_steps()
+    ensures gets_entry { GetsEntry }
+    ensures sets_entry { SetsEntry }
+    ensures measures_table { MeasuresTable }
+    ensures grows_table { GrowsTable }
+    ensures fills_table { FillsTable }
+    ensures copies_table { CopiesTable }
+    ensures initializes_table { InitializesTable }
+    ensures drops_elements { DropsElements }
+{}
+
+/// Law: what those on the memory and data segments are.
+pub fn bulk_instructions_are_steps()
+    ensures grows_memory { GrowsMemory }
+    ensures fills_memory { FillsMemory }
+    ensures copies_memory { CopiesMemory }
+    ensures initializes_memory { InitializesMemory }
+    ensures drops_data { DropsData }
+{}
+
 /// Law: before a call the function is there and valid, and its arguments lie on top.
 pub fn calls_find_functions()
     ensures { CallsFindFunctions }
+{}
+
+/// Law: so it is for calls by an index or through a table, of host functions, too; through a table a call fails where it finds no
+/// function of the wanted type.
+pub fn callees_are_found()
+    ensures by_name { CallsByName }
+    ensures through_tables { CallsThroughTables }
+{}
+
+/// Law: a call of a host function takes its arguments from the cells, and with its results the code goes on behind it.
+pub fn hosts_are_called()
+    ensures calls_reach_hosts { CallsReachHosts }
+    ensures changes_lent_bytes { ChangesLentBytes }
 {}
 
 /// Law: the frame of a function that is called begins at the arguments where they lie.
