@@ -8,3 +8,4 @@ pub mod Runs
 pub mod Lists
 pub mod Typing
 pub mod SameTypes
+pub mod Writings

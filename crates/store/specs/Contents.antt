@@ -4,7 +4,7 @@ use Rattle.std.specs.Prelude.{◌≡◌, ℕ, List, [], ◌∷◌, ◌++◌, map
 use Rattle.core_types.specs.declared.types.FuncType.{FuncType}
 use Rattle.core_types.specs.declared.module.Func.{Func}
 use Rattle.core_types.specs.declared.module.Module.{Module}
-use Rattle.meaning.specs.structure.Bodies.{Empty, rests}
+use Rattle.meaning.specs.structure.Bodies.{Empty, rests, writing}
 use Rattle.meaning.specs.execution.Modules.{code_of}
 use Rattle.meaning.specs.execution.Store.{FunctionInstance as Function, InCode, InHost as InHostNumber, ModuleInstance, Store, instance_of}
 use Rattle.meaning.specs.validation.Context.{Context}
@@ -144,6 +144,14 @@ functions_in s = map (function_at s.hosts s.instances) s.functions
 
 abbrev pub instances_in : Contents → List ModuleInstance
 instances_in s = map module_instance_of s.instances
+
+-- The type of a function of a module is the one that the module gives it, and its code is the writing of its body.
+abbrev pub HasDeclaredBody : List Instance → Callee → Type 0
+HasDeclaredBody instances (callee.InModule f) =
+    (slice_get (signatures_of_instance (slice_get instances f.instance)).types f.func.now.ty
+    ≡ Some f.ty.now)
+    × (f.func.now.body ≡ writing (code_of f.func.now).body)
+HasDeclaredBody instances (callee.InHost f) = Unit {0}
 
 -- The functions of an instance are there, and have the types that they have in its module.
 pub record HasModuleTypes (functions : List Function) (i : Instance) : Type 0 where

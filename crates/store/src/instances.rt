@@ -1,10 +1,10 @@
 ghost use Rattle.std.specs.Prelude.{◌≡◌, [], ◌∷◌, ◌++◌, ◌+◌, ◌<◌, ◌^◌, length, map, slice_get, option_copied, IfSome, IfOk, OnOk, OnErr, MatchOption, Some, None};
-ghost use Rattle.meaning.specs.structure.Bodies.{rests};
-ghost use Rattle.meaning.specs.execution.Modules.{new_function};
+ghost use Rattle.meaning.specs.structure.Bodies.{rests, writing};
+ghost use Rattle.meaning.specs.execution.Modules.{code_of, new_function};
 ghost use Rattle.meaning.specs.execution.Store.{instance_of};
 ghost use Rattle.soundness.specs.Places.{instance_context};
 ghost use Rattle.sidetable.specs.FlatModules.{AreWithin, IsFlat, seen};
-ghost use Rattle.store.specs.Contents.{AreOfContext, callee_function, code_store, contents_of, functions_in, function_of, host_function, HasContextTypes, HasFlatCode, HasModuleTypes, HasWholeCode, instance_function, instances_in, lists_of, module_instance, signatures_of_instance};
+ghost use Rattle.store.specs.Contents.{AreOfContext, callee_function, code_store, contents_of, functions_in, function_of, host_function, HasContextTypes, HasDeclaredBody, HasFlatCode, HasModuleTypes, HasWholeCode, instance_function, instances_in, lists_of, module_instance, signatures_of_instance};
 
 use crate::entries::push_entries;
 use crate::loaded_modules::LoadedModule;
@@ -212,6 +212,11 @@ impl Code {
         ensures within { IfSome result (λ found. AreWithin found.flat.tables.now
             found.flat.operations.now found.flat.results) }
         ensures whole { IfSome result (λ found. (rests found.func.now.body).around ≡ []) }
+        ensures ty { IfSome result (λ found. slice_get
+            (signatures_of_instance (slice_get self.now.instances instance)).types
+            found.func.now.ty ≡ Some found.ty.now) }
+        ensures body { IfSome result (λ found. found.func.now.body ≡
+            writing (code_of found.func.now).body) }
         ensures types { IfSome result (λ found. AreOfContext
             (signatures_of_instance (slice_get self.now.instances instance))
             (instance_context (code_store self.now)
@@ -233,6 +238,7 @@ impl Code {
             (λ callee. slice_get (functions_in self.now) address ≡ Some (callee_function callee)) }
         ensures whole { IfSome result HasWholeCode }
         ensures flat { IfSome result (HasFlatCode self.now.instances) }
+        ensures declared { IfSome result (HasDeclaredBody self.now.instances) }
         ensures types { IfSome result (HasContextTypes self.now) }
     {
         match item(&self.functions, address)? {

@@ -1,5 +1,6 @@
 ghost use Rattle.std.specs.Prelude.{◌≤◌, ◌≡◌, [], slice_get, IfOk, IfSome, MatchOption, Some, None};
-ghost use Rattle.meaning.specs.structure.Bodies.{rests};
+ghost use Rattle.meaning.specs.structure.Bodies.{rests, writing};
+ghost use Rattle.meaning.specs.execution.Modules.{code_of};
 ghost use Rattle.meaning.specs.validation.Modules.{IsValid};
 ghost use Rattle.std.specs.List.{All};
 ghost use Rattle.core_types.specs.declared.module.DataSegment.{DataSegment as AnySegment};
@@ -105,6 +106,7 @@ impl LoadedModule {
         ensures within { IfSome result (λ f. AreWithin f.flat.tables.now f.flat.operations.now
             f.flat.results) }
         ensures whole { IfSome result (λ f. (rests f.func.now.body).around ≡ []) }
+        ensures body { IfSome result (λ f. f.func.now.body ≡ writing (code_of f.func.now).body) }
     {
         let module_read = self.validated.module();
         let func = item(module_read.funcs.as_slice(), index)?;

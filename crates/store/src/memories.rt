@@ -3,6 +3,7 @@ ghost use Rattle.std.specs.Borrow.{sem};
 ghost use Rattle.meaning.specs.execution.Memories.{grow_by, new_memory};
 ghost use Rattle.store.specs.Lending.{LendsBytes};
 ghost use Rattle.store.specs.Memories.{HasPages};
+ghost use Rattle.store.specs.State.{no_memory};
 
 use core_types::Limits;
 use std::alloc::{AllocError, Global};
@@ -30,6 +31,16 @@ impl Model for Memory {
 }
 
 impl Memory {
+    // A memory without bytes, for a place from which another was taken. Takes no memory.
+    pub(crate) fn empty(alloc: Global) -> Memory
+        ensures { result ≡ no_memory }
+    {
+        Memory {
+            limits: Limits { min: 0, max: None },
+            bytes: Vec::new(alloc),
+        }
+    }
+
     /// A memory with these limits: as many pages as the minimum says, all zero.
     pub fn new(alloc: Global, limits: Limits) -> Result<Memory, AllocError>
         requires { limits.min ≤ 65536 }
@@ -55,8 +66,8 @@ impl Memory {
         &self.bytes
     }
 
-    // The bytes, for writing. Their number stays.
-    pub(crate) fn bytes_mut(&mut self) -> &mut [u8]
+    /// The bytes, for writing. Their number stays.
+    pub fn bytes_mut(&mut self) -> &mut [u8]
         ensures* lent { sem 𝓛 (LendsBytes self.entry result) }
         ensures same { result.now ≡ self.old.bytes }
     {

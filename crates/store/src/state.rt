@@ -4,7 +4,7 @@ ghost use Rattle.meaning.specs.execution.Memories.{grow_by};
 ghost use Rattle.store.specs.Lending.{LendsMemory};
 ghost use Rattle.meaning.specs.execution.Storage.{items_at, overwrite};
 ghost use Rattle.meaning.specs.execution.Tables.{grow_entries};
-ghost use Rattle.store.specs.State.{AreWithin, Fits, append_objects, data_of, elements_of, memory_of, no_objects, put_data, put_elements, put_global, put_memory, put_table, table_of};
+ghost use Rattle.store.specs.State.{AreWithin, Fits, append_objects, data_of, elements_of, memory_of, no_memory, no_objects, put_data, put_elements, put_global, put_memory, put_table, table_of};
 ghost use Rattle.store.specs.Tables.{with_entries};
 
 use crate::globals::GlobalVariable;
@@ -274,6 +274,25 @@ impl State {
         ensures { option_copied result ≡ slice_get self.now.contents.memories address }
     {
         self.memories.get(address as usize)
+    }
+
+    /// Takes a memory out, in whose place an empty one lies until it is put back. Takes no memory.
+    pub fn take_memory(&mut self, address: u32) -> Memory
+        requires { address < length self.old.contents.memories }
+        ensures taken { result ≡ memory_of self.old address }
+        ensures left { self.new ≡ put_memory self.old address no_memory }
+    {
+        let none = Memory::empty(self.alloc);
+        mem::replace(&mut self.memories[address as usize], none)
+    }
+
+    /// Puts a memory at an address, in the place of the one that is there. Takes no memory.
+    pub fn put_memory(&mut self, address: u32, memory: Memory)
+        requires there { address < length self.old.contents.memories }
+        requires within { memory.limits.min ≤ self.old.bounds.pages }
+        ensures { self.new ≡ put_memory self.old address memory }
+    {
+        self.memories[address as usize] = memory;
     }
 
     /// The bytes of a memory, for writing. Their number stays.

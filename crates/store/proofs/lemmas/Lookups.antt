@@ -1,5 +1,5 @@
 -- What is found at an address, and under an index of an instance.
-use Rattle.std.proofs.Common.{◌≡◌, ℕ, zero, suc, List, [], ◌∷◌, ◌++◌, refl, sym, ap, subst, ◌∙◌, append_assoc}
+use Rattle.std.proofs.Common.{◌≡◌, ℕ, zero, suc, List, [], ◌∷◌, sym, ap, subst, ◌∙◌}
 use Rattle.std.proofs.lemmas.List.{append-nil}
 use Rattle.std.specs.Prelude.{Option, Some, None, IsSome, unwrap_or, option_map, slice_get}
 use Rattle.std.proofs.lemmas.Option.{slice_get-map}
@@ -7,8 +7,8 @@ use Rattle.core_types.specs.declared.types.FuncType.{FuncType}
 use Rattle.core_types.specs.declared.module.Func.{Func}
 use Rattle.core_types.specs.declared.module.Module.{Module}
 use Rattle.core_types.specs.declared.op.Op.{Op}
-use Rattle.core_types.specs.declared.op.Op.TheVariants.{Else, End}
-use Rattle.meaning.specs.structure.Bodies.{Body, BlockKind, LoopKind, IfKind, Empty, Then, Nested, IfElse, writing, rests, other_parts}
+use Rattle.meaning.specs.structure.Bodies.{Rests, body_of, rests, writing}
+use Rattle.meaning.proofs.lemmas.Writings.{read, read-whole}
 use Rattle.meaning.specs.validation.Modules.{IsValid, IsValidFunction}
 use Rattle.meaning.specs.execution.Store.{FunctionInstance as Function}
 use Rattle.store.specs.declared.instances.FunctionInstance.{FunctionInstance}
@@ -16,33 +16,19 @@ use Rattle.store.specs.declared.instances.Instance.{Instance}
 use Rattle.store.specs.Contents.{Contents, IsFound, AllFound, entry_function, instance_function, module_function, typed_function, function_of, function_at, functions_in, no_function}
 use Rattle.store.proofs.lemmas.Positions.{holds-at}
 
--- ---- the bodies around a body's writing
-
--- Around the writing there are the bodies that are around what is behind it.
-abbrev IsAround : Body → Type 0
-IsAround b = (ops : List Op) → (rests (writing b ++ ops)).around ≡ (rests ops).around
-
-around-inside : (inner rest : Body) → IsAround inner → IsAround rest → (ops : List Op) → other_parts (rests ((writing inner ++ (End ∷ writing rest)) ++ ops)).around ≡ (rests ops).around
-around-inside inner rest inside behind ops =
-    ap (λ (all : List Op). other_parts (rests all).around) (append_assoc (writing inner) (End ∷ writing rest) ops) ∙ ap other_parts (inside (End ∷ (writing rest ++ ops))) ∙ behind ops
-
-around-insides : (inner other rest : Body) → IsAround inner → IsAround other → IsAround rest → (ops : List Op) → other_parts (rests ((writing inner ++ (Else ∷ (writing other ++ (End ∷ writing rest)))) ++ ops)).around ≡ (rests ops).around
-around-insides inner other rest inside otherwise behind ops =
-    ap (λ (all : List Op). other_parts (rests all).around) (append_assoc (writing inner) (Else ∷ (writing other ++ (End ∷ writing rest))) ops) ∙ ap other_parts (inside (Else ∷ ((writing other ++ (End ∷ writing rest)) ++ ops))) ∙ around-inside other rest otherwise behind ops
-
-around-writing : (b : Body) → IsAround b
-around-writing Empty ops = refl
-around-writing (Then op rest) ops = around-writing rest ops
-around-writing (Nested BlockKind type inner rest) ops = around-inside inner rest (around-writing inner) (around-writing rest) ops
-around-writing (Nested LoopKind type inner rest) ops = around-inside inner rest (around-writing inner) (around-writing rest) ops
-around-writing (Nested IfKind type inner rest) ops = around-inside inner rest (around-writing inner) (around-writing rest) ops
-around-writing (IfElse type inner other rest) ops = around-insides inner other rest (around-writing inner) (around-writing other) (around-writing rest) ops
+-- ---- the functions of a valid module
 
 -- Around the code of a function there is nothing.
 pub nothing-around : (m : Module) (k : ℕ) (f : Func) → IsValid m → slice_get m.funcs k ≡ Some f → (rests f.body).around ≡ []
 nothing-around m k f valid there =
     let v : IsValidFunction m f = holds-at (IsValidFunction m) m.funcs k f valid.bodies there in
-    ap (λ (ops : List Op). (rests ops).around) (v.written ∙ sym (append-nil (writing v.body))) ∙ around-writing v.body []
+    ap (λ (ops : List Op). (rests ops).around) (v.written ∙ sym (append-nil (writing v.body))) ∙ ap (λ (r : Rests). r.around) (read v.body [])
+
+-- Its code is the writing of its body.
+pub body-written : (m : Module) (k : ℕ) (f : Func) → IsValid m → slice_get m.funcs k ≡ Some f → f.body ≡ writing (body_of f.body)
+body-written m k f valid there =
+    let v : IsValidFunction m f = holds-at (IsValidFunction m) m.funcs k f valid.bodies there in
+    v.written ∙ ap writing (sym (ap body_of v.written ∙ read-whole v.body))
 
 -- The type of a function is among the module's types.
 pub type-there : (m : Module) (k : ℕ) (f : Func) → IsValid m → slice_get m.funcs k ≡ Some f → slice_get m.types f.ty ≡ None → ⊥

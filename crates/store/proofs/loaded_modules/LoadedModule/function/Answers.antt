@@ -1,7 +1,7 @@
 use Rattle.std.proofs.Common.{sym}
 use Rattle.sidetable.specs.FlatModules.{module_signatures}
 use Rattle.store.proofs.lemmas.LoadedModules.{flat-at, flat-there}
-use Rattle.store.proofs.lemmas.Lookups.{nothing-around, type-there}
+use Rattle.store.proofs.lemmas.Lookups.{body-written, nothing-around, type-there}
 use Rattle.store.proofs.loaded_modules.LoadedModule.function.Goals as goal
 
 pub returns-in_err-ty-clause-func : goal.returns-in_err-ty-clause-func
@@ -32,3 +32,8 @@ pub returns-clause-whole : goal.returns-clause-whole
 returns-clause-whole c =
     let there = sym (rw (c.as_slice.ensures, c.module-module_read.ensures.same) at c.in_ok-func.ensures) in
     nothing-around c.self.inside.validated c.args.index c.in_ok-func.func.now c.module-module_read.ensures.valid there
+
+pub returns-clause-body : goal.returns-clause-body
+returns-clause-body c =
+    let there = sym (rw (c.as_slice.ensures, c.module-module_read.ensures.same) at c.in_ok-func.ensures) in
+    body-written c.self.inside.validated c.args.index c.in_ok-func.func.now c.module-module_read.ensures.valid there

@@ -1,0 +1,194 @@
+-- A frame that is left: the one that waits goes on, or the run is over.
+use Rattle.std.proofs.Common.{◌≡◌, ℕ, suc, ◌+◌, ◌-◌, ◌<◌, ◌≤◌, List, [], ◌∷◌, ◌++◌, length, map, take, drop, set, Some, refl, ap, sym, subst, ◌∙◌, arith, length-append}
+use Rattle.std.proofs.lemmas.List.{append-nil, length-set, length-take-le}
+use Rattle.core_types.specs.declared.outcome.Val.{Val}
+use Rattle.core_types.specs.declared.types.ValType.{ValType}
+use Rattle.meaning.specs.structure.Bodies.{Body, Empty}
+use Rattle.meaning.specs.execution.Configurations.{Configuration, Frame as Activated, InFrame, Label, Running, no_frame}
+use Rattle.meaning.specs.execution.Instructions.{Goes, next}
+use Rattle.meaning.specs.execution.Layers.{Layer, outermost, plug}
+use Rattle.meaning.specs.execution.Runs.{NoHosts, Steps, goes, none, one_more}
+use Rattle.meaning.specs.execution.Store.{Store}
+use Rattle.meaning.specs.soundness.Values.{ValuesHaveTypes}
+use Rattle.soundness.specs.Configurations.{ConfigurationHasType, FrameHasPlace}
+use Rattle.soundness.specs.Places.{context_at, inside_frame, outermost as outside_place}
+use Rattle.soundness.specs.Stores.{StoreIsValid}
+use Rattle.soundness.proofs.Insides.{inside-typed}
+use Rattle.soundness.proofs.Steps.{stays-good}
+use Rattle.simulation.specs.Calls.{activation_of, around, opened_in}
+use Rattle.simulation.specs.Piles.{cells_of}
+use Rattle.simulation.specs.Runs.{Ghost, config_of, frame_of}
+use Rattle.simulation.specs.Settling.{in_frame}
+use Rattle.simulation.specs.Standing.{StandsIn, values_under}
+use Rattle.cells.specs.Cells.{cell_of}
+use Rattle.interpreter.specs.Callers.{Caller, CallerStands, CallersStand, layers_around}
+use Rattle.interpreter.specs.Calling.{position_resumed}
+use Rattle.interpreter.specs.Layout.{AreMoved, put_back}
+use Rattle.interpreter.specs.Looping.{loop_at, machine_at}
+use Rattle.interpreter.specs.Running.{Machine}
+use Rattle.interpreter.specs.Whole.{IsOver, IsSeenFrom, Loop, Reaches, RunsWhole, SwitchesTo, Whole, whole}
+use Rattle.interpreter.specs.Worlds.{World, store_in}
+use Rattle.interpreter.specs.declared.machine.Frame.{Frame}
+use Rattle.interpreter.specs.declared.machine.Position.{Position}
+use Rattle.interpreter.proofs.Cells.{frame-length}
+use Rattle.interpreter.proofs.Forms.{inside}
+use Rattle.interpreter.proofs.Lifting.{layers-out, steps-typed}
+use Rattle.interpreter.proofs.ResultCells.{base-is, held_values, results-land, results-lie, results-low, same-size, under-kept}
+use Rattle.interpreter.proofs.Switching.{switched}
+
+-- One step leaves the frame for this cost, with the topmost values.
+pub record IsLeft (cost : ℕ) (h : Ghost) : Type 0 where
+  pub enough : h.code.outermost.kept ≤ length h.values
+  pub leaves : (layers : List Layer) (outer : Activated) (beneath : List Val) (behind : Body) (waiting : List Label)
+      → next h.store (outermost layers outer) (plug (opened_in h.code.outermost.kept beneath behind outer waiting layers) (frame_of h) (config_of h))
+      ≡ Goes cost h.store (outermost layers outer) (plug layers outer (in_frame (take h.code.outermost.kept h.values ++ beneath) waiting behind))
+
+-- What runs in the innermost frame of a typed whole is typed there.
+frame-typed : (store : Store) (cs : List Caller) (arity : ℕ) (frame : Activated) (x : Configuration) (results : List ValType) → ConfigurationHasType store outside_place (plug (layers_around cs arity) frame x) results
+    → (given types : List ValType) × (arity ≡ length given) × ValuesHaveTypes store frame.locals types × ConfigurationHasType store (inside_frame frame.instance types given) x given
+frame-typed store [] arity frame x results (stack, given, types, arity_is, values, own, inside_typed, onward) = (given, types, arity_is, own, inside_typed)
+frame-typed store (c ∷ cs) arity frame x results typed =
+    let outer : Activated = record { instance = Some c.instance; locals = c.locals } in
+    let around_c : List Layer = around c.labels (layers_around cs c.code.outermost.kept) in
+    let own : FrameHasPlace store (outermost around_c outer) outside_place = subst (λ (f : Activated). FrameHasPlace store f outside_place) (sym (layers-out (c ∷ cs) arity frame)) (refl, tt) in
+    let (place, all, there, (stack, given, types, arity_is, values, own_locals, inside_typed, onward)) = inside-typed store around_c outer (InFrame (activation_of arity c.values c.rest) frame x) outside_place results own typed in
+    (given, types, arity_is, own_locals, inside_typed)
+
+module _ (bound : ℕ) (w : World) (cells : List ℕ) (at : Position) (fuel cost : ℕ) (paid : cost ≤ fuel) (left_is : at.fuel ≡ fuel - cost) (h : Ghost) (left : IsLeft cost h) (n : ℕ) (n_is : n ≡ h.code.outermost.kept) (all_results : List ValType) where
+  abbrev m : Machine
+  m = machine_at cells at
+
+  abbrev before : List Frame → Loop
+  before callers = loop_at w cells callers (record at { fuel = fuel })
+
+  abbrev whole_of : List Caller → Whole
+  whole_of cs = record { ghost = h; callers = cs; results = all_results }
+
+  many : n ≤ length h.values
+  many = omega (arith, left.enough, n_is)
+
+  -- ---- one waits
+
+  module _ (frame : Frame) (others : List Frame) (c : Caller) (cs : List Caller) (r : RunsWhole bound (before (frame ∷ others)) (whole_of (c ∷ cs))) where
+    abbrev outer : Activated
+    outer = record { instance = Some c.instance; locals = c.locals }
+
+    abbrev then_runs : Configuration
+    then_runs = in_frame (take n h.values ++ c.values) c.labels c.rest
+
+    goes-back : next (store_in w) no_frame (whole (whole_of (c ∷ cs))) ≡ Goes cost (store_in w) no_frame (plug (layers_around cs c.code.outermost.kept) outer then_runs)
+    goes-back =
+        subst (λ (z : Store). next z no_frame (whole (whole_of (c ∷ cs))) ≡ Goes cost z no_frame (plug (layers_around cs c.code.outermost.kept) outer then_runs)) r.runs.store
+        (subst (λ (k : ℕ). next h.store no_frame (whole (whole_of (c ∷ cs))) ≡ Goes cost h.store no_frame (plug (layers_around cs c.code.outermost.kept) outer (in_frame (take k h.values ++ c.values) c.labels c.rest))) (sym n_is)
+        (subst (λ (f : Activated). next h.store f (whole (whole_of (c ∷ cs))) ≡ Goes cost h.store f (plug (layers_around cs c.code.outermost.kept) outer (in_frame (take h.code.outermost.kept h.values ++ c.values) c.labels c.rest))) (layers-out cs c.code.outermost.kept outer)
+        (left.leaves (layers_around cs c.code.outermost.kept) outer c.values c.rest c.labels)))
+
+    steps : Steps NoHosts bound no_frame (record { store = store_in w; hosts = []; fuel = fuel }) (whole (whole_of (c ∷ cs))) (record { store = store_in w; hosts = []; fuel = at.fuel }) (plug (layers_around cs c.code.outermost.kept) outer then_runs)
+    steps = one_more none (goes goes-back paid left_is refl)
+
+    pub back-fits : (1 ≤ at.frame.base) × (at.frame.base - 1 + n ≤ at.top)
+    back-fits =
+        let base = base-is w m h r.runs n many w.code frame c h.code.outermost.kept r.callers.0 in
+        let low = results-low w m h r.runs n many in
+        (omega (arith, base), omega (arith, low))
+
+    module _ (cells' : List ℕ) (operand' : ℕ) (moved : AreMoved (set cells at.top at.operand) at.top (at.frame.base - 1) n cells' operand') where
+      abbrev stands : CallerStands w.code (length cells) frame c h.code.outermost.kept (take at.frame.base cells)
+      stands = r.callers.0
+
+      size : length cells' ≡ length cells
+      size = same-size w m h r.runs n many w.code frame c h.code.outermost.kept stands cells' operand' moved
+
+      base : at.frame.base ≡ suc (frame.base + frame.locals) + held_values c
+      base = base-is w m h r.runs n many w.code frame c h.code.outermost.kept stands
+
+      abbrev top' : ℕ
+      top' = at.frame.base - 1 + n
+
+      resumed-in : (other : World) → IsSeenFrom frame.instance w other → Reaches bound (before (frame ∷ others)) (whole_of (c ∷ cs)) (record (loop_at w cells' others (position_resumed at frame n operand')) { world = other })
+      resumed-in other seen =
+          let (valid, all_typed) = steps-typed bound all_results (subst StoreIsValid r.runs.store r.runs.runs.typed.valid, r.typed) steps in
+          let (given, types, arity_is, own, typed) = frame-typed (store_in w) cs c.code.outermost.kept outer then_runs all_results all_typed in
+          let taken = length-take-le n h.values many in
+          let joined = length-append (take n h.values) c.values in
+          let low = r.runs.low in
+          let in_cells = inside w m h r.runs in
+          let scrap : frame.base + frame.locals < length cells' = omega (arith, base, size, low, in_cells) in
+          let written = length-set cells' top' operand' in
+          let whole_size = frame-length frame.locals frame.base (set cells' top' operand') (omega (arith, written, scrap)) in
+          let top_is : frame.base + frame.locals + held_values c + n ≡ top' = omega (arith, base) in
+          let height_is : frame.locals + held_values c + n ≡ top' - frame.base = omega (arith, base) in
+          let holds : List ℕ = map cell_of c.locals ++ cells_of ((take n h.values ++ c.values) ++ values_under c.labels) in
+          let now : Ghost = record {
+            code = c.code;
+            store = h.store;
+            instance = c.instance;
+            types = types;
+            results = given;
+            locals = c.locals;
+            values = take n h.values ++ c.values;
+            labels = c.labels;
+            rest = c.rest;
+          } in
+          switched bound (before (frame ∷ others)) (loop_at w cells' others (position_resumed at frame n operand')) (whole_of (c ∷ cs)) (record { ghost = now; callers = cs; results = all_results }) other seen r refl steps
+          (record {
+            runs = record {
+              stands = subst (λ (p : ℕ). StandsIn c.code p (take n h.values ++ c.values) c.labels c.rest) (sym stands.place) (stands.stands (take n h.values) (taken ∙ n_is));
+              holds = record {
+                held = subst (λ (q : ℕ). take q (put_back frame.locals frame.base cells' top' operand') ≡ holds) height_is
+                    (subst (λ (q : ℕ). take (frame.locals + held_values c + n) (put_back frame.locals frame.base cells' q operand') ≡ holds) top_is
+                    (results-land w m h r.runs n many w.code frame c h.code.outermost.kept stands cells' operand' moved));
+                top_is = omega (arith, base, stands.count, taken, joined);
+                room = omega (arith, stands.room, whole_size, written, size, stands.count);
+              };
+              typed = record {
+                valid = r.runs.runs.typed.valid;
+                own = subst (λ (z : Store). ValuesHaveTypes z c.locals types) (sym r.runs.store) own;
+                typed = subst (λ (z : Store). ConfigurationHasType z (inside_frame (Some c.instance) types given) then_runs given) (sym r.runs.store) typed;
+                types = subst (λ (z : Store). (context_at z (inside_frame (Some c.instance) types given)).types ≡ c.code.signatures.types) (sym r.runs.store) stands.signatures.types;
+                functions = subst (λ (z : Store). (context_at z (inside_frame (Some c.instance) types given)).functions ≡ c.code.signatures.functions) (sym r.runs.store) stands.signatures.functions;
+              };
+            };
+            low = omega (arith, base);
+            scrap = scrap;
+            count = stands.count;
+            packed = stands.packed;
+            within = stands.within;
+            store = r.runs.store ∙ sym seen.store;
+            number = sym stands.number ∙ sym seen.seen_from;
+            instance = seen.instance;
+          })
+          (subst (λ (z : List ℕ). CallersStand w.code (length cells') others cs c.code.outermost.kept z) (sym (under-kept w m h r.runs n many w.code frame c h.code.outermost.kept stands cells' operand' moved))
+          (subst (λ (q : ℕ). CallersStand w.code q others cs c.code.outermost.kept (take frame.base (take at.frame.base cells))) (sym size) r.callers.1))
+          arity_is (let deep = r.deep in omega (arith, deep))
+
+      pub resumed : SwitchesTo bound (before (frame ∷ others)) (whole_of (c ∷ cs)) (loop_at w cells' others (position_resumed at frame n operand'))
+      resumed = (let there = stands.there in omega (arith, there, stands.number), resumed-in)
+
+  -- ---- none waits
+
+  module _ (r : RunsWhole bound (before []) (whole_of [])) where
+    goes-out : next (store_in w) no_frame (whole (whole_of [])) ≡ Goes cost (store_in w) no_frame (Running (take n h.values) Empty)
+    goes-out =
+        subst (λ (z : Store). next z no_frame (whole (whole_of [])) ≡ Goes cost z no_frame (Running (take n h.values) Empty)) r.runs.store
+        (subst (λ (k : ℕ). next h.store no_frame (whole (whole_of [])) ≡ Goes cost h.store no_frame (Running (take k h.values) Empty)) (sym n_is)
+        (left.leaves [] no_frame [] Empty [] ∙ ap (λ (vs : List Val). Goes cost h.store no_frame (Running vs Empty)) (append-nil (take h.code.outermost.kept h.values))))
+
+    out : Steps NoHosts bound no_frame (record { store = store_in w; hosts = []; fuel = fuel }) (whole (whole_of [])) (record { store = store_in w; hosts = []; fuel = at.fuel }) (Running (take n h.values) Empty)
+    out = one_more none (goes goes-out paid left_is refl)
+
+    pub ended : IsOver bound (before []) (whole_of []) (loop_at w cells [] at)
+    ended =
+        let (valid, typed) = steps-typed bound all_results (subst StoreIsValid r.runs.store r.runs.runs.typed.valid, r.typed) out in
+        let given = stays-good (store_in w) outside_place no_frame (Running (take n h.values) Empty) all_results valid (refl, tt) typed in
+        let taken = length-take-le n h.values many in record {
+          values = take n h.values;
+          steps = out;
+          results = record {
+            valid = valid;
+            typed = given;
+            room = inside w m h r.runs;
+            low = let low = results-low w m h r.runs n many in omega (arith, low, taken);
+            lie = subst (λ (k : ℕ). take k (drop (at.top + 1 - k) (set cells at.top at.operand)) ≡ cells_of (take n h.values)) (sym taken) (results-lie w m h r.runs n many);
+          };
+        }

@@ -1,0 +1,131 @@
+-- Transfers in a frame, whatever runs.
+use Rattle.std.proofs.Common.{◌≡◌, ℕ, ◌+◌, ◌-◌, ◌^◌, ◌<◌, ◌≤◌, List, set, get_or, refl, sym, subst, arith}
+use Rattle.core_types.specs.declared.outcome.Trap.TheVariants.{Unreachable}
+use Rattle.sidetable.specs.Packing.{branch_entries}
+use Rattle.sidetable.specs.SideTables.{branch_range_of, entry_of_number}
+use Rattle.sidetable.specs.declared.operations.Entry.{Entry}
+use Rattle.sidetable.specs.declared.operations.PackedOp.TheVariants as op
+use Rattle.sidetable.specs.declared.operations.TransferInstruction.{TransferInstruction}
+use Rattle.sidetable.specs.declared.operations.TransferInstruction.TheVariants as transfer
+use Rattle.simulation.specs.Runs.{Ghost}
+use Rattle.interpreter.specs.Calling.{Leaves, position_landed}
+use Rattle.interpreter.specs.Crossing.{Crosses}
+use Rattle.interpreter.specs.Layout.{AreMoved}
+use Rattle.interpreter.specs.Looping.{loop_at, machine_at}
+use Rattle.interpreter.specs.Running.{GoesTo, IsDear, Machine, RunsAt}
+use Rattle.interpreter.specs.Turns.{Fits, Turns}
+use Rattle.interpreter.specs.Whole.{Loop, RunsSomeWhole, StopsAt}
+use Rattle.interpreter.specs.Worlds.{World}
+use Rattle.interpreter.specs.declared.machine.Crossing.TheVariants.{Goes}
+use Rattle.interpreter.specs.declared.machine.Frame.{Frame}
+use Rattle.interpreter.specs.declared.machine.Position.{Position}
+use Rattle.interpreter.specs.declared.machine.Stop.{Stop}
+use Rattle.interpreter.specs.declared.machine.Stop.TheVariants as stop
+use Rattle.interpreter.proofs.Crossings.{stops-there}
+use Rattle.interpreter.proofs.Lifting.{ran-turned, stops-failing, stops-lacking}
+use Rattle.interpreter.proofs.Returning.{end-leaves, return-lacks, return-leaves}
+
+module _ (bound : ℕ) (w : World) (cells : List ℕ) (callers : List Frame) (at : Position) (kind : TransferInstruction) (n : ℕ) (turns : Turns w (machine_at cells at) (op.Transfer kind n)) where
+  abbrev m : Machine
+  m = machine_at cells at
+
+  abbrev l : Loop
+  l = loop_at w cells callers at
+
+  abbrev e : Entry
+  e = entry_of_number at.frame.tables.now n
+
+  turns-at : (k : TransferInstruction) → kind ≡ k → Turns w m (op.Transfer k n)
+  turns-at k is = subst (λ (q : TransferInstruction). Turns w m (op.Transfer q n)) is turns
+
+  -- ---- stops
+
+  lacks : (s : Stop) → (s ≡ stop.NoFuel) × (at.fuel ≡ 0) → ((g : Ghost) → RunsAt w m g → IsDear g m) → StopsAt bound l s l
+  lacks s (is, none) dear = subst (λ (q : Stop). StopsAt bound l q l) (sym is) (stops-lacking bound l (λ g r. dear g r at.fuel (omega (arith, none))))
+
+  pub unreachable-lacks : kind ≡ transfer.Unreachable → (s : Stop) → (s ≡ stop.NoFuel) × (at.fuel ≡ 0) → StopsAt bound l s l
+  unreachable-lacks is s none = lacks s none (λ g r. (turns-at transfer.Unreachable is g r).1)
+
+  pub if-lacks : kind ≡ transfer.If → (s : Stop) → (s ≡ stop.NoFuel) × (at.fuel ≡ 0) → StopsAt bound l s l
+  if-lacks is s none = lacks s none (λ g r. (turns-at transfer.If is g r).2)
+
+  pub br-lacks : kind ≡ transfer.Br → (s : Stop) → (s ≡ stop.NoFuel) × (at.fuel ≡ 0) → StopsAt bound l s l
+  br-lacks is s none = lacks s none (λ g r. (turns-at transfer.Br is g r).1)
+
+  pub br-table-lacks : kind ≡ transfer.BrTable → (s : Stop) → (s ≡ stop.NoFuel) × (at.fuel ≡ 0) → StopsAt bound l s l
+  br-table-lacks is s none = lacks s none (λ g r. (turns-at transfer.BrTable is g r).1)
+
+  pub back-lacks : kind ≡ transfer.Return → (s : Stop) → (s ≡ stop.NoFuel) × (at.fuel ≡ 0) → StopsAt bound l s l
+  back-lacks is s (is_none, none) = subst (λ (q : Stop). StopsAt bound l q l) (sym is_none) (return-lacks bound w cells callers at n (turns-at transfer.Return is) none)
+
+  pub indirect-stops : kind ≡ transfer.CallIndirect → StopsAt bound l (stop.LeavesTransfer kind n) l
+  indirect-stops is = subst (λ (k : TransferInstruction). StopsAt bound l (stop.LeavesTransfer k n) l) (sym is) (stops-there bound l transfer.CallIndirect n (turns-at transfer.CallIndirect is))
+
+  -- ---- where the frame is left
+
+  pub end-leaves-so : kind ≡ transfer.Leave → RunsSomeWhole bound l → Leaves bound w cells callers at at.fuel n
+  end-leaves-so is some = end-leaves bound w cells callers at n (turns-at transfer.Leave is) some
+
+  -- ---- for one unit of fuel
+
+  module _ (left : ℕ) (both : (1 ≤ at.fuel) × (left ≡ at.fuel - 1)) where
+    pub unreachable-traps : kind ≡ transfer.Unreachable → StopsAt bound l (stop.Traps Unreachable) (loop_at w cells callers (record at { fuel = left }))
+    unreachable-traps is = stops-failing bound l left Unreachable (λ g r. (turns-at transfer.Unreachable is g r).0 at.fuel left both.0 both.1)
+
+    pub back-leaves : kind ≡ transfer.Return → RunsSomeWhole bound l → (x : Entry) → x ≡ e → Leaves bound w cells callers (record at { fuel = left }) at.fuel x.kept
+    back-leaves is some x x_is = subst (λ (y : Entry). Leaves bound w cells callers (record at { fuel = left }) at.fuel y.kept) (sym x_is) (return-leaves bound w cells callers at n (turns-at transfer.Return is) some left both.0 both.1)
+
+    -- To another place of the frame.
+    goes : (cells' : List ℕ) (place top operand : ℕ) → ((g : Ghost) → RunsAt w m g → GoesTo g m at.fuel w (record m { cells = cells'; place = place; top = top; operand = operand }) left)
+        → Crosses bound l (Goes (record { frame = record at.frame { place = place }; top = top; operand = operand; fuel = left })) cells' callers
+    goes cells' place top operand step = (ran-turned bound l w.state w.bytes cells' place top operand left step (omega (arith, both)), refl, omega (arith, both))
+
+    pub if-goes : kind ≡ transfer.If → (place : ℕ) → place ≡ e.target → at.operand ≡ 0
+        → Crosses bound l (Goes (record { frame = record at.frame { place = place }; top = at.top - 1; operand = get_or cells (at.top - 1) 0; fuel = left })) cells callers
+    if-goes is place place_is zero =
+        goes cells place (at.top - 1) (get_or cells (at.top - 1) 0)
+        (λ g r. subst (λ (p : ℕ). GoesTo g m at.fuel w (record m { place = p; top = at.top - 1; operand = get_or cells (at.top - 1) 0 }) left) (sym place_is) ((turns-at transfer.If is g r).0 zero at.fuel left both.0 both.1))
+
+    pub if-goes-on : kind ≡ transfer.If → (place : ℕ) → place ≡ at.frame.place + 1 → (at.operand ≡ 0 → ⊥)
+        → Crosses bound l (Goes (record { frame = record at.frame { place = place }; top = at.top - 1; operand = get_or cells (at.top - 1) 0; fuel = left })) cells callers
+    if-goes-on is place place_is other =
+        goes cells place (at.top - 1) (get_or cells (at.top - 1) 0)
+        (λ g r. subst (λ (p : ℕ). GoesTo g m at.fuel w (record m { place = p; top = at.top - 1; operand = get_or cells (at.top - 1) 0 }) left) (sym place_is) ((turns-at transfer.If is g r).1 other at.fuel left both.0 both.1))
+
+    -- To where a branch landed.
+    lands : (held : List ℕ) (top : ℕ) (x : Entry) → ((g : Ghost) → RunsAt w m g → (cells' : List ℕ) (operand' : ℕ) → AreMoved held top (at.frame.base + at.frame.locals + x.height) x.kept cells' operand'
+        → GoesTo g m at.fuel w (record m { cells = cells'; place = x.target; top = at.frame.base + at.frame.locals + x.height + x.kept; operand = operand' }) left)
+        → (cells' : List ℕ) (to from : Position) → AreMoved held top (at.frame.base + at.frame.locals + x.height) x.kept cells' to.operand → from.frame ≡ at.frame → from.fuel ≡ left → to ≡ position_landed from x to.operand
+        → Crosses bound l (Goes to) cells' callers
+    lands held top x step cells' to from moved same_frame same_fuel to_is =
+        subst (λ (p : Position). Crosses bound l (Goes p) cells' callers) (sym to_is)
+        (subst (λ (f : Frame). Crosses bound l (Goes (position_landed (record from { frame = f }) x to.operand)) cells' callers) (sym same_frame)
+        (subst (λ (k : ℕ). Crosses bound l (Goes (record { frame = record at.frame { place = x.target }; top = at.frame.base + at.frame.locals + x.height + x.kept; operand = to.operand; fuel = k })) cells' callers) (sym same_fuel)
+        (goes cells' x.target (at.frame.base + at.frame.locals + x.height + x.kept) to.operand (λ g r. step g r cells' to.operand moved))))
+
+    pub br-lands : kind ≡ transfer.Br → (x : Entry) → x ≡ e → (cells' : List ℕ) (to : Position) → AreMoved (set cells at.top at.operand) at.top (at.frame.base + at.frame.locals + x.height) x.kept cells' to.operand
+        → to ≡ position_landed (record at { fuel = left }) x to.operand → Crosses bound l (Goes to) cells' callers
+    br-lands is x x_is cells' to moved to_is =
+        lands (set cells at.top at.operand) at.top x
+        (λ g r held' operand' there. subst (λ (y : Entry). AreMoved (set cells at.top at.operand) at.top (at.frame.base + at.frame.locals + y.height) y.kept held' operand' → GoesTo g m at.fuel w (record m { cells = held'; place = y.target; top = at.frame.base + at.frame.locals + y.height + y.kept; operand = operand' }) left)
+        (sym x_is) (λ landed. (turns-at transfer.Br is g r).0 held' operand' landed at.fuel left both.0 both.1) there)
+        cells' to (record at { fuel = left }) moved refl refl to_is
+
+    abbrev chosen_entry : Entry
+    chosen_entry = get_or (branch_entries at.frame.tables.now (branch_range_of at.frame.tables.now n)) at.operand (entry_of_number at.frame.tables.now (branch_range_of at.frame.tables.now n).default)
+
+    pub br-table-lands : kind ≡ transfer.BrTable → (x : Entry) → x ≡ chosen_entry → (cells' : List ℕ) (to : Position) (operand : ℕ) → AreMoved cells (at.top - 1) (at.frame.base + at.frame.locals + x.height) x.kept cells' to.operand
+        → to ≡ position_landed (record { frame = at.frame; top = at.top - 1; operand = operand; fuel = left }) x to.operand → Crosses bound l (Goes to) cells' callers
+    br-table-lands is x x_is cells' to operand moved to_is =
+        lands cells (at.top - 1) x
+        (λ g r held' operand' there. subst (λ (y : Entry). AreMoved cells (at.top - 1) (at.frame.base + at.frame.locals + y.height) y.kept held' operand' → GoesTo g m at.fuel w (record m { cells = held'; place = y.target; top = at.frame.base + at.frame.locals + y.height + y.kept; operand = operand' }) left)
+        (sym x_is) (λ landed. (turns-at transfer.BrTable is g r).0 held' operand' landed at.fuel left both.0 both.1) there)
+        cells' to (record { frame = at.frame; top = at.top - 1; operand = operand; fuel = left }) moved refl refl to_is
+
+  -- ---- for nothing
+
+  pub jumps : kind ≡ transfer.Jump → at.frame.place + 1 < 2 ^ 64 → Fits w m (op.Transfer kind n) → (x : Entry) → x ≡ e → Crosses bound l (Goes (record at { frame = record at.frame { place = x.target } })) cells callers
+  jumps is next fits x x_is =
+      let later : at.frame.place < e.target = (subst (λ (k : TransferInstruction). Fits w m (op.Transfer k n)) is fits).1 in
+      subst (λ (y : Entry). Crosses bound l (Goes (record at { frame = record at.frame { place = y.target } })) cells callers) (sym x_is)
+      (ran-turned bound l w.state w.bytes cells e.target at.top at.operand at.fuel (λ g r. turns-at transfer.Jump is g r at.fuel) (omega (arith, later)), refl, omega (arith, later, next))

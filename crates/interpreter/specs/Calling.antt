@@ -1,0 +1,120 @@
+-- Calls, returns and ends: what they need, and where they go on.
+use Rattle.std.specs.Prelude.{◌≡◌, ℕ, suc, ◌+◌, ◌-◌, ◌<◌, ◌≤◌, List, [], ◌∷◌, ◌++◌, length, take, set, replicate}
+use Rattle.sidetable.specs.declared.operations.Entry.{Entry}
+use Rattle.store.specs.declared.instances.Callee.{Callee}
+use Rattle.store.specs.declared.instances.Callee.TheVariants as callee
+use Rattle.store.specs.declared.instances.ModuleFunction.{ModuleFunction}
+use Rattle.interpreter.specs.Layout.{AreMoved}
+use Rattle.interpreter.specs.Looping.{loop_at}
+use Rattle.interpreter.specs.Whole.{IsOver, Loop, RunsSomeWhole, RunsWhole, StopsAt, SwitchesTo, Whole}
+use Rattle.interpreter.specs.Worlds.{World}
+use Rattle.interpreter.specs.declared.machine.Crossing.{Crossing}
+use Rattle.interpreter.specs.declared.machine.Crossing.TheVariants.{Goes, Stops, Switches}
+use Rattle.interpreter.specs.declared.machine.Frame.{Frame}
+use Rattle.interpreter.specs.declared.machine.Position.{Position}
+use Rattle.interpreter.specs.declared.machine.Stop.TheVariants as stop
+
+-- It goes on in code of any instance.
+abbrev pub CrossesTo : (bound : ℕ) → Loop → Loop → Type 0
+CrossesTo bound l l' = (w : Whole) → RunsWhole bound l w → SwitchesTo bound l w l'
+
+-- It goes on at a position: in code of the instance of a number, or of another one.
+abbrev pub IsCrossed : (number : ℕ) → Crossing → Position → Type 0
+IsCrossed number (Goes to) there = (to ≡ there) × (there.frame.instance ≡ number)
+IsCrossed number (Switches to) there = to ≡ there
+IsCrossed number (Stops s to) there = ⊥
+
+-- ---- branches
+
+-- Where a branch goes on, with a topmost operand.
+abbrev pub position_landed : Position → Entry → (operand : ℕ) → Position
+position_landed at e operand = record {
+  frame = record at.frame { place = e.target };
+  top = at.frame.base + at.frame.locals + e.height + e.kept;
+  operand = operand;
+  fuel = at.fuel;
+}
+
+-- ---- calls
+
+-- The frame that calls waits behind the call.
+abbrev pub frame_waiting : Position → Frame
+frame_waiting at = record at.frame { place = at.frame.place + 1 }
+
+-- How many locals there are behind the arguments.
+abbrev pub declared_locals : ModuleFunction → ℕ
+declared_locals f = f.flat.locals - f.flat.params
+
+-- The first place of a function whose arguments were on top.
+abbrev pub position_opened : Position → ModuleFunction → Position
+position_opened at f = record {
+  frame = record {
+    operations = f.flat.operations;
+    tables = f.flat.tables;
+    instance = f.instance;
+    locals = f.flat.locals;
+    base = at.top + 1 - f.flat.params;
+    place = 0;
+  };
+  top = at.top + 1 + declared_locals f;
+  operand = 0;
+  fuel = at.fuel - 1;
+}
+
+-- A call of a function of a module.
+pub record CallsModule (bound : ℕ) (w : World) (cells : List ℕ) (callers : List Frame)
+    (at : Position) (f : ModuleFunction) : Type 0 where
+  pub room : at.top < length cells
+  pub arguments : at.frame.base + at.frame.locals + f.flat.params ≤ at.top
+  pub declared : f.flat.params ≤ f.flat.locals
+  pub no_fuel : at.fuel ≡ 0
+      → StopsAt bound (loop_at w cells callers at) stop.NoFuel (loop_at w cells callers at)
+  pub no_depth : 1 ≤ at.fuel → bound ≤ suc (length callers)
+      → StopsAt bound (loop_at w cells callers at) stop.NoDepth (loop_at w cells callers at)
+  pub no_room : 1 ≤ at.fuel → suc (length callers) < bound
+      → StopsAt bound (loop_at w cells callers at) stop.NoRoom (loop_at w cells callers at)
+  pub no_memory : 1 ≤ at.fuel → suc (length callers) < bound
+      → StopsAt bound (loop_at w cells callers at) stop.NoMemory (loop_at w cells callers at)
+  -- with the cells behind the arguments cleared
+  pub opens : 1 ≤ at.fuel → suc (length callers) < bound
+      → at.top + 1 + declared_locals f + f.flat.greatest < length cells → (cells' : List ℕ)
+      → take (at.top + 1 + declared_locals f) cells' ≡
+      take (at.top + 1) (set cells at.top at.operand) ++ replicate (declared_locals f) 0
+      → length cells' ≡ length cells
+      → CrossesTo bound (loop_at w cells callers at)
+      (loop_at w cells' (frame_waiting at ∷ callers) (position_opened at f))
+
+-- A call of what was found. One of a host function is left to others.
+abbrev pub Calls : (bound : ℕ) → World → (cells : List ℕ) → (callers : List Frame) → Position
+    → Callee → Type 0
+Calls bound w cells callers at (callee.InModule f) = CallsModule bound w cells callers at f
+Calls bound w cells callers at (callee.InHost f) = Unit {0}
+
+-- ---- returns and ends
+
+-- Where a frame goes on that waited for so many results, with a topmost operand.
+abbrev pub position_resumed : Position → Frame → (results operand : ℕ) → Position
+position_resumed at frame results operand = record {
+  frame = frame;
+  top = at.frame.base - 1 + results;
+  operand = operand;
+  fuel = at.fuel;
+}
+
+-- The innermost frame is left with so many results, from a position for which the step was paid, where there was this fuel before.
+pub record Leaves (bound : ℕ) (w : World) (cells : List ℕ) (callers : List Frame) (at : Position)
+    (fuel results : ℕ) : Type 0 where
+  pub some : RunsSomeWhole bound (loop_at w cells callers (record at { fuel = fuel }))
+  pub room : at.top < length cells
+  pub paid : at.fuel ≤ fuel
+  pub over : callers ≡ [] → (u : Whole)
+      → RunsWhole bound (loop_at w cells callers (record at { fuel = fuel })) u
+      → IsOver bound (loop_at w cells callers (record at { fuel = fuel })) u
+      (loop_at w cells callers at)
+  pub fits : (frame : Frame) (others : List Frame) → callers ≡ frame ∷ others
+      → (1 ≤ at.frame.base) × (at.frame.base - 1 + results ≤ at.top)
+  pub back : (frame : Frame) (others : List Frame) → callers ≡ frame ∷ others
+      → (cells' : List ℕ) (operand' : ℕ)
+      → AreMoved (set cells at.top at.operand) at.top (at.frame.base - 1) results cells' operand'
+      → CrossesTo bound (loop_at w cells callers (record at { fuel = fuel }))
+      (loop_at w cells' others (position_resumed at frame results operand'))

@@ -1,0 +1,19 @@
+-- What an operation leads to that may go on in another frame.
+use Rattle.std.specs.Prelude.{◌≡◌, ℕ, ◌<◌, List}
+use Rattle.interpreter.specs.Looping.{loop_at}
+use Rattle.interpreter.specs.Whole.{Loop, Ran, RunsWhole, StopsAt, SwitchesTo, Whole, left_to_do}
+use Rattle.interpreter.specs.declared.machine.Crossing.{Crossing}
+use Rattle.interpreter.specs.declared.machine.Crossing.TheVariants.{Goes, Stops, Switches}
+use Rattle.interpreter.specs.declared.machine.Frame.{Frame}
+
+-- With the cells and the callers afterwards.
+abbrev pub Crosses : (bound : ℕ) → Loop → Crossing → (cells' : List ℕ) → (callers' : List Frame)
+    → Type 0
+Crosses bound l (Goes to) cells' callers' =
+    Ran bound l (loop_at l.world cells' callers' to) × (to.frame.instance ≡ l.number)
+    × (left_to_do (loop_at l.world cells' callers' to) < left_to_do l)
+Crosses bound l (Switches to) cells' callers' =
+    ((w : Whole) → RunsWhole bound l w → SwitchesTo bound l w (loop_at l.world cells' callers' to))
+    × (left_to_do (loop_at l.world cells' callers' to) < left_to_do l)
+Crosses bound l (Stops s to) cells' callers' =
+    StopsAt bound l s (loop_at l.world cells' callers' to)

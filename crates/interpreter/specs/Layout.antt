@@ -1,0 +1,18 @@
+-- Where a frame's locals and operands lie among the cells: the topmost operand lies beside them, and what is behind the locals is
+-- scrap.
+use Rattle.std.specs.Prelude.{◌≡◌, ℕ, suc, ◌+◌, ◌-◌, List, ◌++◌, length, take, drop, set}
+
+-- A frame's cells from its first local on, without the cell behind its locals.
+abbrev pub without_scrap : (locals base : ℕ) → List ℕ → List ℕ
+without_scrap locals base cells = take locals (drop base cells) ++ drop (suc (base + locals)) cells
+
+-- The same, once the topmost operand is put back.
+abbrev pub put_back : (locals base : ℕ) → List ℕ → (top operand : ℕ) → List ℕ
+put_back locals base cells top operand = without_scrap locals base (set cells top operand)
+
+-- So many operands, of which the topmost one lies at a place, were moved down over that which is scrap to them.
+pub record AreMoved (cells : List ℕ) (top to kept : ℕ) (cells' : List ℕ) (operand : ℕ)
+    : Type 0 where
+  pub moved : take (to + kept + 1) (set cells' (to + kept) operand) ≡
+      take (to + 1) cells ++ take kept (drop (top + 1 - kept) cells)
+  pub size : length cells' ≡ length cells

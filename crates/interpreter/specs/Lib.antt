@@ -1,0 +1,12 @@
+pub mod Layout
+pub mod Worlds
+pub mod Running
+pub mod Turns
+pub mod Callers
+pub mod Whole
+pub mod Looping
+pub mod Crossing
+pub mod Stepping
+pub mod Calling
+pub mod Resting
+pub mod Starting

@@ -1,0 +1,61 @@
+-- What an instruction leads to in its frame.
+use Rattle.std.specs.Prelude.{◌≡◌, ℕ, ◌+◌, ◌-◌, ◌<◌, ◌≤◌, List, Result, Ok, Err}
+use Rattle.sidetable.specs.Flat.{Plain}
+use Rattle.sidetable.specs.Packing.{other_op}
+use Rattle.simulation.specs.Runs.{Ghost, Lacks}
+use Rattle.interpreter.specs.Looping.{machine_at}
+use Rattle.interpreter.specs.Running.{GoesTo, Machine, RunsAt, cells_in, height_in}
+use Rattle.interpreter.specs.Turns.{StandsThere}
+use Rattle.interpreter.specs.Worlds.{World}
+use Rattle.interpreter.specs.declared.machine.Position.{Position}
+use Rattle.interpreter.specs.declared.machine.Stop.{Stop}
+use Rattle.interpreter.specs.declared.machine.Stop.TheVariants as stop
+
+-- Behind an instruction, for one unit of fuel: with one operand more, and with the topmost one in the place of so many.
+abbrev pub position_pushed : Position → (cell : ℕ) → Position
+position_pushed at cell = record {
+  frame = record at.frame { place = at.frame.place + 1 };
+  top = at.top + 1;
+  operand = cell;
+  fuel = at.fuel - 1;
+}
+
+abbrev pub position_lowered : Position → (by cell : ℕ) → Position
+position_lowered at by cell = record {
+  frame = record at.frame { place = at.frame.place + 1 };
+  top = at.top - by;
+  operand = cell;
+  fuel = at.fuel - 1;
+}
+
+-- It was paid for, or there was no fuel.
+abbrev pub IsPaid : Position → Result Position Stop → Position → Type 0
+IsPaid at (Ok to) there = (1 ≤ at.fuel) × (to ≡ there)
+IsPaid at (Err s) there = (s ≡ stop.NoFuel) × (at.fuel ≡ 0)
+
+-- With nothing changed, fuel is lacking, or the instruction is left to others.
+abbrev pub StopsThere : Stop → Machine → (fuel : ℕ) → Ghost → Type 0
+StopsThere stop.NoFuel m fuel g = Lacks g fuel (cells_in m) m.place (height_in m) fuel
+StopsThere (stop.LeavesOther kind n) m fuel g =
+    StandsThere m g (Plain (other_op m.tables kind n))
+StopsThere other m fuel g = ⊥
+
+-- It goes on with the next operation, in the same frame.
+pub record StepsTo (w : World) (cells : List ℕ) (at : Position) (w' : World) (cells' : List ℕ)
+    (to : Position) : Type 0 where
+  pub frame : to.frame ≡ record at.frame { place = at.frame.place + 1 }
+  pub falls : to.fuel < at.fuel
+  pub leads : (g : Ghost) → RunsAt w (machine_at cells at) g
+      → GoesTo g (machine_at cells at) at.fuel w' (machine_at cells' to) to.fuel
+
+pub record StopsBefore (w : World) (cells : List ℕ) (at : Position) (w' : World) (cells' : List ℕ)
+    (s : Stop) : Type 0 where
+  pub same : w' ≡ w
+  pub kept : cells' ≡ cells
+  pub there : (g : Ghost) → RunsAt w (machine_at cells at) g
+      → StopsThere s (machine_at cells at) at.fuel g
+
+abbrev pub Steps : World → (cells : List ℕ) → Position → Result Position Stop → (w' : World)
+    → (cells' : List ℕ) → Type 0
+Steps w cells at (Ok to) w' cells' = StepsTo w cells at w' cells' to
+Steps w cells at (Err s) w' cells' = StopsBefore w cells at w' cells' s

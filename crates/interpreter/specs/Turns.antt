@@ -1,0 +1,284 @@
+-- What an operation needs, and what it leads to.
+use Rattle.std.specs.Prelude.{◌≡◌, ℕ, suc, ◌+◌, ◌-◌, ◌%◌, ◌^◌, ◌<◌, ◌≤◌, List, [], ◌∷◌, length, drop, set, get_or, Result, Ok, Err}
+use Rattle.core_types.specs.declared.op.LoadOp.{LoadOp}
+use Rattle.core_types.specs.declared.op.LoadOp.TheVariants.{Bits8, Whole}
+use Rattle.core_types.specs.declared.op.Sign.TheVariants.{Unsigned}
+use Rattle.core_types.specs.declared.op.StoreOp.{StoreOp}
+use Rattle.core_types.specs.declared.op.StoreOp.TheVariants as into
+use Rattle.core_types.specs.declared.op.Width.TheVariants.{W32}
+use Rattle.core_types.specs.declared.outcome.Trap.{Trap}
+use Rattle.core_types.specs.declared.outcome.Trap.TheVariants.{Unreachable}
+use Rattle.core_types.specs.declared.types.Mutability.TheVariants.{Var}
+use Rattle.core_types.specs.declared.types.ValType.TheVariants.{I32}
+use Rattle.meaning.specs.execution.Memories.{load_from, store_into, store_size}
+use Rattle.meaning.specs.validation.Instructions.{load_type}
+use Rattle.cells.specs.Cells.{IsCellOf, cell_of, value_of, value_of_result}
+use Rattle.effects.specs.Numeric.{GivesBinary, GivesUnary, operand_type}
+use Rattle.sidetable.specs.Flat.{FlatOp, Plain}
+use Rattle.sidetable.specs.Packing.{IsOtherWithin, IsTransferWithin, binary_op, branch_entries, load_op, other_op, store_op, transfer_op, unary_op}
+use Rattle.sidetable.specs.SideTables.{branch_range_of, constant_of, entry_of_number}
+use Rattle.sidetable.specs.declared.operations.Entry.{Entry}
+use Rattle.sidetable.specs.declared.operations.OtherInstruction.{OtherInstruction}
+use Rattle.sidetable.specs.declared.operations.OtherInstruction.TheVariants as other
+use Rattle.sidetable.specs.declared.operations.PackedOp.{PackedOp}
+use Rattle.sidetable.specs.declared.operations.PackedOp.TheVariants as op
+use Rattle.sidetable.specs.declared.operations.TransferInstruction.{TransferInstruction}
+use Rattle.sidetable.specs.declared.operations.TransferInstruction.TheVariants as transfer
+use Rattle.simulation.specs.Runs.{Ghost}
+use Rattle.store.specs.State.{global_of, put_global}
+use Rattle.interpreter.specs.Layout.{AreMoved}
+use Rattle.interpreter.specs.Running.{GoesFree, IsDear, Machine, Pays, RunsAt, Traps}
+use Rattle.interpreter.specs.Worlds.{World}
+
+-- ---- machines behind an operation
+
+-- With one operand more.
+abbrev pub pushed : Machine → (cell : ℕ) → Machine
+pushed m cell = record m {
+  cells = set m.cells m.top m.operand;
+  place = m.place + 1;
+  top = m.top + 1;
+  operand = cell;
+}
+
+-- With another topmost operand.
+abbrev pub replaced : Machine → (cell : ℕ) → Machine
+replaced m cell = record m { place = m.place + 1; operand = cell }
+
+-- With another one, so many lower.
+abbrev pub lowered : Machine → (by cell : ℕ) → Machine
+lowered m by cell = record (replaced m cell) { top = m.top - by }
+
+-- With so many operands less.
+abbrev pub popped : Machine → (by : ℕ) → Machine
+popped m by = lowered m by (get_or m.cells (m.top - by) 0)
+
+-- With the topmost operand in a local, too.
+abbrev pub with_local : Machine → (x : ℕ) → Machine
+with_local m x = record m { cells = set m.cells (m.base + x) m.operand }
+
+-- At a place, with the operands that an entry keeps moved down to its height.
+abbrev pub landed : Machine → Entry → (cells' : List ℕ) → (operand' : ℕ) → Machine
+landed m e cells' operand' = record m {
+  cells = cells';
+  place = e.target;
+  top = m.base + m.locals + e.height + e.kept;
+  operand = operand';
+}
+
+-- The operand below the topmost one, and the one below that.
+abbrev pub second_of : Machine → ℕ
+second_of m = get_or m.cells (m.top - 1) 0
+
+abbrev pub third_of : Machine → ℕ
+third_of m = get_or m.cells (m.top - 2) 0
+
+-- The addresses that the instance has under an index.
+abbrev pub function_address : World → ℕ → ℕ
+function_address w x = get_or w.instance.addresses.functions.items x 0
+
+abbrev pub global_address : World → ℕ → ℕ
+global_address w x = get_or w.instance.addresses.globals.items x 0
+
+-- The world with another value of a global.
+abbrev pub with_global_cell : World → (address cell : ℕ) → World
+with_global_cell w address cell =
+    record w {
+      state = put_global w.state address (value_of (global_of w.state address).ty.value cell);
+    }
+
+-- ---- what an operation needs
+
+-- So many operands are there, and there is room for one more.
+abbrev pub HasOperands : Machine → (count : ℕ) → Type 0
+HasOperands m count = (m.base + m.locals + count ≤ m.top) × (m.top < length m.cells)
+
+-- The entry's operands lie below a place.
+abbrev pub HasKept : Machine → (top : ℕ) → Entry → Type 0
+HasKept m top e = m.base + m.locals + e.height + e.kept ≤ top
+
+-- What a transfer names is there, and so are the operands that it takes and keeps.
+abbrev pub TransferFits : Machine → TransferInstruction → (number : ℕ) → Type 0
+TransferFits m transfer.If n = HasOperands m 1 × (n < length m.tables.entries.items)
+TransferFits m transfer.Jump n =
+    (n < length m.tables.entries.items) × (m.place < (entry_of_number m.tables n).target)
+TransferFits m transfer.Br n =
+    (m.top < length m.cells) × (n < length m.tables.entries.items)
+    × HasKept m m.top (entry_of_number m.tables n)
+TransferFits m transfer.BrTable n =
+    HasOperands m 1 × (n < length m.tables.branch_ranges.items)
+    × ((branch_range_of m.tables n).first + (branch_range_of m.tables n).count
+    < suc (length m.tables.entries.items))
+    × ((branch_range_of m.tables n).default < length m.tables.entries.items)
+    × HasKept m (m.top - 1) (get_or (branch_entries m.tables (branch_range_of m.tables n))
+    m.operand (entry_of_number m.tables (branch_range_of m.tables n).default))
+TransferFits m transfer.Leave n = Unit {0}
+TransferFits m kind n = IsTransferWithin m.tables kind n
+
+-- The same of the others.
+abbrev pub OtherFits : World → Machine → OtherInstruction → (number : ℕ) → Type 0
+OtherFits w m other.DropOperand n = HasOperands m 1
+OtherFits w m other.Select n = HasOperands m 3
+OtherFits w m other.GlobalGet n =
+    (m.top < length m.cells) × (n < length w.instance.addresses.globals.items)
+    × (global_address w n < length w.state.contents.globals)
+OtherFits w m other.GlobalSet n =
+    HasOperands m 1 × (n < length w.instance.addresses.globals.items)
+    × (global_address w n < length w.state.contents.globals)
+    × ((global_of w.state (global_address w n)).ty.mutability ≡ Var)
+    × IsCellOf (global_of w.state (global_address w n)).ty.value m.operand
+OtherFits w m other.I64Const n = (m.top < length m.cells) × (n < length m.tables.constants.items)
+OtherFits w m other.RefNullFunc n = m.top < length m.cells
+OtherFits w m other.RefNullExtern n = m.top < length m.cells
+OtherFits w m other.RefFunc n =
+    (m.top < length m.cells) × (n < length w.instance.addresses.functions.items)
+OtherFits w m other.MemorySize n = m.top < length m.cells
+OtherFits w m kind n = IsOtherWithin m.tables kind n
+
+abbrev pub Fits : World → Machine → PackedOp → Type 0
+Fits w m (op.LocalGet x) = (m.top < length m.cells) × (m.base + x < length m.cells)
+Fits w m (op.LocalSet x) = HasOperands m 1 × (x < m.locals)
+Fits w m (op.LocalTee x) = HasOperands m 1 × (x < m.locals)
+Fits w m (op.I32Const n) = m.top < length m.cells
+Fits w m op.I32Add = HasOperands m 2
+Fits w m op.Enter = Unit {0}
+Fits w m (op.BrIf n) =
+    HasOperands m 1 × (n < length m.tables.entries.items)
+    × ((m.operand ≡ 0 → ⊥) → HasKept m (m.top - 1) (entry_of_number m.tables n))
+Fits w m (op.I32Load offset) = HasOperands m 1 × IsCellOf I32 m.operand
+Fits w m (op.I32Load8U offset) = HasOperands m 1 × IsCellOf I32 m.operand
+Fits w m (op.I32Store8 offset) = HasOperands m 2 × IsCellOf I32 (second_of m)
+Fits w m (op.Binary instruction) =
+    HasOperands m 2 × IsCellOf (operand_type (binary_op instruction)) (second_of m)
+    × IsCellOf (operand_type (binary_op instruction)) m.operand
+Fits w m (op.Unary instruction) =
+    HasOperands m 1 × IsCellOf (operand_type (unary_op instruction)) m.operand
+Fits w m (op.Load instruction offset) = HasOperands m 1 × IsCellOf I32 m.operand
+Fits w m (op.Store instruction offset) = HasOperands m 2 × IsCellOf I32 (second_of m)
+Fits w m (op.Transfer kind n) = TransferFits m kind n
+Fits w m (op.Other kind n) = OtherFits w m kind n
+
+-- ---- what it leads to
+
+-- For one unit of fuel to this machine.
+abbrev pub Costs : World → Machine → Ghost → Machine → Type 0
+Costs w m g m' = Pays g m w m' × IsDear g m
+
+-- To the machine for a result's number, or to a trap.
+abbrev pub Answers : World → Machine → Ghost → (ℕ → Machine) → Result ℕ Trap → Type 0
+Answers w m g to (Ok n) = Pays g m w (to n)
+Answers w m g to (Err trap) = Traps g m trap
+
+-- A branch, once its operands were moved.
+abbrev pub Lands : World → Machine → Ghost → (cells : List ℕ) → (top : ℕ) → Entry → Type 0
+Lands w m g cells top e =
+    (cells' : List ℕ) (operand' : ℕ)
+    → AreMoved cells top (m.base + m.locals + e.height) e.kept cells' operand'
+    → Pays g m w (landed m e cells' operand')
+
+-- A load: the number that is read takes the address's place.
+abbrev pub Reads : World → Machine → Ghost → LoadOp → (offset : ℕ) → Type 0
+Reads w m g instruction offset =
+    ((result : Result ℕ Trap)
+    → load_from instruction w.bytes (m.operand + offset) ≡ value_of_result (load_type instruction) result
+    → Answers w m g (replaced m) result)
+    × IsDear g m
+
+-- A store: the bytes are those of the memory then.
+abbrev pub IsWritten : World → Machine → Ghost → Result (List ℕ) Trap → Type 0
+IsWritten w m g (Ok bytes) = Pays g m (record w { bytes = bytes }) (popped m 2)
+IsWritten w m g (Err trap) = Traps g m trap
+
+abbrev pub Writes : World → Machine → Ghost → StoreOp → (offset : ℕ) → Type 0
+Writes w m g instruction offset =
+    ((result : Result (List ℕ) Trap)
+    → store_into w.bytes (second_of m + offset) (store_size instruction) m.operand ≡ result
+    → IsWritten w m g result)
+    × IsDear g m
+
+-- It is left to others: this operation stands there.
+abbrev pub StandsThere : Machine → Ghost → FlatOp → Type 0
+StandsThere m g o = (more : List FlatOp) × (drop m.place g.code.operations ≡ o ∷ more)
+
+abbrev pub TransferLeads : World → Machine → Ghost → TransferInstruction → (number : ℕ) → Type 0
+TransferLeads w m g transfer.Unreachable n = Traps g m Unreachable × IsDear g m
+TransferLeads w m g transfer.If n =
+    (m.operand ≡ 0 → Pays g m w
+    (record (popped m 1) { place = (entry_of_number m.tables n).target }))
+    × ((m.operand ≡ 0 → ⊥) → Pays g m w (popped m 1))
+    × IsDear g m
+TransferLeads w m g transfer.Jump n =
+    GoesFree g m w (record m { place = (entry_of_number m.tables n).target })
+TransferLeads w m g transfer.Br n =
+    Lands w m g (set m.cells m.top m.operand) m.top (entry_of_number m.tables n) × IsDear g m
+TransferLeads w m g transfer.BrTable n =
+    Lands w m g m.cells (m.top - 1)
+    (get_or (branch_entries m.tables (branch_range_of m.tables n)) m.operand
+    (entry_of_number m.tables (branch_range_of m.tables n).default))
+    × IsDear g m
+-- what is left to others: calls and returns
+TransferLeads w m g transfer.Leave n =
+    (drop m.place g.code.operations ≡ []) × (n ≡ g.code.outermost.kept)
+TransferLeads w m g kind n = StandsThere m g (transfer_op m.tables kind n)
+
+abbrev pub OtherLeads : World → Machine → Ghost → OtherInstruction → (number : ℕ) → Type 0
+OtherLeads w m g other.Nop n = Costs w m g (record m { place = m.place + 1 })
+OtherLeads w m g other.DropOperand n = Costs w m g (popped m 1)
+OtherLeads w m g other.Select n =
+    (m.operand ≡ 0 → Pays g m w (lowered m 2 (second_of m)))
+    × ((m.operand ≡ 0 → ⊥) → Pays g m w (lowered m 2 (third_of m)))
+    × IsDear g m
+OtherLeads w m g other.GlobalGet n =
+    Costs w m g (pushed m (cell_of (global_of w.state (global_address w n)).value))
+OtherLeads w m g other.GlobalSet n =
+    Pays g m (with_global_cell w (global_address w n) m.operand) (popped m 1) × IsDear g m
+OtherLeads w m g other.I64Const n = Costs w m g (pushed m (constant_of m.tables n))
+OtherLeads w m g other.RefNullFunc n = Costs w m g (pushed m 0)
+OtherLeads w m g other.RefNullExtern n = Costs w m g (pushed m 0)
+OtherLeads w m g other.RefIsNull n =
+    (m.operand ≡ 0 → Pays g m w (replaced m 1))
+    × ((m.operand ≡ 0 → ⊥) → Pays g m w (replaced m 0))
+    × IsDear g m
+OtherLeads w m g other.RefFunc n = Costs w m g (pushed m (function_address w n + 1))
+OtherLeads w m g other.MemorySize n = Costs w m g (pushed m w.limits.min)
+-- what is left to others: instructions on tables, bulk instructions and growth
+OtherLeads w m g kind n = StandsThere m g (Plain (other_op m.tables kind n))
+
+abbrev pub LeadsOn : World → Machine → Ghost → PackedOp → Type 0
+LeadsOn w m g (op.LocalGet x) =
+    Costs w m g (pushed m (get_or (set m.cells m.top m.operand) (m.base + x) 0))
+LeadsOn w m g (op.LocalSet x) = Costs w m g (popped (with_local m x) 1)
+LeadsOn w m g (op.LocalTee x) = Costs w m g (record (with_local m x) { place = m.place + 1 })
+LeadsOn w m g (op.I32Const n) = Costs w m g (pushed m n)
+LeadsOn w m g op.I32Add = Costs w m g (lowered m 1 ((second_of m + m.operand) % 2 ^ 32))
+LeadsOn w m g op.Enter = Costs w m g (record m { place = m.place + 1 })
+LeadsOn w m g (op.BrIf n) =
+    (m.operand ≡ 0 → Pays g m w (popped m 1))
+    × ((m.operand ≡ 0 → ⊥) → Lands w m g m.cells (m.top - 1) (entry_of_number m.tables n))
+    × IsDear g m
+LeadsOn w m g (op.I32Load offset) = Reads w m g (Whole W32) offset
+LeadsOn w m g (op.I32Load8U offset) = Reads w m g (Bits8 W32 Unsigned) offset
+LeadsOn w m g (op.I32Store8 offset) = Writes w m g (into.Bits8 W32) offset
+LeadsOn w m g (op.Binary instruction) =
+    ((result : Result ℕ Trap) → GivesBinary (binary_op instruction) (second_of m) m.operand result
+    → Answers w m g (lowered m 1) result)
+    × IsDear g m
+LeadsOn w m g (op.Unary instruction) =
+    ((n : ℕ) → GivesUnary (unary_op instruction) m.operand n → Pays g m w (replaced m n))
+    × IsDear g m
+LeadsOn w m g (op.Load instruction offset) = Reads w m g (load_op instruction) offset
+LeadsOn w m g (op.Store instruction offset) = Writes w m g (store_op instruction) offset
+LeadsOn w m g (op.Transfer kind n) = TransferLeads w m g kind n
+LeadsOn w m g (op.Other kind n) = OtherLeads w m g kind n
+
+-- Whatever runs there, it leads to that.
+abbrev pub Turns : World → Machine → PackedOp → Type 0
+Turns w m o = (g : Ghost) → RunsAt w m g → LeadsOn w m g o
+
+-- An operation stands where the machine is, with what it needs, and leads to that.
+abbrev pub OperationsTurn : Type 0
+OperationsTurn =
+    (w : World) (m : Machine) (g : Ghost) → RunsAt w m g
+    → (m.place < length m.operations)
+    × ((d : PackedOp) → Fits w m (get_or m.operations m.place d)
+    × LeadsOn w m g (get_or m.operations m.place d))

@@ -1,0 +1,42 @@
+-- The store that a run of code is in, whose first memory was taken out of the state.
+use Rattle.std.specs.Prelude.{◌≡◌, ℕ, List, Option, Some, None, slice_get}
+use Rattle.core_types.specs.declared.types.Limits.{Limits}
+use Rattle.meaning.specs.execution.Memories.{MemoryInstance}
+use Rattle.meaning.specs.execution.Store.{Store}
+use Rattle.store.specs.Contents.{Contents, store_with}
+use Rattle.store.specs.State.{StateContents, put_memory}
+use Rattle.store.specs.declared.instances.Instance.{Instance}
+
+-- The parts of a store while code of an instance runs: the instance, the address of its memory, if it has one, that memory's
+-- limits and bytes, and the state, in which another memory lies at that address.
+pub record World : Type 0 where
+  pub code : Contents
+  pub state : StateContents
+  pub number : ℕ
+  pub instance : Instance
+  pub address : Option ℕ
+  pub limits : Limits
+  pub bytes : List ℕ
+
+abbrev pub memory_in : World → MemoryInstance
+memory_in w = record { limits = w.limits; bytes = w.bytes }
+
+-- The state, once the memory is put back.
+abbrev pub with_memory_back : StateContents → Option ℕ → MemoryInstance → StateContents
+with_memory_back s None memory = s
+with_memory_back s (Some address) memory = put_memory s address memory
+
+abbrev pub store_in : World → Store
+store_in w = store_with w.code (with_memory_back w.state w.address (memory_in w))
+
+-- The instance is that of this number, and has this memory.
+pub record IsInstance (w : World) : Type 0 where
+  pub there : slice_get w.code.instances w.number ≡ Some w.instance
+  pub memory : slice_get w.instance.addresses.memories.items 0 ≡ w.address
+
+-- A store of this code, seen from the instance of a number.
+pub record Sees (its_code : Contents) (seen : Store) (number : ℕ) (w : World) : Type 0 where
+  pub store : store_in w ≡ seen
+  pub code : w.code ≡ its_code
+  pub seen_from : w.number ≡ number
+  pub instance : IsInstance w

@@ -1,0 +1,43 @@
+ghost use Rattle.std.specs.Prelude.{◌≡◌, ◌+◌, ◌≤◌, ◌<◌, ◌++◌, length, take, drop, get_or, replicate};
+ghost use Rattle.interpreter.specs.Layout.{AreMoved};
+
+// Moves cells down.
+#[cold]
+#[inline(never)]
+fn move_down(cells: &mut [u64], from: usize, to: usize, count: usize)
+    requires low { to ≤ from }
+    requires within { from + count ≤ length cells.old }
+    ensures moved { take (to + count) cells.new ≡ take to cells.old ++ take count
+        (drop from cells.old) }
+    ensures size { length cells.new ≡ length cells.old }
+{
+    cells.copy_within(from..from + count, to);
+}
+
+/// Moves the topmost operands down over the cell `to`, of which the last one lies at the top and is `operand`; answers the topmost
+/// one then.
+#[inline(always)]
+pub fn land(cells: &mut [u64], top: usize, to: usize, kept: usize, operand: u64) -> u64
+    requires low { to + kept ≤ top }
+    requires within { top < length cells.old }
+    requires there { get_or cells.old top 0 ≡ operand }
+    ensures { AreMoved cells.old top to kept cells.new result }
+{
+    if kept == 0 {
+        return cells[to];
+    }
+    if kept > 1 {
+        move_down(cells, top + 1 - kept, to + 1, kept - 1);
+    }
+    operand
+}
+
+/// Clears cells.
+#[inline(always)]
+pub fn clear(cells: &mut [u64], from: usize, count: usize)
+    requires { from + count ≤ length cells.old }
+    ensures cleared { take (from + count) cells.new ≡ take from cells.old ++ replicate count 0 }
+    ensures size { length cells.new ≡ length cells.old }
+{
+    cells[from..from + count].fill(0);
+}

@@ -1,0 +1,78 @@
+use core_types::{Limits, Stack, Trap};
+use sidetable::{OtherInstruction, PackedOp, SideTables, TransferInstruction};
+use store::{Code, Instance};
+
+/// A frame: the code that runs in it, with the side tables that it names numbers of, the number of its instance, how many locals it
+/// has and where they begin among the cells, and the place of the next operation.
+#[derive(Clone, Copy)]
+pub struct Frame<'a> {
+    pub operations: &'a [PackedOp],
+    pub tables: &'a SideTables,
+    pub instance: u32,
+    pub locals: usize,
+    pub base: usize,
+    pub place: usize,
+}
+
+/// Where a run is: the innermost frame, the topmost operand, where it would lie among the cells, and the fuel that is left.
+#[derive(Clone, Copy)]
+pub struct Position<'a> {
+    pub frame: Frame<'a>,
+    pub top: usize,
+    pub operand: u64,
+    pub fuel: u64,
+}
+
+/// A call that runs or has stopped: its cells, the frames that wait, the innermost first, and where it is.
+#[derive(Drop)]
+pub struct Call<'a> {
+    pub cells: Vec<u64>,
+    pub callers: Stack<Frame<'a>>,
+    pub position: Position<'a>,
+}
+
+/// What stays while code of one instance runs: the store's code, the instance and its number, the address of its memory, if it has
+/// one, and that memory's limits, and how many frames may be open.
+#[derive(Clone, Copy)]
+pub struct Surroundings<'a> {
+    pub code: &'a Code,
+    pub instance: &'a Instance,
+    pub number: u32,
+    pub address: Option<u32>,
+    pub limits: Limits,
+    pub bound: u64,
+}
+
+/// Why the loop stops.
+#[derive(Clone, Copy)]
+pub enum Stop {
+    /// The outermost frame is at its end, or returns, which was paid for.
+    Over,
+    /// The next step traps, and was paid for.
+    Traps(Trap),
+    /// The next step costs more than is left.
+    NoFuel,
+    /// The next step opens a frame more than may be open.
+    NoDepth,
+    /// The next step opens a frame for which there are not enough cells.
+    NoRoom,
+    /// The next step opens a frame, for which there is no memory.
+    NoMemory,
+    /// Code of another instance is next.
+    Switches,
+    /// The next operation is a transfer that the loop leaves to others.
+    LeavesTransfer(TransferInstruction, u32),
+    /// The next operation is an instruction that the loop leaves to others.
+    LeavesOther(OtherInstruction, u32),
+}
+
+/// What an operation led to that may go on in another frame.
+#[derive(Clone, Copy)]
+pub enum Crossing<'a> {
+    /// To a position in code of the same instance.
+    Goes(Position<'a>),
+    /// To a position in code of another one.
+    Switches(Position<'a>),
+    /// To a stop, at a position.
+    Stops(Stop, Position<'a>),
+}

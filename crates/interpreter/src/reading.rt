@@ -1,0 +1,40 @@
+ghost use Rattle.std.specs.Prelude.{◌≡◌, ◌+◌, ◌<◌, ◌^◌, length};
+ghost use Rattle.simulation.specs.Runs.{Ghost};
+ghost use Rattle.interpreter.specs.Looping.{machine_at, world_at};
+ghost use Rattle.interpreter.specs.Running.{RunsAt};
+ghost use Rattle.interpreter.specs.Turns.{Fits, Turns};
+ghost use Rattle.sidetable.specs.SideTables.{entry_of_number};
+
+use crate::machine::{Position, Surroundings};
+use sidetable::{Entry, PackedOp, SideTables};
+use store::State;
+
+/// The operation where the machine is.
+#[inline(always)]
+pub fn fetch<'a>(
+    around: Surroundings<'a>,
+    state: &State,
+    memory: &[u8],
+    cells: &[u64],
+    at: Position<'a>,
+) -> &'a PackedOp
+    requires sound { (g : Ghost) × RunsAt (world_at around state.now memory.now)
+        (machine_at cells.now at) g }
+    ensures inside { at.entry.frame.place < length at.entry.frame.operations.now }
+    ensures next { at.entry.frame.place + 1 < 2 ^ 64 }
+    ensures fits { Fits (world_at around.entry state.now memory.now)
+        (machine_at cells.now at.entry) result.now }
+    ensures turns { Turns (world_at around.entry state.now memory.now)
+        (machine_at cells.now at.entry) result.now }
+{
+    &at.frame.operations[at.frame.place]
+}
+
+/// The entry of a number.
+#[inline(always)]
+pub fn entry(tables: &SideTables, number: u32) -> Entry
+    requires { number < length tables.now.entries.items }
+    ensures { result ≡ entry_of_number tables.now number }
+{
+    tables.entries[number as usize]
+}
