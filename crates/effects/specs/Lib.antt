@@ -1,1 +1,2 @@
 pub mod Numeric
+pub mod Outcomes

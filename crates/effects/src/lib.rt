@@ -1,8 +1,19 @@
-//! What instructions do, over cells: numeric instructions, loads and stores, each proved equal to its case of the definitions.
+//! What instructions do: numeric instructions, loads and stores over cells, and those on tables, memories and segments over the state,
+//! each proved equal to its case of the definitions.
 #![tactic(auto)]
 
 mod accesses;
+mod memories;
 mod numeric;
+mod payment;
+mod segments;
+mod tables;
 
 pub use accesses::{load_cell, load_i32, load_i32_8u, store_cell, store_i32_8};
+pub use memories::{copy_memory, fill_memory, grow_memory, init_memory};
 pub use numeric::{compute_binary, compute_unary, low};
+pub use payment::{Paid, Refusal};
+pub use segments::{drop_data, drop_elements};
+pub use tables::{
+    copy_table, fill_table, get_entry, grow_table, init_table, measure_table, set_entry,
+};

@@ -1,8 +1,10 @@
-//! Tests of what runs: of `core_types`, `intops`, `fuel`, `stacks`, `store`, `bulkops`, `plain` and `exec`.
+//! Tests of what runs: of `core_types`, `intops`, `fuel`, `stacks`, `store`, `bulkops`, `plain`, `exec` and `invocation`.
 #![tactic(auto)]
 
 #[cfg(test)]
 mod collections;
+#[cfg(test)]
+mod host_calls;
 #[cfg(test)]
 mod instructions;
 #[cfg(test)]

@@ -2,7 +2,7 @@
 
 use crate::modules::store_with;
 use core_types::{Exhaustion, Trap, Val};
-use exec::{Outcome, have_hosts, invoke};
+use exec::{Outcome, have_hosts};
 use fuel::Meter;
 use hostfunc::HostTable;
 use std::alloc::{AllocError, Global};
@@ -240,27 +240,67 @@ fn ends_so(alloc: Global, outcome: &Outcome, text: &str) -> bool {
     }
 }
 
+/// The interpreters: that with a stack of operands, and the loop over cells.
+#[derive(Clone, Copy)]
+pub enum Engine {
+    Operands,
+    Cells,
+}
+
 /// Whether a call of the function at an address ends so within fuel and depth, and leaves so much fuel.
 pub fn calls_so(
     alloc: Global,
+    engine: Engine,
     store: &mut Store,
+    hosts: &mut HostTable,
     (address, args): (u32, &[Val]),
     (fuel, depth): (u64, u32),
     (ends, left): (&str, u64),
 ) -> bool {
-    if !accepts(store, address, args) {
-        return false;
-    }
-    let mut hosts = HostTable::new(alloc);
-    if !have_hosts(store, &hosts) {
+    if !accepts(store, address, args) || !have_hosts(store, hosts) {
         return false;
     }
     let mut meter = Meter::new(fuel, depth);
-    let outcome = invoke(alloc, store, &mut hosts, &mut meter, address, args);
-    ends_so(alloc, &outcome, ends) && meter.left() == left
+    let mut rest = fuel;
+    match engine {
+        Engine::Operands => {
+            let outcome = exec::invoke(alloc, store, hosts, &mut meter, address, args);
+            ends_so(alloc, &outcome, ends) && meter.left() == left
+        }
+        Engine::Cells => {
+            let outcome = invocation::invoke(alloc, store, hosts, &mut rest, depth, address, args);
+            ends_so(alloc, &outcome, ends) && rest == left
+        }
+    }
 }
 
-// Whether the first function of a module is run so.
+// Whether the first function of a module is run so by an interpreter.
+fn runs_by(
+    alloc: Global,
+    engine: Engine,
+    text: &str,
+    args: &[Val],
+    bounds: (u64, u32),
+    wanted: (&str, u64),
+) -> bool {
+    let mut hosts = HostTable::new(alloc);
+    match store_with(alloc, &[text]) {
+        Some(mut store) => {
+            calls_so(
+                alloc,
+                engine,
+                &mut store,
+                &mut hosts,
+                (0, args),
+                bounds,
+                wanted,
+            )
+        }
+        None => false,
+    }
+}
+
+// Whether it is run so by both.
 fn runs_so(
     alloc: Global,
     text: &str,
@@ -268,10 +308,8 @@ fn runs_so(
     bounds: (u64, u32),
     wanted: (&str, u64),
 ) -> bool {
-    match store_with(alloc, &[text]) {
-        Some(mut store) => calls_so(alloc, &mut store, (0, args), bounds, wanted),
-        None => false,
-    }
+    runs_by(alloc, Engine::Operands, text, args, bounds, wanted)
+        && runs_by(alloc, Engine::Cells, text, args, bounds, wanted)
 }
 
 // The parts of a row.
@@ -327,14 +365,17 @@ static ADDRESSES: [(u32, &str, u64); 5] = [
 ];
 
 // Calls the functions at all addresses in turn, in one store of both modules: the first that is not run so.
-fn first_at_fault(alloc: Global) -> Option<u32> {
+fn first_at_fault(alloc: Global, engine: Engine) -> Option<u32> {
+    let mut hosts = HostTable::new(alloc);
     let Some(mut store) = store_with(alloc, &TWO) else {
         return Some(0);
     };
     let mut first = None;
     for (address, ends, left) in &ADDRESSES {
+        let call = (*address, [].as_slice());
         let wanted = (*ends, *left);
-        if first.is_none() && !calls_so(alloc, &mut store, (*address, &[]), (9, 2), wanted) {
+        let goes = calls_so(alloc, engine, &mut store, &mut hosts, call, (9, 2), wanted);
+        if first.is_none() && !goes {
             first = Some(*address);
         }
     }
@@ -343,6 +384,8 @@ fn first_at_fault(alloc: Global) -> Option<u32> {
 
 #[test]
 fn calls_within_the_instance(rt: HostRuntime) {
-    let first = first_at_fault(rt.alloc());
-    assert!(rt; first.is_none(), "{first:?}");
+    for engine in [Engine::Operands, Engine::Cells] {
+        let first = first_at_fault(rt.alloc(), engine);
+        assert!(rt; first.is_none(), "{first:?}");
+    }
 }

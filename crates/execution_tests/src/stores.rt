@@ -1,8 +1,9 @@
 //! Functions, types and instances by address, the flat code of functions, and the arguments that a function takes.
 
 use crate::modules::{append, empty_store, loaded_module, store_with};
-use crate::runs::calls_so;
+use crate::runs::{Engine, calls_so};
 use core_types::{Extern, ExternType, Op, PlainOp, RefType, Val, ValType};
+use hostfunc::HostTable;
 use std::alloc::Global;
 use store::{Callee, ModuleFunction, Store, accepts};
 
@@ -255,7 +256,18 @@ fn describes(alloc: Global, value: Extern, wanted: Described) -> bool {
     let Some(mut store) = store_with(alloc, &[text]) else {
         return false;
     };
-    if !calls_so(alloc, &mut store, (1, &[]), (2000, 1), ("values", 969)) {
+    let mut hosts = HostTable::new(alloc);
+    let call = (1, [].as_slice());
+    let wanted_end = ("values", 969);
+    if !calls_so(
+        alloc,
+        Engine::Cells,
+        &mut store,
+        &mut hosts,
+        call,
+        (2000, 1),
+        wanted_end,
+    ) {
         return false;
     }
     if !store.has_extern(value) {

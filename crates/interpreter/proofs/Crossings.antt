@@ -1,38 +1,26 @@
 -- Where operations that may cross frames stop or go on.
-use Rattle.std.proofs.Common.{◌≡◌, ℕ, suc, ◌+◌, ◌-◌, ◌^◌, ◌<◌, ◌≤◌, List, ◌∷◌, ◌++◌, length, take, set, replicate, refl, ap, sym, subst, arith}
-use Rattle.sidetable.specs.Packing.{transfer_op}
-use Rattle.sidetable.specs.declared.operations.TransferInstruction.{TransferInstruction}
-use Rattle.simulation.specs.Runs.{Ghost}
+use Rattle.std.proofs.Common.{◌≡◌, ℕ, suc, ◌+◌, ◌-◌, ◌^◌, ◌<◌, ◌≤◌, List, ◌∷◌, ◌++◌, length, take, set, replicate, ap, sym, subst, arith}
 use Rattle.store.specs.declared.instances.ModuleFunction.{ModuleFunction}
 use Rattle.interpreter.specs.Calling.{CallsModule, IsCrossed, Leaves, declared_locals, frame_waiting, position_opened, position_resumed}
 use Rattle.interpreter.specs.Crossing.{Crosses}
 use Rattle.interpreter.specs.Layout.{AreMoved}
 use Rattle.interpreter.specs.Looping.{loop_at}
-use Rattle.interpreter.specs.Running.{RunsAt}
-use Rattle.interpreter.specs.Turns.{StandsThere}
-use Rattle.interpreter.specs.Whole.{Loop, RunsSomeWhole, StopsAt}
+use Rattle.interpreter.specs.Whole.{RunsSomeWhole}
 use Rattle.interpreter.specs.Worlds.{World}
 use Rattle.interpreter.specs.declared.machine.Crossing.{Crossing}
 use Rattle.interpreter.specs.declared.machine.Frame.{Frame}
 use Rattle.interpreter.specs.declared.machine.Position.{Position}
-use Rattle.interpreter.specs.declared.machine.Stop.TheVariants as stop
-use Rattle.interpreter.proofs.Lifting.{reaches-first, stops-unpaid}
 use Rattle.interpreter.proofs.Switching.{crosses}
-
--- What is left to others stands there.
-pub stops-there : (bound : ℕ) (l : Loop) (kind : TransferInstruction) (n : ℕ) → ((g : Ghost) → RunsAt l.world l.machine g → StandsThere l.machine g (transfer_op l.machine.tables kind n))
-    → StopsAt bound l (stop.LeavesTransfer kind n) l
-stops-there bound l kind n there = record { from = λ u r. stops-unpaid bound (stop.LeavesTransfer kind n) refl l l u (reaches-first bound l u r) (there u.ghost r.runs); falls = tt }
 
 module _ (bound : ℕ) (w : World) (cells : List ℕ) (callers : List Frame) (at : Position) (next : at.frame.place + 1 < 2 ^ 64) where
   -- A frame was opened.
-  pub crosses-in : (f : ModuleFunction) → RunsSomeWhole bound (loop_at w cells callers at) → CallsModule bound w cells callers at f → 1 ≤ at.fuel → suc (length callers) < bound
-      → at.top + 1 + declared_locals f + f.flat.greatest < length cells → (cells' : List ℕ) → take (at.top + 1 + declared_locals f) cells' ≡ take (at.top + 1) (set cells at.top at.operand) ++ replicate (declared_locals f) 0
-      → length cells' ≡ length cells → (callers' : List Frame) → callers' ≡ frame_waiting at ∷ callers → (result : Crossing) → IsCrossed w.number result (position_opened at f)
+  pub crosses-in : (from : Position) (f : ModuleFunction) → RunsSomeWhole bound (loop_at w cells callers at) → CallsModule bound w cells callers at from f → 1 ≤ at.fuel → suc (length callers) < bound
+      → from.top + 1 + declared_locals f + f.flat.greatest < length cells → (cells' : List ℕ) → take (from.top + 1 + declared_locals f) cells' ≡ take (from.top + 1) (set cells from.top from.operand) ++ replicate (declared_locals f) 0
+      → length cells' ≡ length cells → (callers' : List Frame) → callers' ≡ frame_waiting at ∷ callers → (result : Crossing) → IsCrossed w.number result (position_opened at from.top f)
       → Crosses bound (loop_at w cells callers at) result cells' callers'
-  crosses-in f some c paid shallow room cells' filled size callers' callers_are result is =
+  crosses-in from f some c paid shallow room cells' filled size callers' callers_are result is =
       subst (λ (fs : List Frame). Crosses bound (loop_at w cells callers at) result cells' fs) (sym callers_are)
-      (crosses bound (loop_at w cells callers at) cells' (frame_waiting at ∷ callers) result (position_opened at f) some is (c.opens paid shallow room cells' filled size) (omega (arith, paid, next)))
+      (crosses bound (loop_at w cells callers at) cells' (frame_waiting at ∷ callers) result (position_opened at from.top f) some is (c.opens paid shallow room cells' filled size) (omega (arith, paid, next)))
 
   -- A frame was left.
   module _ (fuel results : ℕ) (leaves : Leaves bound w cells callers at fuel results) where

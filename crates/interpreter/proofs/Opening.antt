@@ -1,28 +1,26 @@
 -- Calls: the frame that is opened, and the one that waits around it.
-use Rattle.std.proofs.Common.{◌≡◌, ℕ, suc, ◌+◌, ◌-◌, ◌<◌, ◌≤◌, List, ◌++◌, length, map, reverse, take, drop, set, replicate, Some, slice_get, ap, sym, ◌∙◌, arith}
+use Rattle.std.proofs.Common.{◌≡◌, ℕ, suc, ◌+◌, ◌-◌, ◌<◌, ◌≤◌, List, ◌++◌, length, map, reverse, take, drop, set, replicate, Some, ap, sym, ◌∙◌, arith}
 use Rattle.std.proofs.lemmas.List.{drop-append-le, drop-set-add, drop-take, length-set, length-take-le, take-append-le, take-set-le, take-take, take_at}
-use Rattle.core_types.specs.declared.op.ControlOp.TheVariants as control
-use Rattle.core_types.specs.declared.op.PlainOp.TheVariants as plain
+use Rattle.core_types.specs.declared.op.PlainOp.{PlainOp}
 use Rattle.core_types.specs.declared.outcome.Val.{Val}
 use Rattle.core_types.specs.declared.types.FuncType.{FuncType}
 use Rattle.core_types.specs.declared.types.ValType.{ValType}
 use Rattle.meaning.specs.structure.Bodies.{Body, Then}
-use Rattle.meaning.specs.execution.Instructions.{function_at}
+use Rattle.meaning.specs.execution.Instructions.{call_function, lent_memory, step_instruction}
 use Rattle.meaning.specs.execution.Store.{Code, InCode}
 use Rattle.meaning.specs.soundness.Values.{ValuesHaveTypes}
 use Rattle.soundness.specs.Places.{context_at}
 use Rattle.soundness.specs.Stores.{ImplementationIsValid, body_place}
-use Rattle.sidetable.specs.Counts.{Signatures}
+use Rattle.sidetable.specs.Counts.{Signatures, counts, counts_of}
 use Rattle.cells.specs.Cells.{cell_of}
 use Rattle.simulation.specs.Entries.{callee}
 use Rattle.simulation.specs.Piles.{cells_of}
-use Rattle.simulation.specs.Runs.{Ghost, Runs, frame_of}
+use Rattle.simulation.specs.Runs.{Ghost, Holds, Runs, frame_of}
 use Rattle.simulation.specs.Standing.{values_under}
-use Rattle.simulation.proofs.Plain.{top-within}
 use Rattle.simulation.proofs.Entries.{call-enters}
 use Rattle.simulation.proofs.Typed.{all-length}
 use Rattle.interpreter.specs.Layout.{put_back, without_scrap}
-use Rattle.interpreter.specs.Running.{Machine, RunsAt, cells_in, height_in}
+use Rattle.interpreter.specs.Running.{Machine, RunsAt, height_in}
 use Rattle.interpreter.specs.Worlds.{World}
 use Rattle.interpreter.proofs.Cells.{frame-length, own-length}
 use Rattle.interpreter.proofs.Forms.{inside}
@@ -36,18 +34,26 @@ own-cells locals base cells operand scrap =
     take_at (take locals (drop base (set cells (base + locals) operand))) (drop (suc (base + locals)) (set cells (base + locals) operand)) locals (own-length locals base (set cells (base + locals) operand) (omega (arith, size, scrap)))
     ∙ ap (take locals) (drop-set-add base cells locals operand) ∙ take-set-le locals (drop base cells) locals operand (omega arith)
 
--- What is called by the index x stands before its call, with its arguments on top.
-pub record StandsBeforeCall (x : ℕ) (h : Ghost) (t : FuncType) (instance : ℕ) (code : Code) : Type 0 where
+-- A call of a function of a module stands next. Its arguments are on top of the frame's cells, where this is the topmost operand, at this place.
+pub record StandsBeforeCall (op : PlainOp) (m : Machine) (h : Ghost) (top operand : ℕ) (t : FuncType) (instance : ℕ) (code : Code) : Type 0 where
   pub rest : Body
-  pub rest_is : h.rest ≡ Then (plain.Control (control.Call x)) rest
-  pub there : function_at h.store (frame_of h) x ≡ Some (record { ty = t; implementation = InCode instance code })
-  pub counted : slice_get h.code.signatures.functions x ≡ Some t
+  pub rest_is : h.rest ≡ Then op rest
+  -- the values up to the arguments
+  pub values : List Val
+  pub height : ℕ
+  pub over : ℕ
+  pub above : height_in m ≡ height + over
+  pub top_is : top ≡ m.base + height
+  pub holds : Holds (record h { values = values }) (put_back m.locals m.base m.cells top operand) height
   pub valid : ImplementationIsValid h.store t (InCode instance code)
   pub below : List ValType
-  pub typed : ValuesHaveTypes h.store h.values (reverse t.params ++ below)
-  pub enough : length t.params ≤ length h.values
+  pub typed : ValuesHaveTypes h.store values (reverse t.params ++ below)
+  pub enough : length t.params ≤ length values
+  pub counted : counts_of h.code.signatures op ≡ Some (counts (over + length t.params) (length t.results))
+  pub step : step_instruction h.store (frame_of h) op h.values rest
+      ≡ call_function 1 h.store (lent_memory h.store (frame_of h)) (Some (record { ty = t; implementation = InCode instance code })) values rest
 
-module _ (w : World) (m : Machine) (h : Ghost) (r : RunsAt w m h) (x : ℕ) (t : FuncType) (instance : ℕ) (code : Code) (b : StandsBeforeCall x h t instance code) where
+module _ (w : World) (m : Machine) (h : Ghost) (r : RunsAt w m h) (op : PlainOp) (top operand : ℕ) (t : FuncType) (instance : ℕ) (code : Code) (b : StandsBeforeCall op m h top operand t instance code) where
   abbrev n : ℕ
   n = length t.params
 
@@ -55,68 +61,78 @@ module _ (w : World) (m : Machine) (h : Ghost) (r : RunsAt w m h) (x : ℕ) (t :
   k = length code.locals
 
   abbrev put : List ℕ
-  put = set m.cells m.top m.operand
+  put = set m.cells top operand
 
-  pub arguments-fit : m.base + m.locals + n ≤ m.top
-  arguments-fit = omega (arith, r.runs.holds.top_is, r.low, r.count, b.enough)
+  -- The cells of the frame, up to the arguments.
+  abbrev frame_cells : List ℕ
+  frame_cells = put_back m.locals m.base m.cells top operand
+
+  pub arguments-fit : m.base + m.locals + n ≤ top
+  arguments-fit = omega (arith, b.holds.top_is, b.top_is, r.count, b.enough)
+
+  pub top-inside : top < length m.cells
+  top-inside = omega (arith, b.above, b.top_is, r.low, inside w m h r)
 
   put-size : length put ≡ length m.cells
-  put-size = length-set m.cells m.top m.operand
+  put-size = length-set m.cells top operand
+
+  frame-size : length frame_cells ≡ length m.cells - suc m.base
+  frame-size = let whole = frame-length m.locals m.base put (omega (arith, put-size, r.scrap)) in omega (arith, put-size, whole)
 
   -- With the cells behind the arguments cleared.
-  module _ (cells' : List ℕ) (filled : take (m.top + 1 + k) cells' ≡ take (m.top + 1) put ++ replicate k 0) (size : length cells' ≡ length m.cells) (base' : ℕ) (base_is : base' + n ≡ m.top + 1) where
-    first-size : length (take (m.top + 1) put) ≡ m.top + 1
-    first-size = length-take-le (m.top + 1) put (omega (arith, put-size, inside w m h r))
+  module _ (cells' : List ℕ) (filled : take (top + 1 + k) cells' ≡ take (top + 1) put ++ replicate k 0) (size : length cells' ≡ length m.cells) (base' : ℕ) (base_is : base' + n ≡ top + 1) where
+    first-size : length (take (top + 1) put) ≡ top + 1
+    first-size = length-take-le (top + 1) put (omega (arith, put-size, top-inside))
 
     -- The cells below are as they were.
-    same-below : (q : ℕ) → q ≤ m.top + 1 → take q cells' ≡ take q put
+    same-below : (q : ℕ) → q ≤ top + 1 → take q cells' ≡ take q put
     same-below q le =
-        sym (take-take q (m.top + 1 + k) cells' (omega (arith, le))) ∙ ap (take q) filled
-        ∙ take-append-le q (take (m.top + 1) put) (replicate k 0) (omega (arith, first-size, le)) ∙ take-take q (m.top + 1) put le
+        sym (take-take q (top + 1 + k) cells' (omega (arith, le))) ∙ ap (take q) filled
+        ∙ take-append-le q (take (top + 1) put) (replicate k 0) (omega (arith, first-size, le)) ∙ take-take q (top + 1) put le
 
     pub outer-below : take m.base (take base' cells') ≡ take m.base m.cells
     outer-below =
-        take-take m.base base' cells' (omega (arith, arguments-fit, base_is)) ∙ same-below m.base (omega (arith, arguments-fit)) ∙ take-set-le m.base m.cells m.top m.operand (omega (arith, arguments-fit))
+        take-take m.base base' cells' (omega (arith, arguments-fit, base_is)) ∙ same-below m.base (omega (arith, arguments-fit)) ∙ take-set-le m.base m.cells top operand (omega (arith, arguments-fit))
 
     -- The arguments lie where the callee's frame begins.
-    arguments-lie : take n (drop base' put) ≡ take n (drop (height_in m - n) (cells_in m))
+    arguments-lie : take n (drop base' put) ≡ take n (drop (b.height - n) frame_cells)
     arguments-lie =
-        let j = height_in m - n - m.locals in
-        let over : height_in m - n ≡ m.locals + j = omega (arith, arguments-fit) in
-        let at : suc (m.base + m.locals) + j ≡ base' = omega (arith, arguments-fit, base_is) in
+        let j = b.height - n - m.locals in
+        let over : b.height - n ≡ m.locals + j = omega (arith, arguments-fit, b.top_is) in
+        let at : suc (m.base + m.locals) + j ≡ base' = omega (arith, arguments-fit, base_is, b.top_is) in
         ap (λ (i : ℕ). take n (drop i put)) (sym at)
         ∙ ap (take n) (sym (drop-frame m.locals m.base put (omega (arith, put-size, r.scrap)) j))
-        ∙ ap (λ (i : ℕ). take n (drop i (cells_in m))) (sym over)
+        ∙ ap (λ (i : ℕ). take n (drop i frame_cells)) (sym over)
 
-    callee-cells : m.top + 1 + k < length cells' → take (n + k) (put_back (n + k) base' cells' (base' + (n + k)) 0) ≡ take n (drop (height_in m - n) (cells_in m)) ++ replicate k 0
+    callee-cells : top + 1 + k < length cells' → take (n + k) (put_back (n + k) base' cells' (base' + (n + k)) 0) ≡ take n (drop (b.height - n) frame_cells) ++ replicate k 0
     callee-cells room =
-        let all : base' + (n + k) ≡ m.top + 1 + k = omega (arith, base_is) in
+        let all : base' + (n + k) ≡ top + 1 + k = omega (arith, base_is) in
         own-cells (n + k) base' cells' 0 (omega (arith, all, room))
         ∙ sym (drop-take base' (n + k) cells')
         ∙ ap (λ (i : ℕ). drop base' (take i cells')) all
         ∙ ap (drop base') filled
-        ∙ drop-append-le base' (take (m.top + 1) put) (replicate k 0) (omega (arith, first-size, base_is))
+        ∙ drop-append-le base' (take (top + 1) put) (replicate k 0) (omega (arith, first-size, base_is))
         ∙ ap (λ (z : List ℕ). z ++ replicate k 0) (ap (λ (i : ℕ). drop base' (take i put)) (sym base_is) ∙ drop-take base' n put ∙ arguments-lie)
 
     -- The callee runs at its first place.
     pub callee-runs : (s : Signatures) → (context_at h.store (body_place t instance code)).types ≡ s.types → (context_at h.store (body_place t instance code)).functions ≡ s.functions
-        → m.top + 1 + k + (callee h s t instance code h.values).code.greatest < length cells'
-        → Runs (callee h s t instance code h.values) (put_back (n + k) base' cells' (base' + (n + k)) 0) 0 (n + k)
+        → top + 1 + k + (callee h s t instance code b.values).code.greatest < length cells'
+        → Runs (callee h s t instance code b.values) (put_back (n + k) base' cells' (base' + (n + k)) 0) 0 (n + k)
     callee-runs s types functions room =
         let set_size = length-set cells' (base' + (n + k)) 0 in
         let whole_size = frame-length (n + k) base' (set cells' (base' + (n + k)) 0) (omega (arith, set_size, base_is, room)) in
-        call-enters h (cells_in m) (height_in m) r.runs.typed.valid r.runs.holds (top-within h (cells_in m) m.place (height_in m) r.runs) s t instance code b.valid b.below b.typed b.enough types functions (put_back (n + k) base' cells' (base' + (n + k)) 0) (callee-cells (omega (arith, room)))
+        call-enters (record h { values = b.values }) frame_cells b.height r.runs.typed.valid b.holds (omega (arith, frame-size, top-inside, b.top_is)) s t instance code b.valid b.below b.typed b.enough types functions (put_back (n + k) base' cells' (base' + (n + k)) 0) (callee-cells (omega (arith, room)))
         (omega (arith, whole_size, set_size, base_is, room))
 
     -- What the caller's frame holds then.
-    pub caller-cells : without_scrap m.locals m.base (take base' cells') ≡ map cell_of h.locals ++ cells_of (drop n h.values ++ values_under h.labels)
+    pub caller-cells : without_scrap m.locals m.base (take base' cells') ≡ map cell_of h.locals ++ cells_of (drop n b.values ++ values_under h.labels)
     caller-cells =
         let j = base' - suc (m.base + m.locals) in
         let sum : base' ≡ suc (m.base + m.locals) + j = omega (arith, arguments-fit, base_is) in
-        let height : m.locals + j ≡ height_in m - n = omega (arith, arguments-fit, base_is) in
-        let all = all-length h.values h.labels in
+        let height : m.locals + j ≡ b.height - n = omega (arith, arguments-fit, base_is, b.top_is) in
+        let all = all-length b.values h.labels in
         ap (without_scrap m.locals m.base) (same-below base' (omega (arith, base_is)) ∙ ap (λ (q : ℕ). take q put) sum)
         ∙ sym (frame-taken m.locals m.base put (omega (arith, put-size, r.scrap)) j)
-        ∙ ap (λ (q : ℕ). take q (cells_in m)) height
-        ∙ below-parted (cells_in m) (height_in m) h.locals (h.values ++ values_under h.labels) n r.runs.holds.held (omega (arith, r.runs.holds.top_is, all)) (omega (arith, b.enough, all))
-        ∙ ap (λ (vs : List Val). map cell_of h.locals ++ cells_of vs) (drop-append-le n h.values (values_under h.labels) b.enough)
+        ∙ ap (λ (q : ℕ). take q frame_cells) height
+        ∙ below-parted frame_cells b.height h.locals (b.values ++ values_under h.labels) n b.holds.held (omega (arith, b.holds.top_is, all)) (omega (arith, b.enough, all))
+        ∙ ap (λ (vs : List Val). map cell_of h.locals ++ cells_of vs) (drop-append-le n b.values (values_under h.labels) b.enough)

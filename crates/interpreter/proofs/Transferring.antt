@@ -21,7 +21,6 @@ use Rattle.interpreter.specs.declared.machine.Frame.{Frame}
 use Rattle.interpreter.specs.declared.machine.Position.{Position}
 use Rattle.interpreter.specs.declared.machine.Stop.{Stop}
 use Rattle.interpreter.specs.declared.machine.Stop.TheVariants as stop
-use Rattle.interpreter.proofs.Crossings.{stops-there}
 use Rattle.interpreter.proofs.Lifting.{ran-turned, stops-failing, stops-lacking}
 use Rattle.interpreter.proofs.Returning.{end-leaves, return-lacks, return-leaves}
 
@@ -57,9 +56,6 @@ module _ (bound : ℕ) (w : World) (cells : List ℕ) (callers : List Frame) (at
 
   pub back-lacks : kind ≡ transfer.Return → (s : Stop) → (s ≡ stop.NoFuel) × (at.fuel ≡ 0) → StopsAt bound l s l
   back-lacks is s (is_none, none) = subst (λ (q : Stop). StopsAt bound l q l) (sym is_none) (return-lacks bound w cells callers at n (turns-at transfer.Return is) none)
-
-  pub indirect-stops : kind ≡ transfer.CallIndirect → StopsAt bound l (stop.LeavesTransfer kind n) l
-  indirect-stops is = subst (λ (k : TransferInstruction). StopsAt bound l (stop.LeavesTransfer k n) l) (sym is) (stops-there bound l transfer.CallIndirect n (turns-at transfer.CallIndirect is))
 
   -- ---- where the frame is left
 

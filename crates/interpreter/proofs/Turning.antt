@@ -8,7 +8,7 @@ use Rattle.core_types.specs.declared.op.Width.TheVariants.{W32}
 use Rattle.core_types.specs.declared.types.RefType.TheVariants as ref
 use Rattle.sidetable.specs.Flat.{FlatOp, Plain}
 use Rattle.sidetable.specs.Packing.{IsOtherWithin, IsTransferWithin, IsWithin, branch_entries, load_op, other_op, store_op, transfer_op, unpacked}
-use Rattle.sidetable.specs.SideTables.{branch_range_of, constant_of, entry_of_number}
+use Rattle.sidetable.specs.SideTables.{branch_range_of, constant_of, entry_of_number, pair_of}
 use Rattle.sidetable.specs.declared.operations.OtherInstruction.{OtherInstruction}
 use Rattle.sidetable.specs.declared.operations.OtherInstruction.TheVariants as other
 use Rattle.sidetable.specs.declared.operations.PackedOp.{PackedOp}
@@ -19,6 +19,7 @@ use Rattle.simulation.specs.Runs.{Ghost}
 use Rattle.interpreter.specs.Running.{Machine, RunsAt, cells_in, height_in}
 use Rattle.interpreter.specs.Turns.{Fits, LeadsOn, OperationsTurn, OtherFits, OtherLeads, TransferFits, TransferLeads}
 use Rattle.interpreter.specs.Worlds.{World}
+use Rattle.interpreter.proofs.Calling.{calls-there, calls-through-there}
 use Rattle.interpreter.proofs.Control.{branches-by-table-there, branches-if-there, branches-there, chooses-there, enters-there, jumps-there}
 use Rattle.interpreter.proofs.Forms.{IsAt}
 use Rattle.interpreter.proofs.Instructions.{does-nothing-there, drops-there, fails-there, gets-local-there, puts-i32-there, puts-i64-there, puts-null-there, selects-there, sets-local-there, tees-local-there, tests-null-there}
@@ -27,7 +28,7 @@ use Rattle.interpreter.proofs.Numbers.{adds-there, binary-there, unary-there}
 use Rattle.interpreter.proofs.Placing.{StandsBefore, stands-there}
 
 module _ (w : World) (m : Machine) (g : Ghost) (r : RunsAt w m g) where
-  transfers : (kind : TransferInstruction) (n : ℕ) → IsAt m g (transfer_op m.tables kind n) → IsTransferWithin m.tables kind n → TransferFits m kind n × TransferLeads w m g kind n
+  transfers : (kind : TransferInstruction) (n : ℕ) → IsAt m g (transfer_op m.tables kind n) → IsTransferWithin m.tables kind n → TransferFits w m kind n × TransferLeads w m g kind n
   transfers transfer.Unreachable n b within = (tt, fails-there w m g r b)
   transfers transfer.If n b within = let (some, leads) = chooses-there w m g r (entry_of_number m.tables n) b in ((some, within), leads)
   transfers transfer.Jump n b within = let (later, leads) = jumps-there w m g r (entry_of_number m.tables n) b in ((within, later), leads)
@@ -36,8 +37,12 @@ module _ (w : World) (m : Machine) (g : Ghost) (r : RunsAt w m g) where
       let range = branch_range_of m.tables n in
       let (needs, leads) = branches-by-table-there w m g r (branch_entries m.tables range) (entry_of_number m.tables range.default) b in
       ((needs.0, within.0, within.1, within.2, needs.1), leads)
+  transfers transfer.Return n b within = (within, (b.more, b.there))
+  transfers transfer.Call n b within = calls-there w m g r n b
+  transfers transfer.CallIndirect n b within =
+      let (needs, leads) = calls-through-there w m g r (pair_of m.tables n).first (pair_of m.tables n).second b in
+      ((needs.0, within, needs.1, needs.2, needs.3), leads)
   transfers transfer.Leave n b within = absurd within
-  transfers kind n b within = (within, (b.more, b.there))
 
   others : (kind : OtherInstruction) (n : ℕ) → IsAt m g (Plain (other_op m.tables kind n)) → IsOtherWithin m.tables kind n → OtherFits w m kind n × OtherLeads w m g kind n
   others other.Nop n b within = (tt, does-nothing-there w m g r b)

@@ -1,20 +1,18 @@
 -- A call of a function of a module: its frame is opened, and the one that called it waits.
-use Rattle.std.proofs.Common.{◌≡◌, ℕ, suc, ◌+◌, ◌-◌, ◌<◌, ◌≤◌, List, ◌∷◌, ◌++◌, length, take, drop, set, replicate, Option, Some, slice_get, refl, ap, sym, subst, ◌∙◌, arith}
+use Rattle.std.proofs.Common.{◌≡◌, ℕ, suc, ◌+◌, ◌-◌, ◌<◌, ◌≤◌, List, ◌∷◌, ◌++◌, length, take, drop, set, replicate, Some, slice_get, refl, ap, sym, subst, ◌∙◌, arith}
 use Rattle.std.proofs.lemmas.List.{length-drop, length-map, length-set, length-take-le}
 use Rattle.std.proofs.lemmas.Option.{slice_get_within}
-use Rattle.core_types.specs.declared.op.ControlOp.TheVariants as control
-use Rattle.core_types.specs.declared.op.PlainOp.TheVariants as plain
-use Rattle.core_types.specs.declared.types.FuncType.{FuncType}
+use Rattle.core_types.specs.declared.op.PlainOp.{PlainOp}
 use Rattle.meaning.specs.structure.Bodies.{Body, Then}
 use Rattle.meaning.specs.execution.Configurations.{Frame as Activated, depth, no_frame}
-use Rattle.meaning.specs.execution.Instructions.{Opens, next}
+use Rattle.meaning.specs.execution.Instructions.{Opens, lent_memory, next}
 use Rattle.meaning.specs.execution.Layers.{plug}
 use Rattle.meaning.specs.execution.Modules.{code_of}
 use Rattle.meaning.specs.execution.Runs.{none, one_more, opens}
 use Rattle.meaning.specs.execution.Store.{Store, instance_of}
 use Rattle.soundness.specs.Places.{context_at, instance_context}
 use Rattle.soundness.specs.Stores.{body_place}
-use Rattle.sidetable.specs.Counts.{Signatures, counts, counts_of, counts_of_type}
+use Rattle.sidetable.specs.Counts.{Signatures}
 use Rattle.sidetable.specs.Flat.{FlatFunction}
 use Rattle.sidetable.specs.FlatModules.{AreWithin}
 use Rattle.simulation.specs.Entries.{callee}
@@ -36,13 +34,12 @@ use Rattle.interpreter.specs.declared.machine.Frame.{Frame}
 use Rattle.interpreter.specs.declared.machine.Position.{Position}
 use Rattle.interpreter.proofs.Cells.{frame-length}
 use Rattle.interpreter.proofs.Finding.{IsAtAddress}
-use Rattle.interpreter.proofs.Forms.{inside}
 use Rattle.interpreter.proofs.Lifting.{layers-out}
-use Rattle.interpreter.proofs.Opening.{StandsBeforeCall, arguments-fit, callee-runs, caller-cells, outer-below}
+use Rattle.interpreter.proofs.Opening.{StandsBeforeCall, arguments-fit, callee-runs, caller-cells, outer-below, top-inside}
 use Rattle.interpreter.proofs.Switching.{callers-count, switched, whole-depth}
 
 module _ (bound : ℕ) (w : World) (cells : List ℕ) (callers : List Frame) (at : Position) (u : Whole) (r : RunsWhole bound (loop_at w cells callers at) u)
-    (x address : ℕ) (f : ModuleFunction) (found : IsAtAddress w.code address f) (b : StandsBeforeCall x u.ghost f.ty.now f.instance (code_of f.func.now)) where
+    (op : PlainOp) (top operand address : ℕ) (f : ModuleFunction) (found : IsAtAddress w.code address f) (b : StandsBeforeCall op (machine_at cells at) u.ghost top operand f.ty.now f.instance (code_of f.func.now)) where
   abbrev m : Machine
   m = machine_at cells at
 
@@ -68,13 +65,13 @@ module _ (bound : ℕ) (w : World) (cells : List ℕ) (callers : List Frame) (at
     at = at.frame.place + 1;
     instance = h.instance;
     locals = h.locals;
-    values = drop n h.values;
+    values = drop n b.values;
     labels = h.labels;
     rest = b.rest;
   }
 
   abbrev pub called : Whole
-  called = record { ghost = callee h s f.ty.now f.instance (code_of f.func.now) h.values; callers = waiting ∷ u.callers; results = u.results }
+  called = record { ghost = callee h s f.ty.now f.instance (code_of f.func.now) b.values; callers = waiting ∷ u.callers; results = u.results }
 
   -- ---- the step
 
@@ -82,8 +79,8 @@ module _ (bound : ℕ) (w : World) (cells : List ℕ) (callers : List Frame) (at
   opens-next =
       subst (λ (z : Store). next z no_frame (whole u) ≡ Opens 1 z (whole called)) r.runs.store
       (subst (λ (z : Body). next h.store no_frame (plug (layers_of u) (frame_of h) (in_frame h.values h.labels z)) ≡ Opens 1 h.store (whole called)) (sym b.rest_is)
-      (subst (λ (z : Activated). next h.store z (plug (layers_of u) (frame_of h) (in_frame h.values h.labels (Then (plain.Control (control.Call x)) b.rest))) ≡ Opens 1 h.store (whole called)) (layers-out u.callers h.code.outermost.kept (frame_of h))
-      (frames-come-and-go.called h.store (layers_of u) (frame_of h) x f.ty.now f.instance (code_of f.func.now) h.values h.labels b.rest b.there b.enough)))
+      (subst (λ (z : Activated). next h.store z (plug (layers_of u) (frame_of h) (in_frame h.values h.labels (Then op b.rest))) ≡ Opens 1 h.store (whole called)) (layers-out u.callers h.code.outermost.kept (frame_of h))
+      (frames-come-and-go.called_by h.store (layers_of u) (frame_of h) op (lent_memory h.store (frame_of h)) f.ty.now f.instance (code_of f.func.now) h.values b.values h.labels b.rest b.step b.enough)))
 
   pub depth-is : depth (whole u) ≡ suc (length callers)
   depth-is =
@@ -92,8 +89,8 @@ module _ (bound : ℕ) (w : World) (cells : List ℕ) (callers : List Frame) (at
 
   -- ---- what is there
 
-  pub fits : at.frame.base + at.frame.locals + f.flat.params ≤ at.top
-  fits = let fit = arguments-fit w m h r.runs x f.ty.now f.instance (code_of f.func.now) b in omega (arith, fit, found.flat.params)
+  pub fits : at.frame.base + at.frame.locals + f.flat.params ≤ top
+  fits = let fit = arguments-fit w m h r.runs op top operand f.ty.now f.instance (code_of f.func.now) b in omega (arith, fit, found.flat.params)
 
   pub declared : f.flat.params ≤ f.flat.locals
   declared = omega (arith, found.flat.params, found.flat.locals)
@@ -102,9 +99,9 @@ module _ (bound : ℕ) (w : World) (cells : List ℕ) (callers : List Frame) (at
   declared-is = omega (arith, found.flat.params, found.flat.locals)
 
   abbrev base' : ℕ
-  base' = at.top + 1 - f.flat.params
+  base' = top + 1 - f.flat.params
 
-  base-is : base' + n ≡ at.top + 1
+  base-is : base' + n ≡ top + 1
   base-is = omega (arith, fits, found.flat.params)
 
   context : AreOfContext h.code.signatures (instance_context (code_store w.code) (instance_of (code_store w.code) (Some h.instance)))
@@ -121,22 +118,20 @@ module _ (bound : ℕ) (w : World) (cells : List ℕ) (callers : List Frame) (at
 
   -- ---- with the cells behind the arguments cleared
 
-  module _ (cells' : List ℕ) (filled : take (at.top + 1 + declared_locals f) cells' ≡ take (at.top + 1) (set cells at.top at.operand) ++ replicate (declared_locals f) 0) (size : length cells' ≡ length cells)
-      (room : at.top + 1 + declared_locals f + f.flat.greatest < length cells) where
-    filled-all : take (at.top + 1 + k) cells' ≡ take (at.top + 1) (set cells at.top at.operand) ++ replicate k 0
-    filled-all = subst (λ (q : ℕ). take (at.top + 1 + q) cells' ≡ take (at.top + 1) (set cells at.top at.operand) ++ replicate q 0) declared-is filled
-
-    counted : counts_of h.code.signatures (plain.Control (control.Call x)) ≡ Some (counts n (length f.ty.now.results))
-    counted = ap (λ (o : Option FuncType). Some (counts_of_type o)) b.counted
+  module _ (cells' : List ℕ) (filled : take (top + 1 + declared_locals f) cells' ≡ take (top + 1) (set cells top operand) ++ replicate (declared_locals f) 0) (size : length cells' ≡ length cells)
+      (room : top + 1 + declared_locals f + f.flat.greatest < length cells) where
+    filled-all : take (top + 1 + k) cells' ≡ take (top + 1) (set cells top operand) ++ replicate k 0
+    filled-all = subst (λ (q : ℕ). take (top + 1 + q) cells' ≡ take (top + 1) (set cells top operand) ++ replicate q 0) declared-is filled
 
     waits : CallerStands w.code (length cells') (frame_waiting at) waiting (length f.ty.now.results) (take base' cells')
     waits =
-        let in_cells = inside w m h r.runs in
+        let in_cells = top-inside w m h r.runs op top operand f.ty.now f.instance (code_of f.func.now) b in
         let taken_size = length-take-le base' cells' (omega (arith, size, in_cells)) in
-        let dropped_size = length-drop n h.values in
+        let dropped_size = length-drop n b.values in
+        let many : length h.values ≡ length b.values + b.over = omega (arith, r.runs.runs.holds.top_is, b.holds.top_is, b.above) in
         let next_place : suc at.frame.place ≡ at.frame.place + 1 = omega arith in
-        let written = length-set cells at.top at.operand in
-        let whole_size = frame-length at.frame.locals at.frame.base (set cells at.top at.operand) (omega (arith, written, r.runs.scrap)) in record {
+        let written = length-set cells top operand in
+        let whole_size = frame-length at.frame.locals at.frame.base (set cells top operand) (omega (arith, written, r.runs.scrap)) in record {
           place = refl;
           packed = r.runs.packed;
           within = r.runs.within;
@@ -144,17 +139,17 @@ module _ (bound : ℕ) (w : World) (cells : List ℕ) (callers : List Frame) (at
           there = let within = slice_get_within w.code.instances w.number w.instance r.runs.instance.there in omega (arith, within, r.runs.number);
           count = r.runs.count;
           signatures = context;
-          held = caller-cells w m h r.runs x f.ty.now f.instance (code_of f.func.now) b cells' filled-all size base' base-is;
-          high = omega (arith, taken_size, dropped_size, r.runs.runs.holds.top_is, r.runs.count, r.runs.low, fits, found.flat.params, b.enough);
+          held = caller-cells w m h r.runs op top operand f.ty.now f.instance (code_of f.func.now) b cells' filled-all size base' base-is;
+          high = omega (arith, taken_size, dropped_size, b.holds.top_is, b.top_is, r.runs.count, fits, found.flat.params, b.enough);
           room = omega (arith, r.runs.runs.holds.room, whole_size, written, r.runs.count, r.runs.scrap, size);
           stands = λ results is.
-              subst (λ (p : ℕ). StandsIn h.code p (results ++ drop n h.values) h.labels b.rest) next_place
-              (callers-on h.code at.frame.place h.values (drop n h.values) results h.labels (plain.Control (control.Call x)) b.rest n (length f.ty.now.results) counted b.enough dropped_size is
+              subst (λ (p : ℕ). StandsIn h.code p (results ++ drop n b.values) h.labels b.rest) next_place
+              (callers-on h.code at.frame.place h.values (drop n b.values) results h.labels op b.rest (b.over + n) (length f.ty.now.results) b.counted (omega (arith, many, b.enough)) (omega (arith, many, dropped_size)) is
               (subst (λ (z : Body). StandsIn h.code at.frame.place h.values h.labels z) b.rest_is r.runs.runs.stands));
         }
 
     abbrev top' : ℕ
-    top' = at.top + 1 + declared_locals f
+    top' = top + 1 + declared_locals f
 
     top-is : base' + (n + k) ≡ top'
     top-is = omega (arith, base-is, declared-is)
@@ -165,12 +160,12 @@ module _ (bound : ℕ) (w : World) (cells : List ℕ) (callers : List Frame) (at
     runs : Runs called.ghost (put_back f.flat.locals base' cells' top' 0) 0 (top' - base')
     runs =
         let height : n + k ≡ top' - base' = omega (arith, top-is) in
-        let first = callee-runs w m h r.runs x f.ty.now f.instance (code_of f.func.now) b cells' filled-all size base' base-is s types functions (omega (arith, room, size, declared-is, greatest-is)) in
+        let first = callee-runs w m h r.runs op top operand f.ty.now f.instance (code_of f.func.now) b cells' filled-all size base' base-is s types functions (omega (arith, room, size, declared-is, greatest-is)) in
         subst (λ (q : ℕ). Runs called.ghost (put_back f.flat.locals base' cells' top' 0) 0 q) height
         (subst (λ (q : ℕ). Runs called.ghost (put_back f.flat.locals base' cells' q 0) 0 (n + k)) top-is
         (subst (λ (q : ℕ). Runs called.ghost (put_back q base' cells' (base' + (n + k)) 0) 0 (n + k)) (sym found.flat.locals) first))
 
-    opened-runs : (other : World) → IsSeenFrom f.instance w other → RunsAt other (machine_at cells' (position_opened at f)) called.ghost
+    opened-runs : (other : World) → IsSeenFrom f.instance w other → RunsAt other (machine_at cells' (position_opened at top f)) called.ghost
     opened-runs other seen =
         let own = runs.holds.top_is in record {
           runs = runs;
@@ -191,16 +186,16 @@ module _ (bound : ℕ) (w : World) (cells : List ℕ) (callers : List Frame) (at
         omega (arith, within, size)
 
     opened-in : 1 ≤ at.fuel → suc (length callers) < bound → (other : World) → IsSeenFrom f.instance w other
-        → Reaches bound l u (record (loop_at w cells' (frame_waiting at ∷ callers) (position_opened at f)) { world = other })
+        → Reaches bound l u (record (loop_at w cells' (frame_waiting at ∷ callers) (position_opened at top f)) { world = other })
     opened-in some shallow other seen =
-        switched bound l (loop_at w cells' (frame_waiting at ∷ callers) (position_opened at f)) u called other seen r refl
+        switched bound l (loop_at w cells' (frame_waiting at ∷ callers) (position_opened at top f)) u called other seen r refl
         (one_more none (opens opens-next some refl refl (omega (arith, depth-is, shallow))))
         (opened-runs other seen) (
           waits,
-          subst (λ (z : List ℕ). CallersStand w.code (length cells') callers u.callers h.code.outermost.kept z) (sym (outer-below w m h r.runs x f.ty.now f.instance (code_of f.func.now) b cells' filled-all size base' base-is))
+          subst (λ (z : List ℕ). CallersStand w.code (length cells') callers u.callers h.code.outermost.kept z) (sym (outer-below w m h r.runs op top operand f.ty.now f.instance (code_of f.func.now) b cells' filled-all size base' base-is))
               (subst (λ (q : ℕ). CallersStand w.code q callers u.callers h.code.outermost.kept (take at.frame.base cells)) (sym size) r.callers),
         )
         refl (omega (arith, shallow))
 
-    pub opened : 1 ≤ at.fuel → suc (length callers) < bound → SwitchesTo bound l u (loop_at w cells' (frame_waiting at ∷ callers) (position_opened at f))
+    pub opened : 1 ≤ at.fuel → suc (length callers) < bound → SwitchesTo bound l u (loop_at w cells' (frame_waiting at ∷ callers) (position_opened at top f))
     opened some shallow = (opened-there, opened-in some shallow)

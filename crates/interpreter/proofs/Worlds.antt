@@ -4,16 +4,19 @@ use Rattle.std.proofs.lemmas.List.{get_or-set_same, length-set, set-set}
 use Rattle.std.proofs.lemmas.Option.{get_or_from_slice_get, slice_get-map, slice_get_within}
 use Rattle.std.specs.Prelude.{Option, Some, None, option_map, unwrap_or}
 use Rattle.core_types.specs.declared.outcome.Val.{Val}
+use Rattle.core_types.specs.declared.types.FuncType.{FuncType}
 use Rattle.meaning.specs.execution.Memories.{MemoryInstance}
 use Rattle.meaning.specs.execution.Store.{GlobalInstance, ModuleInstance, Store, instance_of, locate, locate_at, no_instance, with_global, with_memory}
+use Rattle.meaning.specs.execution.Tables.{TableInstance}
 use Rattle.cells.specs.Cells.{value_of}
 use Rattle.store.specs.Contents.{Contents, module_instance_of, store_with}
-use Rattle.store.specs.State.{StateContents, global_of, put_global}
+use Rattle.store.specs.State.{StateContents, global_of, put_global, table_of}
 use Rattle.simulation.specs.Memories.{HasMemory}
 use Rattle.simulation.specs.Runs.{Ghost}
+use Rattle.simulation.specs.Tables.{HasTable}
 use Rattle.simulation.specs.Variables.{HasGlobal}
 use Rattle.interpreter.specs.Running.{Machine, RunsAt}
-use Rattle.interpreter.specs.Turns.{function_address, global_address, with_global_cell}
+use Rattle.interpreter.specs.Turns.{entry_through, function_address, global_address, table_address, type_of, with_global_cell}
 use Rattle.interpreter.specs.Worlds.{World, memory_in, store_in, with_memory_back}
 
 -- ---- objects by address
@@ -39,6 +42,10 @@ module _ (code : Contents) (s : StateContents) (memory : MemoryInstance) where
   globals-stay : (o : Option ℕ) → (with_memory_back s o memory).contents.globals ≡ s.contents.globals
   globals-stay None = refl
   globals-stay (Some a) = refl
+
+  tables-stay : (o : Option ℕ) → (with_memory_back s o memory).contents.tables ≡ s.contents.tables
+  tables-stay None = refl
+  tables-stay (Some a) = refl
 
   memory-back : (o : Option ℕ) (address : ℕ) (found : MemoryInstance) → locate (with_memory_back s o memory).contents.memories o ≡ Some (address, found) → (o ≡ Some address) × (found ≡ memory)
   memory-back None address found e = absurd cc
@@ -113,3 +120,26 @@ module _ (w : World) (m : Machine) (g : Ghost) (r : RunsAt w m g) where
   function-there x address at =
       let named : slice_get w.instance.addresses.functions.items x ≡ Some address = ap (λ (i : ModuleInstance). slice_get i.functions x) (sym there) ∙ at in
       (slice_get_within w.instance.addresses.functions.items x address named, get_or_from_slice_get w.instance.addresses.functions.items x address 0 named)
+
+  pub type-there : (x : ℕ) (t : FuncType) → slice_get (instance_of g.store (Some g.instance)).types x ≡ Some t → (x < length w.instance.loaded.value.types) × (type_of w.instance x ≡ t)
+  type-there x t at =
+      let named : slice_get w.instance.loaded.value.types x ≡ Some t = ap (λ (i : ModuleInstance). slice_get i.types x) (sym there) ∙ at in
+      (slice_get_within w.instance.loaded.value.types x t named, get_or_from_slice_get w.instance.loaded.value.types x t _ named)
+
+  -- Its tables are those of the state.
+  pub record TableThere (x : ℕ) (table : TableInstance) : Type 0 where
+    pub named : x < length w.instance.addresses.tables.items
+    pub inside : table_address w.instance x < length w.state.contents.tables
+    pub entry : (offset : ℕ) → entry_through w.instance w.state x offset ≡ slice_get table.entries offset
+
+  pub table-there : (x address : ℕ) (table : TableInstance) → HasTable g x address table → TableThere x table
+  table-there x address table has =
+      let (at, found) = located g.store.tables (slice_get (instance_of g.store (Some g.instance)).tables x) address table has in
+      let named : slice_get w.instance.addresses.tables.items x ≡ Some address = ap (λ (i : ModuleInstance). slice_get i.tables x) (sym there) ∙ at in
+      let in_state : slice_get w.state.contents.tables address ≡ Some table = ap (λ (ts : List TableInstance). slice_get ts address) (sym (ap (λ (s : Store). s.tables) r.store ∙ tables-stay w.code w.state (memory_in w) w.address)) ∙ found in
+      let is : table_address w.instance x ≡ address = get_or_from_slice_get w.instance.addresses.tables.items x address 0 named in
+      let within : address < length w.state.contents.tables = slice_get_within w.state.contents.tables address table in_state in record {
+        named = slice_get_within w.instance.addresses.tables.items x address named;
+        inside = omega (arith, is, within);
+        entry = λ offset. ap (λ (a : ℕ). slice_get (table_of w.state a).entries offset) is ∙ ap (λ (t : TableInstance). slice_get t.entries offset) (get_or_from_slice_get w.state.contents.tables address table _ in_state);
+      }

@@ -45,30 +45,28 @@ frame_waiting at = record at.frame { place = at.frame.place + 1 }
 abbrev pub declared_locals : ModuleFunction → ℕ
 declared_locals f = f.flat.locals - f.flat.params
 
--- The first place of a function whose arguments were on top.
-abbrev pub position_opened : Position → ModuleFunction → Position
-position_opened at f = record {
+-- The first place of a function that is called at a position, where its last argument lies.
+abbrev pub position_opened : Position → (top : ℕ) → ModuleFunction → Position
+position_opened at top f = record {
   frame = record {
     operations = f.flat.operations;
     tables = f.flat.tables;
     instance = f.instance;
     locals = f.flat.locals;
-    base = at.top + 1 - f.flat.params;
+    base = top + 1 - f.flat.params;
     place = 0;
   };
-  top = at.top + 1 + declared_locals f;
+  top = top + 1 + declared_locals f;
   operand = 0;
   fuel = at.fuel - 1;
 }
 
--- A call of a function of a module.
+-- A call at a position of a function of a module, whose arguments are on top at another one of the frame.
 pub record CallsModule (bound : ℕ) (w : World) (cells : List ℕ) (callers : List Frame)
-    (at : Position) (f : ModuleFunction) : Type 0 where
-  pub room : at.top < length cells
-  pub arguments : at.frame.base + at.frame.locals + f.flat.params ≤ at.top
+    (at from : Position) (f : ModuleFunction) : Type 0 where
+  pub room : from.top < length cells
+  pub arguments : at.frame.base + at.frame.locals + f.flat.params ≤ from.top
   pub declared : f.flat.params ≤ f.flat.locals
-  pub no_fuel : at.fuel ≡ 0
-      → StopsAt bound (loop_at w cells callers at) stop.NoFuel (loop_at w cells callers at)
   pub no_depth : 1 ≤ at.fuel → bound ≤ suc (length callers)
       → StopsAt bound (loop_at w cells callers at) stop.NoDepth (loop_at w cells callers at)
   pub no_room : 1 ≤ at.fuel → suc (length callers) < bound
@@ -77,18 +75,23 @@ pub record CallsModule (bound : ℕ) (w : World) (cells : List ℕ) (callers : L
       → StopsAt bound (loop_at w cells callers at) stop.NoMemory (loop_at w cells callers at)
   -- with the cells behind the arguments cleared
   pub opens : 1 ≤ at.fuel → suc (length callers) < bound
-      → at.top + 1 + declared_locals f + f.flat.greatest < length cells → (cells' : List ℕ)
-      → take (at.top + 1 + declared_locals f) cells' ≡
-      take (at.top + 1) (set cells at.top at.operand) ++ replicate (declared_locals f) 0
+      → from.top + 1 + declared_locals f + f.flat.greatest < length cells → (cells' : List ℕ)
+      → take (from.top + 1 + declared_locals f) cells' ≡
+      take (from.top + 1) (set cells from.top from.operand) ++ replicate (declared_locals f) 0
       → length cells' ≡ length cells
       → CrossesTo bound (loop_at w cells callers at)
-      (loop_at w cells' (frame_waiting at ∷ callers) (position_opened at f))
+      (loop_at w cells' (frame_waiting at ∷ callers) (position_opened at from.top f))
 
--- A call of what was found. One of a host function is left to others.
-abbrev pub Calls : (bound : ℕ) → World → (cells : List ℕ) → (callers : List Frame) → Position
-    → Callee → Type 0
-Calls bound w cells callers at (callee.InModule f) = CallsModule bound w cells callers at f
-Calls bound w cells callers at (callee.InHost f) = Unit {0}
+-- A call of what is at an address. The loop stops before one of a host function.
+abbrev pub Calls : (bound : ℕ) → World → (cells : List ℕ) → (callers : List Frame)
+    → (at from : Position) → (address : ℕ) → Callee → Type 0
+Calls bound w cells callers at from address (callee.InModule f) =
+    CallsModule bound w cells callers at from f
+Calls bound w cells callers at from address (callee.InHost f) =
+    (from.top < length cells)
+    × (1 ≤ at.fuel
+    → StopsAt bound (loop_at w cells callers at) (stop.CallsHost address (from.top + 1))
+    (loop_at w cells callers at))
 
 -- ---- returns and ends
 

@@ -8,5 +8,4 @@ pub mod Looping
 pub mod Crossing
 pub mod Stepping
 pub mod Calling
-pub mod Resting
-pub mod Starting
+pub mod Callees

@@ -5,7 +5,7 @@ use Rattle.sidetable.specs.Packing.{other_op}
 use Rattle.simulation.specs.Runs.{Ghost, Lacks}
 use Rattle.interpreter.specs.Looping.{machine_at}
 use Rattle.interpreter.specs.Running.{GoesTo, Machine, RunsAt, cells_in, height_in}
-use Rattle.interpreter.specs.Turns.{StandsThere}
+use Rattle.interpreter.specs.Turns.{IsLeft, StandsThere}
 use Rattle.interpreter.specs.Worlds.{World}
 use Rattle.interpreter.specs.declared.machine.Position.{Position}
 use Rattle.interpreter.specs.declared.machine.Stop.{Stop}
@@ -37,7 +37,7 @@ IsPaid at (Err s) there = (s ≡ stop.NoFuel) × (at.fuel ≡ 0)
 abbrev pub StopsThere : Stop → Machine → (fuel : ℕ) → Ghost → Type 0
 StopsThere stop.NoFuel m fuel g = Lacks g fuel (cells_in m) m.place (height_in m) fuel
 StopsThere (stop.LeavesOther kind n) m fuel g =
-    StandsThere m g (Plain (other_op m.tables kind n))
+    IsLeft kind × StandsThere m g (Plain (other_op m.tables kind n))
 StopsThere other m fuel g = ⊥
 
 -- It goes on with the next operation, in the same frame.

@@ -1,22 +1,28 @@
 -- What an operation needs, and what it leads to.
-use Rattle.std.specs.Prelude.{◌≡◌, ℕ, suc, ◌+◌, ◌-◌, ◌%◌, ◌^◌, ◌<◌, ◌≤◌, List, [], ◌∷◌, length, drop, set, get_or, Result, Ok, Err}
+use Rattle.std.specs.Prelude.{◌≡◌, ℕ, suc, ◌+◌, ◌-◌, ◌%◌, ◌^◌, ◌<◌, ◌≤◌, List, [], ◌∷◌, length, drop, set, get_or, slice_get, Option, Some, Result, Ok, Err}
+use Rattle.core_types.specs.declared.op.ControlOp.TheVariants.{Call}
 use Rattle.core_types.specs.declared.op.LoadOp.{LoadOp}
 use Rattle.core_types.specs.declared.op.LoadOp.TheVariants.{Bits8, Whole}
+use Rattle.core_types.specs.declared.op.PlainOp.TheVariants.{Control}
 use Rattle.core_types.specs.declared.op.Sign.TheVariants.{Unsigned}
 use Rattle.core_types.specs.declared.op.StoreOp.{StoreOp}
 use Rattle.core_types.specs.declared.op.StoreOp.TheVariants as into
 use Rattle.core_types.specs.declared.op.Width.TheVariants.{W32}
 use Rattle.core_types.specs.declared.outcome.Trap.{Trap}
 use Rattle.core_types.specs.declared.outcome.Trap.TheVariants.{Unreachable}
+use Rattle.core_types.specs.declared.outcome.Val.{Val}
+use Rattle.core_types.specs.declared.types.FuncType.{FuncType}
 use Rattle.core_types.specs.declared.types.Mutability.TheVariants.{Var}
 use Rattle.core_types.specs.declared.types.ValType.TheVariants.{I32}
 use Rattle.meaning.specs.execution.Memories.{load_from, store_into, store_size}
+use Rattle.meaning.specs.execution.Store.{FunctionInstance}
 use Rattle.meaning.specs.validation.Instructions.{load_type}
+use Rattle.meaning.specs.validation.Types.{function_type}
 use Rattle.cells.specs.Cells.{IsCellOf, cell_of, value_of, value_of_result}
 use Rattle.effects.specs.Numeric.{GivesBinary, GivesUnary, operand_type}
-use Rattle.sidetable.specs.Flat.{FlatOp, Plain}
-use Rattle.sidetable.specs.Packing.{IsOtherWithin, IsTransferWithin, binary_op, branch_entries, load_op, other_op, store_op, transfer_op, unary_op}
-use Rattle.sidetable.specs.SideTables.{branch_range_of, constant_of, entry_of_number}
+use Rattle.sidetable.specs.Flat.{FlatOp, Plain, Return}
+use Rattle.sidetable.specs.Packing.{IsOtherWithin, IsTransferWithin, binary_op, branch_entries, load_op, other_op, store_op, unary_op}
+use Rattle.sidetable.specs.SideTables.{branch_range_of, constant_of, entry_of_number, pair_of}
 use Rattle.sidetable.specs.declared.operations.Entry.{Entry}
 use Rattle.sidetable.specs.declared.operations.OtherInstruction.{OtherInstruction}
 use Rattle.sidetable.specs.declared.operations.OtherInstruction.TheVariants as other
@@ -24,10 +30,13 @@ use Rattle.sidetable.specs.declared.operations.PackedOp.{PackedOp}
 use Rattle.sidetable.specs.declared.operations.PackedOp.TheVariants as op
 use Rattle.sidetable.specs.declared.operations.TransferInstruction.{TransferInstruction}
 use Rattle.sidetable.specs.declared.operations.TransferInstruction.TheVariants as transfer
+use Rattle.simulation.specs.Callees.{CallsEntry, IsCalling}
 use Rattle.simulation.specs.Runs.{Ghost}
-use Rattle.store.specs.State.{global_of, put_global}
+use Rattle.store.specs.Contents.{functions_in}
+use Rattle.store.specs.State.{StateContents, global_of, put_global, table_of}
+use Rattle.store.specs.declared.instances.Instance.{Instance}
 use Rattle.interpreter.specs.Layout.{AreMoved}
-use Rattle.interpreter.specs.Running.{GoesFree, IsDear, Machine, Pays, RunsAt, Traps}
+use Rattle.interpreter.specs.Running.{GoesFree, IsDear, Machine, Pays, RunsAt, Traps, cells_in, height_in}
 use Rattle.interpreter.specs.Worlds.{World}
 
 -- ---- machines behind an operation
@@ -80,6 +89,17 @@ function_address w x = get_or w.instance.addresses.functions.items x 0
 abbrev pub global_address : World → ℕ → ℕ
 global_address w x = get_or w.instance.addresses.globals.items x 0
 
+abbrev pub table_address : Instance → ℕ → ℕ
+table_address i x = get_or i.addresses.tables.items x 0
+
+-- The type that it has under one.
+abbrev pub type_of : Instance → ℕ → FuncType
+type_of i x = get_or i.loaded.value.types x (function_type [] [])
+
+-- The entry at an offset of the table that it has under one.
+abbrev pub entry_through : Instance → StateContents → (x offset : ℕ) → Option Val
+entry_through i state x offset = slice_get (table_of state (table_address i x)).entries offset
+
 -- The world with another value of a global.
 abbrev pub with_global_cell : World → (address cell : ℕ) → World
 with_global_cell w address cell =
@@ -98,22 +118,28 @@ abbrev pub HasKept : Machine → (top : ℕ) → Entry → Type 0
 HasKept m top e = m.base + m.locals + e.height + e.kept ≤ top
 
 -- What a transfer names is there, and so are the operands that it takes and keeps.
-abbrev pub TransferFits : Machine → TransferInstruction → (number : ℕ) → Type 0
-TransferFits m transfer.If n = HasOperands m 1 × (n < length m.tables.entries.items)
-TransferFits m transfer.Jump n =
+abbrev pub TransferFits : World → Machine → TransferInstruction → (number : ℕ) → Type 0
+TransferFits w m transfer.If n = HasOperands m 1 × (n < length m.tables.entries.items)
+TransferFits w m transfer.Jump n =
     (n < length m.tables.entries.items) × (m.place < (entry_of_number m.tables n).target)
-TransferFits m transfer.Br n =
+TransferFits w m transfer.Br n =
     (m.top < length m.cells) × (n < length m.tables.entries.items)
     × HasKept m m.top (entry_of_number m.tables n)
-TransferFits m transfer.BrTable n =
+TransferFits w m transfer.BrTable n =
     HasOperands m 1 × (n < length m.tables.branch_ranges.items)
     × ((branch_range_of m.tables n).first + (branch_range_of m.tables n).count
     < suc (length m.tables.entries.items))
     × ((branch_range_of m.tables n).default < length m.tables.entries.items)
     × HasKept m (m.top - 1) (get_or (branch_entries m.tables (branch_range_of m.tables n))
     m.operand (entry_of_number m.tables (branch_range_of m.tables n).default))
-TransferFits m transfer.Leave n = Unit {0}
-TransferFits m kind n = IsTransferWithin m.tables kind n
+TransferFits w m transfer.Call n = n < length w.instance.addresses.functions.items
+TransferFits w m transfer.CallIndirect n =
+    HasOperands m 1 × (n < length m.tables.pairs.items)
+    × ((pair_of m.tables n).first < length w.instance.loaded.value.types)
+    × ((pair_of m.tables n).second < length w.instance.addresses.tables.items)
+    × (table_address w.instance (pair_of m.tables n).second < length w.state.contents.tables)
+TransferFits w m transfer.Leave n = Unit {0}
+TransferFits w m kind n = IsTransferWithin m.tables kind n
 
 -- The same of the others.
 abbrev pub OtherFits : World → Machine → OtherInstruction → (number : ℕ) → Type 0
@@ -155,7 +181,7 @@ Fits w m (op.Unary instruction) =
     HasOperands m 1 × IsCellOf (operand_type (unary_op instruction)) m.operand
 Fits w m (op.Load instruction offset) = HasOperands m 1 × IsCellOf I32 m.operand
 Fits w m (op.Store instruction offset) = HasOperands m 2 × IsCellOf I32 (second_of m)
-Fits w m (op.Transfer kind n) = TransferFits m kind n
+Fits w m (op.Transfer kind n) = TransferFits w m kind n
 Fits w m (op.Other kind n) = OtherFits w m kind n
 
 -- ---- what it leads to
@@ -196,7 +222,21 @@ Writes w m g instruction offset =
     → IsWritten w m g result)
     × IsDear g m
 
--- It is left to others: this operation stands there.
+-- A call of the function under an index: it is there, and its arguments are on top.
+abbrev pub CallsByName : World → Machine → Ghost → (x : ℕ) → Type 0
+CallsByName w m g x =
+    (function : FunctionInstance)
+    × (slice_get (functions_in w.code) (function_address w x) ≡ Some function)
+    × IsCalling (Control (Call x)) (function_address w x) function g (cells_in m) m.place
+    (height_in m) (height_in m)
+
+-- A call of a function of a type through a table, by the entry at the offset that is the topmost operand.
+abbrev pub CallsThrough : World → Machine → Ghost → (type x : ℕ) → Type 0
+CallsThrough w m g type x =
+    (entry : Option Val) → entry_through w.instance w.state x m.operand ≡ entry
+    → CallsEntry g (cells_in m) m.place (height_in m) type x (type_of w.instance type) entry
+
+-- This operation stands there.
 abbrev pub StandsThere : Machine → Ghost → FlatOp → Type 0
 StandsThere m g o = (more : List FlatOp) × (drop m.place g.code.operations ≡ o ∷ more)
 
@@ -216,10 +256,27 @@ TransferLeads w m g transfer.BrTable n =
     (get_or (branch_entries m.tables (branch_range_of m.tables n)) m.operand
     (entry_of_number m.tables (branch_range_of m.tables n).default))
     × IsDear g m
--- what is left to others: calls and returns
+TransferLeads w m g transfer.Return n = StandsThere m g (Return (entry_of_number m.tables n))
+TransferLeads w m g transfer.Call n = CallsByName w m g n × IsDear g m
+TransferLeads w m g transfer.CallIndirect n =
+    CallsThrough w m g (pair_of m.tables n).first (pair_of m.tables n).second × IsDear g m
 TransferLeads w m g transfer.Leave n =
     (drop m.place g.code.operations ≡ []) × (n ≡ g.code.outermost.kept)
-TransferLeads w m g kind n = StandsThere m g (transfer_op m.tables kind n)
+
+-- What the loop does not do itself: instructions on tables, bulk instructions and growth.
+abbrev pub IsLeft : OtherInstruction → Type 0
+IsLeft other.Nop = ⊥
+IsLeft other.DropOperand = ⊥
+IsLeft other.Select = ⊥
+IsLeft other.GlobalGet = ⊥
+IsLeft other.GlobalSet = ⊥
+IsLeft other.I64Const = ⊥
+IsLeft other.RefNullFunc = ⊥
+IsLeft other.RefNullExtern = ⊥
+IsLeft other.RefIsNull = ⊥
+IsLeft other.RefFunc = ⊥
+IsLeft other.MemorySize = ⊥
+IsLeft kind = Unit {0}
 
 abbrev pub OtherLeads : World → Machine → Ghost → OtherInstruction → (number : ℕ) → Type 0
 OtherLeads w m g other.Nop n = Costs w m g (record m { place = m.place + 1 })
@@ -241,7 +298,7 @@ OtherLeads w m g other.RefIsNull n =
     × IsDear g m
 OtherLeads w m g other.RefFunc n = Costs w m g (pushed m (function_address w n + 1))
 OtherLeads w m g other.MemorySize n = Costs w m g (pushed m w.limits.min)
--- what is left to others: instructions on tables, bulk instructions and growth
+-- what is left to others
 OtherLeads w m g kind n = StandsThere m g (Plain (other_op m.tables kind n))
 
 abbrev pub LeadsOn : World → Machine → Ghost → PackedOp → Type 0

@@ -1,5 +1,6 @@
 -- The loop with the frames that wait, and the whole configuration that runs there.
 use Rattle.std.specs.Prelude.{◌≡◌, ℕ, suc, ◌+◌, ◌-◌, ◌*◌, ◌^◌, ◌<◌, ◌≤◌, List, [], length, reverse, drop, set, take}
+use Rattle.core_types.specs.declared.op.PlainOp.{PlainOp}
 use Rattle.core_types.specs.declared.outcome.Val.{Val}
 use Rattle.core_types.specs.declared.types.ValType.{ValType}
 use Rattle.meaning.specs.structure.Bodies.{Empty}
@@ -7,18 +8,19 @@ use Rattle.meaning.specs.execution.Configurations.{Configuration, Running, depth
 use Rattle.meaning.specs.execution.Instructions.{Opens, Traps, next}
 use Rattle.meaning.specs.execution.Layers.{Layer, plug}
 use Rattle.meaning.specs.execution.Runs.{NoHosts, State, Steps, price}
-use Rattle.meaning.specs.execution.Store.{Store}
+use Rattle.meaning.specs.execution.Store.{FunctionInstance, InHost, Store}
 use Rattle.meaning.specs.soundness.Values.{ValuesHaveTypes}
 use Rattle.soundness.specs.Configurations.{ConfigurationHasType}
 use Rattle.soundness.specs.Places.{outermost}
 use Rattle.soundness.specs.Stores.{StoreIsValid}
 use Rattle.sidetable.specs.Flat.{Plain}
-use Rattle.sidetable.specs.Packing.{other_op, transfer_op}
+use Rattle.sidetable.specs.Packing.{other_op}
+use Rattle.simulation.specs.Callees.{IsCalling}
 use Rattle.simulation.specs.Piles.{cells_of}
 use Rattle.simulation.specs.Runs.{Ghost, config_of, frame_of}
 use Rattle.interpreter.specs.Callers.{Caller, CallersStand, layers_around}
-use Rattle.interpreter.specs.Running.{Machine, RunsAt}
-use Rattle.interpreter.specs.Turns.{StandsThere}
+use Rattle.interpreter.specs.Running.{Machine, RunsAt, cells_in, height_in}
+use Rattle.interpreter.specs.Turns.{IsLeft, StandsThere}
 use Rattle.interpreter.specs.Worlds.{Sees, World, store_in}
 use Rattle.interpreter.specs.declared.machine.Frame.{Frame}
 use Rattle.interpreter.specs.declared.machine.Stop.{Stop}
@@ -95,6 +97,18 @@ pub record OpensNext (store : Store) (fuel : ℕ) (w : Whole) : Type 0 where
   pub opens : next store no_frame (whole w) ≡ Opens 1 store then
   pub paid : 1 ≤ fuel
 
+-- The next step calls the host function at an address, for which there is fuel. Its arguments are the topmost of the frame's cells
+-- up to a height, and lie below a place: behind the locals the machine has one cell more.
+pub record CallsHostNext (fuel : ℕ) (m : Machine) (w : Whole) (address behind : ℕ) : Type 0 where
+  pub op : PlainOp
+  pub function : FunctionInstance
+  pub number : ℕ
+  pub is_host : function.implementation ≡ InHost number
+  pub height : ℕ
+  pub lies : behind ≡ m.base + height + 1
+  pub calls : IsCalling op address function w.ghost (cells_in m) m.place (height_in m) height
+  pub paid : 1 ≤ fuel
+
 -- What runs next, by the reason to stop.
 abbrev pub StopsBy : (bound : ℕ) → Stop → Store → (fuel : ℕ) → Machine → Whole → Type 0
 StopsBy bound (stop.Traps trap) store fuel m w =
@@ -103,10 +117,10 @@ StopsBy bound stop.NoFuel store fuel m w = fuel < price (next store no_frame (wh
 StopsBy bound stop.NoDepth store fuel m w = OpensNext store fuel w × (bound ≤ depth (whole w))
 StopsBy bound stop.NoRoom store fuel m w = OpensNext store fuel w × (depth (whole w) < bound)
 StopsBy bound stop.NoMemory store fuel m w = OpensNext store fuel w × (depth (whole w) < bound)
-StopsBy bound (stop.LeavesTransfer kind n) store fuel m w =
-    StandsThere m w.ghost (transfer_op m.tables kind n)
+StopsBy bound (stop.CallsHost address behind) store fuel m w =
+    CallsHostNext fuel m w address behind
 StopsBy bound (stop.LeavesOther kind n) store fuel m w =
-    StandsThere m w.ghost (Plain (other_op m.tables kind n))
+    IsLeft kind × StandsThere m w.ghost (Plain (other_op m.tables kind n))
 StopsBy bound other store fuel m w = Unit {0}
 
 -- The loop with so much more fuel.

@@ -2,15 +2,16 @@ ghost use Rattle.std.specs.Prelude.{◌+◌, ◌<◌, ◌≤◌, ◌^◌, ℕ, l
 ghost use Rattle.interpreter.specs.Calling.{Calls, CallsModule, IsCrossed, Leaves};
 ghost use Rattle.interpreter.specs.Crossing.{Crosses};
 ghost use Rattle.interpreter.specs.Looping.{loop_at, machine_at, world_at};
-ghost use Rattle.interpreter.specs.Turns.{Turns};
+ghost use Rattle.interpreter.specs.Turns.{Fits, Turns};
 ghost use Rattle.interpreter.specs.Whole.{RunsSomeWhole};
 ghost use Rattle.sidetable.specs.declared.operations.PackedOp.TheVariants as op;
 ghost use Rattle.sidetable.specs.declared.operations.TransferInstruction.TheVariants as transfer;
 
+use crate::callees::{Found, find_through, function_at};
 use crate::landing::{clear, land};
 use crate::machine::{Crossing, Frame, Position, Stop, Surroundings};
+use crate::payment::pay;
 use core_types::Stack;
-use sidetable::TransferInstruction;
 use store::{Callee, ModuleFunction, State};
 
 // Goes on at a position, in code of the same instance or of another one.
@@ -25,32 +26,7 @@ fn cross<'a>(around: Surroundings<'a>, to: Position<'a>) -> Crossing<'a>
     }
 }
 
-// The function that the instance has under an index.
-#[inline(always)]
-fn callee<'a>(
-    around: Surroundings<'a>,
-    state: &State,
-    memory: &[u8],
-    cells: &[u64],
-    callers: &Stack<Frame<'a>>,
-    index: u32,
-    at: Position<'a>,
-) -> Callee<'a>
-    requires sound { RunsSomeWhole around.bound
-        (loop_at (world_at around state.now memory.now) cells.now callers.now at) }
-    requires turns { Turns (world_at around state.now memory.now) (machine_at cells.now at)
-        (op.Transfer transfer.Call index) }
-    ensures { Calls around.entry.bound (world_at around.entry state.now memory.now) cells.now
-        callers.now at.entry result }
-{
-    let address = around.instance.addresses.functions[index as usize];
-    match around.code.function(address) {
-        Some(found) => found,
-        None => unreachable!(),
-    }
-}
-
-// Opens a frame for a function of a module, whose arguments are on top.
+// Opens a frame for a function of a module that is called at a position. Its arguments are on top at `from`, in the same frame.
 #[inline(always)]
 fn open<'a>(
     around: Surroundings<'a>,
@@ -59,12 +35,13 @@ fn open<'a>(
     cells: &mut [u64],
     callers: &mut Stack<Frame<'a>>,
     function: &ModuleFunction<'a>,
+    from: Position<'a>,
     at: Position<'a>,
 ) -> Crossing<'a>
     requires sound { RunsSomeWhole around.bound
         (loop_at (world_at around state.now memory.now) cells.old callers.old at) }
     requires calls { CallsModule around.bound (world_at around state.now memory.now) cells.old
-        callers.old at function.now }
+        callers.old at from function.now }
     requires paid { 1 ≤ at.fuel }
     requires shallow { suc (length callers.old) < around.bound }
     requires next { at.frame.place + 1 < 2 ^ 64 }
@@ -74,7 +51,7 @@ fn open<'a>(
 {
     let flat = function.flat;
     let declared = flat.locals - flat.params;
-    let room = cells.len() - at.top - 1;
+    let room = cells.len() - from.top - 1;
     if declared > room || flat.greatest >= (room - declared) as u64 {
         return Crossing::Stops(Stop::NoRoom, at);
     }
@@ -83,8 +60,8 @@ fn open<'a>(
     let Ok(()) = callers.push(waiting) else {
         return Crossing::Stops(Stop::NoMemory, at);
     };
-    let behind = at.top + 1;
-    cells[at.top] = at.operand;
+    let behind = from.top + 1;
+    cells[from.top] = from.operand;
     clear(cells, behind, declared);
     let frame = Frame {
         operations: flat.operations,
@@ -105,6 +82,39 @@ fn open<'a>(
     )
 }
 
+// Calls what was found, once there is fuel for it. Its arguments are on top at `from`, in the same frame.
+#[inline(always)]
+fn enter<'a>(
+    around: Surroundings<'a>,
+    state: &State,
+    memory: &[u8],
+    cells: &mut [u64],
+    callers: &mut Stack<Frame<'a>>,
+    found: Found<'a>,
+    from: Position<'a>,
+    at: Position<'a>,
+) -> Crossing<'a>
+    requires sound { RunsSomeWhole around.bound
+        (loop_at (world_at around state.now memory.now) cells.old callers.old at) }
+    requires calls { Calls around.bound (world_at around state.now memory.now) cells.old
+        callers.old at from found.address found.callee }
+    requires paid { 1 ≤ at.fuel }
+    requires next { at.frame.place + 1 < 2 ^ 64 }
+    ensures { Crosses around.entry.bound
+        (loop_at (world_at around.entry state.now memory.now) cells.old callers.old at.entry)
+        result cells.new callers.new }
+{
+    match found.callee {
+        Callee::InModule(function) => {
+            if callers.len() as u64 + 1 >= around.bound {
+                return Crossing::Stops(Stop::NoDepth, at);
+            }
+            open(around, state, memory, cells, callers, &function, from, at)
+        }
+        Callee::InHost(_) => Crossing::Stops(Stop::CallsHost(found.address, from.top + 1), at),
+    }
+}
+
 /// Calls the function that the instance has under an index.
 #[inline(always)]
 pub fn call<'a>(
@@ -118,6 +128,8 @@ pub fn call<'a>(
 ) -> Crossing<'a>
     requires sound { RunsSomeWhole around.bound
         (loop_at (world_at around state.now memory.now) cells.old callers.old at) }
+    requires fits { Fits (world_at around state.now memory.now) (machine_at cells.old at)
+        (op.Transfer transfer.Call index) }
     requires turns { Turns (world_at around state.now memory.now) (machine_at cells.old at)
         (op.Transfer transfer.Call index) }
     requires next { at.frame.place + 1 < 2 ^ 64 }
@@ -125,18 +137,52 @@ pub fn call<'a>(
         (loop_at (world_at around.entry state.now memory.now) cells.old callers.old at.entry)
         result cells.new callers.new }
 {
-    match callee(around, state, memory, cells, callers, index, at) {
-        Callee::InModule(function) => {
-            if at.fuel == 0 {
-                return Crossing::Stops(Stop::NoFuel, at);
-            }
-            if callers.len() as u64 + 1 >= around.bound {
-                return Crossing::Stops(Stop::NoDepth, at);
-            }
-            open(around, state, memory, cells, callers, &function, at)
+    if at.fuel == 0 {
+        return Crossing::Stops(Stop::NoFuel, at);
+    }
+    let address = around.instance.addresses.functions[index as usize];
+    let found = function_at(around.code, address);
+    enter(around, state, memory, cells, callers, found, at, at)
+}
+
+/// Calls the function to which an entry of a table refers, whose offset is the topmost operand. The type that it has to be of, and
+/// the table, have the indices of this number.
+#[inline(always)]
+pub fn call_indirect<'a>(
+    around: Surroundings<'a>,
+    state: &State,
+    memory: &[u8],
+    cells: &mut [u64],
+    callers: &mut Stack<Frame<'a>>,
+    number: u32,
+    at: Position<'a>,
+) -> Crossing<'a>
+    requires sound { RunsSomeWhole around.bound
+        (loop_at (world_at around state.now memory.now) cells.old callers.old at) }
+    requires fits { Fits (world_at around state.now memory.now) (machine_at cells.old at)
+        (op.Transfer transfer.CallIndirect number) }
+    requires turns { Turns (world_at around state.now memory.now) (machine_at cells.old at)
+        (op.Transfer transfer.CallIndirect number) }
+    requires next { at.frame.place + 1 < 2 ^ 64 }
+    ensures { Crosses around.entry.bound
+        (loop_at (world_at around.entry state.now memory.now) cells.old callers.old at.entry)
+        result cells.new callers.new }
+{
+    let Ok(left) = pay(at.fuel) else {
+        return Crossing::Stops(Stop::NoFuel, at);
+    };
+    let indices = at.frame.tables.pairs[number as usize];
+    match find_through(around.code, around.instance, state, indices, at.operand) {
+        Ok(found) => {
+            let mut from = at;
+            from.top -= 1;
+            from.operand = cells[from.top];
+            enter(around, state, memory, cells, callers, found, from, at)
         }
-        Callee::InHost(_) => {
-            Crossing::Stops(Stop::LeavesTransfer(TransferInstruction::Call, index), at)
+        Err(trap) => {
+            let mut to = at;
+            to.fuel = left;
+            Crossing::Stops(Stop::Traps(trap), to)
         }
     }
 }

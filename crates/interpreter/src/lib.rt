@@ -1,10 +1,9 @@
 //! The loop over flat code and cells, which is steps of the reduction.
 #![tactic(auto)]
 
-mod calls;
+mod callees;
 mod frames;
 mod interpreter_loop;
-mod invocation;
 mod landing;
 mod laws;
 mod machine;
@@ -13,8 +12,6 @@ mod payment;
 mod reading;
 mod transfers;
 
-pub use calls::go_on;
 pub use interpreter_loop::run;
-pub use invocation::{begin, results};
 pub use laws::operations_turn;
-pub use machine::{Call, Frame, Position, Stop, Surroundings};
+pub use machine::{Frame, Position, Stop, Surroundings};

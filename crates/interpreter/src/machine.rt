@@ -1,5 +1,5 @@
-use core_types::{Limits, Stack, Trap};
-use sidetable::{OtherInstruction, PackedOp, SideTables, TransferInstruction};
+use core_types::{Limits, Trap};
+use sidetable::{OtherInstruction, PackedOp, SideTables};
 use store::{Code, Instance};
 
 /// A frame: the code that runs in it, with the side tables that it names numbers of, the number of its instance, how many locals it
@@ -21,14 +21,6 @@ pub struct Position<'a> {
     pub top: usize,
     pub operand: u64,
     pub fuel: u64,
-}
-
-/// A call that runs or has stopped: its cells, the frames that wait, the innermost first, and where it is.
-#[derive(Drop)]
-pub struct Call<'a> {
-    pub cells: Vec<u64>,
-    pub callers: Stack<Frame<'a>>,
-    pub position: Position<'a>,
 }
 
 /// What stays while code of one instance runs: the store's code, the instance and its number, the address of its memory, if it has
@@ -60,8 +52,8 @@ pub enum Stop {
     NoMemory,
     /// Code of another instance is next.
     Switches,
-    /// The next operation is a transfer that the loop leaves to others.
-    LeavesTransfer(TransferInstruction, u32),
+    /// The next step calls the host function at an address; its arguments lie below this place among the cells.
+    CallsHost(u32, usize),
     /// The next operation is an instruction that the loop leaves to others.
     LeavesOther(OtherInstruction, u32),
 }

@@ -9,8 +9,9 @@ pub fn pay(fuel: u64) -> Result<u64, Stop>
     ensures ok { IfOk result (λ left. (1 ≤ fuel) × (left ≡ fuel - 1)) }
     ensures err { IfErr result (λ s. (s ≡ stop.NoFuel) × (fuel ≡ 0)) }
 {
-    match fuel.checked_sub(1) {
-        Some(left) => Ok(left),
-        None => Err(Stop::NoFuel),
+    if fuel == 0 {
+        Err(Stop::NoFuel)
+    } else {
+        Ok(fuel - 1)
     }
 }

@@ -9,7 +9,7 @@ ghost use Rattle.sidetable.specs.Packing.{branch_entries};
 ghost use Rattle.sidetable.specs.SideTables.{branch_range_of, entry_of_number};
 ghost use Rattle.sidetable.specs.declared.operations.PackedOp.TheVariants as op;
 
-use crate::frames::{call, leave};
+use crate::frames::{call, call_indirect, leave};
 use crate::landing::land;
 use crate::machine::{Crossing, Frame, Position, Stop, Surroundings};
 use crate::payment::pay;
@@ -58,7 +58,7 @@ fn branch<'a>(cells: &mut [u64], e: Entry, at: Position<'a>) -> Position<'a>
     landed
 }
 
-/// Does an operation that does not go on with the next one, or calls; or leaves it to others.
+/// Does an operation that does not go on with the next one, or calls.
 #[inline(always)]
 pub fn transfer<'a>(
     around: Surroundings<'a>,
@@ -136,7 +136,9 @@ pub fn transfer<'a>(
             Err(stop) => Crossing::Stops(stop, at),
         },
         TransferInstruction::Call => call(around, state, memory, cells, callers, n, at),
-        TransferInstruction::CallIndirect => Crossing::Stops(Stop::LeavesTransfer(kind, n), at),
+        TransferInstruction::CallIndirect => {
+            call_indirect(around, state, memory, cells, callers, n, at)
+        }
         TransferInstruction::Leave => leave(around, state, memory, cells, callers, n as usize, at),
     }
 }

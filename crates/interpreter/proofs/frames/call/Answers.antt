@@ -1,13 +1,12 @@
-use Rattle.std.proofs.Common.{arith}
-use Rattle.sidetable.specs.declared.operations.TransferInstruction.TheVariants as transfer
-use Rattle.interpreter.proofs.Crossings.{stops-there}
+use Rattle.std.proofs.Common.{◌∙◌, sym}
+use Rattle.std.proofs.lemmas.List.{get_or_read}
+use Rattle.interpreter.proofs.Called.{call-calls, call-lacks}
 use Rattle.interpreter.proofs.frames.call.Goals as goal
 
 pub returns-then-at-eq0 : goal.returns-then-at-eq0
-returns-then-at-eq0 c = c.in-InModule.ensures.no_fuel c.if-at-eq0.true
+returns-then-at-eq0 c = call-lacks _ _ _ _ c.args.at _ c.requires.turns c.if-at-eq0.true
 
-pub returns-then-len-around : goal.returns-then-len-around
-returns-then-len-around c = c.in-InModule.ensures.no_depth (omega (arith, c.if-at-eq0.false)) (omega (arith, c.if-len-around.true, c.len.ensures))
-
-pub returns-in-InHost : goal.returns-in-InHost
-returns-in-InHost c = stops-there _ _ transfer.Call c.args.index c.requires.turns
+pub enter-requires-clause-calls : goal.enter-requires-clause-calls
+enter-requires-clause-calls c =
+    call-calls _ _ _ _ c.args.at _ c.requires.turns c.requires.sound c.function_at-found.result.address (c.function_at-found.ensures.address ∙ get_or_read _ _ _ c.requires.fits c.index-address.ensures 0) c.function_at-found.result.callee
+    (rw (sym c.function_at-found.ensures.address) at c.function_at-found.ensures.found)

@@ -1,6 +1,6 @@
 use Rattle.std.proofs.Common.{◌-◌, get_or, ap, ◌∙◌}
 use Rattle.sidetable.specs.declared.operations.Entry.{Entry}
-use Rattle.interpreter.proofs.Transferring.{back-lacks, back-leaves, br-lacks, br-lands, br-table-lacks, br-table-lands, end-leaves-so, if-goes, if-goes-on, if-lacks, indirect-stops, jumps, unreachable-lacks, unreachable-traps}
+use Rattle.interpreter.proofs.Transferring.{back-lacks, back-leaves, br-lacks, br-lands, br-table-lacks, br-table-lands, end-leaves-so, if-goes, if-goes-on, if-lacks, jumps, unreachable-lacks, unreachable-traps}
 use Rattle.interpreter.proofs.transfers.transfer.Goals as goal
 use Rattle.interpreter.proofs.transfers.transfer.Goals.{then-at-eq0, else-at-eq0}
 
@@ -51,8 +51,8 @@ returns-in-Ok-pay-4 c =
 pub returns-in-Err-pay-4 : goal.returns-in-Err-pay-4
 returns-in-Err-pay-4 c = back-lacks _ _ _ _ c.args.at _ _ c.requires.turns c.in-Return.is c.in-Err-pay-4.stop c.in-Err-pay-4.ensures.err
 
-pub returns-in-CallIndirect : goal.returns-in-CallIndirect
-returns-in-CallIndirect c = indirect-stops _ _ _ _ c.args.at _ _ c.requires.turns c.in-CallIndirect.is
+pub call-requires-clause-turns : goal.call-requires-clause-turns
+call-requires-clause-turns c = rw c.in-Call.is at c.requires.turns
 
 pub returns-in-Leave : goal.returns-in-Leave
 returns-in-Leave c = c.leave-in-Leave.ensures c.args.at.fuel (end-leaves-so _ _ _ _ c.args.at _ _ c.requires.turns c.in-Leave.is c.requires.sound)

@@ -1,0 +1,79 @@
+-- What instructions on tables, memories and segments come to, with so much fuel.
+use Rattle.std.specs.Prelude.{◌≡◌, ℕ, ◌-◌, ◌<◌, ◌≤◌, List, [], ◌∷◌, map, Option, Some, None, Result, Ok, Err}
+use Rattle.std.specs.declared.alloc.AllocError.{AllocError}
+use Rattle.core_types.specs.declared.outcome.Trap.{Trap}
+use Rattle.core_types.specs.declared.outcome.Val.{Val}
+use Rattle.meaning.specs.execution.Effects.{instruction_cost}
+use Rattle.meaning.specs.execution.Store.{Store}
+use Rattle.cells.specs.Cells.{cell_of}
+use Rattle.simulation.specs.Outcomes.{Outcome, failed, grown, made}
+use Rattle.effects.specs.declared.payment.Paid.{Paid}
+use Rattle.effects.specs.declared.payment.Refusal.{Refusal}
+use Rattle.effects.specs.declared.payment.Refusal.TheVariants.{NoFuel, NoMemory, Traps}
+
+-- What an outcome costs. A trap costs as much as any instruction.
+abbrev pub cost_of : Outcome → ℕ
+cost_of (made cost store results) = cost
+cost_of (grown cost store results) = cost
+cost_of (failed trap) = instruction_cost
+
+-- There is no result, or one, of this cell.
+abbrev pub AreInCell : List Val → Option ℕ → Type 0
+AreInCell results None = results ≡ []
+AreInCell results (Some cell) = map cell_of results ≡ cell ∷ []
+
+-- The cost, which is not nothing, was paid from the fuel.
+pub record IsPaid (cost : ℕ) (results : List Val) (fuel : ℕ) (paid : Paid) : Type 0 where
+  pub some : 1 ≤ cost
+  pub enough : cost ≤ fuel
+  pub left : paid.fuel ≡ fuel - cost
+  pub result : AreInCell results paid.result
+
+-- It was done, and left this store.
+abbrev pub IsDone : Outcome → Store → (fuel : ℕ) → Paid → Type 0
+IsDone (made cost store results) new fuel paid = IsPaid cost results fuel paid × (new ≡ store)
+IsDone (grown cost store results) new fuel paid = IsPaid cost results fuel paid × (new ≡ store)
+IsDone (failed trap) new fuel paid = ⊥
+
+-- Something grows at a cost for which there is fuel.
+abbrev pub LacksMemory : Outcome → (fuel : ℕ) → Type 0
+LacksMemory (made cost store results) fuel = ⊥
+LacksMemory (grown cost store results) fuel = cost ≤ fuel
+LacksMemory (failed trap) fuel = ⊥
+
+-- It is this trap, for which there is fuel.
+abbrev pub IsTrap : Outcome → (fuel : ℕ) → Trap → Type 0
+IsTrap (made cost store results) fuel other = ⊥
+IsTrap (grown cost store results) fuel other = ⊥
+IsTrap (failed trap) fuel other = (other ≡ trap) × (instruction_cost ≤ fuel)
+
+-- It was refused, for this reason.
+abbrev pub IsRefused : Outcome → (fuel : ℕ) → Refusal → Type 0
+IsRefused o fuel NoFuel = fuel < cost_of o
+IsRefused o fuel NoMemory = LacksMemory o fuel
+IsRefused o fuel (Traps trap) = IsTrap o fuel trap
+
+-- It was done, or refused with the store as it was.
+abbrev pub Gives : Outcome → (old new : Store) → (fuel : ℕ) → Result Paid Refusal → Type 0
+Gives o old new fuel (Ok paid) = IsDone o new fuel paid
+Gives o old new fuel (Err refusal) = IsRefused o fuel refusal × (new ≡ old)
+
+-- ---- how results are made
+
+-- So much is left of the fuel, or it is less than the cost.
+abbrev pub IsLeft : (fuel cost : ℕ) → Result ℕ Refusal → Type 0
+IsLeft fuel cost (Ok left) = (cost ≤ fuel) × (left ≡ fuel - cost)
+IsLeft fuel cost (Err refusal) = (fuel < cost) × (refusal ≡ NoFuel)
+
+abbrev pub paid_with : (fuel : ℕ) → Option ℕ → Paid
+paid_with fuel result = record { fuel = fuel; result = result }
+
+-- What a write that was paid for came to, with so much fuel left.
+abbrev pub after_write : {U : Type 0} → Result U Trap → (left : ℕ) → Result Paid Refusal
+after_write (Ok u) left = Ok (paid_with left None)
+after_write (Err trap) left = Err (Traps trap)
+
+-- The same of a growth.
+abbrev pub after_growth : Result ℕ AllocError → (left : ℕ) → Result Paid Refusal
+after_growth (Ok size) left = Ok (paid_with left (Some size))
+after_growth (Err error) left = Err NoMemory

@@ -1,0 +1,59 @@
+ghost use Rattle.std.specs.Prelude.{◌≡◌};
+ghost use Rattle.effects.specs.Outcomes.{IsLeft, after_growth, after_write};
+
+use core_types::Trap;
+use std::alloc::AllocError;
+
+/// An instruction that was done and paid for: the fuel that is left, and the cell of its result, if it has one.
+#[derive(Clone, Copy)]
+pub struct Paid {
+    pub fuel: u64,
+    pub result: Option<u64>,
+}
+
+/// Why an instruction was not done. The store is as it was.
+#[derive(Clone, Copy)]
+pub enum Refusal {
+    /// It costs more than there is.
+    NoFuel,
+    /// A table or a memory grows, for which there is no memory. It costs nothing.
+    NoMemory,
+    /// It traps, which costs one unit.
+    Traps(Trap),
+}
+
+// Pays a cost.
+pub(crate) fn pay(fuel: u64, cost: u64) -> Result<u64, Refusal>
+    ensures { IsLeft fuel cost result }
+{
+    if fuel < cost {
+        return Err(Refusal::NoFuel);
+    }
+    Ok(fuel - cost)
+}
+
+// What a write that was paid for came to.
+pub(crate) fn written(write: Result<(), Trap>, left: u64) -> Result<Paid, Refusal>
+    ensures { result ≡ after_write write left }
+{
+    match write {
+        Ok(()) => Ok(Paid {
+            fuel: left,
+            result: None,
+        }),
+        Err(trap) => Err(Refusal::Traps(trap)),
+    }
+}
+
+// What a growth that was paid for came to.
+pub(crate) fn grown(growth: Result<u32, AllocError>, left: u64) -> Result<Paid, Refusal>
+    ensures { result ≡ after_growth growth left }
+{
+    match growth {
+        Ok(size) => Ok(Paid {
+            fuel: left,
+            result: Some(u64::from(size)),
+        }),
+        Err(_) => Err(Refusal::NoMemory),
+    }
+}

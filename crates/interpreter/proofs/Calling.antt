@@ -1,0 +1,97 @@
+-- Calls, on the machine, and what they find.
+use Rattle.std.proofs.Common.{◌≡◌, ℕ, ◌-◌, ◌<◌, List, true, false, length, slice_get, refl, ap, sym, subst, ◌∙◌, arith, length-append}
+use Rattle.std.specs.Prelude.{Option, Some, None, Ok, Err, IsSome, ◌∷◌, []}
+use Rattle.core_types.specs.declared.op.ControlOp.TheVariants.{Call, CallIndirect}
+use Rattle.core_types.specs.declared.op.PlainOp.TheVariants.{Control}
+use Rattle.core_types.specs.declared.outcome.Trap.{Trap}
+use Rattle.core_types.specs.declared.outcome.Trap.TheVariants.{UndefinedElement, UninitializedElement}
+use Rattle.core_types.specs.declared.outcome.Val.{Val}
+use Rattle.core_types.specs.declared.outcome.Val.TheVariants.{ExternRef, FuncRef, I32, I64}
+use Rattle.core_types.specs.declared.types.FuncType.{FuncType}
+use Rattle.core_types.specs.declared.types.ValType.TheVariants as ty
+use Rattle.meaning.specs.execution.Store.{FunctionInstance, Store}
+use Rattle.meaning.proofs.lemmas.SameTypes.{function_type_decided}
+use Rattle.sidetable.specs.Flat.{Plain}
+use Rattle.simulation.specs.Callees.{CallsEntry, IsCalling}
+use Rattle.simulation.specs.Instructions.{IsTrapped}
+use Rattle.simulation.specs.Runs.{Ghost}
+use Rattle.simulation.proofs.Callees.{calls-by-name}
+use Rattle.simulation.proofs.TableCalls.{calls-through}
+use Rattle.store.specs.Contents.{Contents, callee_function, functions_in}
+use Rattle.interpreter.specs.Callees.{FindsEntry, IsFunctionAt, RefersToFunction}
+use Rattle.interpreter.specs.Running.{IsDear, Machine, RunsAt, cells_in, height_in}
+use Rattle.interpreter.specs.Turns.{CallsByName, CallsThrough, HasOperands, function_address, table_address}
+use Rattle.interpreter.specs.Worlds.{World}
+use Rattle.interpreter.specs.declared.callees.Found.{Found}
+use Rattle.interpreter.proofs.Finding.{some-same}
+use Rattle.interpreter.proofs.Forms.{IsAt, has-operands, topmost}
+use Rattle.interpreter.proofs.Worlds.{TableThere, function-there, table-there, type-there}
+
+module _ (w : World) (m : Machine) (g : Ghost) (r : RunsAt w m g) where
+  pub calls-there : (x : ℕ) → IsAt m g (Plain (Control (Call x))) → (x < length w.instance.addresses.functions.items) × (CallsByName w m g x × IsDear g m)
+  calls-there x b =
+      let (address, function, named, calling, dear) = calls-by-name g (cells_in m) m.place (height_in m) x b in
+      let (inside, is) = function-there w m g r x address named in
+      let there : slice_get (functions_in w.code) (function_address w x) ≡ Some function =
+      ap (slice_get (functions_in w.code)) is ∙ ap (λ (s : Store). slice_get s.functions address) (sym (calling.store ∙ r.store)) ∙ calling.there in
+      (inside, ((function, there, subst (λ (a : ℕ). IsCalling (Control (Call x)) a function g (cells_in m) m.place (height_in m) (height_in m)) (sym is) calling), dear))
+
+  pub calls-through-there : (type x : ℕ) → IsAt m g (Plain (Control (CallIndirect type x)))
+      → (HasOperands m 1 × (type < length w.instance.loaded.value.types) × (x < length w.instance.addresses.tables.items) × (table_address w.instance x < length w.state.contents.tables))
+      × (CallsThrough w m g type x × IsDear g m)
+  calls-through-there type x b =
+      let (address, table, has_table, wanted, named, operands, one, is_cell, entries, dear) = calls-through g (cells_in m) m.place (height_in m) type x b in
+      let some : HasOperands m 1 = has-operands w m g r 1 (let above = operands.above in let size = length-append wanted.params (ty.I32 ∷ []) in omega (arith, above, size)) (omega arith) in
+      let (type_inside, type_is) = type-there w m g r type wanted named in
+      let t : TableThere w m g r x table = table-there w m g r x address table has_table in (
+        (some, type_inside, t.named, t.inside),
+        (
+          λ entry is.
+              subst (λ (u : FuncType). CallsEntry g (cells_in m) m.place (height_in m) type x u entry) (sym type_is)
+              (entries entry (ap (slice_get table.entries) (topmost w m g r 1 (omega arith) some.0) ∙ sym (t.entry m.operand) ∙ is)),
+          dear,
+        ),
+      )
+
+-- ---- by an entry
+
+module _ (code : Contents) (g : Ghost) (store : (address : ℕ) → slice_get (functions_in code) address ≡ slice_get g.store.functions address) (cells : List ℕ) (at top type x : ℕ) (wanted : FuncType) where
+  pub refers : (entry : Option Val) → CallsEntry g cells at top type x wanted entry → RefersToFunction code entry
+  refers None calls = tt
+  refers (Some (FuncRef None)) calls = tt
+  refers (Some (FuncRef (Some address))) (function, there, other, same) = subst (λ (o : Option FunctionInstance). IsSome o) (sym (store address ∙ there)) refl
+  refers (Some (I32 n)) calls = absurd calls
+  refers (Some (I64 n)) calls = absurd calls
+  refers (Some (ExternRef n)) calls = absurd calls
+
+  pub entry-traps : (entry : Option Val) (trap : Trap) → FindsEntry code wanted entry (Err trap) → CallsEntry g cells at top type x wanted entry → IsTrapped g cells at top trap
+  entry-traps None trap finds calls = let is : trap ≡ UndefinedElement = cc in subst (IsTrapped g cells at top) (sym is) calls
+  entry-traps (Some (FuncRef None)) trap finds calls = let is : trap ≡ UninitializedElement = cc in subst (IsTrapped g cells at top) (sym is) calls
+  entry-traps (Some (FuncRef (Some address))) trap (is, named, found, differs) (function, there, other, same) =
+      let one : named ≡ function = some-same named function (sym found ∙ store address ∙ there) in
+      subst (IsTrapped g cells at top) (sym is) (other (function_type_decided false function.ty wanted (λ wrong. absurd cc, λ e. absurd (differs (ap (λ (f : FunctionInstance). f.ty) one ∙ e)))))
+  entry-traps (Some (I32 n)) trap finds calls = absurd calls
+  entry-traps (Some (I64 n)) trap finds calls = absurd calls
+  entry-traps (Some (ExternRef n)) trap finds calls = absurd calls
+
+  pub entry-calls : (entry : Option Val) (f : Found) → FindsEntry code wanted entry (Ok f) → CallsEntry g cells at top type x wanted entry
+      → IsCalling (Control (CallIndirect type x)) f.address (callee_function f.callee) g cells at top (top - 1)
+  entry-calls None f finds calls = absurd cc
+  entry-calls (Some (FuncRef None)) f finds calls = absurd cc
+  entry-calls (Some (FuncRef (Some address))) f (is, found, type_is) (function, there, other, same) =
+      let one : function ≡ callee_function f.callee = some-same function (callee_function f.callee) (sym there ∙ sym (store address) ∙ found.there) in
+      let equal : function.ty ≡ wanted = ap (λ (i : FunctionInstance). i.ty) one ∙ type_is in
+      subst (λ (a : ℕ). IsCalling (Control (CallIndirect type x)) a (callee_function f.callee) g cells at top (top - 1)) (sym is)
+      (subst (λ (i : FunctionInstance). IsCalling (Control (CallIndirect type x)) address i g cells at top (top - 1)) one (same (function_type_decided true function.ty wanted (λ yes. equal, λ e. refl))).1)
+  entry-calls (Some (I32 n)) f finds calls = absurd calls
+  entry-calls (Some (I64 n)) f finds calls = absurd calls
+  entry-calls (Some (ExternRef n)) f finds calls = absurd calls
+
+-- What was found through an entry is there.
+pub entry-found : (code : Contents) (wanted : FuncType) (entry : Option Val) (f : Found) → FindsEntry code wanted entry (Ok f) → IsFunctionAt code f.address f.callee
+entry-found code wanted None f finds = absurd cc
+entry-found code wanted (Some (FuncRef None)) f finds = absurd cc
+entry-found code wanted (Some (FuncRef (Some address))) f (is, found, type_is) = subst (λ (a : ℕ). IsFunctionAt code a f.callee) (sym is) found
+entry-found code wanted (Some (I32 n)) f finds = absurd finds
+entry-found code wanted (Some (I64 n)) f finds = absurd finds
+entry-found code wanted (Some (ExternRef n)) f finds = absurd finds

@@ -1,0 +1,76 @@
+ghost use Rattle.std.specs.Prelude.{◌≡◌, ◌<◌, IsSome, length, slice_get};
+ghost use Rattle.store.specs.Contents.{functions_in};
+ghost use Rattle.interpreter.specs.Callees.{FindsEntry, IsFunctionAt, RefersToFunction};
+ghost use Rattle.interpreter.specs.Turns.{entry_through, table_address, type_of};
+
+use core_types::{FuncType, Trap, Val};
+use sidetable::IndexPair;
+use store::{Callee, Code, Instance, State};
+
+/// A function of the store, with its address.
+#[derive(Clone, Copy)]
+pub struct Found<'a> {
+    pub address: u32,
+    pub callee: Callee<'a>,
+}
+
+/// The function at an address.
+#[inline(always)]
+pub fn function_at<'a>(code: &'a Code, address: u32) -> Found<'a>
+    requires { IsSome (slice_get (functions_in code.now) address) }
+    ensures address { result.address ≡ address }
+    ensures found { IsFunctionAt code.now address result.callee }
+{
+    match code.function(address) {
+        Some(callee) => Found { address, callee },
+        None => unreachable!(),
+    }
+}
+
+// The function to which an entry of a table refers, which has to be of this type.
+#[inline(always)]
+fn find_entry<'a>(code: &'a Code, wanted: &FuncType, entry: Option<Val>) -> Result<Found<'a>, Trap>
+    requires { RefersToFunction code.now entry }
+    ensures { FindsEntry code.now wanted.now entry result }
+{
+    match entry {
+        None => Err(Trap::UndefinedElement),
+        Some(Val::FuncRef(None)) => Err(Trap::UninitializedElement),
+        Some(Val::FuncRef(Some(address))) => {
+            let found = function_at(code, address);
+            if found.callee.ty().is_same(wanted) {
+                Ok(found)
+            } else {
+                Err(Trap::IndirectType)
+            }
+        }
+        Some(_) => unreachable!(),
+    }
+}
+
+/// The function to which the entry at an offset of a table refers. The type that it has to be of, and the table, have these indices
+/// in the instance. Fails with the trap of a call where there is no entry, where it is null, and where the type is another one.
+#[inline(always)]
+pub fn find_through<'a>(
+    code: &'a Code,
+    instance: &Instance,
+    state: &State,
+    indices: IndexPair,
+    offset: u64,
+) -> Result<Found<'a>, Trap>
+    requires ty { indices.first < length instance.now.loaded.value.types }
+    requires table { indices.second < length instance.now.addresses.tables.items }
+    requires there { table_address instance.now indices.second < length
+        state.now.contents.tables }
+    requires refers { RefersToFunction code.now
+        (entry_through instance.now state.now indices.second offset) }
+    ensures { FindsEntry code.now (type_of instance.now indices.first)
+        (entry_through instance.now state.now indices.second offset) result }
+{
+    let wanted = &instance.loaded.as_ref().module().types.as_slice()[indices.first as usize];
+    let address = instance.addresses.tables[indices.second as usize];
+    let Some(table) = state.table(address) else {
+        unreachable!()
+    };
+    find_entry(code, wanted, table.entries().get(offset as usize).copied())
+}

@@ -1,0 +1,15 @@
+pub mod Acting
+pub mod Answering
+pub mod Beginning
+pub mod Behind
+pub mod Doing
+pub mod Ending
+pub mod Entering
+pub mod Finishing
+pub mod Going
+pub mod Growing
+pub mod Invoking
+pub mod Putting
+pub mod Resting
+pub mod Seeing
+pub mod Taking

@@ -1,0 +1,4 @@
+pub mod Resting
+pub mod Starting
+pub mod Instructions
+pub mod Hosting
