@@ -1,4 +1,5 @@
-ghost use Rattle.std.specs.Prelude.{◌≡◌, ◌≤◌, List, [], ◌∷◌, drop, length, reverse, slice_get, OnOk, OnErr, MatchOption};
+ghost use Rattle.std.specs.Prelude.{◌≡◌, ◌<◌, ◌≤◌, List, [], ◌∷◌, drop, length, reverse, slice_get, OnOk, OnErr, MatchOption};
+ghost use Rattle.std.specs.Vec.{vec_capacity};
 
 use crate::items::Items;
 use std::alloc::{AllocError, Global};
@@ -27,6 +28,7 @@ impl<T> Stack<T> {
     }
 
     /// How many elements there are.
+    #[inline(always)]
     pub fn len(&self) -> usize
         ensures { result ≡ length self.now }
     {
@@ -34,6 +36,7 @@ impl<T> Stack<T> {
     }
 
     /// Takes the topmost element off. Takes no memory.
+    #[inline(always)]
     pub fn pop(&mut self) -> Option<T>
         ensures { MatchOption result ((self.old ≡ []) × (self.new ≡ []))
             (λ x. self.old ≡ x ∷ self.new) }
@@ -50,13 +53,27 @@ impl<T> Stack<T> {
     }
 }
 
+// Reserves room for more elements.
+#[cold]
+#[inline(never)]
+fn grow<T>(items: &mut Vec<T>) -> Result<(), AllocError>
+    ensures same { items.new.items ≡ items.old.items }
+    ensures room { OnOk result (length items.new.items < vec_capacity items.new) }
+{
+    items.reserve(1)
+}
+
 impl<T: Drop> Stack<T> {
     /// Puts an element on top. Where memory runs out, the stack is as before.
+    #[inline(always)]
     pub fn push(&mut self, x: T) -> Result<(), AllocError>
         ensures ok { OnOk result (self.new ≡ x ∷ self.old) }
         ensures err { OnErr result (self.new ≡ self.old) }
     {
-        self.items.push(x)?;
+        if self.items.len() == self.items.capacity() {
+            grow(&mut self.items)?;
+        }
+        self.items.push_reserved(x);
         Ok(())
     }
 

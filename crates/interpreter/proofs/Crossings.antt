@@ -16,16 +16,16 @@ module _ (bound : ℕ) (w : World) (cells : List ℕ) (callers : List Frame) (at
   -- A frame was opened.
   pub crosses-in : (from : Position) (f : ModuleFunction) → RunsSomeWhole bound (loop_at w cells callers at) → CallsModule bound w cells callers at from f → 1 ≤ at.fuel → suc (length callers) < bound
       → from.top + 1 + declared_locals f + f.flat.greatest < length cells → (cells' : List ℕ) → take (from.top + 1 + declared_locals f) cells' ≡ take (from.top + 1) (set cells from.top from.operand) ++ replicate (declared_locals f) 0
-      → length cells' ≡ length cells → (callers' : List Frame) → callers' ≡ frame_waiting at ∷ callers → (result : Crossing) → IsCrossed w.number result (position_opened at from.top f)
-      → Crosses bound (loop_at w cells callers at) result cells' callers'
+      → length cells' ≡ length cells → (callers' : List Frame) → callers' ≡ frame_waiting at ∷ callers → (result : Crossing) → IsCrossed w.number result f.instance
+      → Crosses bound (loop_at w cells callers at) result cells' callers' (position_opened at from.top f)
   crosses-in from f some c paid shallow room cells' filled size callers' callers_are result is =
-      subst (λ (fs : List Frame). Crosses bound (loop_at w cells callers at) result cells' fs) (sym callers_are)
+      subst (λ (fs : List Frame). Crosses bound (loop_at w cells callers at) result cells' fs (position_opened at from.top f)) (sym callers_are)
       (crosses bound (loop_at w cells callers at) cells' (frame_waiting at ∷ callers) result (position_opened at from.top f) some is (c.opens paid shallow room cells' filled size) (omega (arith, paid, next)))
 
   -- A frame was left.
   module _ (fuel results : ℕ) (leaves : Leaves bound w cells callers at fuel results) where
     pub crosses-out : (frame : Frame) (others : List Frame) → callers ≡ frame ∷ others → (cells' : List ℕ) (operand' : ℕ) → AreMoved (set cells at.top at.operand) at.top (at.frame.base - 1) results cells' operand'
-        → (result : Crossing) → IsCrossed w.number result (position_resumed at frame results operand') → Crosses bound (loop_at w cells callers (record at { fuel = fuel })) result cells' others
+        → (result : Crossing) → IsCrossed w.number result frame.instance → Crosses bound (loop_at w cells callers (record at { fuel = fuel })) result cells' others (position_resumed at frame results operand')
     crosses-out frame others are cells' operand' moved result is =
         let count = ap length are in
         crosses bound (loop_at w cells callers (record at { fuel = fuel })) cells' others result (position_resumed at frame results operand') leaves.some is (leaves.back frame others are cells' operand' moved) (omega (arith, leaves.paid, next, count))

@@ -78,13 +78,12 @@ switched bound l l' u new other seen r results steps runs callers arity deep =
     }
 
 -- Code of the same instance is gone on with, and code of another one is next.
-pub crosses : (bound : ℕ) (l : Loop) (cells' : List ℕ) (callers' : List Frame) (result : Crossing) (to : Position) → RunsSomeWhole bound l → IsCrossed l.world.number result to
-    → CrossesTo bound l (loop_at l.world cells' callers' to) → left_to_do (loop_at l.world cells' callers' to) < left_to_do l → Crosses bound l result cells' callers'
-crosses bound l cells' callers' (Goes there) to (u, r) (is, number) goes less =
-    subst (λ (p : Position). Crosses bound l (Goes p) cells' callers') (sym is) (
-      record { from = λ v s. (goes v s).1 l.world (record { store = refl; code = refl; seen_from = sym number; instance = s.runs.instance }); falls = omega (arith, less) },
-      number ∙ sym r.number,
-      less,
-    )
-crosses bound l cells' callers' (Switches there) to some is goes less = subst (λ (p : Position). Crosses bound l (Switches p) cells' callers') (sym is) (goes, less)
-crosses bound l cells' callers' (Stops s there) to some is goes less = absurd is
+pub crosses : (bound : ℕ) (l : Loop) (cells' : List ℕ) (callers' : List Frame) (result : Crossing) (to : Position) → RunsSomeWhole bound l → IsCrossed l.world.number result to.frame.instance
+    → CrossesTo bound l (loop_at l.world cells' callers' to) → left_to_do (loop_at l.world cells' callers' to) < left_to_do l → Crosses bound l result cells' callers' to
+crosses bound l cells' callers' Goes to (u, r) number goes less = (
+  record { from = λ v s. (goes v s).1 l.world (record { store = refl; code = refl; seen_from = sym number; instance = s.runs.instance }); falls = omega (arith, less) },
+  number ∙ sym r.number,
+  less,
+)
+crosses bound l cells' callers' Switches to some is goes less = (goes, less)
+crosses bound l cells' callers' (Stops s) to some is goes less = absurd is

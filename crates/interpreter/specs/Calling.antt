@@ -18,11 +18,11 @@ use Rattle.interpreter.specs.declared.machine.Stop.TheVariants as stop
 abbrev pub CrossesTo : (bound : ℕ) → Loop → Loop → Type 0
 CrossesTo bound l l' = (w : Whole) → RunsWhole bound l w → SwitchesTo bound l w l'
 
--- It goes on at a position: in code of the instance of a number, or of another one.
-abbrev pub IsCrossed : (number : ℕ) → Crossing → Position → Type 0
-IsCrossed number (Goes to) there = (to ≡ there) × (there.frame.instance ≡ number)
-IsCrossed number (Switches to) there = to ≡ there
-IsCrossed number (Stops s to) there = ⊥
+-- It goes on in code of an instance: of that whose code runs, or of another one.
+abbrev pub IsCrossed : (number : ℕ) → Crossing → (instance : ℕ) → Type 0
+IsCrossed number Goes instance = instance ≡ number
+IsCrossed number Switches instance = Unit {0}
+IsCrossed number (Stops s) instance = ⊥
 
 -- ---- branches
 

@@ -5,15 +5,16 @@ use Rattle.interpreter.specs.Whole.{Loop, Ran, RunsWhole, StopsAt, SwitchesTo, W
 use Rattle.interpreter.specs.declared.machine.Crossing.{Crossing}
 use Rattle.interpreter.specs.declared.machine.Crossing.TheVariants.{Goes, Stops, Switches}
 use Rattle.interpreter.specs.declared.machine.Frame.{Frame}
+use Rattle.interpreter.specs.declared.machine.Position.{Position}
 
--- With the cells and the callers afterwards.
+-- With the cells, the callers and the position afterwards.
 abbrev pub Crosses : (bound : ℕ) → Loop → Crossing → (cells' : List ℕ) → (callers' : List Frame)
-    → Type 0
-Crosses bound l (Goes to) cells' callers' =
+    → (to : Position) → Type 0
+Crosses bound l Goes cells' callers' to =
     Ran bound l (loop_at l.world cells' callers' to) × (to.frame.instance ≡ l.number)
     × (left_to_do (loop_at l.world cells' callers' to) < left_to_do l)
-Crosses bound l (Switches to) cells' callers' =
+Crosses bound l Switches cells' callers' to =
     ((w : Whole) → RunsWhole bound l w → SwitchesTo bound l w (loop_at l.world cells' callers' to))
     × (left_to_do (loop_at l.world cells' callers' to) < left_to_do l)
-Crosses bound l (Stops s to) cells' callers' =
+Crosses bound l (Stops s) cells' callers' to =
     StopsAt bound l s (loop_at l.world cells' callers' to)

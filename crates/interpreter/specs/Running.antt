@@ -65,3 +65,9 @@ abbrev pub Traps : Ghost → Machine → Trap → Type 0
 Traps g m trap =
     (fuel left : ℕ) → 1 ≤ fuel → left ≡ fuel - 1
     → Fails g fuel (cells_in m) m.place (height_in m) left trap
+
+-- No frame has more operands above its locals than the greatest height of its code.
+abbrev pub OperandsFit : Type 0
+OperandsFit =
+    (w : World) (m : Machine) (g : Ghost) → RunsAt w m g
+    → height_in m ≤ m.locals + g.code.greatest

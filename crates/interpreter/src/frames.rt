@@ -14,15 +14,15 @@ use crate::payment::pay;
 use core_types::Stack;
 use store::{Callee, ModuleFunction, State};
 
-// Goes on at a position, in code of the same instance or of another one.
+// Goes on in code of an instance: of that whose code runs, or of another one.
 #[inline(always)]
-fn cross<'a>(around: Surroundings<'a>, to: Position<'a>) -> Crossing<'a>
-    ensures { IsCrossed around.entry.number result to.entry }
+fn cross<'a>(around: Surroundings<'a>, instance: u32) -> Crossing
+    ensures { IsCrossed around.entry.number result instance }
 {
-    if to.frame.instance == around.number {
-        Crossing::Goes(to)
+    if instance == around.number {
+        Crossing::Goes
     } else {
-        Crossing::Switches(to)
+        Crossing::Switches
     }
 }
 
@@ -36,50 +36,47 @@ fn open<'a>(
     callers: &mut Stack<Frame<'a>>,
     function: &ModuleFunction<'a>,
     from: Position<'a>,
-    at: Position<'a>,
-) -> Crossing<'a>
+    at: &mut Position<'a>,
+) -> Crossing
     requires sound { RunsSomeWhole around.bound
-        (loop_at (world_at around state.now memory.now) cells.old callers.old at) }
+        (loop_at (world_at around state.now memory.now) cells.old callers.old at.old) }
     requires calls { CallsModule around.bound (world_at around state.now memory.now) cells.old
-        callers.old at from function.now }
-    requires paid { 1 ≤ at.fuel }
+        callers.old at.old from function.now }
+    requires paid { 1 ≤ at.old.fuel }
     requires shallow { suc (length callers.old) < around.bound }
-    requires next { at.frame.place + 1 < 2 ^ 64 }
+    requires next { at.old.frame.place + 1 < 2 ^ 64 }
     ensures { Crosses around.entry.bound
-        (loop_at (world_at around.entry state.now memory.now) cells.old callers.old at.entry)
-        result cells.new callers.new }
+        (loop_at (world_at around.entry state.now memory.now) cells.old callers.old at.old)
+        result cells.new callers.new at.new }
 {
     let flat = function.flat;
     let declared = flat.locals - flat.params;
     let room = cells.len() - from.top - 1;
     if declared > room || flat.greatest >= (room - declared) as u64 {
-        return Crossing::Stops(Stop::NoRoom, at);
+        return Crossing::Stops(Stop::NoRoom);
     }
     let mut waiting = at.frame;
     waiting.place += 1;
     let Ok(()) = callers.push(waiting) else {
-        return Crossing::Stops(Stop::NoMemory, at);
+        return Crossing::Stops(Stop::NoMemory);
     };
     let behind = from.top + 1;
     cells[from.top] = from.operand;
     clear(cells, behind, declared);
-    let frame = Frame {
-        operations: flat.operations,
-        tables: flat.tables,
-        instance: function.instance,
-        locals: flat.locals,
-        base: behind - flat.params,
-        place: 0,
-    };
-    cross(
-        around,
-        Position {
-            frame,
-            top: behind + declared,
-            operand: 0,
-            fuel: at.fuel - 1,
+    *at = Position {
+        frame: Frame {
+            operations: flat.operations,
+            tables: flat.tables,
+            instance: function.instance,
+            locals: flat.locals,
+            base: behind - flat.params,
+            place: 0,
         },
-    )
+        top: behind + declared,
+        operand: 0,
+        fuel: at.fuel - 1,
+    };
+    cross(around, function.instance)
 }
 
 // Calls what was found, once there is fuel for it. Its arguments are on top at `from`, in the same frame.
@@ -92,26 +89,26 @@ fn enter<'a>(
     callers: &mut Stack<Frame<'a>>,
     found: Found<'a>,
     from: Position<'a>,
-    at: Position<'a>,
-) -> Crossing<'a>
+    at: &mut Position<'a>,
+) -> Crossing
     requires sound { RunsSomeWhole around.bound
-        (loop_at (world_at around state.now memory.now) cells.old callers.old at) }
+        (loop_at (world_at around state.now memory.now) cells.old callers.old at.old) }
     requires calls { Calls around.bound (world_at around state.now memory.now) cells.old
-        callers.old at from found.address found.callee }
-    requires paid { 1 ≤ at.fuel }
-    requires next { at.frame.place + 1 < 2 ^ 64 }
+        callers.old at.old from found.address found.callee }
+    requires paid { 1 ≤ at.old.fuel }
+    requires next { at.old.frame.place + 1 < 2 ^ 64 }
     ensures { Crosses around.entry.bound
-        (loop_at (world_at around.entry state.now memory.now) cells.old callers.old at.entry)
-        result cells.new callers.new }
+        (loop_at (world_at around.entry state.now memory.now) cells.old callers.old at.old)
+        result cells.new callers.new at.new }
 {
     match found.callee {
         Callee::InModule(function) => {
             if callers.len() as u64 + 1 >= around.bound {
-                return Crossing::Stops(Stop::NoDepth, at);
+                return Crossing::Stops(Stop::NoDepth);
             }
             open(around, state, memory, cells, callers, &function, from, at)
         }
-        Callee::InHost(_) => Crossing::Stops(Stop::CallsHost(found.address, from.top + 1), at),
+        Callee::InHost(_) => Crossing::Stops(Stop::CallsHost(found.address, from.top + 1)),
     }
 }
 
@@ -124,25 +121,26 @@ pub fn call<'a>(
     cells: &mut [u64],
     callers: &mut Stack<Frame<'a>>,
     index: u32,
-    at: Position<'a>,
-) -> Crossing<'a>
+    at: &mut Position<'a>,
+) -> Crossing
     requires sound { RunsSomeWhole around.bound
-        (loop_at (world_at around state.now memory.now) cells.old callers.old at) }
-    requires fits { Fits (world_at around state.now memory.now) (machine_at cells.old at)
+        (loop_at (world_at around state.now memory.now) cells.old callers.old at.old) }
+    requires fits { Fits (world_at around state.now memory.now) (machine_at cells.old at.old)
         (op.Transfer transfer.Call index) }
-    requires turns { Turns (world_at around state.now memory.now) (machine_at cells.old at)
+    requires turns { Turns (world_at around state.now memory.now) (machine_at cells.old at.old)
         (op.Transfer transfer.Call index) }
-    requires next { at.frame.place + 1 < 2 ^ 64 }
+    requires next { at.old.frame.place + 1 < 2 ^ 64 }
     ensures { Crosses around.entry.bound
-        (loop_at (world_at around.entry state.now memory.now) cells.old callers.old at.entry)
-        result cells.new callers.new }
+        (loop_at (world_at around.entry state.now memory.now) cells.old callers.old at.old)
+        result cells.new callers.new at.new }
 {
     if at.fuel == 0 {
-        return Crossing::Stops(Stop::NoFuel, at);
+        return Crossing::Stops(Stop::NoFuel);
     }
     let address = around.instance.addresses.functions[index as usize];
     let found = function_at(around.code, address);
-    enter(around, state, memory, cells, callers, found, at, at)
+    let from = *at;
+    enter(around, state, memory, cells, callers, found, from, at)
 }
 
 /// Calls the function to which an entry of a table refers, whose offset is the topmost operand. The type that it has to be of, and
@@ -155,34 +153,33 @@ pub fn call_indirect<'a>(
     cells: &mut [u64],
     callers: &mut Stack<Frame<'a>>,
     number: u32,
-    at: Position<'a>,
-) -> Crossing<'a>
+    at: &mut Position<'a>,
+) -> Crossing
     requires sound { RunsSomeWhole around.bound
-        (loop_at (world_at around state.now memory.now) cells.old callers.old at) }
-    requires fits { Fits (world_at around state.now memory.now) (machine_at cells.old at)
+        (loop_at (world_at around state.now memory.now) cells.old callers.old at.old) }
+    requires fits { Fits (world_at around state.now memory.now) (machine_at cells.old at.old)
         (op.Transfer transfer.CallIndirect number) }
-    requires turns { Turns (world_at around state.now memory.now) (machine_at cells.old at)
+    requires turns { Turns (world_at around state.now memory.now) (machine_at cells.old at.old)
         (op.Transfer transfer.CallIndirect number) }
-    requires next { at.frame.place + 1 < 2 ^ 64 }
+    requires next { at.old.frame.place + 1 < 2 ^ 64 }
     ensures { Crosses around.entry.bound
-        (loop_at (world_at around.entry state.now memory.now) cells.old callers.old at.entry)
-        result cells.new callers.new }
+        (loop_at (world_at around.entry state.now memory.now) cells.old callers.old at.old)
+        result cells.new callers.new at.new }
 {
     let Ok(left) = pay(at.fuel) else {
-        return Crossing::Stops(Stop::NoFuel, at);
+        return Crossing::Stops(Stop::NoFuel);
     };
     let indices = at.frame.tables.pairs[number as usize];
     match find_through(around.code, around.instance, state, indices, at.operand) {
         Ok(found) => {
-            let mut from = at;
+            let mut from = *at;
             from.top -= 1;
             from.operand = cells[from.top];
             enter(around, state, memory, cells, callers, found, from, at)
         }
         Err(trap) => {
-            let mut to = at;
-            to.fuel = left;
-            Crossing::Stops(Stop::Traps(trap), to)
+            at.fuel = left;
+            Crossing::Stops(Stop::Traps(trap))
         }
     }
 }
@@ -196,32 +193,26 @@ pub fn leave<'a>(
     cells: &mut [u64],
     callers: &mut Stack<Frame<'a>>,
     results: usize,
-    at: Position<'a>,
-) -> Crossing<'a>
+    at: &mut Position<'a>,
+) -> Crossing
     requires leaves { (fuel : ℕ) × Leaves around.bound
-        (world_at around state.now memory.now) cells.old callers.old at fuel results }
-    requires next { at.frame.place + 1 < 2 ^ 64 }
+        (world_at around state.now memory.now) cells.old callers.old at.old fuel results }
+    requires next { at.old.frame.place + 1 < 2 ^ 64 }
     ensures { (fuel : ℕ)
         → Leaves around.entry.bound (world_at around.entry state.now memory.now) cells.old
-        callers.old at.entry fuel results
+        callers.old at.old fuel results
         → Crosses around.entry.bound
         (loop_at (world_at around.entry state.now memory.now) cells.old callers.old
-        (record at.entry { fuel = fuel }))
-        result cells.new callers.new }
+        (record at.old { fuel = fuel }))
+        result cells.new callers.new at.new }
 {
     let Some(frame) = callers.pop() else {
-        return Crossing::Stops(Stop::Over, at);
+        return Crossing::Stops(Stop::Over);
     };
     let to = at.frame.base - 1;
     cells[at.top] = at.operand;
-    let operand = land(cells, at.top, to, results, at.operand);
-    cross(
-        around,
-        Position {
-            frame,
-            top: to + results,
-            operand,
-            fuel: at.fuel,
-        },
-    )
+    at.operand = land(cells, at.top, to, results, at.operand);
+    at.frame = frame;
+    at.top = to + results;
+    cross(around, frame.instance)
 }

@@ -190,16 +190,10 @@ pub fn run<'a>(
                 at.frame.place += 1;
             }
             PackedOp::Transfer(kind, n) => {
-                match transfer(around, state, memory, cells, callers, *kind, *n, at) {
-                    Crossing::Goes(to) => at = to,
-                    Crossing::Switches(to) => {
-                        at = to;
-                        break Stop::Switches;
-                    }
-                    Crossing::Stops(stop, to) => {
-                        at = to;
-                        break stop;
-                    }
+                match transfer(around, state, memory, cells, callers, *kind, *n, &mut at) {
+                    Crossing::Goes => {}
+                    Crossing::Switches => break Stop::Switches,
+                    Crossing::Stops(stop) => break stop,
                 }
             }
             PackedOp::Other(kind, n) => match step_other(around, state, cells, *kind, *n, at) {

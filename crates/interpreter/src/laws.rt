@@ -1,8 +1,14 @@
 //! Laws of the loop over cells.
 
+ghost use Rattle.interpreter.specs.Running.{OperandsFit};
 ghost use Rattle.interpreter.specs.Turns.{OperationsTurn};
 
 /// Law: an operation stands where the machine is, with what it needs, and leads to what the definitions say of it.
 pub fn operations_turn()
     ensures { OperationsTurn }
+{}
+
+/// Law: where the machine runs, its frame has no more operands than the greatest height of its code.
+pub fn operands_fit()
+    ensures { OperandsFit }
 {}

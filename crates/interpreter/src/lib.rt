@@ -13,5 +13,5 @@ mod reading;
 mod transfers;
 
 pub use interpreter_loop::run;
-pub use laws::operations_turn;
+pub use laws::{operands_fit, operations_turn};
 pub use machine::{Frame, Position, Stop, Surroundings};

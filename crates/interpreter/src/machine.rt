@@ -58,13 +58,13 @@ pub enum Stop {
     LeavesOther(OtherInstruction, u32),
 }
 
-/// What an operation led to that may go on in another frame.
+/// Where the machine goes on, from the position that an operation led to, which may be in another frame.
 #[derive(Clone, Copy)]
-pub enum Crossing<'a> {
-    /// To a position in code of the same instance.
-    Goes(Position<'a>),
-    /// To a position in code of another one.
-    Switches(Position<'a>),
-    /// To a stop, at a position.
-    Stops(Stop, Position<'a>),
+pub enum Crossing {
+    /// In code of the same instance.
+    Goes,
+    /// In code of another one.
+    Switches,
+    /// Nowhere.
+    Stops(Stop),
 }

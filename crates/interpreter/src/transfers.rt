@@ -40,22 +40,19 @@ fn chosen(tables: &SideTables, number: u32, operand: u64) -> Entry
 
 // Branches to an entry, where the topmost operand lies at the top, too, and was paid for.
 #[inline(always)]
-fn branch<'a>(cells: &mut [u64], e: Entry, at: Position<'a>) -> Position<'a>
-    requires low { at.frame.base + at.frame.locals + e.height + e.kept ≤ at.top }
-    requires within { at.top < length cells.old }
-    requires there { get_or cells.old at.top 0 ≡ at.operand }
-    ensures moved { AreMoved cells.old at.entry.top
-        (at.entry.frame.base + at.entry.frame.locals + e.height) e.kept cells.new
-        result.operand }
-    ensures landed { result ≡ position_landed at.entry e result.operand }
+fn branch<'a>(cells: &mut [u64], e: Entry, at: &mut Position<'a>)
+    requires low { at.old.frame.base + at.old.frame.locals + e.height + e.kept ≤ at.old.top }
+    requires within { at.old.top < length cells.old }
+    requires there { get_or cells.old at.old.top 0 ≡ at.old.operand }
+    ensures moved { AreMoved cells.old at.old.top
+        (at.old.frame.base + at.old.frame.locals + e.height) e.kept cells.new at.new.operand }
+    ensures landed { at.new ≡ position_landed at.old e at.new.operand }
 {
     let kept = e.kept as usize;
     let to = at.frame.base + at.frame.locals + e.height as usize;
-    let mut landed = at;
-    landed.operand = land(cells, at.top, to, kept, at.operand);
-    landed.top = to + kept;
-    landed.frame.place = e.target as usize;
-    landed
+    at.operand = land(cells, at.top, to, kept, at.operand);
+    at.top = to + kept;
+    at.frame.place = e.target as usize;
 }
 
 /// Does an operation that does not go on with the next one, or calls.
@@ -68,72 +65,74 @@ pub fn transfer<'a>(
     callers: &mut Stack<Frame<'a>>,
     kind: TransferInstruction,
     n: u32,
-    at: Position<'a>,
-) -> Crossing<'a>
+    at: &mut Position<'a>,
+) -> Crossing
     requires sound { RunsSomeWhole around.bound
-        (loop_at (world_at around state.now memory.now) cells.old callers.old at) }
-    requires fits { Fits (world_at around state.now memory.now) (machine_at cells.old at)
+        (loop_at (world_at around state.now memory.now) cells.old callers.old at.old) }
+    requires fits { Fits (world_at around state.now memory.now) (machine_at cells.old at.old)
         (op.Transfer kind n) }
-    requires turns { Turns (world_at around state.now memory.now) (machine_at cells.old at)
+    requires turns { Turns (world_at around state.now memory.now) (machine_at cells.old at.old)
         (op.Transfer kind n) }
-    requires next { at.frame.place + 1 < 2 ^ 64 }
+    requires next { at.old.frame.place + 1 < 2 ^ 64 }
     ensures { Crosses around.entry.bound
-        (loop_at (world_at around.entry state.now memory.now) cells.old callers.old at.entry)
-        result cells.new callers.new }
+        (loop_at (world_at around.entry state.now memory.now) cells.old callers.old at.old)
+        result cells.new callers.new at.new }
 {
     let tables = at.frame.tables;
-    let mut to = at;
     match kind {
         TransferInstruction::Unreachable => match pay(at.fuel) {
             Ok(fuel) => {
-                to.fuel = fuel;
-                Crossing::Stops(Stop::Traps(Trap::Unreachable), to)
+                at.fuel = fuel;
+                Crossing::Stops(Stop::Traps(Trap::Unreachable))
             }
-            Err(stop) => Crossing::Stops(stop, at),
+            Err(stop) => Crossing::Stops(stop),
         },
         TransferInstruction::If => match pay(at.fuel) {
             Ok(fuel) => {
-                to.fuel = fuel;
-                to.top -= 1;
-                to.operand = cells[to.top];
-                to.frame.place = if at.operand == 0 {
+                let condition = at.operand;
+                at.fuel = fuel;
+                at.top -= 1;
+                at.operand = cells[at.top];
+                at.frame.place = if condition == 0 {
                     entry(tables, n).target as usize
                 } else {
                     at.frame.place + 1
                 };
-                Crossing::Goes(to)
+                Crossing::Goes
             }
-            Err(stop) => Crossing::Stops(stop, at),
+            Err(stop) => Crossing::Stops(stop),
         },
         TransferInstruction::Jump => {
-            to.frame.place = entry(tables, n).target as usize;
-            Crossing::Goes(to)
+            at.frame.place = entry(tables, n).target as usize;
+            Crossing::Goes
         }
         TransferInstruction::Br => match pay(at.fuel) {
             Ok(fuel) => {
-                to.fuel = fuel;
+                at.fuel = fuel;
                 cells[at.top] = at.operand;
-                Crossing::Goes(branch(cells, entry(tables, n), to))
+                branch(cells, entry(tables, n), at);
+                Crossing::Goes
             }
-            Err(stop) => Crossing::Stops(stop, at),
+            Err(stop) => Crossing::Stops(stop),
         },
         TransferInstruction::BrTable => match pay(at.fuel) {
             Ok(fuel) => {
-                to.fuel = fuel;
-                to.top -= 1;
-                to.operand = cells[to.top];
                 let e = chosen(tables, n, at.operand);
-                Crossing::Goes(branch(cells, e, to))
+                at.fuel = fuel;
+                at.top -= 1;
+                at.operand = cells[at.top];
+                branch(cells, e, at);
+                Crossing::Goes
             }
-            Err(stop) => Crossing::Stops(stop, at),
+            Err(stop) => Crossing::Stops(stop),
         },
         TransferInstruction::Return => match pay(at.fuel) {
             Ok(fuel) => {
-                to.fuel = fuel;
+                at.fuel = fuel;
                 let results = entry(tables, n).kept as usize;
-                leave(around, state, memory, cells, callers, results, to)
+                leave(around, state, memory, cells, callers, results, at)
             }
-            Err(stop) => Crossing::Stops(stop, at),
+            Err(stop) => Crossing::Stops(stop),
         },
         TransferInstruction::Call => call(around, state, memory, cells, callers, n, at),
         TransferInstruction::CallIndirect => {

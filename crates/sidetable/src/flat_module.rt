@@ -63,6 +63,7 @@ pub struct FlatCode<'a> {
 
 impl FlatModule {
     /// The flat code of the function of an index among the module's own, if there is one.
+    #[inline(always)]
     pub fn function(&self, index: u32) -> Option<FlatCode<'_>>
         ensures code { MatchOption result (slice_get self.now index ≡ None)
             (λ c. slice_get self.now index ≡ Some (seen c)) }

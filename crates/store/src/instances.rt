@@ -200,6 +200,7 @@ impl Code {
     }
 
     // The function of a module that an instance has under an index, if it is there.
+    #[inline(always)]
     fn module_function(&self, instance: u32, index: u32) -> Option<ModuleFunction<'_>>
         ensures found { MatchOption result
             (instance_function instance index (slice_get self.now.instances instance) ≡ None)
@@ -233,6 +234,7 @@ impl Code {
     }
 
     /// The function at an address, if there is one.
+    #[inline(always)]
     pub fn function(&self, address: u32) -> Option<Callee<'_>>
         ensures found { MatchOption result (slice_get (functions_in self.now) address ≡ None)
             (λ callee. slice_get (functions_in self.now) address ≡ Some (callee_function callee)) }

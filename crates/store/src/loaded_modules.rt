@@ -97,6 +97,7 @@ impl LoadedModule {
     }
 
     // The function of an index, if there is one.
+    #[inline(always)]
     pub(crate) fn function(&self, index: u32) -> Option<LoadedFunction<'_>>
         ensures func { MatchOption result (slice_get self.now.funcs index ≡ None) (λ f. slice_get
             self.now.funcs index ≡ Some f.func.now) }

@@ -135,10 +135,10 @@ returns-in-Err-store_cell c =
     record { stops = rw kept (fails-op _ _ _ c.loop-x.invariant _ _ c.fetch.ensures.turns c.in-Store.is c.in-Err-store_cell.trap (omega arith) (λ g leads. leads.0 (Err c.in-Err-store_cell.trap) (rw c.from-in-Store.ensures at wanted))) }
 
 pub returns-in-Switches : goal.returns-in-Switches
-returns-in-Switches c = record { stops = stops-across _ _ _ c.loop-x.invariant stop.Switches c.in-Switches.to _ _ (record { from = c.in-Switches.ensures.0; falls = c.in-Switches.ensures.1 }) }
+returns-in-Switches c = record { stops = stops-across _ _ _ c.loop-x.invariant stop.Switches c.transfer.new.at _ _ (record { from = c.in-Switches.ensures.0; falls = c.in-Switches.ensures.1 }) }
 
 pub returns-in-Stops : goal.returns-in-Stops
-returns-in-Stops c = record { stops = stops-across _ _ _ c.loop-x.invariant _ c.in-Stops.to _ _ c.in-Stops.ensures }
+returns-in-Stops c = record { stops = stops-across _ _ _ c.loop-x.invariant _ c.transfer.new.at _ _ c.in-Stops.ensures }
 
 pub returns-in-Err-step_other : goal.returns-in-Err-step_other
 returns-in-Err-step_other c = record {
