@@ -26,18 +26,26 @@ static void multiply(unsigned size) {
     }
 }
 
-// The sum of all entries of the product, of matrices of this size, at most 16.
-unsigned long long product_sum(unsigned size, unsigned seed) {
+static unsigned long long sum_entries(unsigned size) {
     unsigned long long sum = 0;
-    if (size > MOST) {
-        size = MOST;
-    }
-    fill(size, seed);
-    multiply(size);
     for (unsigned i = 0; i < size; i++) {
         for (unsigned j = 0; j < size; j++) {
             sum += product[i][j];
         }
+    }
+    return sum;
+}
+
+// The sum of all entries of so many products, of matrices of this size, at most 16; each seed is one more than that before.
+unsigned long long product_sum(unsigned size, unsigned seed, unsigned times) {
+    unsigned long long sum = 0;
+    if (size > MOST) {
+        size = MOST;
+    }
+    for (unsigned k = 0; k < times; k++) {
+        fill(size, seed + k);
+        multiply(size);
+        sum += sum_entries(size);
     }
     return sum;
 }

@@ -3,7 +3,7 @@ use Rattle.std.specs.Prelude.{List, map}
 use Rattle.std.specs.declared.rc.Rc.{Rc}
 use Rattle.core_types.specs.declared.module.Module.{Module}
 use Rattle.meaning.specs.embedding.Machine.{Embedding}
-use Rattle.exec.specs.Simulation.{run_state}
+use Rattle.exec.specs.Endings.{run_state}
 use Rattle.hostfunc.specs.declared.host_object.HostObject.{HostObject}
 use Rattle.store.specs.Contents.{store_of}
 use Rattle.embed.specs.declared.embedding.Embedding.{Embedding as Kept}

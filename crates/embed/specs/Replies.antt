@@ -2,7 +2,7 @@
 use Rattle.std.specs.Prelude.{Result, Ok, Err, string_bytes}
 use Rattle.meaning.specs.embedding.Commands as machine
 use Rattle.meaning.specs.execution.Runs.{WithValues, WithTrap}
-use Rattle.exec.specs.Simulation.{exhausted_ending}
+use Rattle.exec.specs.Endings.{exhausted_ending}
 use Rattle.embed.specs.declared.commands.Command.{Command}
 use Rattle.embed.specs.declared.commands.Command.TheVariants.{Load, Link, Register, Call, GetGlobal, SetFuel}
 use Rattle.embed.specs.declared.commands.Reply.{Reply}

@@ -1,6 +1,6 @@
 ghost use Rattle.std.specs.Prelude.{◌≡◌};
 ghost use Rattle.meaning.specs.embedding.Commands.{Ended};
-ghost use Rattle.exec.specs.Simulation.{ending_of};
+ghost use Rattle.exec.specs.Endings.{ending_of};
 ghost use Rattle.embed.specs.Replies.{reply_of};
 
 use crate::refusals::Refusal;

@@ -1,8 +1,5 @@
-pub mod Positions
-pub mod Representation
-pub mod Frames
-pub mod HostCalls
-pub mod Simulation
-pub mod Stops
-pub mod Typing
-pub mod IndirectCalls
+pub mod Resting
+pub mod Starting
+pub mod Instructions
+pub mod Hosting
+pub mod Endings

@@ -1,10 +1,155 @@
-ghost use Rattle.std.specs.Prelude.{◌≡◌, ◌↔◌, ℕ, IsTrue};
+ghost use Rattle.std.specs.Prelude.{◌≡◌, ◌↔◌, ◌+◌, ◌-◌, ◌<◌, ◌≤◌, ℕ, Err, Some, None, IfOk, IfErr, IsTrue, MatchOption, length, map};
+ghost use Rattle.core_types.specs.declared.types.FuncType.{FuncType};
+ghost use Rattle.meaning.specs.execution.Hosts.{memory_lent};
+ghost use Rattle.meaning.specs.execution.Configurations.{no_frame};
+ghost use Rattle.meaning.specs.execution.Runs.{HostTrap, Results, Run};
 ghost use Rattle.meaning.specs.execution.Store.{InHost};
-ghost use Rattle.hostfunc.specs.Boxes.{HaveHosts, IsHost};
-ghost use Rattle.store.specs.Contents.{callee_function, store_of};
+ghost use Rattle.meaning.specs.execution.Values.{type_of};
+ghost use Rattle.hostfunc.specs.Boxes.{HaveHosts, HostStep, IsHost};
+ghost use Rattle.hostfunc.specs.declared.host_function.HostFault.TheVariants.{Trap as TrapFault, Memory as MemoryFault};
+ghost use Rattle.store.specs.Contents.{callee_function, code_store, store_of, store_with};
+ghost use Rattle.exec.specs.Endings.{ending_of, first_memory, run_state};
+ghost use Rattle.interpreter.specs.Whole.{Whole, whole};
+ghost use Rattle.exec.specs.Hosting.{ComesOver, WaitsForHost, position_answered, with_results};
+ghost use Rattle.exec.specs.Resting.{at_rest, fuel_left, store_around};
 
-use hostfunc::HostTable;
-use store::{Callee, Store};
+use crate::call::{Call, frame_behind};
+use crate::outcome::Outcome;
+use cells::{values_of, write_cells};
+use core_types::{Exhaustion, Trap, Val};
+use hostfunc::{HostFault, HostFn, HostTable};
+use std::alloc::Global;
+use store::{Callee, Code, State, Store};
+
+// The address of the memory that an instance has, if it has one and that is there.
+fn memory_to_lend(code: &Code, state: &State, instance: u32) -> Option<u32>
+    ensures { MatchOption result (memory_lent (store_with code.now state.now)
+        (first_memory (code_store code.now) instance) ≡ None) (λ address.
+        (first_memory (code_store code.now) instance ≡ Some address)
+        × (address < length state.now.contents.memories)) }
+{
+    let address = code.memory_address(instance, 0)?;
+    match state.memory(address) {
+        Some(_) => Some(address),
+        None => None,
+    }
+}
+
+// Calls the host function of a number, which is lent the memory of an instance, or no bytes where that has none.
+fn call_lent(
+    code: &Code,
+    state: &mut State,
+    hosts: &mut HostTable,
+    instance: u32,
+    number: u32,
+    args: &[Val],
+) -> Result<Vec<Val>, HostFault>
+    requires there { (t : FuncType) × IsHost hosts.old.objects.items number t
+        × (map type_of args.now ≡ t.params) }
+    ensures answered { IfOk result
+        (λ values. HostStep ⟦<dyn HostFn as HostFn>⟧ hosts.old.objects.items number
+        (first_memory (code_store code.now) instance) args.now (store_with code.now state.old)
+        (Results values.items) (store_with code.now state.new) hosts.new.objects.items) }
+    ensures trapped { (why : ℕ) → result ≡ Err (TrapFault why) → HostStep ⟦<dyn HostFn as HostFn>⟧
+        hosts.old.objects.items number (first_memory (code_store code.now) instance) args.now
+        (store_with code.now state.old) (HostTrap why) (store_with code.now state.new)
+        hosts.new.objects.items }
+    ensures unchanged { result ≡ Err MemoryFault → (hosts.new.objects.items ≡
+        hosts.old.objects.items) × (store_with code.now state.new ≡ store_with code.now state.old) }
+{
+    match memory_to_lend(code, state, instance) {
+        Some(address) => hosts.call(number, args, state.memory_mut(address)),
+        None => hosts.call(number, args, &mut []),
+    }
+}
+
+// Puts results from a cell on, and goes on behind the call, which was paid for.
+fn put_results(values: &[Val], first: usize, call: &mut Call<'_>)
+    requires room { first + length values.now ≤ length call.old.cells.items }
+    requires above { 1 ≤ first }
+    requires code { call.old.position.frame.place < length
+        call.old.position.frame.function.now.operations.items }
+    requires paid { 1 ≤ call.old.position.fuel }
+    ensures cells { call.new.cells.items ≡ with_results call.old.cells.items first values.now }
+    ensures position { call.new.position ≡ position_answered call.old.position first values.now
+        call.old.cells.items }
+    ensures callers { call.new.callers ≡ call.old.callers }
+{
+    write_cells(values, &mut call.cells[first..]);
+    let top = first + values.len() - 1;
+    call.position.top = top;
+    call.position.operand = call.cells[top];
+    call.position.frame = frame_behind(call.position.frame);
+    call.position.fuel -= 1;
+}
+
+/// A host function that a call waits for: its address, and the place among the cells below which its arguments lie.
+#[derive(Clone, Copy)]
+pub struct HostCall {
+    pub address: u32,
+    pub behind: usize,
+}
+
+/// Calls the host function that a call waits for: its results take the place of its arguments.
+pub fn call_host(
+    alloc: Global,
+    code: &Code,
+    state: &mut State,
+    hosts: &mut HostTable,
+    bound: u64,
+    wanted: HostCall,
+    call: &mut Call<'_>,
+) -> Result<(), Outcome>
+    requires waits { (w : Whole)
+        × WaitsForHost bound (at_rest code.now state.old call.old) w wanted.address
+        wanted.behind }
+    requires hosts { HaveHosts (store_with code.now state.old) hosts.old.objects.items }
+    ensures answered { IfOk result (λ done. (w : Whole)
+        → WaitsForHost bound (at_rest code.now state.old call.old) w wanted.address
+        wanted.behind
+        → ComesOver (HostStep ⟦<dyn HostFn as HostFn>⟧) bound
+        (at_rest code.now state.old call.old) hosts.old.objects.items w
+        (at_rest code.now state.new call.new) hosts.new.objects.items) }
+    ensures ended { IfErr result (λ outcome. (w : Whole)
+        → WaitsForHost bound (at_rest code.now state.old call.old) w wanted.address
+        wanted.behind
+        → Run (HostStep ⟦<dyn HostFn as HostFn>⟧) bound no_frame
+        (run_state (store_with code.now state.old) hosts.old.objects.items
+        call.old.position.fuel) (whole w) (ending_of outcome)
+        (run_state (store_with code.now state.new) hosts.new.objects.items
+        call.new.position.fuel)) }
+    ensures hosts { HaveHosts (store_with code.now state.new) hosts.new.objects.items }
+    ensures left { IfOk result (λ done. call.new.position.fuel + 1 ≡ call.old.position.fuel) }
+{
+    let Some(Callee::InHost(host)) = code.function(wanted.address) else {
+        unreachable!()
+    };
+    let top = call.position.top;
+    call.cells[top] = call.position.operand;
+    let first = wanted.behind - host.ty.params.len();
+    let types = host.ty.params.as_slice();
+    let Ok(args) = values_of(alloc, types, &call.cells[first..wanted.behind]) else {
+        return Err(Outcome::Exhausted(Exhaustion::Memory));
+    };
+    match call_lent(
+        code,
+        state,
+        hosts,
+        call.position.frame.instance,
+        host.number,
+        &args,
+    ) {
+        Ok(values) => {
+            put_results(&values, first, call);
+            Ok(())
+        }
+        Err(HostFault::Trap(why)) => {
+            call.position.fuel -= 1;
+            Err(Outcome::Trap(Trap::Host(why)))
+        }
+        Err(HostFault::Memory) => Err(Outcome::Exhausted(Exhaustion::Memory)),
+    }
+}
 
 // Whether a function has an object of its type, if it is one of the host.
 fn has_host(callee: &Callee<'_>, hosts: &HostTable) -> bool

@@ -1,14 +1,14 @@
-//! The interpreter: a call from outside is a bounded run of the reduction.
+//! Calls from outside: each is a bounded run of the reduction, by the loop over cells.
 #![tactic(auto)]
 
-mod control;
-mod effects;
+mod call;
+mod calls;
 mod hosts;
 mod instructions;
 mod invocation;
-mod machine;
-mod positions;
+mod outcome;
+mod outside;
 
 pub use hosts::have_hosts;
-pub use invocation::invoke;
-pub use machine::Outcome;
+pub use outcome::Outcome;
+pub use outside::invoke;

@@ -7,7 +7,7 @@ ghost use Rattle.core_types.specs.declared.types.ValType.TheVariants.{I32};
 ghost use Rattle.hostfunc.specs.declared.host_function.HostFault.TheVariants.{Memory as MemoryFault};
 
 use crate::modules::loaded_module;
-use crate::runs::{Engine, calls_so};
+use crate::runs::calls_so;
 use core_types::{Extern, FuncType, Items, Val, ValType};
 use exec::have_hosts;
 use fuel::Meter;
@@ -153,8 +153,8 @@ fn link(alloc: Global, store: &mut Store, hosts: &mut HostTable) -> bool {
     instantiate(alloc, store, hosts, &mut meter, &loaded, &[Extern::Func(0)]).is_ok()
 }
 
-// The first call that does not go so by an interpreter.
-fn first_at_fault(alloc: Global, engine: Engine) -> Option<&'static str> {
+// The first call that does not go so.
+fn first_at_fault(alloc: Global) -> Option<&'static str> {
     let Some((mut store, mut hosts)) = new_store(alloc) else {
         return Some("no store");
     };
@@ -165,15 +165,7 @@ fn first_at_fault(alloc: Global, engine: Engine) -> Option<&'static str> {
     for row in &CALLS {
         let call = (row.address, row.args.as_slice());
         let wanted = (row.ends, row.left);
-        let goes = calls_so(
-            alloc,
-            engine,
-            &mut store,
-            &mut hosts,
-            call,
-            (row.fuel, 2),
-            wanted,
-        );
+        let goes = calls_so(alloc, &mut store, &mut hosts, call, (row.fuel, 2), wanted);
         if first.is_none() && !goes {
             first = Some(row.name);
         }
@@ -183,8 +175,6 @@ fn first_at_fault(alloc: Global, engine: Engine) -> Option<&'static str> {
 
 #[test]
 fn calls_host_functions(rt: HostRuntime) {
-    for engine in [Engine::Operands, Engine::Cells] {
-        let first = first_at_fault(rt.alloc(), engine);
-        assert!(rt; first.is_none(), "{first:?}");
-    }
+    let first = first_at_fault(rt.alloc());
+    assert!(rt; first.is_none(), "{first:?}");
 }

@@ -1,12 +1,10 @@
-//! Tests of what runs: of `core_types`, `intops`, `fuel`, `stacks`, `store`, `bulkops`, `plain`, `exec` and `invocation`.
+//! Tests of what runs: of `core_types`, `intops`, `fuel`, `store`, `bulkops` and `exec`.
 #![tactic(auto)]
 
 #[cfg(test)]
 mod collections;
 #[cfg(test)]
 mod host_calls;
-#[cfg(test)]
-mod instructions;
 #[cfg(test)]
 mod memories;
 #[cfg(test)]
@@ -19,8 +17,6 @@ mod numeric_rows;
 mod numerics;
 #[cfg(test)]
 mod object_runs;
-#[cfg(test)]
-mod operands;
 #[cfg(test)]
 mod runs;
 #[cfg(test)]

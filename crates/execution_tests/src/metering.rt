@@ -9,17 +9,17 @@ enum Step {
     Left(u64),
     Set(u64),
     Enter(bool),
-    LeaveAll,
+    Bound(u32),
 }
 
-use Step::{Enter, LeaveAll, Left, Set, Spend};
+use Step::{Bound, Enter, Left, Set, Spend};
 
 // Fuel, a depth bound, and steps.
 #[rattlefmt::skip]
 static CASES: [(&str, u64, u32, &[Step]); 3] = [
     ("fuel", 5, 2, &[Spend(5, true), Spend(1, false), Spend(0, true), Left(0), Set(7), Left(7), Spend(8, false), Left(7)]),
-    ("frames", 0, 2, &[Enter(true), Enter(true), Enter(false), LeaveAll, Enter(true), Enter(true), Enter(false)]),
-    ("no frame", 1, 0, &[Enter(false)]),
+    ("frames", 0, 2, &[Enter(true), Enter(true), Enter(false), Bound(2)]),
+    ("no frame", 1, 0, &[Enter(false), Bound(0)]),
 ];
 
 // Whether a meter answers a step so.
@@ -32,10 +32,7 @@ fn takes(meter: &mut Meter, step: Step) -> bool {
             true
         }
         Enter(entered) => meter.enter() == entered,
-        LeaveAll => {
-            meter.leave_all();
-            true
-        }
+        Bound(frames) => meter.bound() == frames,
     }
 }
 

@@ -1,7 +1,7 @@
 //! Calls of functions that read and change tables, memories, globals and segments.
 
 use crate::modules::store_with;
-use crate::runs::{Engine, calls_so};
+use crate::runs::calls_so;
 use core_types::Val;
 use hostfunc::HostTable;
 use std::alloc::Global;
@@ -206,13 +206,7 @@ static TABLES: [Case; 5] = [
 ];
 
 // Whether a call ends so and leaves so much fuel.
-fn goes_so(
-    alloc: Global,
-    engine: Engine,
-    store: &mut Store,
-    hosts: &mut HostTable,
-    call: &Call,
-) -> bool {
+fn goes_so(alloc: Global, store: &mut Store, hosts: &mut HostTable, call: &Call) -> bool {
     let Call {
         address,
         args,
@@ -222,7 +216,6 @@ fn goes_so(
     } = call;
     calls_so(
         alloc,
-        engine,
         store,
         hosts,
         (*address, args),
@@ -242,30 +235,21 @@ fn begins_with(store: &Store, bytes: &[u8]) -> bool {
     }
 }
 
-// The index of the first call of a case that does not go so by an interpreter, or how many calls it has where the memory is not so
-// at the end.
-fn first_by(alloc: Global, engine: Engine, case: &Case) -> Option<usize> {
+// The index of the first call of a case that does not go so, or how many calls it has where the memory is not so at the end.
+fn first_at_fault(alloc: Global, case: &Case) -> Option<usize> {
     let mut hosts = HostTable::new(alloc);
     let Some(mut store) = store_with(alloc, case.modules) else {
         return Some(0);
     };
     let mut first = None;
     for (index, call) in case.calls.iter().enumerate() {
-        if first.is_none() && !goes_so(alloc, engine, &mut store, &mut hosts, call) {
+        if first.is_none() && !goes_so(alloc, &mut store, &mut hosts, call) {
             first = Some(index);
         }
     }
     match case.bytes {
         Some(bytes) if first.is_none() && !begins_with(&store, bytes) => Some(case.calls.len()),
         _ => first,
-    }
-}
-
-// The first by either of them.
-fn first_at_fault(alloc: Global, case: &Case) -> Option<usize> {
-    match first_by(alloc, Engine::Operands, case) {
-        None => first_by(alloc, Engine::Cells, case),
-        first => first,
     }
 }
 

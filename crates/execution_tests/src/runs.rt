@@ -2,7 +2,7 @@
 
 use crate::modules::store_with;
 use core_types::{Exhaustion, Trap, Val};
-use exec::{Outcome, have_hosts};
+use exec::{Outcome, have_hosts, invoke};
 use fuel::Meter;
 use hostfunc::HostTable;
 use std::alloc::{AllocError, Global};
@@ -26,6 +26,21 @@ i32.div_s that traps, fuel 2 | | 2 | 1 | exhausted fuel | 0 | (func (result i32)
 i32.div_u that traps, fuel 10 | | 10 | 1 | trap integer divide by zero | 7 | (func (result i32) i32.const 1 i32.const 0 i32.div_u)
 i32.div_u that traps, fuel 3 | | 3 | 1 | trap integer divide by zero | 0 | (func (result i32) i32.const 1 i32.const 0 i32.div_u)
 i32.div_u that traps, fuel 2 | | 2 | 1 | exhausted fuel | 0 | (func (result i32) i32.const 1 i32.const 0 i32.div_u)
+drop | | 3 | 1 | values i64 1 | 0 | (func (result i64) i64.const 1 i64.const 2 drop)
+nop | | 2 | 1 | values i32 4 | 0 | (func (result i32) i32.const 4 nop)
+ref.null func | | 1 | 1 | values funcref null | 0 | (func (result funcref) ref.null func)
+ref.null extern | | 1 | 1 | values externref null | 0 | (func (result externref) ref.null extern)
+ref.is_null of null | funcref null | 2 | 1 | values i32 1 | 0 | (func (param funcref) (result i32) local.get 0 ref.is_null)
+ref.is_null of function 0 | funcref 0 | 2 | 1 | values i32 0 | 0 | (func (param funcref) (result i32) local.get 0 ref.is_null)
+ref.is_null of an external null | externref null | 2 | 1 | values i32 1 | 0 | (func (param externref) (result i32) local.get 0 ref.is_null)
+ref.is_null of an external 0 | externref 0 | 2 | 1 | values i32 0 | 0 | (func (param externref) (result i32) local.get 0 ref.is_null)
+select by 7 | i32 7 | 4 | 1 | values i32 10 | 0 | (func (param i32) (result i32) i32.const 10 i32.const 20 local.get 0 select)
+select by 0 | i32 0 | 4 | 1 | values i32 20 | 0 | (func (param i32) (result i32) i32.const 10 i32.const 20 local.get 0 select)
+select (result i32) by 7 | i32 7 | 4 | 1 | values i32 10 | 0 | (func (param i32) (result i32) i32.const 10 i32.const 20 local.get 0 select (result i32))
+select (result i32) by 0 | i32 0 | 4 | 1 | values i32 20 | 0 | (func (param i32) (result i32) i32.const 10 i32.const 20 local.get 0 select (result i32))
+local.get 1 | i32 7 i32 8 | 1 | 1 | values i32 8 | 0 | (func (param i32 i32) (result i32) local.get 1)
+local.set 1 | i32 7 i32 8 | 4 | 1 | values i32 7 i32 6 | 0 | (func (param i32 i32) (result i32 i32) i32.const 6 local.set 1 local.get 0 local.get 1)
+local.tee 0 | i32 7 i32 8 | 4 | 1 | values i32 6 i32 6 i32 8 | 0 | (func (param i32 i32) (result i32 i32 i32) i32.const 6 local.tee 0 local.get 0 local.get 1)
 unreachable that traps, fuel 10 | | 10 | 1 | trap unreachable | 7 | (func (result i32) nop nop unreachable)
 unreachable that traps, fuel 3 | | 3 | 1 | trap unreachable | 0 | (func (result i32) nop nop unreachable)
 unreachable that traps, fuel 2 | | 2 | 1 | exhausted fuel | 0 | (func (result i32) nop nop unreachable)
@@ -240,17 +255,9 @@ fn ends_so(alloc: Global, outcome: &Outcome, text: &str) -> bool {
     }
 }
 
-/// The interpreters: that with a stack of operands, and the loop over cells.
-#[derive(Clone, Copy)]
-pub enum Engine {
-    Operands,
-    Cells,
-}
-
 /// Whether a call of the function at an address ends so within fuel and depth, and leaves so much fuel.
 pub fn calls_so(
     alloc: Global,
-    engine: Engine,
     store: &mut Store,
     hosts: &mut HostTable,
     (address, args): (u32, &[Val]),
@@ -261,46 +268,11 @@ pub fn calls_so(
         return false;
     }
     let mut meter = Meter::new(fuel, depth);
-    let mut rest = fuel;
-    match engine {
-        Engine::Operands => {
-            let outcome = exec::invoke(alloc, store, hosts, &mut meter, address, args);
-            ends_so(alloc, &outcome, ends) && meter.left() == left
-        }
-        Engine::Cells => {
-            let outcome = invocation::invoke(alloc, store, hosts, &mut rest, depth, address, args);
-            ends_so(alloc, &outcome, ends) && rest == left
-        }
-    }
+    let outcome = invoke(alloc, store, hosts, &mut meter, address, args);
+    ends_so(alloc, &outcome, ends) && meter.left() == left
 }
 
-// Whether the first function of a module is run so by an interpreter.
-fn runs_by(
-    alloc: Global,
-    engine: Engine,
-    text: &str,
-    args: &[Val],
-    bounds: (u64, u32),
-    wanted: (&str, u64),
-) -> bool {
-    let mut hosts = HostTable::new(alloc);
-    match store_with(alloc, &[text]) {
-        Some(mut store) => {
-            calls_so(
-                alloc,
-                engine,
-                &mut store,
-                &mut hosts,
-                (0, args),
-                bounds,
-                wanted,
-            )
-        }
-        None => false,
-    }
-}
-
-// Whether it is run so by both.
+// Whether the first function of a module is run so.
 fn runs_so(
     alloc: Global,
     text: &str,
@@ -308,8 +280,11 @@ fn runs_so(
     bounds: (u64, u32),
     wanted: (&str, u64),
 ) -> bool {
-    runs_by(alloc, Engine::Operands, text, args, bounds, wanted)
-        && runs_by(alloc, Engine::Cells, text, args, bounds, wanted)
+    let mut hosts = HostTable::new(alloc);
+    match store_with(alloc, &[text]) {
+        Some(mut store) => calls_so(alloc, &mut store, &mut hosts, (0, args), bounds, wanted),
+        None => false,
+    }
 }
 
 // The parts of a row.
@@ -341,7 +316,7 @@ fn agrees(alloc: Global, line: &str) -> bool {
 
 #[test]
 fn runs_functions(rt: HostRuntime) {
-    assert!(rt; ROWS.lines().count() == 163);
+    assert!(rt; ROWS.lines().count() == 178);
     for line in ROWS.lines() {
         assert!(rt; agrees(rt.alloc(), line), "{line}");
     }
@@ -365,7 +340,7 @@ static ADDRESSES: [(u32, &str, u64); 5] = [
 ];
 
 // Calls the functions at all addresses in turn, in one store of both modules: the first that is not run so.
-fn first_at_fault(alloc: Global, engine: Engine) -> Option<u32> {
+fn first_at_fault(alloc: Global) -> Option<u32> {
     let mut hosts = HostTable::new(alloc);
     let Some(mut store) = store_with(alloc, &TWO) else {
         return Some(0);
@@ -374,7 +349,7 @@ fn first_at_fault(alloc: Global, engine: Engine) -> Option<u32> {
     for (address, ends, left) in &ADDRESSES {
         let call = (*address, [].as_slice());
         let wanted = (*ends, *left);
-        let goes = calls_so(alloc, engine, &mut store, &mut hosts, call, (9, 2), wanted);
+        let goes = calls_so(alloc, &mut store, &mut hosts, call, (9, 2), wanted);
         if first.is_none() && !goes {
             first = Some(*address);
         }
@@ -384,8 +359,6 @@ fn first_at_fault(alloc: Global, engine: Engine) -> Option<u32> {
 
 #[test]
 fn calls_within_the_instance(rt: HostRuntime) {
-    for engine in [Engine::Operands, Engine::Cells] {
-        let first = first_at_fault(rt.alloc(), engine);
-        assert!(rt; first.is_none(), "{first:?}");
-    }
+    let first = first_at_fault(rt.alloc());
+    assert!(rt; first.is_none(), "{first:?}");
 }

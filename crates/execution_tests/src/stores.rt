@@ -1,20 +1,19 @@
 //! Functions, types and instances by address, the flat code of functions, and the arguments that a function takes.
 
 use crate::modules::{append, empty_store, loaded_module, store_with};
-use crate::runs::{Engine, calls_so};
+use crate::runs::calls_so;
 use core_types::{Extern, ExternType, Op, PlainOp, RefType, Val, ValType};
 use hostfunc::HostTable;
 use std::alloc::Global;
 use store::{Callee, ModuleFunction, Store, accepts};
 
-// Whether a function has so many operations, this greatest height and bodies that end so.
+// Whether a function has so many operations and this greatest height.
 fn has_flat_code(function: &ModuleFunction<'_>) -> bool {
-    function.flat.operations.len() == 5
-        && function.flat.greatest == 1
-        && function.flat.ends == [6, 6, 4, 3, 4, 5, 6].as_slice()
+    let flat = function.flat.function;
+    flat.operations.len() == 5 && flat.greatest == 1
 }
 
-// Whether the function of a module is kept with its flat code, and with the ends of its bodies.
+// Whether the function of a module is kept with its flat code.
 fn keeps_flat_code(alloc: Global) -> bool {
     let text = "(func i32.const 0 if block end else end)";
     match store_with(alloc, &[text]) {
@@ -259,15 +258,7 @@ fn describes(alloc: Global, value: Extern, wanted: Described) -> bool {
     let mut hosts = HostTable::new(alloc);
     let call = (1, [].as_slice());
     let wanted_end = ("values", 969);
-    if !calls_so(
-        alloc,
-        Engine::Cells,
-        &mut store,
-        &mut hosts,
-        call,
-        (2000, 1),
-        wanted_end,
-    ) {
+    if !calls_so(alloc, &mut store, &mut hosts, call, (2000, 1), wanted_end) {
         return false;
     }
     if !store.has_extern(value) {

@@ -1,5 +1,5 @@
-//! Rows of flat code: for the last function of a module, its operations with their entries and its greatest height, or where the
-//! bodies of its code with marks end.
+//! Rows of flat code: for the last function of a module, its operations with their entries and its greatest height, or how many
+//! parameters, locals and results it has.
 
 use crate::listing::list;
 use binary::{DecodeError, decode};
@@ -13,13 +13,11 @@ use validator::{ValidateError, validate};
 enum Expected {
     // Its operations, and its greatest height.
     Code(&'static str, u64),
-    // For each position of its code with marks, that behind the last operation too, where the body ends in which it stands.
-    Ends(&'static [usize]),
     // How many parameters, locals with these, and results it has.
     Counts(usize, usize, u32),
 }
 
-use Expected::{Code, Counts, Ends};
+use Expected::{Code, Counts};
 
 // A row: a name, a module, and what its last function is.
 struct Row {
@@ -29,7 +27,7 @@ struct Row {
 }
 
 #[rattlefmt::skip]
-static ROWS: [Row; 27] = [
+static ROWS: [Row; 20] = [
     Row { name: "an empty body", source: "(func)",
         expected: Code(" leave", 0) },
     Row { name: "a branch out of a block over three constants", source: "(func (result i32) block (result i32) i32.const 7 i32.const 8 i32.const 9 br 0 end)",
@@ -68,20 +66,6 @@ static ROWS: [Row; 27] = [
         expected: Code(" plain plain plain plain leave", 2) },
     Row { name: "a call through a table", source: "(type (func (param i32) (result i32 i32 i32))) (table 1 funcref) (func i32.const 1 i32.const 0 call_indirect (type 0) drop drop drop)",
         expected: Code(" plain plain plain plain plain plain leave", 3) },
-    Row { name: "ends of no operation", source: "(func)",
-        expected: Ends(&[0]) },
-    Row { name: "ends of no body", source: "(func nop nop)",
-        expected: Ends(&[2, 2, 2]) },
-    Row { name: "the end of a block", source: "(func block nop end nop)",
-        expected: Ends(&[4, 2, 2, 4, 4]) },
-    Row { name: "the ends of a loop in a block", source: "(func block loop nop end nop end)",
-        expected: Ends(&[6, 5, 3, 3, 5, 5, 6]) },
-    Row { name: "the end of an if", source: "(func i32.const 0 if nop end)",
-        expected: Ends(&[4, 4, 3, 3, 4]) },
-    Row { name: "the ends of an if with an else", source: "(func i32.const 0 if nop else nop end nop)",
-        expected: Ends(&[7, 7, 3, 3, 5, 5, 7, 7]) },
-    Row { name: "the ends of a loop in an if in a block", source: "(func block i32.const 0 if loop end else nop end end)",
-        expected: Ends(&[9, 8, 8, 5, 4, 5, 7, 7, 8, 9]) },
     Row { name: "what a function has", source: "(func (param i32 i64) (result i32) (local i32 i64 i64) i32.const 1)",
         expected: Counts(2, 5, 1) },
 ];
@@ -116,13 +100,17 @@ impl From<ValidateError> for Refused {
 
 // Whether a function's flat code is so.
 fn is_so(alloc: Global, code: &FlatCode<'_>, expected: &Expected) -> Result<bool, AllocError> {
+    let function = code.function;
     match expected {
         Code(listing, greatest) => {
-            Ok(code.greatest == *greatest && list(alloc, code)?.as_str() == *listing)
+            Ok(function.greatest == *greatest && list(alloc, code)?.as_str() == *listing)
         }
-        Ends(ends) => Ok(code.ends == *ends),
         Counts(params, locals, results) => {
-            Ok(code.params == *params && code.locals == *locals && code.results == *results)
+            Ok(
+                function.params == *params
+                    && function.locals == *locals
+                    && function.results == *results,
+            )
         }
     }
 }
@@ -132,13 +120,13 @@ fn is_flattened(alloc: Global, row: &Row) -> Result<bool, Refused> {
     let bytes = assemble(alloc, row.source)?;
     let validated = validate(alloc, decode(alloc, &bytes)?)?;
     let flat = flatten(alloc, &validated)?;
-    let Ok(last) = u32::try_from(validated.module().funcs.len().saturating_sub(1)) else {
+    let Some(last) = flat.function_count().checked_sub(1) else {
         return Ok(false);
     };
-    match flat.function(last) {
-        Some(code) => Ok(is_so(alloc, &code, &row.expected)?),
-        None => Ok(false),
-    }
+    let Ok(last) = u32::try_from(last) else {
+        return Ok(false);
+    };
+    Ok(is_so(alloc, &flat.function(last), &row.expected)?)
 }
 
 #[test]

@@ -69,7 +69,7 @@ fn write_operation(text: &mut String, tables: &SideTables, op: PackedOp) -> Resu
 /// The listing of a function's flat code, with a space before each word.
 pub fn list(alloc: Global, code: &FlatCode<'_>) -> Result<String, AllocError> {
     let mut text = String::new(alloc);
-    for op in code.operations {
+    for op in &code.function.operations {
         write_operation(&mut text, code.tables, *op)?;
     }
     Ok(text)

@@ -39,6 +39,13 @@ impl Meter {
         self.left
     }
 
+    /// How many frames may be open.
+    pub fn bound(&self) -> u32
+        ensures { result ≡ self.now.bound }
+    {
+        self.bound
+    }
+
     /// Sets the fuel.
     pub fn set(&mut self, fuel: u64)
         ensures { self.new ≡ metered fuel self.old.bound self.old.frames }
@@ -82,12 +89,5 @@ impl Meter {
         ensures { self.new ≡ metered self.old.left self.old.bound (self.old.frames - 1) }
     {
         self.frames -= 1;
-    }
-
-    /// Closes all frames that are open.
-    pub fn leave_all(&mut self)
-        ensures { self.new ≡ metered self.old.left self.old.bound 0 }
-    {
-        self.frames = 0;
     }
 }

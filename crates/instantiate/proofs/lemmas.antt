@@ -1,5 +1,6 @@
 -- What the proofs of the calls rest on.
 pub mod Addresses
+pub mod Copies
 pub mod Hosts
 pub mod Imports
 pub mod Instances

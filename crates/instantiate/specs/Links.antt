@@ -7,8 +7,8 @@ use Rattle.meaning.specs.execution.Modules.{AreGiven, HasNoValues, Instantiation
 use Rattle.meaning.specs.execution.Runs.{Answer, State, WithValues}
 use Rattle.meaning.specs.execution.Store.{ObjectLists, Store}
 use Rattle.soundness.specs.Links.{InstanceStays}
-use Rattle.exec.specs.declared.machine.Outcome.{Outcome}
-use Rattle.exec.specs.Simulation.{ending_of}
+use Rattle.exec.specs.declared.outcome.Outcome.{Outcome}
+use Rattle.exec.specs.Endings.{ending_of}
 use Rattle.instantiate.specs.declared.link_end.LinkEnd.{LinkEnd}
 use Rattle.instantiate.specs.declared.link_end.LinkEnd.TheVariants.{Refused, Ended}
 use Rattle.instantiate.specs.declared.link_end.LinkRefusal.{LinkRefusal}

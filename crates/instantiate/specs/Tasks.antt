@@ -1,10 +1,6 @@
 -- What a link runs, in the terms of the definitions.
-use Rattle.std.specs.Prelude.{◌≡◌, ℕ, List, [], ◌++◌, Option, Some, None, Result, Ok, Err, slice_get}
+use Rattle.std.specs.Prelude.{◌≡◌, ℕ, ◌-◌, ◌<◌, ◌≤◌, List, [], ◌++◌, Option, Some, None, Result, Ok, Err, slice_get}
 use Rattle.core_types.specs.declared.module.Module.{Module}
-use Rattle.core_types.specs.declared.op.MemoryOp.TheVariants.{DataDrop}
-use Rattle.core_types.specs.declared.op.PlainOp.{PlainOp}
-use Rattle.core_types.specs.declared.op.PlainOp.TheVariants.{Memory, Table}
-use Rattle.core_types.specs.declared.op.TableOp.TheVariants.{ElemDrop}
 use Rattle.core_types.specs.declared.outcome.Exhaustion.TheVariants as exhausted
 use Rattle.core_types.specs.declared.outcome.Val.{Val}
 use Rattle.core_types.specs.declared.outcome.Val.TheVariants.{I32, I64, FuncRef, ExternRef}
@@ -13,12 +9,12 @@ use Rattle.meaning.specs.execution.Modules.{HasNoValues, RunTasks, Task}
 use Rattle.meaning.specs.execution.Runs.{Answer, Ending, IsStep, Run, State, WithTrap, WithValues}
 use Rattle.meaning.specs.execution.Store.{ModuleInstance, Store}
 use Rattle.soundness.specs.Progress.{GetsStuck, TasksGetStuck}
-use Rattle.exec.specs.declared.machine.Outcome.{Outcome}
-use Rattle.exec.specs.declared.machine.Outcome.TheVariants.{Values}
-use Rattle.exec.specs.Simulation.{ending_of, exhausted_ending, state, world_of}
-use Rattle.plain.specs.declared.progress.Progress.{Progress}
-use Rattle.plain.specs.declared.progress.Progress.TheVariants as progress
-use Rattle.store.specs.Contents.{AddressLists, Contents, instances_in, lists_of, module_instance}
+use Rattle.simulation.specs.Outcomes.{Outcome, failed, grown, made}
+use Rattle.effects.specs.Outcomes.{IsTrap, LacksMemory, cost_of}
+use Rattle.exec.specs.declared.outcome.Outcome.{Outcome as CallOutcome}
+use Rattle.exec.specs.declared.outcome.Outcome.TheVariants.{Values}
+use Rattle.exec.specs.Endings.{ending_of, exhausted_ending, run_state}
+use Rattle.store.specs.Contents.{AddressLists, Contents, instances_in, lists_of, module_instance, store_with}
 use Rattle.store.specs.State.{StateContents}
 use Rattle.instantiate.specs.declared.copies.Linked.{Linked}
 use Rattle.instantiate.specs.declared.link_end.TaskEnd.{TaskEnd}
@@ -26,7 +22,7 @@ use Rattle.instantiate.specs.declared.link_end.TaskEnd.TheVariants.{Exhausted, S
 
 -- The state of a link over both parts of the store, with this fuel left.
 abbrev pub link_state : Contents → StateContents → (fuel : ℕ) → State ⊥
-link_state code s fuel = state (world_of code s) fuel
+link_state code s fuel = run_state (store_with code s) [] fuel
 
 -- The new instance.
 abbrev pub instance_in : Linked → ModuleInstance
@@ -41,11 +37,6 @@ HasInstance code instance m =
 -- Its frame, in which segments are copied.
 abbrev pub frame_in : Linked → Frame
 frame_in linked = record { instance = Some linked.instance; locals = [] }
-
--- An instruction that drops a segment.
-pub data IsDrop : PlainOp → Type 0 where
-  drops_elements : (x : ℕ) → IsDrop (Table (ElemDrop x))
-  drops_data : (x : ℕ) → IsDrop (Memory (DataDrop x))
 
 -- There is no i32.
 abbrev pub HasNoI32 : Option Val → Type 0
@@ -66,23 +57,30 @@ abbrev pub IsWithoutValues : Option Ending → Type 0
 IsWithoutValues None = Unit {0}
 IsWithoutValues (Some ending) = HasNoValues ending
 
--- How a link ends where this came of an instruction.
-abbrev pub IsEndOf : TaskEnd → Progress → Type 0
-IsEndOf (Trap trap) p = p ≡ progress.Trapped trap
-IsEndOf (Exhausted exhausted.Fuel) p = p ≡ progress.NoFuel
-IsEndOf (Exhausted exhausted.Memory) p = p ≡ progress.NoMemory
-IsEndOf Stuck p = p ≡ progress.NotReady
-IsEndOf o p = ⊥
-
 -- What is left where a call from outside ended so: nothing, after values.
-abbrev pub EndsAs : {U : Type 0} → Result U TaskEnd → Outcome → Type 0
+abbrev pub EndsAs : {U : Type 0} → Result U TaskEnd → CallOutcome → Type 0
 EndsAs (Ok u) outcome = (values : List Val) × (outcome ≡ Values values)
 EndsAs (Err o) outcome = Some (ending_of outcome) ≡ ending_in o
 
--- How it goes on.
-abbrev pub IsPassed : {U : Type 0} → Result U TaskEnd → Progress → Type 0
-IsPassed (Ok u) p = p ≡ progress.Done
-IsPassed (Err o) p = IsEndOf o p
+-- An instruction was done at its cost, and left this store and so much of the fuel.
+abbrev pub IsPaidFor : Outcome → (new : Store) → (fuel left : ℕ) → Type 0
+IsPaidFor (made cost store results) new fuel left =
+    (cost ≤ fuel) × (left ≡ fuel - cost) × (new ≡ store)
+IsPaidFor (grown cost store results) new fuel left =
+    (cost ≤ fuel) × (left ≡ fuel - cost) × (new ≡ store)
+IsPaidFor (failed trap) new fuel left = ⊥
+
+-- How a link goes on behind it; where it was not done, the store is as it was.
+abbrev pub Passes : {U : Type 0} → Result U TaskEnd → Outcome → (old new : Store)
+    → (fuel left : ℕ) → Type 0
+Passes (Ok u) o old new fuel left = IsPaidFor o new fuel left
+Passes (Err (Trap trap)) o old new fuel left =
+    IsTrap o fuel trap × (new ≡ old) × (left ≡ fuel - 1)
+Passes (Err (Exhausted exhausted.Fuel)) o old new fuel left =
+    (fuel < cost_of o) × (new ≡ old) × (left ≡ fuel)
+Passes (Err (Exhausted exhausted.Memory)) o old new fuel left =
+    LacksMemory o fuel × (new ≡ old) × (left ≡ fuel)
+Passes (Err other) o old new fuel left = ⊥
 
 module _ {H : Type 0} (HostStep : List H → ℕ → Option ℕ → List Val → Store → Answer → Store
     → List H → Type 0) where

@@ -1,19 +1,23 @@
-ghost use Rattle.std.specs.Prelude.{◌≡◌, ◌∷◌, []};
+ghost use Rattle.std.specs.Prelude.{◌≡◌, ◌<◌, ◌∷◌, [], length, slice_get, MatchOption, None, Some};
 ghost use Rattle.core_types.specs.declared.op.MemoryOp.TheVariants.{DataDrop as DataDropForm, Init as MemoryInitForm};
 ghost use Rattle.core_types.specs.declared.op.PlainOp.TheVariants.{Memory as MemoryForm, Table as TableForm};
 ghost use Rattle.core_types.specs.declared.op.TableOp.TheVariants.{ElemDrop as ElemDropForm, Init as TableInitForm};
 ghost use Rattle.core_types.specs.declared.outcome.Val.TheVariants.{I32 as I32Value};
 ghost use Rattle.meaning.specs.structure.Bodies.{Body, Empty, Then};
 ghost use Rattle.meaning.specs.execution.Configurations.{Running};
+ghost use Rattle.meaning.specs.execution.Effects.{data_at, elements_at, table_at};
 ghost use Rattle.meaning.specs.execution.Runs.{NoHosts};
-ghost use Rattle.instantiate.specs.Tasks.{IsDrop, IsPassed, RunsTo, StepsOrEnds, frame_in, link_state};
+ghost use Rattle.meaning.specs.execution.Store.{Store as AnyStore, instance_of, locate};
+ghost use Rattle.simulation.specs.Outcomes.{Outcome as AnyOutcome};
+ghost use Rattle.effects.specs.Outcomes.{Gives};
+ghost use Rattle.store.specs.Contents.{store_with};
+ghost use Rattle.store.specs.State.{data_of, elements_of, memory_of, table_of};
+ghost use Rattle.instantiate.specs.Tasks.{Passes, RunsTo, StepsOrEnds, frame_in, link_state};
 
 use crate::link_end::TaskEnd;
-use core_types::{Exhaustion, MemoryOp, Module, PlainOp, TableOp};
+use core_types::{Exhaustion, Module};
+use effects::{Paid, Refusal, drop_data, drop_elements, init_memory, init_table};
 use fuel::Meter;
-use plain::{CopyOperands, Progress, run_memory_init, run_plain, run_table_init};
-use stacks::{FrameLocals, Operands};
-use std::alloc::Global;
 use store::{Addresses, Code, State};
 
 /// A new instance whose segments are copied: the code of the store, the instance's number and addresses, and its module.
@@ -25,124 +29,229 @@ pub struct Linked<'a> {
     pub module_read: &'a Module,
 }
 
-// How a link goes on where this came of an instruction.
-fn pass(progress: Progress) -> Result<(), TaskEnd>
-    ensures { IsPassed result progress }
+// How a link goes on where this came of an instruction, which is paid for.
+fn pass(answer: Result<Paid, Refusal>, meter: &mut Meter) -> Result<(), TaskEnd>
+    ensures passes { (o : AnyOutcome) (old new : AnyStore)
+        → Gives o old new meter.old.left answer
+        → Passes result o old new meter.old.left meter.new.left }
+    ensures bound { meter.new.bound ≡ meter.old.bound }
+    ensures frames { meter.new.frames ≡ meter.old.frames }
 {
-    match progress {
-        Progress::Done => Ok(()),
-        Progress::Trapped(trap) => Err(TaskEnd::Trap(trap)),
-        Progress::NoFuel => Err(TaskEnd::Exhausted(Exhaustion::Fuel)),
-        Progress::NoMemory => Err(TaskEnd::Exhausted(Exhaustion::Memory)),
-        Progress::NotReady => Err(TaskEnd::Stuck),
+    match answer {
+        Ok(paid) => {
+            meter.set(paid.fuel);
+            Ok(())
+        }
+        Err(Refusal::Traps(trap)) => {
+            let _ = meter.try_spend(1);
+            Err(TaskEnd::Trap(trap))
+        }
+        Err(Refusal::NoFuel) => Err(TaskEnd::Exhausted(Exhaustion::Fuel)),
+        Err(Refusal::NoMemory) => Err(TaskEnd::Exhausted(Exhaustion::Memory)),
     }
 }
 
-/// Drops a segment.
-pub fn drop_segment(
-    alloc: Global,
-    op: &PlainOp,
+// ---- what is named
+
+// The address of the table that the instance has under an index, if there is one.
+fn find_table(linked: &Linked<'_>, state: &State, x: u32) -> Option<u32>
+    ensures { MatchOption result
+        (table_at (store_with linked.now.code.now state.now) (frame_in linked.now) x ≡ None)
+        (λ a. (a < length state.now.contents.tables)
+        × (table_at (store_with linked.now.code.now state.now) (frame_in linked.now) x ≡ Some
+        (a, table_of state.now a))) }
+{
+    let address = linked.code.table_address(linked.instance, x)?;
+    state.table(address)?;
+    Some(address)
+}
+
+// The same of an element segment.
+fn find_elements(linked: &Linked<'_>, state: &State, x: u32) -> Option<u32>
+    ensures { MatchOption result
+        (elements_at (store_with linked.now.code.now state.now) (frame_in linked.now) x ≡ None)
+        (λ a. (a < length state.now.contents.elements)
+        × (elements_at (store_with linked.now.code.now state.now) (frame_in linked.now) x ≡ Some
+        (a, elements_of state.now a))) }
+{
+    let address = linked.code.element_address(linked.instance, x)?;
+    state.element_segment(address)?;
+    Some(address)
+}
+
+// The same of the memory.
+fn find_memory(linked: &Linked<'_>, state: &State) -> Option<u32>
+    ensures { MatchOption result
+        (locate state.now.contents.memories (slice_get
+        (instance_of (store_with linked.now.code.now state.now) (Some linked.now.instance)).memories
+        0) ≡ None)
+        (λ a. (a < length state.now.contents.memories)
+        × (locate state.now.contents.memories (slice_get
+        (instance_of (store_with linked.now.code.now state.now) (Some linked.now.instance)).memories
+        0) ≡ Some (a, memory_of state.now a))) }
+{
+    let address = linked.code.memory_address(linked.instance, 0)?;
+    state.memory(address)?;
+    Some(address)
+}
+
+// The same of a data segment.
+fn find_data(linked: &Linked<'_>, state: &State, x: u32) -> Option<u32>
+    ensures { MatchOption result
+        (data_at (store_with linked.now.code.now state.now) (frame_in linked.now) x ≡ None)
+        (λ a. (a < length state.now.contents.datas)
+        × (data_at (store_with linked.now.code.now state.now) (frame_in linked.now) x ≡ Some
+        (a, data_of state.now a))) }
+{
+    let address = linked.code.data_address(linked.instance, x)?;
+    state.data_segment(address)?;
+    Some(address)
+}
+
+// ---- instructions
+
+/// Drops an element segment.
+pub fn drop_element_segment(
+    segment: u32,
     linked: &Linked<'_>,
     state: &mut State,
     meter: &mut Meter,
 ) -> Result<(), TaskEnd>
-    requires { IsDrop op.now }
     ensures run { RunsTo NoHosts result meter.old.bound (frame_in linked.now)
         (link_state linked.now.code.now state.old meter.old.left) (Running ([])
-        (Then op.now Empty)) (link_state linked.now.code.now state.new meter.new.left) }
+        (Then (TableForm (ElemDropForm segment)) Empty))
+        (link_state linked.now.code.now state.new meter.new.left) }
     ensures bound { meter.new.bound ≡ meter.old.bound }
     ensures frames { meter.new.frames ≡ meter.old.frames }
 {
-    let mut locals = FrameLocals::new(alloc);
-    let mut operands = Operands::new(alloc);
-    let (code, instance) = (linked.code, linked.instance);
-    pass(run_plain(op, code, instance, state, &mut locals, &mut operands, meter))
+    let Some(address) = find_elements(linked, state, segment) else {
+        return Err(TaskEnd::Stuck);
+    };
+    pass(drop_elements(state, address, meter.left()), meter)
 }
 
-// table.init of a whole element segment.
+/// Drops a data segment.
+pub fn drop_data_segment(
+    segment: u32,
+    linked: &Linked<'_>,
+    state: &mut State,
+    meter: &mut Meter,
+) -> Result<(), TaskEnd>
+    ensures run { RunsTo NoHosts result meter.old.bound (frame_in linked.now)
+        (link_state linked.now.code.now state.old meter.old.left) (Running ([])
+        (Then (MemoryForm (DataDropForm segment)) Empty))
+        (link_state linked.now.code.now state.new meter.new.left) }
+    ensures bound { meter.new.bound ≡ meter.old.bound }
+    ensures frames { meter.new.frames ≡ meter.old.frames }
+{
+    let Some(address) = find_data(linked, state, segment) else {
+        return Err(TaskEnd::Stuck);
+    };
+    pass(drop_data(state, address, meter.left()), meter)
+}
+
+// table.init of so many references of an element segment, from its first one.
 fn init_elements(
     segment: u32,
     table: u32,
-    given: CopyOperands,
+    target: u32,
+    count: u32,
     linked: &Linked<'_>,
     state: &mut State,
     meter: &mut Meter,
 ) -> Result<(), TaskEnd>
     ensures step { (rest : Body) → StepsOrEnds NoHosts result meter.old.bound (frame_in linked.now)
         (link_state linked.now.code.now state.old meter.old.left) (Running
-        (I32Value given.count ∷ I32Value given.from ∷ I32Value given.target ∷ [])
+        (I32Value count ∷ I32Value 0 ∷ I32Value target ∷ [])
         (Then (TableForm (TableInitForm segment table)) rest))
         (link_state linked.now.code.now state.new meter.new.left) (Running ([]) rest) }
     ensures bound { meter.new.bound ≡ meter.old.bound }
     ensures frames { meter.new.frames ≡ meter.old.frames }
 {
-    let (code, instance) = (linked.code, linked.instance);
-    pass(run_table_init(segment, table, given, code, instance, state, meter))
+    let Some(address) = find_table(linked, state, table) else {
+        return Err(TaskEnd::Stuck);
+    };
+    let Some(source) = find_elements(linked, state, segment) else {
+        return Err(TaskEnd::Stuck);
+    };
+    let fuel = meter.left();
+    pass(
+        init_table(state, address, source, target, 0, count, fuel),
+        meter,
+    )
 }
 
-/// Copies all of an element segment into a table, and drops it.
+/// Copies so many references of an element segment into a table, which are all, and drops the segment.
 pub fn copy_elements(
-    alloc: Global,
     segment: u32,
     table: u32,
-    given: CopyOperands,
+    target: u32,
+    count: u32,
     linked: &Linked<'_>,
     state: &mut State,
     meter: &mut Meter,
 ) -> Result<(), TaskEnd>
     ensures run { RunsTo NoHosts result meter.old.bound (frame_in linked.now)
         (link_state linked.now.code.now state.old meter.old.left) (Running
-        (I32Value given.count ∷ I32Value given.from ∷ I32Value given.target ∷ [])
+        (I32Value count ∷ I32Value 0 ∷ I32Value target ∷ [])
         (Then (TableForm (TableInitForm segment table))
         (Then (TableForm (ElemDropForm segment)) Empty)))
         (link_state linked.now.code.now state.new meter.new.left) }
     ensures bound { meter.new.bound ≡ meter.old.bound }
     ensures frames { meter.new.frames ≡ meter.old.frames }
 {
-    init_elements(segment, table, given, linked, state, meter)?;
-    let op = PlainOp::Table(TableOp::ElemDrop(segment));
-    drop_segment(alloc, &op, linked, state, meter)
+    init_elements(segment, table, target, count, linked, state, meter)?;
+    drop_element_segment(segment, linked, state, meter)
 }
 
-// memory.init of a whole data segment.
+// memory.init of so many bytes of a data segment, from its first one.
 fn init_bytes(
     segment: u32,
-    given: CopyOperands,
+    target: u32,
+    count: u32,
     linked: &Linked<'_>,
     state: &mut State,
     meter: &mut Meter,
 ) -> Result<(), TaskEnd>
     ensures step { (rest : Body) → StepsOrEnds NoHosts result meter.old.bound (frame_in linked.now)
         (link_state linked.now.code.now state.old meter.old.left) (Running
-        (I32Value given.count ∷ I32Value given.from ∷ I32Value given.target ∷ [])
+        (I32Value count ∷ I32Value 0 ∷ I32Value target ∷ [])
         (Then (MemoryForm (MemoryInitForm segment)) rest))
         (link_state linked.now.code.now state.new meter.new.left) (Running ([]) rest) }
     ensures bound { meter.new.bound ≡ meter.old.bound }
     ensures frames { meter.new.frames ≡ meter.old.frames }
 {
-    let (code, instance) = (linked.code, linked.instance);
-    pass(run_memory_init(segment, given, code, instance, state, meter))
+    let Some(address) = find_memory(linked, state) else {
+        return Err(TaskEnd::Stuck);
+    };
+    let Some(source) = find_data(linked, state, segment) else {
+        return Err(TaskEnd::Stuck);
+    };
+    let fuel = meter.left();
+    pass(
+        init_memory(state, address, source, target, 0, count, fuel),
+        meter,
+    )
 }
 
-/// Copies all of a data segment into the memory, and drops it.
+/// Copies so many bytes of a data segment into the memory, which are all, and drops the segment.
 pub fn copy_bytes(
-    alloc: Global,
     segment: u32,
-    given: CopyOperands,
+    target: u32,
+    count: u32,
     linked: &Linked<'_>,
     state: &mut State,
     meter: &mut Meter,
 ) -> Result<(), TaskEnd>
     ensures run { RunsTo NoHosts result meter.old.bound (frame_in linked.now)
         (link_state linked.now.code.now state.old meter.old.left) (Running
-        (I32Value given.count ∷ I32Value given.from ∷ I32Value given.target ∷ [])
+        (I32Value count ∷ I32Value 0 ∷ I32Value target ∷ [])
         (Then (MemoryForm (MemoryInitForm segment))
         (Then (MemoryForm (DataDropForm segment)) Empty)))
         (link_state linked.now.code.now state.new meter.new.left) }
     ensures bound { meter.new.bound ≡ meter.old.bound }
     ensures frames { meter.new.frames ≡ meter.old.frames }
 {
-    init_bytes(segment, given, linked, state, meter)?;
-    let op = PlainOp::Memory(MemoryOp::DataDrop(segment));
-    drop_segment(alloc, &op, linked, state, meter)
+    init_bytes(segment, target, count, linked, state, meter)?;
+    drop_data_segment(segment, linked, state, meter)
 }

@@ -5,7 +5,7 @@ ghost use Rattle.meaning.specs.execution.Runs.{NoHosts};
 ghost use Rattle.soundness.specs.Links.{IsLinkable, TasksAreGood};
 ghost use Rattle.soundness.specs.Stores.{Extends};
 ghost use Rattle.hostfunc.specs.Boxes.{HaveHosts, HostStep};
-ghost use Rattle.exec.specs.Simulation.{run_state};
+ghost use Rattle.exec.specs.Endings.{run_state};
 ghost use Rattle.store.specs.Contents.{code_store, store_of};
 ghost use Rattle.instantiate.specs.Links.{Allocates, IsCauseOrAllowed, LeavesInstance, Links};
 ghost use Rattle.instantiate.specs.Tasks.{HasInstance, RanTasks, link_state};
@@ -66,7 +66,6 @@ fn allocate(
 
 // Copies and drops the segments of an instance of a module, in the module's order: the element segments, and then the data segments.
 fn copy_segments(
-    alloc: Global,
     code: &Code,
     state: &mut State,
     meter: &mut Meter,
@@ -93,13 +92,12 @@ fn copy_segments(
         addresses: &found.addresses,
         module_read: wanted,
     };
-    run_element_segments(alloc, &linked, state, meter)?;
-    run_data_segments(alloc, &linked, state, meter)
+    run_element_segments(&linked, state, meter)?;
+    run_data_segments(&linked, state, meter)
 }
 
 // The same in a store, where the segments go well, and which stays valid.
 fn run_segments(
-    alloc: Global,
     store: &mut Store,
     meter: &mut Meter,
     instance: u32,
@@ -121,7 +119,7 @@ fn run_segments(
     ensures frames { meter.new.frames ≡ meter.old.frames }
 {
     let (code, state) = (&store.code, &mut store.state);
-    copy_segments(alloc, code, state, meter, instance, wanted)
+    copy_segments(code, state, meter, instance, wanted)
 }
 
 // Runs what a link runs in an instance of a module: the segments, and then the start function.
@@ -149,7 +147,7 @@ fn run_tasks(
     ensures bound { meter.new.bound ≡ meter.old.bound }
     ensures closed { meter.new.frames ≡ 0 }
 {
-    run_segments(alloc, store, meter, instance, wanted)?;
+    run_segments(store, meter, instance, wanted)?;
     run_start(alloc, store, hosts, meter, instance, wanted.start)
 }
 

@@ -5,21 +5,18 @@ ghost use Rattle.meaning.specs.execution.Store.{instance_of};
 ghost use Rattle.meaning.specs.execution.Runs.{NoHosts};
 ghost use Rattle.store.specs.Contents.{code_store, store_of, store_with};
 ghost use Rattle.hostfunc.specs.Boxes.{HaveHosts, HostStep};
-ghost use Rattle.exec.specs.Simulation.{run_state};
+ghost use Rattle.exec.specs.Endings.{run_state};
 ghost use Rattle.meaning.specs.execution.Configurations.{Invoking, no_frame};
 ghost use Rattle.meaning.specs.execution.Modules.{item_count as count_of};
 ghost use Rattle.instantiate.specs.Tasks.{EndsAs, HasNoI32, RanTasks, RunsTo, instance_in, link_state};
 
 use crate::constants::constant_value;
-use crate::copies::{Linked, copy_bytes, copy_elements, drop_segment};
+use crate::copies::{Linked, copy_bytes, copy_elements, drop_element_segment};
 use crate::link_end::TaskEnd;
-use core_types::{
-    DataMode, DataSegment, ElementItems, ElementMode, ElementSegment, Op, PlainOp, TableOp, Val,
-};
+use core_types::{DataMode, DataSegment, ElementItems, ElementMode, ElementSegment, Op, Val};
 use exec::{Outcome, invoke};
 use fuel::Meter;
 use hostfunc::{HostFn, HostTable};
-use plain::CopyOperands;
 use std::alloc::Global;
 use store::{State, Store, accepts};
 
@@ -55,7 +52,6 @@ fn count_operand(count: usize) -> u32
 
 // Copies the element segment of an index where it is active, and drops it where it is not passive.
 fn run_element_segment(
-    alloc: Global,
     x: u32,
     wanted: &ElementSegment,
     linked: &Linked<'_>,
@@ -72,21 +68,11 @@ fn run_element_segment(
 {
     match &wanted.mode {
         ElementMode::Passive => Ok(()),
-        ElementMode::Declarative => {
-            let op = PlainOp::Table(TableOp::ElemDrop(x));
-            drop_segment(alloc, &op, linked, state, meter)
-        }
+        ElementMode::Declarative => drop_element_segment(x, linked, state, meter),
         ElementMode::Active { table, offset } => {
             let count = count_operand(item_count(&wanted.items));
             match offset_of(offset.as_slice(), linked, state) {
-                Some(target) => {
-                    let given = CopyOperands {
-                        target,
-                        from: 0,
-                        count,
-                    };
-                    copy_elements(alloc, x, *table, given, linked, state, meter)
-                }
+                Some(target) => copy_elements(x, *table, target, count, linked, state, meter),
                 None => Err(TaskEnd::Stuck),
             }
         }
@@ -95,7 +81,6 @@ fn run_element_segment(
 
 /// Copies and drops the element segments of an instance, in the order of the module (Execution, Modules, Instantiation).
 pub fn run_element_segments(
-    alloc: Global,
     linked: &Linked<'_>,
     state: &mut State,
     meter: &mut Meter,
@@ -111,14 +96,13 @@ pub fn run_element_segments(
 {
     let elements = linked.module_read.elements.as_slice();
     for k in 0..elements.len() {
-        run_element_segment(alloc, k as u32, &elements[k], linked, state, meter)?;
+        run_element_segment(k as u32, &elements[k], linked, state, meter)?;
     }
     Ok(())
 }
 
 // Copies the data segment of an index where it is active, and drops it.
 fn run_data_segment(
-    alloc: Global,
     x: u32,
     wanted: &DataSegment,
     linked: &Linked<'_>,
@@ -138,14 +122,7 @@ fn run_data_segment(
         DataMode::Active { offset, .. } => {
             let count = count_operand(wanted.bytes.len());
             match offset_of(offset.as_slice(), linked, state) {
-                Some(target) => {
-                    let given = CopyOperands {
-                        target,
-                        from: 0,
-                        count,
-                    };
-                    copy_bytes(alloc, x, given, linked, state, meter)
-                }
+                Some(target) => copy_bytes(x, target, count, linked, state, meter),
                 None => Err(TaskEnd::Stuck),
             }
         }
@@ -154,7 +131,6 @@ fn run_data_segment(
 
 /// Copies and drops the data segments of an instance, in the order of the module (Execution, Modules, Instantiation).
 pub fn run_data_segments(
-    alloc: Global,
     linked: &Linked<'_>,
     state: &mut State,
     meter: &mut Meter,
@@ -170,7 +146,7 @@ pub fn run_data_segments(
 {
     let datas = linked.module_read.datas.as_slice();
     for k in 0..datas.len() {
-        run_data_segment(alloc, k as u32, &datas[k], linked, state, meter)?;
+        run_data_segment(k as u32, &datas[k], linked, state, meter)?;
     }
     Ok(())
 }

@@ -15,12 +15,12 @@ use Rattle.sidetable.specs.declared.operations.TransferInstruction.TheVariants a
 use Rattle.sidetable.specs.declared.side_tables.IndexPair.{IndexPair}
 use Rattle.simulation.specs.Callees.{IsCalling}
 use Rattle.simulation.specs.Runs.{Ghost}
-use Rattle.store.specs.Contents.{callee_function, function_of, functions_in, host_function, signatures_of_instance}
+use Rattle.store.specs.Contents.{IsCalleeAt, callee_function, function_of, functions_in, host_function, signatures_of_instance}
 use Rattle.store.specs.declared.instances.Callee.{Callee}
 use Rattle.store.specs.declared.instances.Callee.TheVariants as callee
 use Rattle.store.specs.declared.instances.HostFunction.{HostFunction}
 use Rattle.store.specs.declared.instances.ModuleFunction.{ModuleFunction}
-use Rattle.interpreter.specs.Callees.{FindsEntry, IsFunctionAt, RefersToFunction}
+use Rattle.interpreter.specs.Callees.{FindsEntry, RefersToFunction}
 use Rattle.interpreter.specs.Calling.{Calls, CallsModule}
 use Rattle.interpreter.specs.Layout.{put_back}
 use Rattle.interpreter.specs.Looping.{loop_at, machine_at}
@@ -32,7 +32,7 @@ use Rattle.interpreter.specs.declared.callees.Found.{Found}
 use Rattle.interpreter.specs.declared.machine.Frame.{Frame}
 use Rattle.interpreter.specs.declared.machine.Position.{Position}
 use Rattle.interpreter.specs.declared.machine.Stop.TheVariants as stop
-use Rattle.interpreter.proofs.Calling.{entry-calls, entry-found, entry-traps, refers}
+use Rattle.interpreter.proofs.Calling.{entry-calls, entry-found, entry-traps, refers, within-code}
 use Rattle.interpreter.proofs.Cells.{frame-length, popped-frame}
 use Rattle.interpreter.proofs.Finding.{IsAtAddress, flat-body, some-same}
 use Rattle.interpreter.proofs.Forms.{inside, lower}
@@ -123,7 +123,7 @@ module _ (bound : ℕ) (w : World) (cells : List ℕ) (callers : List Frame) (at
   }
 
   -- What is found there is called.
-  calls-found : RunsSomeWhole bound l → (found : Callee) → IsFunctionAt w.code address found → CallsFrom w cells at from op address (callee_function found) → Calls bound w cells callers at from address found
+  calls-found : RunsSomeWhole bound l → (found : Callee) → IsCalleeAt w.code address found → CallsFrom w cells at from op address (callee_function found) → Calls bound w cells callers at from address found
   calls-found some (callee.InModule f) is k =
       calls-module f (record { found = is.there; flat = flat-body (signatures_of_instance (slice_get w.code.instances f.instance)) f is.flat.0 is.declared.0 is.declared.1; within = is.flat.1; types = is.types }) k some
   calls-found some (callee.InHost f) is k = (k.inside, calls-host f k)
@@ -141,7 +141,12 @@ module _ (bound : ℕ) (w : World) (cells : List ℕ) (callers : List Frame) (at
     pub call-lacks : at.fuel ≡ 0 → StopsAt bound loop stop.NoFuel loop
     call-lacks none = stops-lacking bound loop (λ g r. (turns g r).1 at.fuel (omega (arith, none)))
 
-    pub call-calls : RunsSomeWhole bound loop → (address : ℕ) → address ≡ function_address w x → (found : Callee) → IsFunctionAt w.code address found → Calls bound w cells callers at at address found
+    pub call-within : RunsSomeWhole bound loop → (address : ℕ) → address ≡ function_address w x → address < length w.code.functions
+    call-within (u, r) address is =
+        let (function, named, calls) = (turns u.ghost r.runs).0 in
+        subst (λ (a : ℕ). a < length w.code.functions) (sym is) (within-code w.code (function_address w x) function named)
+
+    pub call-calls : RunsSomeWhole bound loop → (address : ℕ) → address ≡ function_address w x → (found : Callee) → IsCalleeAt w.code address found → Calls bound w cells callers at at address found
     call-calls (u, r) address is found there =
         calls-found bound w cells callers at at (Control (Call x)) address (u, r) found there
         (record {

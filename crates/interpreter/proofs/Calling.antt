@@ -1,6 +1,8 @@
 -- Calls, on the machine, and what they find.
 use Rattle.std.proofs.Common.{◌≡◌, ℕ, ◌-◌, ◌<◌, List, true, false, length, slice_get, refl, ap, sym, subst, ◌∙◌, arith, length-append}
-use Rattle.std.specs.Prelude.{Option, Some, None, Ok, Err, IsSome, ◌∷◌, []}
+use Rattle.std.specs.Prelude.{Option, Some, None, Ok, Err, ◌∷◌, []}
+use Rattle.std.proofs.lemmas.List.{length-map}
+use Rattle.std.proofs.lemmas.Option.{slice_get_within}
 use Rattle.core_types.specs.declared.op.ControlOp.TheVariants.{Call, CallIndirect}
 use Rattle.core_types.specs.declared.op.PlainOp.TheVariants.{Control}
 use Rattle.core_types.specs.declared.outcome.Trap.{Trap}
@@ -17,8 +19,8 @@ use Rattle.simulation.specs.Instructions.{IsTrapped}
 use Rattle.simulation.specs.Runs.{Ghost}
 use Rattle.simulation.proofs.Callees.{calls-by-name}
 use Rattle.simulation.proofs.TableCalls.{calls-through}
-use Rattle.store.specs.Contents.{Contents, callee_function, functions_in}
-use Rattle.interpreter.specs.Callees.{FindsEntry, IsFunctionAt, RefersToFunction}
+use Rattle.store.specs.Contents.{Contents, IsCalleeAt, callee_function, function_at, functions_in}
+use Rattle.interpreter.specs.Callees.{FindsEntry, RefersToFunction}
 use Rattle.interpreter.specs.Running.{IsDear, Machine, RunsAt, cells_in, height_in}
 use Rattle.interpreter.specs.Turns.{CallsByName, CallsThrough, HasOperands, function_address, table_address}
 use Rattle.interpreter.specs.Worlds.{World}
@@ -53,13 +55,20 @@ module _ (w : World) (m : Machine) (g : Ghost) (r : RunsAt w m g) where
         ),
       )
 
+-- What is found at an address is among the functions that are kept.
+pub within-code : (code : Contents) (address : ℕ) (f : FunctionInstance) → slice_get (functions_in code) address ≡ Some f → address < length code.functions
+within-code code address f there =
+    let inside = slice_get_within (functions_in code) address f there in
+    let as_many = length-map code.functions (function_at code.hosts code.instances) in
+    omega (arith, inside, as_many)
+
 -- ---- by an entry
 
 module _ (code : Contents) (g : Ghost) (store : (address : ℕ) → slice_get (functions_in code) address ≡ slice_get g.store.functions address) (cells : List ℕ) (at top type x : ℕ) (wanted : FuncType) where
   pub refers : (entry : Option Val) → CallsEntry g cells at top type x wanted entry → RefersToFunction code entry
   refers None calls = tt
   refers (Some (FuncRef None)) calls = tt
-  refers (Some (FuncRef (Some address))) (function, there, other, same) = subst (λ (o : Option FunctionInstance). IsSome o) (sym (store address ∙ there)) refl
+  refers (Some (FuncRef (Some address))) (function, there, other, same) = within-code code address function (store address ∙ there)
   refers (Some (I32 n)) calls = absurd calls
   refers (Some (I64 n)) calls = absurd calls
   refers (Some (ExternRef n)) calls = absurd calls
@@ -88,10 +97,10 @@ module _ (code : Contents) (g : Ghost) (store : (address : ℕ) → slice_get (f
   entry-calls (Some (ExternRef n)) f finds calls = absurd calls
 
 -- What was found through an entry is there.
-pub entry-found : (code : Contents) (wanted : FuncType) (entry : Option Val) (f : Found) → FindsEntry code wanted entry (Ok f) → IsFunctionAt code f.address f.callee
+pub entry-found : (code : Contents) (wanted : FuncType) (entry : Option Val) (f : Found) → FindsEntry code wanted entry (Ok f) → IsCalleeAt code f.address f.callee
 entry-found code wanted None f finds = absurd cc
 entry-found code wanted (Some (FuncRef None)) f finds = absurd cc
-entry-found code wanted (Some (FuncRef (Some address))) f (is, found, type_is) = subst (λ (a : ℕ). IsFunctionAt code a f.callee) (sym is) found
+entry-found code wanted (Some (FuncRef (Some address))) f (is, found, type_is) = subst (λ (a : ℕ). IsCalleeAt code a f.callee) (sym is) found
 entry-found code wanted (Some (I32 n)) f finds = absurd finds
 entry-found code wanted (Some (I64 n)) f finds = absurd finds
 entry-found code wanted (Some (ExternRef n)) f finds = absurd finds

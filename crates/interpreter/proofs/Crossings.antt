@@ -15,7 +15,7 @@ use Rattle.interpreter.proofs.Switching.{crosses}
 module _ (bound : ℕ) (w : World) (cells : List ℕ) (callers : List Frame) (at : Position) (next : at.frame.place + 1 < 2 ^ 64) where
   -- A frame was opened.
   pub crosses-in : (from : Position) (f : ModuleFunction) → RunsSomeWhole bound (loop_at w cells callers at) → CallsModule bound w cells callers at from f → 1 ≤ at.fuel → suc (length callers) < bound
-      → from.top + 1 + declared_locals f + f.flat.greatest < length cells → (cells' : List ℕ) → take (from.top + 1 + declared_locals f) cells' ≡ take (from.top + 1) (set cells from.top from.operand) ++ replicate (declared_locals f) 0
+      → from.top + 1 + declared_locals f + f.flat.function.now.greatest < length cells → (cells' : List ℕ) → take (from.top + 1 + declared_locals f) cells' ≡ take (from.top + 1) (set cells from.top from.operand) ++ replicate (declared_locals f) 0
       → length cells' ≡ length cells → (callers' : List Frame) → callers' ≡ frame_waiting at ∷ callers → (result : Crossing) → IsCrossed w.number result f.instance
       → Crosses bound (loop_at w cells callers at) result cells' callers' (position_opened at from.top f)
   crosses-in from f some c paid shallow room cells' filled size callers' callers_are result is =

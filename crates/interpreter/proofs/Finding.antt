@@ -20,9 +20,9 @@ some-same a b e = cc
 -- The flat code is that of the body, by its type.
 pub record HasFlatBody (s : Signatures) (f : ModuleFunction) : Type 0 where
   pub flat : (seen f.flat).flat ≡ flat_function s (length f.ty.now.results) (code_of f.func.now).body
-  pub params : f.flat.params ≡ length f.ty.now.params
-  pub locals : f.flat.locals ≡ length f.ty.now.params + length f.func.now.locals
-  pub results : f.flat.results ≡ length f.ty.now.results
+  pub params : f.flat.function.now.params ≡ length f.ty.now.params
+  pub locals : f.flat.function.now.locals ≡ length f.ty.now.params + length f.func.now.locals
+  pub results : f.flat.function.now.results ≡ length f.ty.now.results
 
 pub flat-body : (s : Signatures) (f : ModuleFunction) → IsFlat s f.func.now (seen f.flat) → slice_get s.types f.func.now.ty ≡ Some f.ty.now → f.func.now.body ≡ writing (code_of f.func.now).body → HasFlatBody s f
 flat-body s f is declared written =
@@ -37,5 +37,5 @@ flat-body s f is declared written =
 pub record IsAtAddress (code : Contents) (address : ℕ) (f : ModuleFunction) : Type 0 where
   pub found : slice_get (functions_in code) address ≡ Some (callee_function (callee.InModule f))
   pub flat : HasFlatBody (signatures_of_instance (slice_get code.instances f.instance)) f
-  pub within : AreWithin f.flat.tables.now f.flat.operations.now f.flat.results
+  pub within : AreWithin f.flat.tables.now f.flat.function.now.operations.items f.flat.function.now.results
   pub types : HasContextTypes code (callee.InModule f)

@@ -74,7 +74,7 @@ module _ (bound : ℕ) (w : World) (cells : List ℕ) (callers : List Frame) (at
     -- To another place of the frame.
     goes : (cells' : List ℕ) (place top operand : ℕ) → ((g : Ghost) → RunsAt w m g → GoesTo g m at.fuel w (record m { cells = cells'; place = place; top = top; operand = operand }) left)
         → Crosses bound l Goes cells' callers (record { frame = record at.frame { place = place }; top = top; operand = operand; fuel = left })
-    goes cells' place top operand step = (ran-turned bound l w.state w.bytes cells' place top operand left step (omega (arith, both)), refl, omega (arith, both))
+    goes cells' place top operand step = (ran-turned bound l w.state w.bytes cells' place top operand left step (omega (arith, both)), refl, omega (arith, both), refl)
 
     pub if-goes : kind ≡ transfer.If → (place : ℕ) → place ≡ e.target → at.operand ≡ 0
         → Crosses bound l Goes cells callers (record { frame = record at.frame { place = place }; top = at.top - 1; operand = get_or cells (at.top - 1) 0; fuel = left })
@@ -124,4 +124,4 @@ module _ (bound : ℕ) (w : World) (cells : List ℕ) (callers : List Frame) (at
   jumps is next fits x x_is =
       let later : at.frame.place < e.target = (subst (λ (k : TransferInstruction). Fits w m (op.Transfer k n)) is fits).1 in
       subst (λ (y : Entry). Crosses bound l Goes cells callers (record at { frame = record at.frame { place = y.target } })) (sym x_is)
-      (ran-turned bound l w.state w.bytes cells e.target at.top at.operand at.fuel (λ g r. turns-at transfer.Jump is g r at.fuel) (omega (arith, later)), refl, omega (arith, later, next))
+      (ran-turned bound l w.state w.bytes cells e.target at.top at.operand at.fuel (λ g r. turns-at transfer.Jump is g r at.fuel) (omega (arith, later)), refl, omega (arith, later, next), refl)

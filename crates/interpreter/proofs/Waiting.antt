@@ -89,17 +89,17 @@ module _ (bound : ℕ) (w : World) (cells : List ℕ) (callers : List Frame) (at
 
   -- ---- what is there
 
-  pub fits : at.frame.base + at.frame.locals + f.flat.params ≤ top
+  pub fits : at.frame.base + at.frame.locals + f.flat.function.now.params ≤ top
   fits = let fit = arguments-fit w m h r.runs op top operand f.ty.now f.instance (code_of f.func.now) b in omega (arith, fit, found.flat.params)
 
-  pub declared : f.flat.params ≤ f.flat.locals
+  pub declared : f.flat.function.now.params ≤ f.flat.function.now.locals
   declared = omega (arith, found.flat.params, found.flat.locals)
 
   declared-is : declared_locals f ≡ k
   declared-is = omega (arith, found.flat.params, found.flat.locals)
 
   abbrev base' : ℕ
-  base' = top + 1 - f.flat.params
+  base' = top + 1 - f.flat.function.now.params
 
   base-is : base' + n ≡ top + 1
   base-is = omega (arith, fits, found.flat.params)
@@ -119,7 +119,7 @@ module _ (bound : ℕ) (w : World) (cells : List ℕ) (callers : List Frame) (at
   -- ---- with the cells behind the arguments cleared
 
   module _ (cells' : List ℕ) (filled : take (top + 1 + declared_locals f) cells' ≡ take (top + 1) (set cells top operand) ++ replicate (declared_locals f) 0) (size : length cells' ≡ length cells)
-      (room : top + 1 + declared_locals f + f.flat.greatest < length cells) where
+      (room : top + 1 + declared_locals f + f.flat.function.now.greatest < length cells) where
     filled-all : take (top + 1 + k) cells' ≡ take (top + 1) (set cells top operand) ++ replicate k 0
     filled-all = subst (λ (q : ℕ). take (top + 1 + q) cells' ≡ take (top + 1) (set cells top operand) ++ replicate q 0) declared-is filled
 
@@ -154,15 +154,15 @@ module _ (bound : ℕ) (w : World) (cells : List ℕ) (callers : List Frame) (at
     top-is : base' + (n + k) ≡ top'
     top-is = omega (arith, base-is, declared-is)
 
-    greatest-is : f.flat.greatest ≡ called.ghost.code.greatest
+    greatest-is : f.flat.function.now.greatest ≡ called.ghost.code.greatest
     greatest-is = ap (λ (z : FlatFunction). z.greatest) found.flat.flat
 
-    runs : Runs called.ghost (put_back f.flat.locals base' cells' top' 0) 0 (top' - base')
+    runs : Runs called.ghost (put_back f.flat.function.now.locals base' cells' top' 0) 0 (top' - base')
     runs =
         let height : n + k ≡ top' - base' = omega (arith, top-is) in
         let first = callee-runs w m h r.runs op top operand f.ty.now f.instance (code_of f.func.now) b cells' filled-all size base' base-is s types functions (omega (arith, room, size, declared-is, greatest-is)) in
-        subst (λ (q : ℕ). Runs called.ghost (put_back f.flat.locals base' cells' top' 0) 0 q) height
-        (subst (λ (q : ℕ). Runs called.ghost (put_back f.flat.locals base' cells' q 0) 0 (n + k)) top-is
+        subst (λ (q : ℕ). Runs called.ghost (put_back f.flat.function.now.locals base' cells' top' 0) 0 q) height
+        (subst (λ (q : ℕ). Runs called.ghost (put_back f.flat.function.now.locals base' cells' q 0) 0 (n + k)) top-is
         (subst (λ (q : ℕ). Runs called.ghost (put_back q base' cells' (base' + (n + k)) 0) 0 (n + k)) (sym found.flat.locals) first))
 
     opened-runs : (other : World) → IsSeenFrom f.instance w other → RunsAt other (machine_at cells' (position_opened at top f)) called.ghost
@@ -173,7 +173,7 @@ module _ (bound : ℕ) (w : World) (cells : List ℕ) (callers : List Frame) (at
           scrap = omega (arith, top-is, found.flat.locals, room, size);
           count = omega (arith, own, top-is, found.flat.locals);
           packed = sym (ap (λ (z : FlatFunction). z.operations) found.flat.flat);
-          within = subst (λ (q : ℕ). AreWithin f.flat.tables.now f.flat.operations.now q) found.flat.results found.within;
+          within = subst (λ (q : ℕ). AreWithin f.flat.tables.now f.flat.function.now.operations.items q) found.flat.results found.within;
           store = r.runs.store ∙ sym seen.store;
           number = sym seen.seen_from;
           instance = seen.instance;

@@ -38,8 +38,10 @@ layers_around (c ∷ cs) arity =
 pub record CallerStands (code : Contents) (size : ℕ) (frame : Frame) (c : Caller) (arity : ℕ)
     (below : List ℕ) : Type 0 where
   pub place : frame.place ≡ c.at
-  pub packed : c.code.operations ≡ made frame.tables.now (before_leave frame.operations.now)
-  pub within : AreWithin frame.tables.now frame.operations.now c.code.outermost.kept
+  pub packed : c.code.operations ≡ made frame.tables.now
+      (before_leave frame.function.now.operations.items)
+  pub within : AreWithin frame.tables.now frame.function.now.operations.items
+      c.code.outermost.kept
   pub number : frame.instance ≡ c.instance
   pub there : c.instance < length code.instances
   pub count : frame.locals ≡ length c.locals

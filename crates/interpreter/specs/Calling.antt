@@ -9,7 +9,7 @@ use Rattle.interpreter.specs.Looping.{loop_at}
 use Rattle.interpreter.specs.Whole.{IsOver, Loop, RunsSomeWhole, RunsWhole, StopsAt, SwitchesTo, Whole}
 use Rattle.interpreter.specs.Worlds.{World}
 use Rattle.interpreter.specs.declared.machine.Crossing.{Crossing}
-use Rattle.interpreter.specs.declared.machine.Crossing.TheVariants.{Goes, Stops, Switches}
+use Rattle.interpreter.specs.declared.machine.Crossing.TheVariants.{Enters, Goes, Stops, Switches}
 use Rattle.interpreter.specs.declared.machine.Frame.{Frame}
 use Rattle.interpreter.specs.declared.machine.Position.{Position}
 use Rattle.interpreter.specs.declared.machine.Stop.TheVariants as stop
@@ -18,9 +18,10 @@ use Rattle.interpreter.specs.declared.machine.Stop.TheVariants as stop
 abbrev pub CrossesTo : (bound : ℕ) → Loop → Loop → Type 0
 CrossesTo bound l l' = (w : Whole) → RunsWhole bound l w → SwitchesTo bound l w l'
 
--- It goes on in code of an instance: of that whose code runs, or of another one.
+-- It goes on in a frame of an instance: of that whose code runs, or of another one.
 abbrev pub IsCrossed : (number : ℕ) → Crossing → (instance : ℕ) → Type 0
-IsCrossed number Goes instance = instance ≡ number
+IsCrossed number Goes instance = ⊥
+IsCrossed number Enters instance = instance ≡ number
 IsCrossed number Switches instance = Unit {0}
 IsCrossed number (Stops s) instance = ⊥
 
@@ -43,17 +44,17 @@ frame_waiting at = record at.frame { place = at.frame.place + 1 }
 
 -- How many locals there are behind the arguments.
 abbrev pub declared_locals : ModuleFunction → ℕ
-declared_locals f = f.flat.locals - f.flat.params
+declared_locals f = f.flat.function.now.locals - f.flat.function.now.params
 
 -- The first place of a function that is called at a position, where its last argument lies.
 abbrev pub position_opened : Position → (top : ℕ) → ModuleFunction → Position
 position_opened at top f = record {
   frame = record {
-    operations = f.flat.operations;
+    function = f.flat.function;
     tables = f.flat.tables;
     instance = f.instance;
-    locals = f.flat.locals;
-    base = top + 1 - f.flat.params;
+    locals = f.flat.function.now.locals;
+    base = top + 1 - f.flat.function.now.params;
     place = 0;
   };
   top = top + 1 + declared_locals f;
@@ -65,8 +66,8 @@ position_opened at top f = record {
 pub record CallsModule (bound : ℕ) (w : World) (cells : List ℕ) (callers : List Frame)
     (at from : Position) (f : ModuleFunction) : Type 0 where
   pub room : from.top < length cells
-  pub arguments : at.frame.base + at.frame.locals + f.flat.params ≤ from.top
-  pub declared : f.flat.params ≤ f.flat.locals
+  pub arguments : at.frame.base + at.frame.locals + f.flat.function.now.params ≤ from.top
+  pub declared : f.flat.function.now.params ≤ f.flat.function.now.locals
   pub no_depth : 1 ≤ at.fuel → bound ≤ suc (length callers)
       → StopsAt bound (loop_at w cells callers at) stop.NoDepth (loop_at w cells callers at)
   pub no_room : 1 ≤ at.fuel → suc (length callers) < bound
@@ -75,7 +76,7 @@ pub record CallsModule (bound : ℕ) (w : World) (cells : List ℕ) (callers : L
       → StopsAt bound (loop_at w cells callers at) stop.NoMemory (loop_at w cells callers at)
   -- with the cells behind the arguments cleared
   pub opens : 1 ≤ at.fuel → suc (length callers) < bound
-      → from.top + 1 + declared_locals f + f.flat.greatest < length cells → (cells' : List ℕ)
+      → from.top + 1 + declared_locals f + f.flat.function.now.greatest < length cells → (cells' : List ℕ)
       → take (from.top + 1 + declared_locals f) cells' ≡
       take (from.top + 1) (set cells from.top from.operand) ++ replicate (declared_locals f) 0
       → length cells' ≡ length cells

@@ -3,7 +3,7 @@ use Rattle.std.specs.Prelude.{◌≡◌, ℕ, ◌<◌, List}
 use Rattle.interpreter.specs.Looping.{loop_at}
 use Rattle.interpreter.specs.Whole.{Loop, Ran, RunsWhole, StopsAt, SwitchesTo, Whole, left_to_do}
 use Rattle.interpreter.specs.declared.machine.Crossing.{Crossing}
-use Rattle.interpreter.specs.declared.machine.Crossing.TheVariants.{Goes, Stops, Switches}
+use Rattle.interpreter.specs.declared.machine.Crossing.TheVariants.{Enters, Goes, Stops, Switches}
 use Rattle.interpreter.specs.declared.machine.Frame.{Frame}
 use Rattle.interpreter.specs.declared.machine.Position.{Position}
 
@@ -11,6 +11,10 @@ use Rattle.interpreter.specs.declared.machine.Position.{Position}
 abbrev pub Crosses : (bound : ℕ) → Loop → Crossing → (cells' : List ℕ) → (callers' : List Frame)
     → (to : Position) → Type 0
 Crosses bound l Goes cells' callers' to =
+    Ran bound l (loop_at l.world cells' callers' to) × (to.frame.instance ≡ l.number)
+    × (left_to_do (loop_at l.world cells' callers' to) < left_to_do l)
+    × (to.frame.function.now.operations.items ≡ l.machine.operations)
+Crosses bound l Enters cells' callers' to =
     Ran bound l (loop_at l.world cells' callers' to) × (to.frame.instance ≡ l.number)
     × (left_to_do (loop_at l.world cells' callers' to) < left_to_do l)
 Crosses bound l Switches cells' callers' to =

@@ -21,7 +21,7 @@ world_at s state bytes = record {
 
 abbrev pub machine_at : (cells : List ℕ) → Position → Machine
 machine_at cells at = record {
-  operations = at.frame.operations.now;
+  operations = at.frame.function.now.operations.items;
   tables = at.frame.tables.now;
   locals = at.frame.locals;
   base = at.frame.base;

@@ -1,6 +1,5 @@
-ghost use Rattle.std.specs.Prelude.{◌≡◌, ◌<◌, IsSome, length, slice_get};
-ghost use Rattle.store.specs.Contents.{functions_in};
-ghost use Rattle.interpreter.specs.Callees.{FindsEntry, IsFunctionAt, RefersToFunction};
+ghost use Rattle.std.specs.Prelude.{◌<◌, length};
+ghost use Rattle.interpreter.specs.Callees.{FindsEntry, RefersToFunction};
 ghost use Rattle.interpreter.specs.Turns.{entry_through, table_address, type_of};
 
 use core_types::{FuncType, Trap, Val};
@@ -14,19 +13,6 @@ pub struct Found<'a> {
     pub callee: Callee<'a>,
 }
 
-/// The function at an address.
-#[inline(always)]
-pub fn function_at<'a>(code: &'a Code, address: u32) -> Found<'a>
-    requires { IsSome (slice_get (functions_in code.now) address) }
-    ensures address { result.address ≡ address }
-    ensures found { IsFunctionAt code.now address result.callee }
-{
-    match code.function(address) {
-        Some(callee) => Found { address, callee },
-        None => unreachable!(),
-    }
-}
-
 // The function to which an entry of a table refers, which has to be of this type.
 #[inline(always)]
 fn find_entry<'a>(code: &'a Code, wanted: &FuncType, entry: Option<Val>) -> Result<Found<'a>, Trap>
@@ -37,9 +23,9 @@ fn find_entry<'a>(code: &'a Code, wanted: &FuncType, entry: Option<Val>) -> Resu
         None => Err(Trap::UndefinedElement),
         Some(Val::FuncRef(None)) => Err(Trap::UninitializedElement),
         Some(Val::FuncRef(Some(address))) => {
-            let found = function_at(code, address);
-            if found.callee.ty().is_same(wanted) {
-                Ok(found)
+            let callee = code.callee(address);
+            if callee.ty().is_same(wanted) {
+                Ok(Found { address, callee })
             } else {
                 Err(Trap::IndirectType)
             }

@@ -7,20 +7,20 @@ ghost use Rattle.interpreter.specs.Whole.{RunsSomeWhole};
 ghost use Rattle.sidetable.specs.declared.operations.PackedOp.TheVariants as op;
 ghost use Rattle.sidetable.specs.declared.operations.TransferInstruction.TheVariants as transfer;
 
-use crate::callees::{Found, find_through, function_at};
+use crate::callees::{Found, find_through};
 use crate::landing::{clear, land};
 use crate::machine::{Crossing, Frame, Position, Stop, Surroundings};
 use crate::payment::pay;
 use core_types::Stack;
 use store::{Callee, ModuleFunction, State};
 
-// Goes on in code of an instance: of that whose code runs, or of another one.
+// Goes on in a frame of an instance: of that whose code runs, or of another one.
 #[inline(always)]
 fn cross<'a>(around: Surroundings<'a>, instance: u32) -> Crossing
     ensures { IsCrossed around.entry.number result instance }
 {
     if instance == around.number {
-        Crossing::Goes
+        Crossing::Enters
     } else {
         Crossing::Switches
     }
@@ -49,7 +49,7 @@ fn open<'a>(
         (loop_at (world_at around.entry state.now memory.now) cells.old callers.old at.old)
         result cells.new callers.new at.new }
 {
-    let flat = function.flat;
+    let flat = function.flat.function;
     let declared = flat.locals - flat.params;
     let room = cells.len() - from.top - 1;
     if declared > room || flat.greatest >= (room - declared) as u64 {
@@ -65,8 +65,8 @@ fn open<'a>(
     clear(cells, behind, declared);
     *at = Position {
         frame: Frame {
-            operations: flat.operations,
-            tables: flat.tables,
+            function: flat,
+            tables: function.flat.tables,
             instance: function.instance,
             locals: flat.locals,
             base: behind - flat.params,
@@ -138,7 +138,8 @@ pub fn call<'a>(
         return Crossing::Stops(Stop::NoFuel);
     }
     let address = around.instance.addresses.functions[index as usize];
-    let found = function_at(around.code, address);
+    let callee = around.code.callee(address);
+    let found = Found { address, callee };
     let from = *at;
     enter(around, state, memory, cells, callers, found, from, at)
 }

@@ -33,8 +33,9 @@ pub fn run<'a>(
         (loop_at (world_at around.entry state.new memory.new) cells.new callers.new position.new) }
 {
     let mut at = *position;
+    let mut operations = at.frame.function.operations.as_slice();
     let stop = loop {
-        match fetch(around, state, memory, cells, at) {
+        match fetch(around, state, memory, cells, operations, at) {
             PackedOp::LocalGet(x) => {
                 if at.fuel == 0 {
                     break Stop::NoFuel;
@@ -192,6 +193,7 @@ pub fn run<'a>(
             PackedOp::Transfer(kind, n) => {
                 match transfer(around, state, memory, cells, callers, *kind, *n, &mut at) {
                     Crossing::Goes => {}
+                    Crossing::Enters => operations = at.frame.function.operations.as_slice(),
                     Crossing::Switches => break Stop::Switches,
                     Crossing::Stops(stop) => break stop,
                 }

@@ -1,12 +1,12 @@
 use core_types::{Limits, Trap};
-use sidetable::{OtherInstruction, PackedOp, SideTables};
+use sidetable::{OtherInstruction, PackedFunction, SideTables};
 use store::{Code, Instance};
 
-/// A frame: the code that runs in it, with the side tables that it names numbers of, the number of its instance, how many locals it
-/// has and where they begin among the cells, and the place of the next operation.
+/// A frame: the flat code that runs in it, with the side tables that it names numbers of, the number of its instance, how many locals
+/// it has and where they begin among the cells, and the place of the next operation.
 #[derive(Clone, Copy)]
 pub struct Frame<'a> {
-    pub operations: &'a [PackedOp],
+    pub function: &'a PackedFunction,
     pub tables: &'a SideTables,
     pub instance: u32,
     pub locals: usize,
@@ -61,9 +61,11 @@ pub enum Stop {
 /// Where the machine goes on, from the position that an operation led to, which may be in another frame.
 #[derive(Clone, Copy)]
 pub enum Crossing {
-    /// In code of the same instance.
+    /// In the same frame.
     Goes,
-    /// In code of another one.
+    /// In another frame, of code of the same instance.
+    Enters,
+    /// In code of another instance.
     Switches,
     /// Nowhere.
     Stops(Stop),

@@ -16,18 +16,20 @@ pub fn fetch<'a>(
     state: &State,
     memory: &[u8],
     cells: &[u64],
+    operations: &'a [PackedOp],
     at: Position<'a>,
 ) -> &'a PackedOp
+    requires code { operations.now ≡ at.frame.function.now.operations.items }
     requires sound { (g : Ghost) × RunsAt (world_at around state.now memory.now)
         (machine_at cells.now at) g }
-    ensures inside { at.entry.frame.place < length at.entry.frame.operations.now }
+    ensures inside { at.entry.frame.place < length operations.now }
     ensures next { at.entry.frame.place + 1 < 2 ^ 64 }
     ensures fits { Fits (world_at around.entry state.now memory.now)
         (machine_at cells.now at.entry) result.now }
     ensures turns { Turns (world_at around.entry state.now memory.now)
         (machine_at cells.now at.entry) result.now }
 {
-    &at.frame.operations[at.frame.place]
+    &operations[at.frame.place]
 }
 
 /// The entry of a number.

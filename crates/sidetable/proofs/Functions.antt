@@ -61,7 +61,7 @@ are-within t ops results within = record {
 module _ (t u : SideTables) (g : Grows t u) where
   code-kept : (f : PackedFunction) → IsFunctionWithin t f → code_of u f ≡ code_of t f
   code-kept f within =
-      ap (λ (ops : List FlatOp). let c : FunctionCode = record { flat = record { operations = ops; greatest = f.greatest }; params = f.params; locals = f.locals; results = f.results; ends = f.ends.items } in c)
+      ap (λ (ops : List FlatOp). let c : FunctionCode = record { flat = record { operations = ops; greatest = f.greatest }; params = f.params; locals = f.locals; results = f.results } in c)
       (made-kept t u g (before_leave f.operations.items) within.within)
 
   pub codes-kept : (fs : List PackedFunction) → All (IsFunctionWithin t) fs → map (code_of u) fs ≡ map (code_of t) fs

@@ -6,7 +6,6 @@ mod LabelNumbers
 mod Left
 mod Lengths
 mod Making
-mod Measuring
 mod Passing
 mod Shapes
 mod Wholes

@@ -6,7 +6,6 @@ use Rattle.core_types.specs.declared.module.Module.{Module}
 use Rattle.meaning.specs.structure.Bodies.{Body, writing}
 use Rattle.meaning.specs.validation.Modules.{functions_of, type_at}
 use Rattle.sidetable.specs.Counts.{Signatures}
-use Rattle.sidetable.specs.Ends.{HasEnds}
 use Rattle.sidetable.specs.Flat.{FlatFunction, flat_function}
 use Rattle.sidetable.specs.Packing.{IsWithin, made}
 use Rattle.sidetable.specs.SideTables.{SideTables}
@@ -34,14 +33,12 @@ pub record AreWithin (t : SideTables) (ops : List PackedOp) (results : ℕ) : Ty
   pub ends : ops ≡ before_leave ops ++ leave results ∷ []
   pub within : All (IsWithin t) (before_leave ops)
 
--- A function's flat code; how many parameters, locals with these, and results it has; and for each position of its code with
--- marks the one at which its body ends.
+-- A function's flat code, and how many parameters, locals with these, and results it has.
 pub record FunctionCode : Type 0 where
   pub flat : FlatFunction
   pub params : ℕ
   pub locals : ℕ
   pub results : ℕ
-  pub ends : List ℕ
 
 abbrev pub code_of : SideTables → PackedFunction → FunctionCode
 code_of t f = record {
@@ -49,18 +46,11 @@ code_of t f = record {
   params = f.params;
   locals = f.locals;
   results = f.results;
-  ends = f.ends.items;
 }
 
 -- What a function's flat code that was lent is seen as.
 abbrev pub seen : FlatCode → FunctionCode
-seen c = record {
-  flat = flat_function_of c.tables.now (before_leave c.operations.now) c.greatest;
-  params = c.params;
-  locals = c.locals;
-  results = c.results;
-  ends = c.ends.now;
-}
+seen c = code_of c.tables.now c.function.now
 
 abbrev pub IsFunctionWithin : SideTables → PackedFunction → Type 0
 IsFunctionWithin t f = AreWithin t f.operations.items f.results
@@ -82,7 +72,6 @@ pub record IsFlat (s : Signatures) (f : Func) (code : FunctionCode) : Type 0 whe
   pub params : code.params ≡ length (type_at s.types f.ty).params
   pub locals : code.locals ≡ length (type_at s.types f.ty).params + length f.locals
   pub results : code.results ≡ length (type_at s.types f.ty).results
-  pub ends : HasEnds f.body code.ends
 
 -- The same for functions in their order.
 abbrev pub AreFlat : Signatures → List Func → List FunctionCode → Type 0

@@ -1,5 +1,4 @@
 pub mod Counts
-pub mod Ends
 pub mod Flat
 pub mod FlatModules
 pub mod Flattening

@@ -1,11 +1,9 @@
 -- Sizes of bodies, read from the last operation to the first.
-use Rattle.std.specs.Prelude.{◌≡◌, ℕ, suc, ◌+◌, List, [], ◌∷◌, length, drop, Option, Some, None, option_map}
+use Rattle.std.specs.Prelude.{◌≡◌, ℕ, suc, ◌+◌, List, [], ◌∷◌, map, Option, Some, None, option_map}
 use Rattle.core_types.specs.declared.op.Op.{Op}
 use Rattle.core_types.specs.declared.op.Op.TheVariants.{Plain, Block, Loop, If, Else, End}
-use Rattle.meaning.specs.structure.Bodies.{Part, Rests, rests}
-use Rattle.sidetable.specs.Ends.{EndsAt}
+use Rattle.meaning.specs.structure.Bodies.{Part, rests}
 use Rattle.sidetable.specs.Flat.{size}
-use Rattle.sidetable.specs.declared.sizes.OpenPart.{OpenPart}
 use Rattle.sidetable.specs.declared.sizes.PartSize.{PartSize}
 use Rattle.sidetable.specs.declared.sizes.Sizes.{Sizes}
 
@@ -30,29 +28,12 @@ openings_of (If type ∷ ops) = size_of (rests ops).here ∷ openings_of ops
 openings_of (Else ∷ ops) = size_of (rests ops).here ∷ openings_of ops
 openings_of (End ∷ ops) = openings_of ops
 
--- This is the size of what is left here at the position `k`, and its body ends there.
-pub record IsMeasured (code : List Op) (k : ℕ) (r : Rests) (open_part : OpenPart) : Type 0 where
-  pub size : open_part.size ≡ size_of r.here
-  pub end : EndsAt code k r open_part.end
-
--- The same for what is left of each body around.
-abbrev pub AreMeasured : List Op → ℕ → List Part → List OpenPart → Type 0
-AreMeasured code k [] [] = Unit {0}
-AreMeasured code k [] (open_part ∷ others) = ⊥
-AreMeasured code k (part ∷ parts) [] = ⊥
-AreMeasured code k (part ∷ parts) (open_part ∷ others) =
-    IsMeasured code k (record { here = part; around = parts }) open_part
-    × AreMeasured code k parts others
-
--- All that is left at the position `k`, where these operations stand, is measured.
-pub record Measures (code : List Op) (k : ℕ) (ops : List Op) (s : Sizes) : Type 0 where
-  pub here : IsMeasured code k (rests ops) s.here
-  pub around : AreMeasured code k (rests ops).around s.around
+-- All that is left where these operations stand is measured.
+pub record Measures (ops : List Op) (s : Sizes) : Type 0 where
+  pub here : s.here ≡ size_of (rests ops).here
+  pub around : s.around ≡ map size_of (rests ops).around
   pub openings : s.openings ≡ openings_of ops
 
--- One operation more is measured, which stands at the position `k`.
-abbrev pub MeasuresOn : (k last : ℕ) → Op → Sizes → Sizes → Type 0
-MeasuresOn k last op old new =
-    (code ops : List Op) → last ≡ length code → drop k code ≡ op ∷ ops
-    → Measures code (k + 1) ops old
-    → Measures code k (op ∷ ops) new
+-- One operation more is measured.
+abbrev pub MeasuresOn : Op → Sizes → Sizes → Type 0
+MeasuresOn op old new = (ops : List Op) → Measures ops old → Measures (op ∷ ops) new

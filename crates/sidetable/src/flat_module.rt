@@ -1,7 +1,7 @@
-ghost use Rattle.std.specs.Prelude.{◌≡◌, ◌<◌, ◌++◌, ◌∷◌, [], List, length, map, slice_get, IfOk, IfSome, MatchOption, None, Some};
+ghost use Rattle.std.specs.Prelude.{◌≡◌, ◌<◌, ◌++◌, ◌∷◌, [], List, length, slice_get, IfOk, Some};
 ghost use Rattle.std.specs.List.{All};
 ghost use Rattle.core_types.specs.declared.module.Func.{Func as AnyFunc};
-ghost use Rattle.sidetable.specs.FlatModules.{AreFlat, AreWithin, FunctionCode, HasBody, IsFlat, module_signatures, seen};
+ghost use Rattle.sidetable.specs.FlatModules.{AreFlat, FunctionCode, HasBody, IsFlat, IsFunctionWithin, module_signatures, seen};
 ghost use Rattle.sidetable.specs.Signatures.{signatures_of};
 
 use crate::counts::ModuleTypes;
@@ -16,8 +16,7 @@ use std::marker::Model;
 use validator::ValidModule;
 
 /// A function's flat code, packed: its operations, with one behind them that leaves the frame, the greatest height that its operands
-/// reach, how many parameters, locals with these, and results it has, and for each position of its code with marks the one at which
-/// the body ends in which it stands.
+/// reach, and how many parameters, locals with these, and results it has.
 #[derive(Drop)]
 pub struct PackedFunction {
     pub operations: Vec<PackedOp>,
@@ -25,7 +24,6 @@ pub struct PackedFunction {
     pub params: usize,
     pub locals: usize,
     pub results: u32,
-    pub ends: Vec<usize>,
 }
 
 /// The flat code of a module's functions, in their order, which contracts see as such.
@@ -47,38 +45,32 @@ impl Model for FlatModule {
     ghost invariant = { λ m. All (IsFunctionWithin m.tables) m.functions.items };
 }
 
-/// A function's flat code, for reading: its operations, with one behind them that leaves the frame, the side tables that have what
-/// these name by number, the greatest height of its operands, how many parameters, locals with these, and results it has, and for
-/// each position of its code with marks the one at which the body ends in which it stands.
+/// A function's flat code, for reading, with the side tables that have what its operations name by number.
 #[derive(Clone, Copy)]
 pub struct FlatCode<'a> {
-    pub operations: &'a [PackedOp],
+    pub function: &'a PackedFunction,
     pub tables: &'a SideTables,
-    pub greatest: u64,
-    pub params: usize,
-    pub locals: usize,
-    pub results: u32,
-    pub ends: &'a [usize],
 }
 
 impl FlatModule {
-    /// The flat code of the function of an index among the module's own, if there is one.
-    #[inline(always)]
-    pub fn function(&self, index: u32) -> Option<FlatCode<'_>>
-        ensures code { MatchOption result (slice_get self.now index ≡ None)
-            (λ c. slice_get self.now index ≡ Some (seen c)) }
-        ensures within { IfSome result (λ c. AreWithin c.tables.now c.operations.now c.results) }
+    /// How many functions the module has of its own.
+    pub fn function_count(&self) -> usize
+        ensures { result ≡ length self.now }
     {
-        let function = self.functions.get(index as usize)?;
-        Some(FlatCode {
-            operations: &function.operations,
+        self.functions.len()
+    }
+
+    /// The flat code of the function of an index among the module's own.
+    #[inline(always)]
+    pub fn function(&self, index: u32) -> FlatCode<'_>
+        requires { index < length self.now }
+        ensures code { slice_get self.now index ≡ Some (seen result) }
+        ensures within { IsFunctionWithin result.tables.now result.function.now }
+    {
+        FlatCode {
+            function: &self.functions[index as usize],
             tables: &self.tables,
-            greatest: function.greatest,
-            params: function.params,
-            locals: function.locals,
-            results: function.results,
-            ends: &function.ends,
-        })
+        }
     }
 }
 
@@ -109,7 +101,6 @@ fn flatten_function(
         params,
         locals,
         results,
-        ends: made.ends,
     })?;
     Ok(FlatModule {
         functions,

@@ -3,7 +3,6 @@ ghost use Rattle.std.specs.List.{All};
 ghost use Rattle.core_types.specs.declared.op.Op.TheVariants.{Block, Else, End, If, Loop, Plain};
 ghost use Rattle.meaning.specs.structure.Bodies.{Body, writing};
 ghost use Rattle.sidetable.specs.Counts.{changed as changed_height};
-ghost use Rattle.sidetable.specs.Ends.{HasEnds};
 ghost use Rattle.sidetable.specs.Flat.{flat_function};
 ghost use Rattle.sidetable.specs.FlatModules.{flat_function_of};
 ghost use Rattle.sidetable.specs.Flattening.{CanMake, CanMakeAll, Passes, PassesTo, Pushes, if_end, if_second};
@@ -286,13 +285,12 @@ fn run(
     Ok(())
 }
 
-/// A function's flat code, packed: its operations, with room for one more, the greatest height that its operands reach, for each
-/// position of its code with marks the one at which the body ends in which it stands, and the side tables with what it names.
+/// A function's flat code, packed: its operations, with room for one more, the greatest height that its operands reach, and the side
+/// tables with what it names.
 #[derive(Drop)]
 pub struct FlatBody {
     pub operations: Vec<PackedOp>,
     pub greatest: u64,
-    pub ends: Vec<usize>,
     pub tables: SideTables,
 }
 
@@ -310,7 +308,6 @@ pub fn flatten_body(
         → flat_function_of b.tables b.operations.items b.greatest
         ≡ flat_function (signatures_of s.now) results body) }
     ensures within { IfOk result (λ b. All (IsWithin b.tables) b.operations.items) }
-    ensures ends { IfOk result (λ b. HasEnds code.now b.ends.items) }
 {
     writing_is_read();
     let measured = measure(alloc, code)?;
@@ -336,7 +333,6 @@ pub fn flatten_body(
     Ok(FlatBody {
         operations: f.operations,
         greatest,
-        ends: measured.ends,
         tables: f.tables,
     })
 }

@@ -1,12 +1,10 @@
-ghost use Rattle.std.specs.Prelude.{◌≡◌, ◌+◌, ◌<◌, ◌≤◌, ◌∷◌, List, ℕ, drop, length, IfOk, OnOk};
+ghost use Rattle.std.specs.Prelude.{◌≡◌, ◌+◌, List, map, IfOk, OnOk};
 ghost use Rattle.core_types.specs.declared.op.BlockType.{BlockType as AnyType};
-ghost use Rattle.core_types.specs.declared.op.Op.{Op as AnyOp};
 ghost use Rattle.core_types.specs.declared.op.PlainOp.{PlainOp};
 ghost use Rattle.core_types.specs.declared.op.Op.TheVariants.{Block, Else, End, If, Loop, Plain};
 ghost use Rattle.meaning.specs.structure.Bodies.{Part, body_of, first_part, other_parts};
-ghost use Rattle.sidetable.specs.Ends.{HasEnds};
 ghost use Rattle.sidetable.specs.Flat.{size};
-ghost use Rattle.sidetable.specs.Sizes.{AreMeasured, IsMeasured, MeasuresOn, behind_first, openings_of};
+ghost use Rattle.sidetable.specs.Sizes.{MeasuresOn, behind_first, openings_of, size_of};
 
 use core_types::{Op, Stack};
 use std::alloc::{AllocError, Global};
@@ -18,28 +16,20 @@ pub struct PartSize {
     pub other: Option<usize>,
 }
 
-// What is left of a body: its size, and the position at which it ends.
-#[derive(Clone, Copy)]
-struct OpenPart {
-    size: PartSize,
-    end: usize,
-}
-
-// What is left here and of each body around, and the sizes of what lies behind each mark so far.
+// The sizes of what is left here and of each body around, and of what lies behind each mark so far.
 #[derive(Drop)]
 struct Sizes {
-    here: OpenPart,
-    around: Stack<OpenPart>,
+    here: PartSize,
+    around: Stack<PartSize>,
     openings: Stack<PartSize>,
 }
 
-/// What a function's code is measured to be: how many operations without marks it leaves, how many lie behind each mark that begins
-/// a body, and for each position the one at which the body ends in which it stands.
+/// What a function's code is measured to be: how many operations without marks it leaves, and how many lie behind each mark that
+/// begins a body.
 #[derive(Drop)]
 pub struct MeasuredCode {
     pub size: usize,
     pub openings: Stack<PartSize>,
-    pub ends: Vec<usize>,
 }
 
 /// A sum. Fails where it has more bits than a size.
@@ -52,43 +42,32 @@ pub fn sum(a: usize, b: usize) -> Result<usize, AllocError>
     }
 }
 
-// The first of the parts around, which is taken off; nothing, which ends behind the last operation, where there is none.
-fn take_first(around: &mut Stack<OpenPart>, last: usize) -> OpenPart
-    ensures { (code : List AnyOp) (k : ℕ) (parts : List Part) → last ≡ length code → k ≤ last
-        → AreMeasured code k parts around.old
-        → IsMeasured code k (record { here = first_part parts; around = other_parts parts }) result
-        × AreMeasured code k (other_parts parts) around.new }
+// The size of the first of the parts around, which is taken off; that of nothing where there is none.
+fn take_first(around: &mut Stack<PartSize>) -> PartSize
+    ensures { (parts : List Part) → around.old ≡ map size_of parts
+        → (result ≡ size_of (first_part parts)) × (around.new ≡ map size_of (other_parts parts)) }
 {
     match around.pop() {
-        Some(part) => part,
-        None => OpenPart {
-            size: PartSize {
-                here: 0,
-                other: None,
-            },
-            end: last,
+        Some(size) => size,
+        None => PartSize {
+            here: 0,
+            other: None,
         },
     }
 }
 
 // A block or a loop, which leaves one operation and what is inside.
-fn measure_block(sizes: &mut Sizes, position: usize, last: usize) -> Result<(), AllocError>
-    requires { position < last }
-    ensures blocks { OnOk result ((t : AnyType)
-        → MeasuresOn position last (Block t) sizes.old sizes.new) }
-    ensures loops { OnOk result ((t : AnyType)
-        → MeasuresOn position last (Loop t) sizes.old sizes.new) }
+fn measure_block(sizes: &mut Sizes) -> Result<(), AllocError>
+    ensures blocks { OnOk result ((t : AnyType) → MeasuresOn (Block t) sizes.old sizes.new) }
+    ensures loops { OnOk result ((t : AnyType) → MeasuresOn (Loop t) sizes.old sizes.new) }
 {
-    let inside = sizes.here.size;
+    let inside = sizes.here;
     sizes.openings.push(inside)?;
-    let rest = take_first(&mut sizes.around, last);
-    let here = sum(sum(inside.here, rest.size.here)?, 1)?;
-    sizes.here = OpenPart {
-        size: PartSize {
-            here,
-            other: rest.size.other,
-        },
-        end: rest.end,
+    let rest = take_first(&mut sizes.around);
+    let here = sum(sum(inside.here, rest.here)?, 1)?;
+    sizes.here = PartSize {
+        here,
+        other: rest.other,
     };
     Ok(())
 }
@@ -104,82 +83,65 @@ fn size_behind(other: Option<usize>, rest: usize) -> Result<usize, AllocError>
 }
 
 // An `if`, which leaves one operation, its bodies, and a jump between them if there are two.
-fn measure_if(sizes: &mut Sizes, position: usize, last: usize) -> Result<(), AllocError>
-    requires { position < last }
-    ensures { OnOk result ((t : AnyType) → MeasuresOn position last (If t) sizes.old sizes.new) }
+fn measure_if(sizes: &mut Sizes) -> Result<(), AllocError>
+    ensures { OnOk result ((t : AnyType) → MeasuresOn (If t) sizes.old sizes.new) }
 {
-    let inside = sizes.here.size;
+    let inside = sizes.here;
     sizes.openings.push(inside)?;
-    let rest = take_first(&mut sizes.around, last);
-    let here = sum(
-        sum(inside.here, size_behind(inside.other, rest.size.here)?)?,
-        1,
-    )?;
-    sizes.here = OpenPart {
-        size: PartSize {
-            here,
-            other: rest.size.other,
-        },
-        end: rest.end,
+    let rest = take_first(&mut sizes.around);
+    let here = sum(sum(inside.here, size_behind(inside.other, rest.here)?)?, 1)?;
+    sizes.here = PartSize {
+        here,
+        other: rest.other,
     };
     Ok(())
 }
 
 // An instruction without a body, which leaves one operation.
-fn measure_plain(sizes: &mut Sizes, position: usize, last: usize) -> Result<(), AllocError>
-    requires { position < last }
-    ensures { OnOk result ((op : PlainOp) → MeasuresOn position last (Plain op) sizes.old sizes.new) }
+fn measure_plain(sizes: &mut Sizes) -> Result<(), AllocError>
+    ensures { OnOk result ((op : PlainOp) → MeasuresOn (Plain op) sizes.old sizes.new) }
 {
-    let here = sum(sizes.here.size.here, 1)?;
-    sizes.here.size.here = here;
+    let here = sum(sizes.here.here, 1)?;
+    sizes.here.here = here;
     Ok(())
 }
 
 // An else: the second body lies behind it.
-fn measure_else(sizes: &mut Sizes, position: usize, last: usize) -> Result<(), AllocError>
-    requires { position < last }
-    ensures { OnOk result (MeasuresOn position last Else sizes.old sizes.new) }
+fn measure_else(sizes: &mut Sizes) -> Result<(), AllocError>
+    ensures { OnOk result (MeasuresOn Else sizes.old sizes.new) }
 {
-    let second = sizes.here.size;
+    let second = sizes.here;
     sizes.openings.push(second)?;
-    sizes.here = OpenPart {
-        size: PartSize {
-            here: 0,
-            other: Some(second.here),
-        },
-        end: position,
+    sizes.here = PartSize {
+        here: 0,
+        other: Some(second.here),
     };
     Ok(())
 }
 
 // An end: what lies behind it is around the body that ends.
-fn measure_end(sizes: &mut Sizes, position: usize, last: usize) -> Result<(), AllocError>
-    requires { position < last }
-    ensures { OnOk result (MeasuresOn position last End sizes.old sizes.new) }
+fn measure_end(sizes: &mut Sizes) -> Result<(), AllocError>
+    ensures { OnOk result (MeasuresOn End sizes.old sizes.new) }
 {
     let rest = sizes.here;
     sizes.around.push(rest)?;
-    sizes.here = OpenPart {
-        size: PartSize {
-            here: 0,
-            other: None,
-        },
-        end: position,
+    sizes.here = PartSize {
+        here: 0,
+        other: None,
     };
     Ok(())
 }
 
 // One operation more.
-fn step_back(sizes: &mut Sizes, op: &Op, position: usize, last: usize) -> Result<(), AllocError>
-    requires { position < last }
-    ensures { OnOk result (MeasuresOn position last op.now sizes.old sizes.new) }
+fn step_back(sizes: &mut Sizes, op: &Op) -> Result<(), AllocError>
+    ensures { OnOk result (MeasuresOn op.now sizes.old sizes.new) }
 {
     match op {
-        Op::Plain(_) => measure_plain(sizes, position, last)?,
-        Op::Block(_) | Op::Loop(_) => measure_block(sizes, position, last)?,
-        Op::If(_) => measure_if(sizes, position, last)?,
-        Op::Else => measure_else(sizes, position, last)?,
-        Op::End => measure_end(sizes, position, last)?,
+        Op::Plain(_) => measure_plain(sizes)?,
+        Op::Block(_) | Op::Loop(_) => measure_block(sizes)?,
+        Op::If(_) => measure_if(sizes)?,
+        Op::Else => measure_else(sizes)?,
+        Op::End => measure_end(sizes)?,
     }
     Ok(())
 }
@@ -188,30 +150,22 @@ fn step_back(sizes: &mut Sizes, op: &Op, position: usize, last: usize) -> Result
 pub fn measure(alloc: Global, code: &[Op]) -> Result<MeasuredCode, AllocError>
     ensures size { IfOk result (λ m. m.size ≡ size (body_of code.now)) }
     ensures openings { IfOk result (λ m. m.openings ≡ openings_of code.now) }
-    ensures ends { IfOk result (λ m. HasEnds code.now m.ends.items) }
 {
-    let last = code.len();
-    let mut ends = vec![in alloc; last; last + 1]?;
     let mut sizes = Sizes {
-        here: OpenPart {
-            size: PartSize {
-                here: 0,
-                other: None,
-            },
-            end: last,
+        here: PartSize {
+            here: 0,
+            other: None,
         },
         around: Stack::new(alloc),
         openings: Stack::new(alloc),
     };
-    let mut position = last;
+    let mut position = code.len();
     while position > 0 {
         position -= 1;
-        step_back(&mut sizes, &code[position], position, last)?;
-        ends[position] = sizes.here.end;
+        step_back(&mut sizes, &code[position])?;
     }
     Ok(MeasuredCode {
-        size: sizes.here.size.here,
+        size: sizes.here.here,
         openings: sizes.openings,
-        ends,
     })
 }

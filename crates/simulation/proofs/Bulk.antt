@@ -30,11 +30,11 @@ use Rattle.simulation.proofs.Typed.{with_labels}
 -- ---- outcomes
 
 module _ (store : Store) (frame : Frame) (count address : ℕ) (m : MemoryInstance) where
-  write-outcome : (result : Result (List ℕ) Trap) → IsOutcome store 0 (written_memory store count address m result)
+  pub write-outcome : (result : Result (List ℕ) Trap) → IsOutcome store 0 (written_memory store count address m result)
   write-outcome (Ok bytes) = (refl, refl)
   write-outcome (Err trap) = tt
 
-  write-effect : (result : Result (List ℕ) Trap) (values : List Val) → write_memory store frame (bulk_cost count) address m result values ≡ effect_of (written_memory store count address m result) frame.locals values
+  pub write-effect : (result : Result (List ℕ) Trap) (values : List Val) → write_memory store frame (bulk_cost count) address m result values ≡ effect_of (written_memory store count address m result) frame.locals values
   write-effect (Ok bytes) values = refl
   write-effect (Err trap) values = refl
 

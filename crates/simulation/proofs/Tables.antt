@@ -41,11 +41,11 @@ module _ (store : Store) (frame : Frame) where
   read-effect (Err trap) values = refl
 
   module _ (cost address : ℕ) (t : TableInstance) where
-    write-outcome : (result : Result (List Val) Trap) → IsOutcome store 0 (written_table store cost address t result)
+    pub write-outcome : (result : Result (List Val) Trap) → IsOutcome store 0 (written_table store cost address t result)
     write-outcome (Ok entries) = (refl, refl)
     write-outcome (Err trap) = tt
 
-    write-effect : (result : Result (List Val) Trap) (values : List Val) → write_table store frame cost address t result values ≡ effect_of (written_table store cost address t result) frame.locals values
+    pub write-effect : (result : Result (List Val) Trap) (values : List Val) → write_table store frame cost address t result values ≡ effect_of (written_table store cost address t result) frame.locals values
     write-effect (Ok entries) values = refl
     write-effect (Err trap) values = refl
 

@@ -33,7 +33,7 @@ module _ {H : Type 0} (HostStep : List H → ℕ → Option ℕ → List Val →
     end-costs (host_trapped is enough left told ending_is) = omega (arith, enough, left)
     end-costs (no_fuel little ending_is last_is) = nothing-spent last_is
     end-costs (no_depth is enough deep ending_is last_is) = nothing-spent last_is
-    end-costs (no_memory ready within enough ending_is last_is) = nothing-spent last_is
+    end-costs (no_memory asks within enough ending_is last_is) = nothing-spent last_is
 
     pub run-costs : {old last : State H} {c : Configuration} {ending : Ending} (run : Run HostStep bound outside old c ending last) → cost_of_run HostStep bound outside run + last.fuel ≡ old.fuel
     run-costs (end is) = end-costs is

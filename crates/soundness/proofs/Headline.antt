@@ -63,7 +63,7 @@ module _ {H : Type 0} (HostStep : List H → ℕ → Option ℕ → List Val →
     end-is-said well (no_fuel little ending_is last_is) = out_of_fuel ending_is (steps-to-last last_is) (subst (λ (s : State H). WouldPassFuel s reached) (sym last_is) little)
     end-is-said well (no_depth is enough deep ending_is last_is) =
         out_of_depth ending_is (steps-to-last last_is) (subst (λ (s : State H). WouldPassDepth bound s reached) (sym last_is) (passes (next at.store no_frame reached) (depth reached) is deep))
-    end-is-said well (no_memory ready within enough ending_is last_is) = out_of_memory ending_is
+    end-is-said well (no_memory asks within enough ending_is last_is) = out_of_memory ending_is
 
 -- ---- calls
 

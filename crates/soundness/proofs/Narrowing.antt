@@ -71,7 +71,7 @@ module _ {H : Type 0} (host_type : H → FuncType) (Answers Own : H → List Val
         let (own, keeps) = told-own at.hosts last.hosts _ _ _ at.store last.store _ kept told in (host_trapped is enough left own ending_is, keeps)
     end-of-own kept (no_fuel little ending_is last_is) = (no_fuel little ending_is last_is, stays-kept kept last_is)
     end-of-own kept (no_depth is enough deep ending_is last_is) = (no_depth is enough deep ending_is last_is, stays-kept kept last_is)
-    end-of-own kept (no_memory ready within enough ending_is last_is) = (no_memory ready within enough ending_is last_is, stays-kept kept last_is)
+    end-of-own kept (no_memory asks within enough ending_is last_is) = (no_memory asks within enough ending_is last_is, stays-kept kept last_is)
 
     calls-of-own : {old last : State H} {first : Configuration} {ending : Ending} → All Keeps old.hosts → Run Wide bound outside old first ending last → Run Narrow bound outside old first ending last × All Keeps last.hosts
     calls-of-own kept (end is) = let (own, keeps) = end-of-own kept is in (end own, keeps)

@@ -138,7 +138,7 @@ module _ {H : Type 0} (HostStep : List H → ℕ → Option ℕ → List Val →
         rw ending_is (record { extends = answer.extends; valid = answer.valid; there = answer.there; ends = tt })
     end-typed (no_fuel little ending_is last_is) = rw (ending_is, last_is) (stays-typed _ tt)
     end-typed (no_depth is enough deep ending_is last_is) = rw (ending_is, last_is) (stays-typed _ tt)
-    end-typed (no_memory ready within enough ending_is last_is) = rw (ending_is, last_is) (stays-typed _ tt)
+    end-typed (no_memory asks within enough ending_is last_is) = rw (ending_is, last_is) (stays-typed _ tt)
 
   run-typed : {old last : State H} {configuration : Configuration} {ending : Ending} (results : List ValType) → StoreIsValid old.store → HaveHosts old.store old.hosts
       → ConfigurationHasType old.store place configuration results → Run HostStep bound frame old configuration ending last → EndsTyped HostStep HaveHosts results old ending last

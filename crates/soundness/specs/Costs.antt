@@ -22,7 +22,7 @@ module _ {H : Type 0} (HostStep : List H → ℕ → Option ℕ → List Val →
   cost_of_end (host_trapped {cost = cost} is enough left told ending_is) = cost
   cost_of_end (no_fuel little ending_is last_is) = 0
   cost_of_end (no_depth is enough deep ending_is last_is) = 0
-  cost_of_end (no_memory ready within enough ending_is last_is) = 0
+  cost_of_end (no_memory asks within enough ending_is last_is) = 0
 
   -- The sum over the steps and the end.
   abbrev pub cost_of_run : {old last : State H} {c : Configuration} {ending : Ending}

@@ -4,7 +4,7 @@ use Rattle.std.specs.Prelude.{◌≡◌, ℕ, List, [], ◌∷◌, ◌++◌, map
 use Rattle.core_types.specs.declared.types.FuncType.{FuncType}
 use Rattle.core_types.specs.declared.module.Func.{Func}
 use Rattle.core_types.specs.declared.module.Module.{Module}
-use Rattle.meaning.specs.structure.Bodies.{Empty, rests, writing}
+use Rattle.meaning.specs.structure.Bodies.{Empty, writing}
 use Rattle.meaning.specs.execution.Modules.{code_of}
 use Rattle.meaning.specs.execution.Store.{FunctionInstance as Function, InCode, InHost as InHostNumber, ModuleInstance, Store, instance_of}
 use Rattle.meaning.specs.validation.Context.{Context}
@@ -19,8 +19,7 @@ use Rattle.store.specs.declared.instances.FunctionInstance.{FunctionInstance}
 use Rattle.store.specs.declared.instances.FunctionInstance.TheVariants.{InModule, InHost}
 use Rattle.store.specs.declared.instances.Instance.{Instance}
 use Rattle.sidetable.specs.Counts.{Signatures}
-use Rattle.sidetable.specs.Ends.{HasEnds}
-use Rattle.sidetable.specs.FlatModules.{AreWithin, IsFlat, module_signatures, seen}
+use Rattle.sidetable.specs.FlatModules.{IsFlat, IsFunctionWithin, module_signatures, seen}
 use Rattle.store.specs.State.{StateContents}
 
 -- The functions, the instances and the types of the host functions, as they are kept.
@@ -85,12 +84,6 @@ abbrev pub callee_function : Callee → Function
 callee_function (callee.InModule f) = function_of f.ty.now f.instance f.func.now
 callee_function (callee.InHost f) = host_function f.number f.ty.now
 
--- The code of a function of a module comes with the positions at which its bodies end, and nothing is around it.
-abbrev pub HasWholeCode : Callee → Type 0
-HasWholeCode (callee.InModule f) =
-    HasEnds f.func.now.body f.flat.ends.now × ((rests f.func.now.body).around ≡ [])
-HasWholeCode (callee.InHost f) = Unit {0}
-
 -- The types that the code of an instance refers to: those of its module.
 abbrev pub signatures_of_instance : Option Instance → Signatures
 signatures_of_instance None = record { types = []; functions = [] }
@@ -100,7 +93,7 @@ signatures_of_instance (Some i) = module_signatures i.loaded.value
 abbrev pub HasFlatCode : List Instance → Callee → Type 0
 HasFlatCode instances (callee.InModule f) =
     IsFlat (signatures_of_instance (slice_get instances f.instance)) f.func.now (seen f.flat)
-    × AreWithin f.flat.tables.now f.flat.operations.now f.flat.results
+    × IsFunctionWithin f.flat.tables.now f.flat.function.now
 HasFlatCode instances (callee.InHost f) = Unit {0}
 
 -- The addresses of what an instance has, a list a kind.
@@ -203,6 +196,13 @@ HasContextTypes code (callee.InModule f) =
     AreOfContext (signatures_of_instance (slice_get code.instances f.instance))
     (instance_context (code_store code) (instance_of (code_store code) (Some f.instance)))
 HasContextTypes code (callee.InHost f) = Unit {0}
+
+-- The function at an address, with its flat code; its body and the types that it refers to are those of its module.
+pub record IsCalleeAt (code : Contents) (address : ℕ) (f : Callee) : Type 0 where
+  pub there : slice_get (functions_in code) address ≡ Some (callee_function f)
+  pub flat : HasFlatCode code.instances f
+  pub declared : HasDeclaredBody code.instances f
+  pub types : HasContextTypes code f
 
 -- Both parts of what the store holds.
 pub record BothParts : Type 0 where

@@ -1,10 +1,8 @@
-ghost use Rattle.std.specs.Prelude.{◌≡◌, [], ◌∷◌, ◌++◌, ◌+◌, ◌<◌, ◌^◌, length, map, slice_get, option_copied, IfSome, IfOk, OnOk, OnErr, MatchOption, Some, None};
-ghost use Rattle.meaning.specs.structure.Bodies.{rests, writing};
-ghost use Rattle.meaning.specs.execution.Modules.{code_of, new_function};
+ghost use Rattle.std.specs.Prelude.{◌≡◌, [], ◌∷◌, ◌++◌, ◌+◌, ◌<◌, ◌^◌, length, map, slice_get, option_copied, IfOk, IfSome, OnOk, OnErr, IsSome, MatchOption, Some, None};
+ghost use Rattle.meaning.specs.execution.Modules.{new_function};
 ghost use Rattle.meaning.specs.execution.Store.{instance_of};
-ghost use Rattle.soundness.specs.Places.{instance_context};
-ghost use Rattle.sidetable.specs.FlatModules.{AreWithin, IsFlat, seen};
-ghost use Rattle.store.specs.Contents.{AreOfContext, callee_function, code_store, contents_of, functions_in, function_of, host_function, HasContextTypes, HasDeclaredBody, HasFlatCode, HasModuleTypes, HasWholeCode, instance_function, instances_in, lists_of, module_instance, signatures_of_instance};
+ghost use Rattle.store.specs.Contents.{callee_function, code_store, contents_of, functions_in, function_of, host_function, HasContextTypes, HasDeclaredBody, HasFlatCode, HasModuleTypes, instance_function, instances_in, IsCalleeAt, lists_of, module_instance};
+ghost use Rattle.store.specs.declared.instances.Callee.TheVariants.{InModule as InModuleForm};
 
 use crate::entries::push_entries;
 use crate::loaded_modules::LoadedModule;
@@ -199,61 +197,57 @@ impl Code {
         found.addresses.datas.get(x as usize).copied()
     }
 
-    // The function of a module that an instance has under an index, if it is there.
+    // The function of a module that an instance has under an index.
     #[inline(always)]
-    fn module_function(&self, instance: u32, index: u32) -> Option<ModuleFunction<'_>>
-        ensures found { MatchOption result
-            (instance_function instance index (slice_get self.now.instances instance) ≡ None)
-            (λ found. instance_function instance index (slice_get self.now.instances instance) ≡
-            Some
-            (function_of found.ty.now found.instance found.func.now)) }
-        ensures instance { IfSome result (λ found. found.instance ≡ instance) }
-        ensures flat { IfSome result (λ found. IsFlat (signatures_of_instance
-            (slice_get self.now.instances instance)) found.func.now (seen found.flat)) }
-        ensures within { IfSome result (λ found. AreWithin found.flat.tables.now
-            found.flat.operations.now found.flat.results) }
-        ensures whole { IfSome result (λ found. (rests found.func.now.body).around ≡ []) }
-        ensures ty { IfSome result (λ found. slice_get
-            (signatures_of_instance (slice_get self.now.instances instance)).types
-            found.func.now.ty ≡ Some found.ty.now) }
-        ensures body { IfSome result (λ found. found.func.now.body ≡
-            writing (code_of found.func.now).body) }
-        ensures types { IfSome result (λ found. AreOfContext
-            (signatures_of_instance (slice_get self.now.instances instance))
-            (instance_context (code_store self.now)
-            (instance_of (code_store self.now) (Some instance)))) }
+    fn module_function(&self, instance: u32, index: u32) -> ModuleFunction<'_>
+        requires { IsSome (instance_function instance index
+            (slice_get self.now.instances instance)) }
+        ensures found { instance_function instance index (slice_get self.now.instances instance) ≡
+            Some (function_of result.ty.now result.instance result.func.now) }
+        ensures instance { result.instance ≡ instance }
+        ensures flat { HasFlatCode self.now.instances (InModuleForm result) }
+        ensures declared { HasDeclaredBody self.now.instances (InModuleForm result) }
+        ensures types { HasContextTypes self.now (InModuleForm result) }
     {
-        let holder = item(&self.instances, instance)?;
-        let found = holder.loaded.as_ref().function(index)?;
-        Some(ModuleFunction {
+        let found = self.instances[instance as usize]
+            .loaded
+            .as_ref()
+            .function(index);
+        ModuleFunction {
             ty: found.ty,
             func: found.func,
             flat: found.flat,
             instance,
-        })
+        }
+    }
+
+    /// The function at an address.
+    #[inline(always)]
+    pub fn callee(&self, address: u32) -> Callee<'_>
+        requires { address < length self.now.functions }
+        ensures { IsCalleeAt self.now address result }
+    {
+        match self.functions[address as usize] {
+            FunctionInstance::InModule { instance, index } => {
+                Callee::InModule(self.module_function(instance, index))
+            }
+            FunctionInstance::InHost(number) => Callee::InHost(HostFunction {
+                ty: &self.hosts[number as usize],
+                number,
+            }),
+        }
     }
 
     /// The function at an address, if there is one.
-    #[inline(always)]
     pub fn function(&self, address: u32) -> Option<Callee<'_>>
         ensures found { MatchOption result (slice_get (functions_in self.now) address ≡ None)
             (λ callee. slice_get (functions_in self.now) address ≡ Some (callee_function callee)) }
-        ensures whole { IfSome result HasWholeCode }
-        ensures flat { IfSome result (HasFlatCode self.now.instances) }
-        ensures declared { IfSome result (HasDeclaredBody self.now.instances) }
-        ensures types { IfSome result (HasContextTypes self.now) }
+        ensures callee { IfSome result (IsCalleeAt self.now address) }
     {
-        match item(&self.functions, address)? {
-            FunctionInstance::InModule { instance, index } => {
-                Some(Callee::InModule(self.module_function(*instance, *index)?))
-            }
-            FunctionInstance::InHost(number) => {
-                let ty = item(&self.hosts, *number)?;
-                Some(Callee::InHost(HostFunction {
-                    ty,
-                    number: *number,
-                }))
-            }
+        if (address as usize) < self.functions.len() {
+            Some(self.callee(address))
+        } else {
+            None
         }
     }
 

@@ -1,5 +1,5 @@
-ghost use Rattle.std.specs.Prelude.{◌≤◌, ◌≡◌, [], slice_get, IfOk, IfSome, MatchOption, Some, None};
-ghost use Rattle.meaning.specs.structure.Bodies.{rests, writing};
+ghost use Rattle.std.specs.Prelude.{◌<◌, ◌≤◌, ◌≡◌, length, slice_get, IfOk, Some};
+ghost use Rattle.meaning.specs.structure.Bodies.{writing};
 ghost use Rattle.meaning.specs.execution.Modules.{code_of};
 ghost use Rattle.meaning.specs.validation.Modules.{IsValid};
 ghost use Rattle.std.specs.List.{All};
@@ -8,9 +8,8 @@ ghost use Rattle.core_types.specs.declared.types.TableType.{TableType as AnyTabl
 ghost use Rattle.meaning.specs.execution.Tables.{most_entries};
 ghost use Rattle.soundness.specs.Links.{IsSoundModule};
 ghost use Rattle.meaning.specs.execution.Storage.{AreBytes};
-ghost use Rattle.sidetable.specs.FlatModules.{AreWithin, IsFlat, module_signatures, seen};
+ghost use Rattle.sidetable.specs.FlatModules.{IsFlat, IsFunctionWithin, module_signatures, seen};
 
-use crate::lookups::item;
 use core_types::{DataSegment, Func, FuncType, Limits, Module, TableType};
 use sidetable::{FlatCode, FlatModule, flatten};
 use std::alloc::{AllocError, Global};
@@ -96,23 +95,20 @@ impl LoadedModule {
         self.validated.module()
     }
 
-    // The function of an index, if there is one.
+    // The function of an index.
     #[inline(always)]
-    pub(crate) fn function(&self, index: u32) -> Option<LoadedFunction<'_>>
-        ensures func { MatchOption result (slice_get self.now.funcs index ≡ None) (λ f. slice_get
-            self.now.funcs index ≡ Some f.func.now) }
-        ensures ty { IfSome result (λ f. slice_get self.now.types f.func.now.ty ≡ Some f.ty.now) }
-        ensures flat { IfSome result (λ f. IsFlat (module_signatures self.now) f.func.now
-            (seen f.flat)) }
-        ensures within { IfSome result (λ f. AreWithin f.flat.tables.now f.flat.operations.now
-            f.flat.results) }
-        ensures whole { IfSome result (λ f. (rests f.func.now.body).around ≡ []) }
-        ensures body { IfSome result (λ f. f.func.now.body ≡ writing (code_of f.func.now).body) }
+    pub(crate) fn function(&self, index: u32) -> LoadedFunction<'_>
+        requires { index < length self.now.funcs }
+        ensures func { slice_get self.now.funcs index ≡ Some result.func.now }
+        ensures ty { slice_get self.now.types result.func.now.ty ≡ Some result.ty.now }
+        ensures flat { IsFlat (module_signatures self.now) result.func.now (seen result.flat) }
+        ensures within { IsFunctionWithin result.flat.tables.now result.flat.function.now }
+        ensures body { result.func.now.body ≡ writing (code_of result.func.now).body }
     {
         let module_read = self.validated.module();
-        let func = item(module_read.funcs.as_slice(), index)?;
-        let ty = item(module_read.types.as_slice(), func.ty)?;
-        let flat = self.flat.function(index)?;
-        Some(LoadedFunction { ty, func, flat })
+        let func = &module_read.funcs.as_slice()[index as usize];
+        let ty = &module_read.types.as_slice()[func.ty as usize];
+        let flat = self.flat.function(index);
+        LoadedFunction { ty, func, flat }
     }
 }

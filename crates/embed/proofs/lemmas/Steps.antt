@@ -20,8 +20,8 @@ use Rattle.meaning.specs.execution.Runs.{Answer, Ending, Run, State, WithValues}
 use Rattle.meaning.specs.execution.Store.{GlobalInstance, Store}
 use Rattle.meaning.specs.soundness.Values.{TakesArguments}
 use Rattle.meaning.specs.validation.Modules.{IsValid}
-use Rattle.exec.specs.Simulation.{ending_of}
-use Rattle.exec.specs.declared.machine.Outcome.{Outcome}
+use Rattle.exec.specs.Endings.{ending_of}
+use Rattle.exec.specs.declared.outcome.Outcome.{Outcome}
 use Rattle.instantiate.specs.Links.{IsCause, IsEnded, IsLinked, IsRefused, given_to}
 use Rattle.instantiate.specs.declared.link_end.LinkRefusal.{LinkRefusal}
 use Rattle.instantiate.specs.declared.link_end.LinkRefusal.TheVariants as reason

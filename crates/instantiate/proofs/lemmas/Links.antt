@@ -16,7 +16,7 @@ use Rattle.meaning.specs.execution.Runs.{Answer, Ending, State, WithValues}
 use Rattle.meaning.specs.execution.Store.{GlobalInstance, ModuleInstance, ObjectLists, Store, instance_of, no_instance}
 use Rattle.meaning.specs.execution.Tables.{ElementInstance, new_table}
 use Rattle.instantiate.specs.declared.link_end.TaskEnd.{TaskEnd}
-use Rattle.exec.specs.Simulation.{run_state}
+use Rattle.exec.specs.Endings.{run_state}
 use Rattle.store.proofs.lemmas.Positions.{slice_get-seam}
 use Rattle.store.specs.Contents.{Contents, code_store, store_with}
 use Rattle.store.specs.State.{AreWithin, Bounds, IsMemoryWithin, IsTableWithin, StateContents}

@@ -9,13 +9,12 @@ use Rattle.core_types.specs.declared.op.PlainOp.{PlainOp}
 use Rattle.core_types.specs.declared.op.PlainOp.TheVariants.{Memory, Table}
 use Rattle.core_types.specs.declared.op.TableOp.TheVariants.{Init as InitTable}
 use Rattle.core_types.specs.declared.outcome.Exhaustion.TheVariants as exhausted
-use Rattle.core_types.specs.declared.outcome.Trap.{Trap as AnyTrap}
 use Rattle.core_types.specs.declared.outcome.Val.{Val}
 use Rattle.core_types.specs.declared.outcome.Val.TheVariants.{I32, I64, FuncRef, ExternRef}
 use Rattle.meaning.specs.structure.Bodies.{Body, Empty, Then}
 use Rattle.meaning.specs.execution.Configurations.{Configuration, Frame, Invoking, Running, no_frame}
-use Rattle.meaning.specs.execution.Effects.{Effect, Done, Fails, Grown, Lacks, data_at, drop_data, drop_elements, effect, elements_at, in_memory, init_memory, init_table, table_at}
-use Rattle.meaning.specs.execution.Instructions.{Goes, Grows, NotReady, continue_after, next, with_locals}
+use Rattle.meaning.specs.execution.Effects.{data_at, elements_at, in_memory, init_memory, init_table, table_at}
+use Rattle.meaning.specs.execution.Instructions.{NotReady, continue_after, next}
 use Rattle.meaning.specs.execution.Memories.{MemoryInstance}
 use Rattle.meaning.specs.execution.Modules.{Activity, Copies, Drops, RunOf, Starts, Task, activity, constant_value, done, ended, in_instance, tasks_by}
 use Rattle.meaning.specs.execution.Runs.{Answer, Ending, IsEnd, IsStep, NoHosts, OutOfFuel, OutOfMemory, Run, State, WithTrap, WithValues, end, goes, grows, no_fuel, no_memory, one_more, step, trapped, values_left}
@@ -23,17 +22,13 @@ use Rattle.meaning.specs.execution.Runs as of
 use Rattle.meaning.specs.execution.Store.{DataInstance, ModuleInstance, Store, instance_of, locate}
 use Rattle.meaning.specs.execution.Tables.{ElementInstance, TableInstance}
 use Rattle.meaning.proofs.lemmas.Runs.{Steps-join}
-use Rattle.soundness.specs.Progress.{GetsStuck, later, not_there, stuck}
+use Rattle.soundness.specs.Progress.{later, not_there, stuck}
 use Rattle.soundness.proofs.Runs.{waiting-stuck}
 use Rattle.instantiate.specs.declared.link_end.TaskEnd.{TaskEnd}
-use Rattle.exec.specs.declared.machine.Outcome.{Outcome}
-use Rattle.exec.specs.Simulation.{ending_of}
+use Rattle.exec.specs.declared.outcome.Outcome.{Outcome}
+use Rattle.exec.specs.Endings.{ending_of}
 use Rattle.instantiate.specs.declared.link_end.TaskEnd.TheVariants.{Exhausted, Stuck, Trap}
-use Rattle.plain.specs.declared.progress.Progress.{Progress}
-use Rattle.plain.specs.declared.progress.Progress.TheVariants as progress
-use Rattle.plain.specs.Effects.{HasEffect, IsAffordable, LeadsTo, TrapsWith, price_of}
-use Rattle.stacks.specs.Stacked.{OperandStack}
-use Rattle.instantiate.specs.Tasks.{DoneTasks, EndedTasks, Ends, EndsAs, HasNoI32, IsDrop, IsEndOf, IsPassed, IsWithoutValues, drops_data, drops_elements, RanTasks, RunsOn, RunsTo, StepsOrEnds, TasksRunOn, ending_in}
+use Rattle.instantiate.specs.Tasks.{DoneTasks, EndedTasks, EndsAs, HasNoI32, IsWithoutValues, RanTasks, RunsOn, RunsTo, TasksRunOn, ending_in}
 
 -- The frame of an instance, without locals.
 abbrev pub frame_of : (instance : ℕ) → Frame
@@ -42,76 +37,6 @@ frame_of instance = record { instance = Some instance; locals = [] }
 -- A state without host functions.
 abbrev pub at : Store → (fuel : ℕ) → State ⊥
 at store fuel = record { store = store; hosts = []; fuel = fuel }
-
--- ---- an instruction, by its effect
-
-module _ (bound instance : ℕ) (old : Store) (fuel : ℕ) (configuration : Configuration) (rest : Body) where
-  -- It is what the configuration does next.
-  abbrev pub IsNext : Effect → Type 0
-  IsNext e = next old (frame_of instance) configuration ≡ continue_after (frame_of instance) e rest
-
-  module _ (new : Store) (left : ℕ) where
-    abbrev pub StepsTo : List Val → Type 0
-    StepsTo values = IsStep NoHosts bound (frame_of instance) (at old fuel) configuration (at new left) (Running values rest)
-
-    effect-steps : (e : Effect) → IsNext e → (values : List Val) → LeadsTo e new [] values fuel left → StepsTo values
-    effect-steps (Done cost store locals values') is values l =
-        goes (is ∙ ap (λ (s : Store). Goes cost s (with_locals (frame_of instance) locals) (Running values' rest)) l.0 ∙ ap (λ (ls : List Val). Goes cost new (with_locals (frame_of instance) ls) (Running values' rest)) l.1 ∙ ap (λ (vs : List Val). Goes cost new (frame_of instance) (Running vs rest)) l.2) l.3 l.4 refl
-    effect-steps (Grown cost store locals values') is values l =
-        grows (is ∙ ap (λ (s : Store). Grows cost s (with_locals (frame_of instance) locals) (Running values' rest)) l.0 ∙ ap (λ (ls : List Val). Grows cost new (with_locals (frame_of instance) ls) (Running values' rest)) l.1 ∙ ap (λ (vs : List Val). Grows cost new (frame_of instance) (Running vs rest)) l.2) l.3 l.4 refl
-    effect-steps (Fails trap) is values l = absurd l
-    effect-steps Lacks is values l = absurd l
-
-    abbrev pub EndsWith : Ending → Type 0
-    EndsWith ending = IsEnd NoHosts bound (frame_of instance) (at old fuel) configuration ending (at new left)
-
-    effect-traps : (e : Effect) → IsNext e → (trap : AnyTrap) → TrapsWith e trap fuel left → new ≡ old → EndsWith (WithTrap trap)
-    effect-traps (Done cost store locals values) is trap t same = absurd t
-    effect-traps (Grown cost store locals values) is trap t same = absurd t
-    effect-traps (Fails trap') is trap t same = rw (same, ← t.0, t.2) (trapped is t.1 refl refl)
-    effect-traps Lacks is trap t same = absurd t
-
-    effect-no_fuel : (e : Effect) → IsNext e → fuel < price_of e → new ≡ old → left ≡ fuel → EndsWith OutOfFuel
-    effect-no_fuel (Done cost store locals values) is h same same_fuel = rw (same, same_fuel) (no_fuel (rw is h) refl refl)
-    effect-no_fuel (Grown cost store locals values) is h same same_fuel = rw (same, same_fuel) (no_fuel (rw is h) refl refl)
-    effect-no_fuel (Fails trap) is h same same_fuel = rw (same, same_fuel) (no_fuel (rw is h) refl refl)
-    effect-no_fuel Lacks is h same same_fuel = absurd (omega (arith, h))
-
-    effect-no_memory : (e : Effect) → IsNext e → IsAffordable e fuel → new ≡ old → left ≡ fuel → EndsWith OutOfMemory
-    effect-no_memory (Done cost store locals values) is h same same_fuel = rw (same, same_fuel) (no_memory (rw is tt) (rw is tt) (rw is h) refl refl)
-    effect-no_memory (Grown cost store locals values) is h same same_fuel = rw (same, same_fuel) (no_memory (rw is tt) (rw is tt) (rw is h) refl refl)
-    effect-no_memory (Fails trap) is h same same_fuel = absurd h
-    effect-no_memory Lacks is h same same_fuel = absurd h
-
-    effect-lacks : (e : Effect) → IsNext e → e ≡ Lacks → GetsStuck NoHosts bound (frame_of instance) (at old fuel) configuration
-    effect-lacks e is lacks = record { at = at old fuel; reached = configuration; steps = of.none; stuck = waiting-stuck (is ∙ ap (λ (x : Effect). continue_after (frame_of instance) x rest) lacks) }
-
-    module _ (e : Effect) (is : IsNext e) (locals : List Val) (operands : OperandStack) (below : List Val) where
-      abbrev Had : Progress → Type 0
-      Had p = HasEffect p e old fuel new locals operands left below
-
-      -- What did not let it go on ends the run.
-      passed-ends : (o : TaskEnd) (p : Progress) → IsEndOf o p → Had p → Ends NoHosts bound (frame_of instance) (at old fuel) configuration o (at new left)
-      passed-ends (Trap trap) p passed had =
-          let h = rw passed at had in record { ends = end (effect-traps e is trap h.0 h.1); no_values = tt }
-      passed-ends (Exhausted exhausted.Fuel) p passed had =
-          let h = rw passed at had in record { ends = end (effect-no_fuel e is h.0 h.1 h.2); no_values = tt }
-      passed-ends (Exhausted exhausted.Depth) p passed had = absurd passed
-      passed-ends (Exhausted exhausted.Memory) p passed had =
-          let h = rw passed at had in record { ends = end (effect-no_memory e is h.0 h.1 h.2); no_values = tt }
-      passed-ends Stuck p passed had =
-          let h = rw passed at had in record { ends = effect-lacks e is h.0; no_values = tt }
-
-      -- What was done is a step, if it left no locals.
-      passed-steps : (p : Progress) → p ≡ progress.Done → Had p → (LeadsTo e new locals operands.own fuel left → locals ≡ []) → StepsTo operands.own
-      passed-steps p passed had none =
-          let h = rw passed at had in
-          effect-steps e is operands.own (subst (λ (ls : List Val). LeadsTo e new ls operands.own fuel left) (none h.0) h.0)
-
-      -- What came of it is a step, or an end of the run.
-      pub passed : {U : Type 0} (r : Result U TaskEnd) (p : Progress) → IsPassed r p → Had p → (LeadsTo e new locals operands.own fuel left → locals ≡ []) → StepsOrEnds NoHosts r bound (frame_of instance) (at old fuel) configuration (at new left) (Running operands.own rest)
-      passed (Ok u) p is_passed had none = passed-steps p is_passed had none
-      passed (Err o) p is_passed had none = passed-ends o p is_passed had
 
 -- ---- runs
 
@@ -126,7 +51,7 @@ step-runs (Ok u) bound frame old mid new first second s run = (run.0, step s run
 step-runs (Err o) bound frame old mid new first second s run = record { ends = step-before (ending_in o) bound frame old mid new first second s run.ends; no_values = run.no_values }
 
 -- A step to values alone.
-step-over : (bound : ℕ) (frame : Frame) (old new : State ⊥) (first : Configuration) (values : List Val) → IsStep NoHosts bound frame old first new (Running values Empty) → Run NoHosts bound frame old first (WithValues (reverse values)) new
+pub step-over : (bound : ℕ) (frame : Frame) (old new : State ⊥) (first : Configuration) (values : List Val) → IsStep NoHosts bound frame old first new (Running values Empty) → Run NoHosts bound frame old first (WithValues (reverse values)) new
 step-over bound frame old new first values s = step s (end (values_left refl refl refl))
 
 -- No task ends with values.
@@ -142,40 +67,6 @@ pub called : {H : Type 0} (HostStep : List H → ℕ → Option ℕ → List Val
     → EndsAs r outcome → Run HostStep bound frame old configuration (ending_of outcome) new → RunsTo HostStep r bound frame old configuration new
 called HostStep (Ok u) outcome bound frame old new configuration (values, is) run = (values, subst (λ (o : Outcome). Run HostStep bound frame old configuration (ending_of o) new) is run)
 called HostStep (Err o) outcome bound frame old new configuration is run = record { ends = subst (λ (e : Option Ending). RunsOn HostStep bound frame old configuration e new) is run; no_values = no-values o }
-
--- ---- an instruction that drops a segment
-
--- It leaves the locals as they are.
-drop-keeps : (op : PlainOp) → IsDrop op → (store new : Store) (frame : Frame) (values locals values' : List Val) (fuel left : ℕ) → LeadsTo (effect store frame op values) new locals values' fuel left → locals ≡ frame.locals
-drop-keeps _ (drops_elements x) store new frame values locals values' fuel left = go (elements_at store frame x)
-  where
-    go : (found : Option (ℕ × ElementInstance)) → LeadsTo (drop_elements store frame found values) new locals values' fuel left → locals ≡ frame.locals
-    go None l = absurd l
-    go (Some (address, segment)) l = sym l.1
-drop-keeps _ (drops_data x) store new frame values locals values' fuel left = go (data_at store frame x)
-  where
-    go : (found : Option (ℕ × DataInstance)) → LeadsTo (drop_data store frame found values) new locals values' fuel left → locals ≡ frame.locals
-    go None l = absurd l
-    go (Some (address, segment)) l = sym l.1
-
-drop-next : (op : PlainOp) → IsDrop op → (store : Store) (frame : Frame) (values : List Val) (rest : Body) → next store frame (Running values (Then op rest)) ≡ continue_after frame (effect store frame op values) rest
-drop-next _ (drops_elements x) store frame values rest = refl
-drop-next _ (drops_data x) store frame values rest = refl
-
--- An instruction that drops a segment, as a run.
-module _ (bound instance : ℕ) (old new : Store) (fuel left : ℕ) (op : PlainOp) (is_drop : IsDrop op) where
-  abbrev Dropped : Effect
-  Dropped = effect old (frame_of instance) op []
-
-  pub drops : {U : Type 0} (r : Result U TaskEnd) (p : Progress) (locals below : List Val) (operands : OperandStack) → IsPassed r p → HasEffect p Dropped old fuel new locals operands left below → RunsTo NoHosts r bound (frame_of instance) (at old fuel) (Running [] (Then op Empty)) (at new left)
-  drops r p locals below operands is_passed had = go r stepped
-    where
-      stepped : StepsOrEnds NoHosts r bound (frame_of instance) (at old fuel) (Running [] (Then op Empty)) (at new left) (Running operands.own Empty)
-      stepped = passed bound instance old fuel (Running [] (Then op Empty)) Empty new left Dropped (drop-next op is_drop old (frame_of instance) [] Empty) locals operands below r p is_passed had (drop-keeps op is_drop old new (frame_of instance) [] locals operands.own fuel left)
-
-      go : {U : Type 0} (r : Result U TaskEnd) → StepsOrEnds NoHosts r bound (frame_of instance) (at old fuel) (Running [] (Then op Empty)) (at new left) (Running operands.own Empty) → RunsTo NoHosts r bound (frame_of instance) (at old fuel) (Running [] (Then op Empty)) (at new left)
-      go (Ok u) s = (reverse operands.own, step-over bound (frame_of instance) (at old fuel) (at new left) (Running [] (Then op Empty)) operands.own s)
-      go (Err o) ends = ends
 
 -- ---- tasks
 

@@ -15,7 +15,7 @@ use Rattle.soundness.specs.Stores.{Extends, StoreIsValid}
 use Rattle.soundness.proofs.Decoded.{All-before}
 use Rattle.soundness.proofs.Effects.{Extends-same}
 use Rattle.meaning.specs.structure.Bodies.{Body, body_of, writing}
-use Rattle.exec.specs.Simulation.{ending_of}
+use Rattle.exec.specs.Endings.{ending_of}
 use Rattle.soundness.proofs.Fuel.{link-spends}
 use Rattle.soundness.proofs.Hosts.{ready-linked, ready-still}
 use Rattle.soundness.proofs.Links.{links-never-go-wrong, tasks-end-alone, tasks-never-stuck, tasks-never-stuck-alone}

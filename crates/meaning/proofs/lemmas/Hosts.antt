@@ -26,7 +26,7 @@ module _ {H : Type 0} (HostStep : List H → ℕ → Option ℕ → List Val →
   end-over (of.host_trapped is paid left answers e) = absurd answers
   end-over (of.no_fuel lacks e l) = of.no_fuel lacks e (ap (with_hosts hosts) l)
   end-over (of.no_depth is paid past e l) = of.no_depth is paid past e (ap (with_hosts hosts) l)
-  end-over (of.no_memory ready within paid e l) = of.no_memory ready within paid e (ap (with_hosts hosts) l)
+  end-over (of.no_memory asks within paid e l) = of.no_memory asks within paid e (ap (with_hosts hosts) l)
 
   pub steps-over : {old new : State ⊥} {first second : Configuration} → Steps NoHosts bound outside old first new second
       → Steps HostStep bound outside (with_hosts hosts old) first (with_hosts hosts new) second

@@ -5,7 +5,7 @@ use Rattle.core_types.specs.declared.outcome.Trap.TheVariants.{Host}
 use Rattle.core_types.specs.declared.outcome.Val.{Val}
 use Rattle.meaning.specs.execution.Configurations.{Configuration, Frame, answered, depth}
 use Rattle.meaning.specs.execution.Instructions.{Next, Goes, Grows, Opens, CallsHost, Traps, Branches, Returns, Over, NotReady, next}
-use Rattle.meaning.specs.execution.Runs.{Answer, Results, HostTrap, Ending, WithValues, WithTrap, OutOfFuel, OutOfDepth, OutOfMemory, State, IsStep, goes, grows, opens, calls, IsEnd, values_left, trapped, host_trapped, no_fuel, no_depth, no_memory, Run, end, step, Steps, none, one_more, price}
+use Rattle.meaning.specs.execution.Runs.{Answer, AsksForMemory, Results, HostTrap, Ending, WithValues, WithTrap, OutOfFuel, OutOfDepth, OutOfMemory, State, IsStep, goes, grows, opens, calls, IsEnd, values_left, trapped, host_trapped, no_fuel, no_depth, no_memory, Run, end, step, Steps, none, one_more, price}
 use Rattle.meaning.specs.execution.Store.{Store}
 
 module _ {H : Type 0} where
@@ -18,6 +18,15 @@ module _ {H : Type 0} where
       state s hs n = record { store = s; hosts = hs; fuel = n }
 
 module _ {H : Type 0} (HostStep : List H → ℕ → Option ℕ → List Val → Store → Answer → Store → List H → Type 0) (bound : ℕ) (outside : Frame) where
+  -- An end for want of memory is before a step that asks for some.
+  pub memory-asked : {at last : State H} {configuration : Configuration} {ending : Ending} → ending ≡ OutOfMemory → IsEnd HostStep bound outside at configuration ending last → AsksForMemory (next at.store outside configuration)
+  memory-asked wants (values_left is e l) = absurd (let both = sym wants ∙ e in cc)
+  memory-asked wants (trapped is le e l) = absurd (let both = sym wants ∙ e in cc)
+  memory-asked wants (host_trapped is le l host e) = absurd (let both = sym wants ∙ e in cc)
+  memory-asked wants (no_fuel lt e l) = absurd (let both = sym wants ∙ e in cc)
+  memory-asked wants (no_depth is le deep e l) = absurd (let both = sym wants ∙ e in cc)
+  memory-asked wants (no_memory asks within le e l) = asks
+
   -- A run behind steps is a run from before them.
   pub Steps-run : {old between last : State H} {first second : Configuration} {ending : Ending} → Steps HostStep bound outside old first between second → Run HostStep bound outside between second ending last → Run HostStep bound outside old first ending last
   Steps-run none run = run
@@ -101,7 +110,7 @@ module _ {H : Type 0} (HostStep : List H → ℕ → Option ℕ → List Val →
     IsEnd-at (host_trapped {code = code} is le l host e) = inr (rw is (inr (code, le, l, host, e)))
     IsEnd-at (no_fuel lt e l) = inr (without-fuel at (depth configuration) here lt e l)
     IsEnd-at (no_depth is le deep e l) = inr (rw is (inr (le, deep, e, l)))
-    IsEnd-at (no_memory ready within le e l) = inl e
+    IsEnd-at (no_memory asks within le e l) = inl e
 
     IsStep-at : {new : State H} {configuration' : Configuration} → IsStep HostStep bound outside at configuration new configuration' → StepsAt at (depth configuration) here new configuration'
     IsStep-at {new} (goes is le f h) = rw is (le, same-state new _ refl h f, refl)

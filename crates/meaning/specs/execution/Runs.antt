@@ -114,8 +114,7 @@ module _ {H : Type 0} (HostStep : List H → ℕ → Option ℕ → List Val →
         → next at.store outside configuration ≡ Opens cost store configuration' → cost ≤ at.fuel
         → bound ≤ depth configuration → ending ≡ OutOfDepth → last ≡ at
         → IsEnd at configuration ending last
-    -- wherever a step would be done
-    no_memory : IsReady (next at.store outside configuration)
+    no_memory : AsksForMemory (next at.store outside configuration)
         → IsWithinBound bound (depth configuration) (next at.store outside configuration)
         → price (next at.store outside configuration) ≤ at.fuel → ending ≡ OutOfMemory → last ≡ at
         → IsEnd at configuration ending last

@@ -1,6 +1,6 @@
 -- The flat code of a module's functions, by index.
-use Rattle.std.proofs.Common.{◌≡◌, ℕ, zero, suc, List, [], ◌∷◌}
-use Rattle.std.specs.Prelude.{Some, None, slice_get}
+use Rattle.std.proofs.Common.{◌≡◌, ℕ, zero, suc, List, [], ◌∷◌, length, refl, ap}
+use Rattle.std.specs.Prelude.{Some, slice_get}
 use Rattle.core_types.specs.declared.module.Func.{Func}
 use Rattle.sidetable.specs.Counts.{Signatures}
 use Rattle.sidetable.specs.FlatModules.{AreFlat, FunctionCode, IsFlat}
@@ -12,9 +12,9 @@ module _ (s : Signatures) where
   flat-at (f ∷ funcs) (c ∷ codes) zero func code h e g = let same : f ≡ func = cc in let same_code : c ≡ code = cc in rw (← same, ← same_code) h.0
   flat-at (f ∷ funcs) (c ∷ codes) (suc k) func code h e g = flat-at funcs codes k func code h.1 e g
 
-  -- Each function has its flat code.
-  pub flat-there : (funcs : List Func) (codes : List FunctionCode) (k : ℕ) (func : Func) → AreFlat s funcs codes → slice_get funcs k ≡ Some func → slice_get codes k ≡ None → ⊥
-  flat-there [] codes k func h e g = cc
-  flat-there (f ∷ funcs) [] k func h e g = h
-  flat-there (f ∷ funcs) (c ∷ codes) zero func h e g = cc
-  flat-there (f ∷ funcs) (c ∷ codes) (suc k) func h e g = flat-there funcs codes k func h.1 e g
+  -- There is a flat code for each function.
+  pub as-many : (funcs : List Func) (codes : List FunctionCode) → AreFlat s funcs codes → length codes ≡ length funcs
+  as-many [] [] h = refl
+  as-many [] (c ∷ codes) h = absurd h
+  as-many (f ∷ funcs) [] h = absurd h
+  as-many (f ∷ funcs) (c ∷ codes) h = ap suc (as-many funcs codes h.1)

@@ -1,4 +1,4 @@
-use Rattle.exec.specs.Simulation.{run_state}
+use Rattle.exec.specs.Endings.{run_state}
 use Rattle.store.specs.Contents.{store_of}
 use Rattle.instantiate.proofs.lemmas.Validity.{link-leaves}
 use Rattle.instantiate.proofs.instantiation.instantiate.Goals as goal

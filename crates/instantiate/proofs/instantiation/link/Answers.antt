@@ -1,7 +1,7 @@
 use Rattle.std.proofs.Common.{length, refl, sym, take, ◌∙◌}
 use Rattle.std.proofs.lemmas.List.{length-take-le}
 use Rattle.meaning.specs.execution.Modules.{tasks_of}
-use Rattle.exec.specs.Simulation.{run_state}
+use Rattle.exec.specs.Endings.{run_state}
 use Rattle.store.specs.Contents.{store_of}
 use Rattle.hostfunc.specs.Boxes.{type_of_host}
 use Rattle.instantiate.specs.declared.link_end.TaskEnd.TheVariants as end

@@ -4,7 +4,7 @@ use Rattle.std.specs.Prelude.{Some}
 use Rattle.meaning.specs.execution.Modules.{Task, data_tasks, start_task}
 use Rattle.meaning.specs.execution.Store.{instance_of}
 use Rattle.hostfunc.specs.Boxes.{HostStep}
-use Rattle.exec.specs.Simulation.{run_state}
+use Rattle.exec.specs.Endings.{run_state}
 use Rattle.store.specs.Contents.{code_store, store_of}
 use Rattle.instantiate.specs.Tasks.{RanTasks, link_state}
 use Rattle.instantiate.proofs.lemmas.Hosts.{ended-over, ran-over}

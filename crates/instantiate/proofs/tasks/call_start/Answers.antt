@@ -4,7 +4,7 @@ use Rattle.meaning.specs.execution.Runs.{none}
 use Rattle.soundness.proofs.Runs.{waiting-stuck}
 use Rattle.store.specs.Contents.{store_of}
 use Rattle.instantiate.proofs.lemmas.Starts.{start-refused}
-use Rattle.exec.specs.Simulation.{run_state}
+use Rattle.exec.specs.Endings.{run_state}
 use Rattle.meaning.specs.execution.Configurations.{no_frame}
 use Rattle.instantiate.proofs.lemmas.Tasks.{called}
 use Rattle.instantiate.proofs.tasks.call_start.Goals as goal

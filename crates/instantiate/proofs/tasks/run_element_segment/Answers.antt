@@ -1,18 +1,15 @@
 use Rattle.core_types.specs.declared.op.PlainOp.TheVariants.{Table as TableForm}
 use Rattle.core_types.specs.declared.op.TableOp.TheVariants.{ElemDrop as ElemDropForm, Init as TableInitForm}
 use Rattle.meaning.specs.execution.Modules.{item_count}
-use Rattle.instantiate.specs.Tasks.{drops_elements, instance_in, link_state}
+use Rattle.instantiate.specs.Tasks.{instance_in, link_state}
 use Rattle.meaning.specs.execution.Runs.{NoHosts}
 use Rattle.instantiate.proofs.lemmas.Tasks.{copied, dropped, stuck-elements}
 use Rattle.instantiate.proofs.tasks.run_element_segment.Goals as goal
 
-pub drop_segment-requires : goal.drop_segment-requires
-drop_segment-requires c = drops_elements c.args.x
-
 pub returns-in-Declarative-clause-ran : goal.returns-in-Declarative-clause-ran
 returns-in-Declarative-clause-ran c =
     let code = c.args.linked.now.code.now in
-    rw c.in-Declarative.is (dropped NoHosts c.args.meter.now.bound c.args.linked.now.instance (instance_in c.args.linked.now) c.drop_segment.result (link_state code c.args.state.now c.args.meter.now.left) (link_state code c.drop_segment.new.state c.drop_segment.new.meter.left) (TableForm (ElemDropForm c.args.x)) c.drop_segment.ensures.run)
+    rw c.in-Declarative.is (dropped NoHosts c.args.meter.now.bound c.args.linked.now.instance (instance_in c.args.linked.now) c.drop_element_segment.result (link_state code c.args.state.now c.args.meter.now.left) (link_state code c.drop_element_segment.new.state c.drop_element_segment.new.meter.left) (TableForm (ElemDropForm c.args.x)) c.drop_element_segment.ensures.run)
 
 pub returns-in-Some-clause-ran : goal.returns-in-Some-clause-ran
 returns-in-Some-clause-ran c =

@@ -1,6 +1,6 @@
 use Rattle.std.proofs.Common.{sym}
 use Rattle.std.specs.Prelude.{Some}
-use Rattle.exec.specs.Simulation.{run_state}
+use Rattle.exec.specs.Endings.{run_state}
 use Rattle.meaning.specs.execution.Store.{instance_of}
 use Rattle.store.specs.Contents.{code_store, store_of}
 use Rattle.instantiate.proofs.lemmas.Tasks.{not-started, started}

@@ -1,21 +1,24 @@
-use Rattle.std.proofs.Common.{rules}
+use Rattle.std.proofs.Common.{◌<◌, length, rules}
 use Rattle.interpreter.proofs.Turning.{operations-turn}
 use Rattle.interpreter.proofs.reading.fetch.Goals as goal
 
-pub bounds-at-at : goal.bounds-at-at
-bounds-at-at c = let (g, r) = c.requires.sound in (operations-turn _ _ g r).0
+pub bounds-operations-at : goal.bounds-operations-at
+bounds-operations-at c = let (g, r) = c.requires.sound in rw c.requires.code (operations-turn _ _ g r).0
 
-pub offset_bounds-at-at : goal.offset_bounds-at-at
-offset_bounds-at-at c = let inside = (operations-turn _ _ c.requires.sound.0 c.requires.sound.1).0 in search (rules, inside)
+pub offset_bounds-operations-at : goal.offset_bounds-operations-at
+offset_bounds-operations-at c =
+    let (g, r) = c.requires.sound in
+    let inside : c.args.at.frame.place < length c.args.operations.now = rw c.requires.code (operations-turn _ _ g r).0 in
+    search (rules, inside)
 
 pub returns-clause-inside : goal.returns-clause-inside
-returns-clause-inside c = let (g, r) = c.requires.sound in (operations-turn _ _ g r).0
+returns-clause-inside c = let (g, r) = c.requires.sound in rw c.requires.code (operations-turn _ _ g r).0
 
 pub returns-clause-next : goal.returns-clause-next
 returns-clause-next c = let inside = (operations-turn _ _ c.requires.sound.0 c.requires.sound.1).0 in search (rules, inside)
 
 pub returns-clause-fits : goal.returns-clause-fits
-returns-clause-fits c = let (g, r) = c.requires.sound in ((operations-turn _ _ g r).1 _).0
+returns-clause-fits c = let (g, r) = c.requires.sound in rw c.requires.code ((operations-turn _ _ g r).1 _).0
 
 pub returns-clause-turns : goal.returns-clause-turns
-returns-clause-turns c g r = ((operations-turn _ _ g r).1 _).1
+returns-clause-turns c g r = rw c.requires.code ((operations-turn _ _ g r).1 _).1

@@ -2,9 +2,7 @@ use Rattle.std.proofs.Common.{◌∙◌, ◌+◌, ap₂, ◌++◌, ◌∷◌, []
 use Rattle.std.proofs.lemmas.List.{map-append}
 use Rattle.std.proofs.lemmas.List.Elements.{All-append, All-cons, All-nil}
 use Rattle.std.specs.List.{All}
-use Rattle.core_types.specs.declared.op.Op.{Op}
 use Rattle.core_types.specs.declared.types.FuncType.{FuncType}
-use Rattle.sidetable.specs.Ends.{HasEnds}
 use Rattle.sidetable.specs.Flat.{FlatFunction, flat_function}
 use Rattle.sidetable.specs.FlatModules.{AreWithin, FunctionCode, IsFunctionWithin, before_leave, code_of, flat_function_of}
 use Rattle.sidetable.specs.Signatures.{signatures_of}
@@ -35,7 +33,6 @@ returns c =
       params = c.len-params.result;
       locals = c.in_ok-locals.locals;
       results = c.in_ok-results.results;
-      ends = c.in_ok-made.made.ends.items;
     } in (
       code,
       all ∙ ap₂ (λ (cs : List FunctionCode) (f : FlatFunction). cs ++ (record code { flat = f } ∷ [])) (kept ∙ c.flat.view_is) ops,
@@ -44,6 +41,5 @@ returns c =
         params = params;
         locals = c.in_ok-locals.ensures ∙ ap₂ (λ (n m : ℕ). n + m) params c.len-2.ensures;
         results = results;
-        ends = subst (λ (ops : List Op). HasEnds ops c.in_ok-made.made.ends.items) c.as_slice.ensures c.in_ok-made.ensures.ends;
       },
     )

@@ -1,5 +1,5 @@
 use Rattle.std.proofs.Common.{refl}
-use Rattle.exec.specs.Simulation.{ending_of, run_state}
+use Rattle.exec.specs.Endings.{ending_of, run_state}
 use Rattle.store.specs.Contents.{store_of}
 use Rattle.embed.specs.Contents.{embedding_of}
 use Rattle.embed.specs.Replies.{reply_of}

@@ -1,4 +1,4 @@
-use Rattle.exec.specs.Simulation.{run_state}
+use Rattle.exec.specs.Endings.{run_state}
 use Rattle.store.specs.Contents.{store_of}
 use Rattle.embed.specs.Contents.{embedding_of}
 use Rattle.embed.specs.Replies.{reply_of}

@@ -1,39 +1,43 @@
-use Rattle.std.proofs.Common.{sym}
+use Rattle.std.proofs.Common.{◌≡◌, ◌<◌, length, slice_get, refl, ap, ◌∙◌, arith}
+use Rattle.std.specs.Prelude.{Some}
+use Rattle.std.proofs.lemmas.Option.{slice_get_read}
+use Rattle.core_types.specs.declared.module.Module.{Module}
 use Rattle.sidetable.specs.FlatModules.{module_signatures}
-use Rattle.store.proofs.lemmas.LoadedModules.{flat-at, flat-there}
-use Rattle.store.proofs.lemmas.Lookups.{body-written, nothing-around, type-there}
+use Rattle.store.proofs.lemmas.LoadedModules.{as-many, flat-at}
+use Rattle.store.proofs.lemmas.Lookups.{body-written, type-within}
 use Rattle.store.proofs.loaded_modules.LoadedModule.function.Goals as goal
 
-pub returns-in_err-ty-clause-func : goal.returns-in_err-ty-clause-func
-returns-in_err-ty-clause-func c =
-    let there = sym (rw (c.as_slice.ensures, c.module-module_read.ensures.same) at c.in_ok-func.ensures) in
-    let none = sym (rw (c.as_slice-2.ensures, c.module-module_read.ensures.same) at c.in_err-ty.ensures) in
-    absurd (type-there c.self.inside.validated c.args.index c.in_ok-func.func.now c.module-module_read.ensures.valid there none)
+-- The function and its type are those of the module.
+func-there : (c : goal.After-function-flat) → slice_get c.self.inside.validated.funcs c.args.index ≡ Some c.index-as_slice-index.result
+func-there c =
+    let here = c.as_slice.ensures ∙ ap (λ (m : Module). m.funcs) c.module-module_read.ensures.same in
+    let within : c.args.index < length c.as_slice.result.now = rw here (rw (← c.self.view_is) at c.requires) in
+    rw here at (slice_get_read c.as_slice.result.now (length c.as_slice.result.now) c.args.index c.index-as_slice-index.result refl within c.index-as_slice-index.is)
 
-pub returns-in_err-flat-clause-func : goal.returns-in_err-flat-clause-func
-returns-in_err-flat-clause-func c =
-    let there = sym (rw (c.as_slice.ensures, c.module-module_read.ensures.same) at c.in_ok-func.ensures) in
-    absurd (flat-there (module_signatures c.self.inside.validated) c.self.inside.validated.funcs c.self.inside.flat c.args.index c.in_ok-func.func.now c.self.invariant.0 there c.in_err-flat.ensures.code)
+type-there : (c : goal.After-function-flat) → slice_get c.self.inside.validated.types c.index-as_slice-index.result.ty ≡ Some c.index-as_slice-func.result
+type-there c =
+    let here = c.as_slice-2.ensures ∙ ap (λ (m : Module). m.types) c.module-module_read.ensures.same in
+    let inside = type-within c.self.inside.validated c.args.index c.index-as_slice-index.result c.module-module_read.ensures.valid (func-there c) in
+    let within : c.index-as_slice-index.result.ty < length c.as_slice-2.result.now = rw here inside in
+    rw here at (slice_get_read c.as_slice-2.result.now (length c.as_slice-2.result.now) c.index-as_slice-index.result.ty c.index-as_slice-func.result refl within c.index-as_slice-func.is)
+
+pub function-flat-requires : goal.function-flat-requires
+function-flat-requires c =
+    let inside = c.self.inside in
+    let many = as-many (module_signatures inside.validated) inside.validated.funcs inside.flat c.self.invariant.0 in
+    let within = rw (← c.self.view_is) at c.requires in
+    omega (arith, many, within)
 
 pub returns-clause-func : goal.returns-clause-func
-returns-clause-func c =
-    rw (← c.self.view_is) (sym (rw (c.as_slice.ensures, c.module-module_read.ensures.same) at c.in_ok-func.ensures))
+returns-clause-func c = rw (← c.self.view_is) (func-there c)
 
 pub returns-clause-ty : goal.returns-clause-ty
-returns-clause-ty c =
-    rw (← c.self.view_is) (sym (rw (c.as_slice-2.ensures, c.module-module_read.ensures.same) at c.in_ok-ty.ensures))
+returns-clause-ty c = rw (← c.self.view_is) (type-there c)
 
 pub returns-clause-flat : goal.returns-clause-flat
 returns-clause-flat c =
-    let there = sym (rw (c.as_slice.ensures, c.module-module_read.ensures.same) at c.in_ok-func.ensures) in
-    rw (← c.self.view_is) (flat-at (module_signatures c.self.inside.validated) c.self.inside.validated.funcs c.self.inside.flat c.args.index c.in_ok-func.func.now _ c.self.invariant.0 there c.in_ok-flat.ensures.code)
-
-pub returns-clause-whole : goal.returns-clause-whole
-returns-clause-whole c =
-    let there = sym (rw (c.as_slice.ensures, c.module-module_read.ensures.same) at c.in_ok-func.ensures) in
-    nothing-around c.self.inside.validated c.args.index c.in_ok-func.func.now c.module-module_read.ensures.valid there
+    let inside = c.self.inside in
+    rw (← c.self.view_is) (flat-at (module_signatures inside.validated) inside.validated.funcs inside.flat c.args.index c.index-as_slice-index.result _ c.self.invariant.0 (func-there c) c.function-flat.ensures.code)
 
 pub returns-clause-body : goal.returns-clause-body
-returns-clause-body c =
-    let there = sym (rw (c.as_slice.ensures, c.module-module_read.ensures.same) at c.in_ok-func.ensures) in
-    body-written c.self.inside.validated c.args.index c.in_ok-func.func.now c.module-module_read.ensures.valid there
+returns-clause-body c = body-written c.self.inside.validated c.args.index c.index-as_slice-index.result c.module-module_read.ensures.valid (func-there c)

@@ -1,0 +1,175 @@
+-- Runs over host functions, part by part.
+use Rattle.std.proofs.Common.{◌≡◌, ℕ, ◌+◌, ◌<◌, ◌≤◌, List, ◌++◌, length, reverse, take, drop, refl, ap, sym, subst, ◌∙◌, arith}
+use Rattle.std.proofs.lemmas.List.{take_at}
+use Rattle.std.specs.Prelude.{Option}
+use Rattle.core_types.specs.declared.outcome.Trap.{Trap}
+use Rattle.core_types.specs.declared.outcome.Val.{Val}
+use Rattle.core_types.specs.declared.types.ValType.{ValType}
+use Rattle.meaning.specs.execution.Configurations.{depth, no_frame}
+use Rattle.meaning.specs.execution.Instructions.{Traps, next}
+use Rattle.meaning.specs.execution.Runs.{Answer, Ending, OutOfDepth, OutOfFuel, OutOfMemory, Run, State, Steps, WithTrap, WithValues, end, no_depth, no_fuel, no_memory, none, price, trapped, values_left}
+use Rattle.meaning.specs.execution.Store.{Store}
+use Rattle.meaning.proofs.lemmas.Hosts.{steps-over}
+use Rattle.meaning.proofs.lemmas.Runs.{Steps-fuel, Steps-join, Steps-run}
+use Rattle.sidetable.specs.declared.operations.OtherInstruction.{OtherInstruction}
+use Rattle.interpreter.specs.Whole.{CallsHostNext, HasResults, OpensNext, Whole, paid_for, whole}
+use Rattle.interpreter.specs.declared.machine.Stop.{Stop}
+use Rattle.interpreter.specs.declared.machine.Stop.TheVariants as stop
+use Rattle.exec.specs.Hosting.{ComesOver, RestsWith, WaitsForHost}
+use Rattle.exec.specs.Endings.{run_state}
+use Rattle.exec.specs.Resting.{AtRest, Comes, Concludes, Ends, LacksMemory, StopsAtRest, fuel_left, machine_of, store_around}
+
+module _ {H : Type 0} (HostStep : List H → ℕ → Option ℕ → List Val → Store → Answer → Store → List H → Type 0) (bound : ℕ) where
+  -- Where it starts it has come to.
+  pub over-first : (r : AtRest) (hosts : List H) (w : Whole) (types : List ValType) → RestsWith bound r w types → ComesOver HostStep bound r hosts w r hosts
+  over-first r hosts w types (rests, is) = record { new = w; results = refl; steps = none; rests = rests }
+
+  abbrev pub over-then : (r r' r'' : AtRest) (hosts hosts' hosts'' : List H) (w : Whole) (first : ComesOver HostStep bound r hosts w r' hosts') → ComesOver HostStep bound r' hosts' first.new r'' hosts'' → ComesOver HostStep bound r hosts w r'' hosts''
+  over-then r r' r'' hosts hosts' hosts'' w first second = record {
+    new = second.new;
+    results = second.results ∙ first.results;
+    steps = Steps-join HostStep bound no_frame first.steps second.steps;
+    rests = second.rests;
+  }
+
+  module _ (r r' : AtRest) (hosts : List H) (u : Whole) where
+    -- Code of modules leads on over any host functions.
+    pub led : (left : ℕ) (there : Comes bound r u r' left) → Steps HostStep bound no_frame (run_state (store_around r) hosts (fuel_left r)) (whole u) (run_state (store_around r') hosts left) (whole there.new)
+    led left there = steps-over HostStep hosts bound no_frame there.steps
+
+    -- It is over.
+    pub over-ends : (e : Ends bound r u r') (results : List Val) → results ≡ reverse e.values
+        → Run HostStep bound no_frame (run_state (store_around r) hosts (fuel_left r)) (whole u) (WithValues results) (run_state (store_around r') hosts (fuel_left r'))
+    over-ends e results is = Steps-run HostStep bound no_frame (steps-over HostStep hosts bound no_frame e.steps) (end (values_left refl (ap WithValues is) refl))
+
+    -- It lacks memory that the next step asks for.
+    pub over-lacks : LacksMemory bound r u r' → Run HostStep bound no_frame (run_state (store_around r) hosts (fuel_left r)) (whole u) OutOfMemory (run_state (store_around r') hosts (fuel_left r'))
+    over-lacks l = Steps-run HostStep bound no_frame (led (fuel_left r') l.there) (end (no_memory l.by.asks l.by.within l.by.enough refl refl))
+
+    -- It stops.
+    module _ (s : Stop) (stops : StopsAtRest bound r u s r') where
+      abbrev there : Comes bound r u r' (fuel_left r' + paid_for s)
+      there = stops.there
+
+      abbrev at : State H
+      at = run_state (store_around r') hosts (fuel_left r' + paid_for s)
+
+      abbrev last : State H
+      last = run_state (store_around r') hosts (fuel_left r')
+
+      same-fuel : paid_for s ≡ 0 → last ≡ at
+      same-fuel unpaid = ap (run_state (store_around r') hosts) (omega (arith, unpaid))
+
+      pub stops-trapped : (trap : Trap) → next (store_around r') no_frame (whole there.new) ≡ Traps 1 trap → paid_for s ≡ 1
+          → Run HostStep bound no_frame (run_state (store_around r) hosts (fuel_left r)) (whole u) (WithTrap trap) last
+      stops-trapped trap traps paid = Steps-run HostStep bound no_frame (led (fuel_left r' + paid_for s) there) (end (trapped traps (omega (arith, paid)) refl (ap (run_state (store_around r') hosts) (omega (arith, paid)))))
+
+      module _ (unpaid : paid_for s ≡ 0) where
+        abbrev RunsTo : Ending → Type 0
+        RunsTo ending = Run HostStep bound no_frame (run_state (store_around r) hosts (fuel_left r)) (whole u) ending last
+
+        pub stops-dear : fuel_left r' + paid_for s < price (next (store_around r') no_frame (whole there.new)) → RunsTo OutOfFuel
+        stops-dear dear = Steps-run HostStep bound no_frame (led (fuel_left r' + paid_for s) there) (end (no_fuel dear refl (same-fuel unpaid)))
+
+        pub stops-deep : OpensNext (store_around r') (fuel_left r' + paid_for s) there.new → bound ≤ depth (whole there.new) → RunsTo OutOfDepth
+        stops-deep o deep = Steps-run HostStep bound no_frame (led (fuel_left r' + paid_for s) there) (end (no_depth o.opens o.paid deep refl (same-fuel unpaid)))
+
+        -- It has come to where a host function is called.
+        abbrev pub stops-over : ComesOver HostStep bound r hosts u r' hosts
+        stops-over = record {
+          new = there.new;
+          results = there.results;
+          steps = subst (λ (n : ℕ). Steps HostStep bound no_frame (run_state (store_around r) hosts (fuel_left r)) (whole u) (run_state (store_around r') hosts n) (whole there.new)) (omega (arith, unpaid))
+              (led (fuel_left r' + paid_for s) there);
+          rests = there.rests;
+        }
+
+        pub stops-waiting : (address behind : ℕ) → CallsHostNext (fuel_left r' + paid_for s) (machine_of r') there.new address behind → WaitsForHost bound r' there.new address behind
+        stops-waiting address behind calls = record {
+          rests = there.rests;
+          next = subst (λ (n : ℕ). CallsHostNext n (machine_of r') there.new address behind) (omega (arith, unpaid)) calls;
+        }
+
+-- ---- a run from its start
+
+module _ {H : Type 0} (HostStep : List H → ℕ → Option ℕ → List Val → Store → Answer → Store → List H → Type 0) (bound : ℕ) (r : AtRest) (hosts : List H) (types : List ValType) where
+  -- It has come to another place, from whatever rests at the start.
+  pub record CameOver (r' : AtRest) (hosts' : List H) : Type 0 where
+    pub from : (w : Whole) → RestsWith bound r w types → ComesOver HostStep bound r hosts w r' hosts'
+
+  pub came-over-first : CameOver r hosts
+  came-over-first = record { from = λ w is. over-first HostStep bound r hosts w types is }
+
+  abbrev RunsSo : Whole → Ending → (r'' : AtRest) → (hosts'' : List H) → Type 0
+  RunsSo w ending r'' hosts'' = Run HostStep bound no_frame (run_state (store_around r) hosts (fuel_left r)) (whole w) ending (run_state (store_around r'') hosts'' (fuel_left r''))
+
+  module _ (r' r'' : AtRest) (hosts' : List H) (came : CameOver r' hosts') (w : Whole) (is : RestsWith bound r w types) where
+    abbrev pub first : ComesOver HostStep bound r hosts w r' hosts'
+    first = came.from w is
+
+    pub ends-so : (c : Concludes bound r' stop.Over r'') (results : List Val) → results ≡ reverse (c first.new first.rests).values → RunsSo w (WithValues results) r'' hosts'
+    ends-so c results are = Steps-run HostStep bound no_frame first.steps (over-ends HostStep bound r' r'' hosts' first.new (c first.new first.rests) results are)
+
+    pub over-typed : (c : Concludes bound r' stop.Over r'') → HasResults (store_around r'') (machine_of r'') types (c first.new first.rests).values
+    over-typed c = let e = c first.new first.rests in subst (λ (ts : List ValType). HasResults (store_around r'') (machine_of r'') ts e.values) (first.results ∙ is.1) e.results
+
+    -- With the results in the place of as many values.
+    pub ends-taken : (c : Concludes bound r' stop.Over r'') (values old : List Val) (n : ℕ) (results : List Val) (fuel : ℕ) → length values ≡ n → values ≡ reverse (c first.new first.rests).values
+        → results ≡ take n (values ++ drop (length values) old) → fuel ≡ fuel_left r'' → Run HostStep bound no_frame (run_state (store_around r) hosts (fuel_left r)) (whole w) (WithValues results) (run_state (store_around r'') hosts' fuel)
+    ends-taken c values old n results fuel size are taken left =
+        subst (λ (k : ℕ). Run HostStep bound no_frame (run_state (store_around r) hosts (fuel_left r)) (whole w) (WithValues results) (run_state (store_around r'') hosts' k)) (sym left)
+        (ends-so c results (taken ∙ take_at values (drop (length values) old) n size ∙ are))
+
+    pub traps-so : (trap : Trap) → Concludes bound r' (stop.Traps trap) r'' → RunsSo w (WithTrap trap) r'' hosts'
+    traps-so trap c = let stops = c first.new first.rests in Steps-run HostStep bound no_frame first.steps (stops-trapped HostStep bound r' r'' hosts' first.new (stop.Traps trap) stops trap stops.by.0 refl)
+
+    pub dear-so : Concludes bound r' stop.NoFuel r'' → RunsSo w OutOfFuel r'' hosts'
+    dear-so c = let stops = c first.new first.rests in Steps-run HostStep bound no_frame first.steps (stops-dear HostStep bound r' r'' hosts' first.new stop.NoFuel stops refl stops.by)
+
+    pub deep-so : Concludes bound r' stop.NoDepth r'' → RunsSo w OutOfDepth r'' hosts'
+    deep-so c = let stops = c first.new first.rests in Steps-run HostStep bound no_frame first.steps (stops-deep HostStep bound r' r'' hosts' first.new stop.NoDepth stops refl stops.by.0 stops.by.1)
+
+    pub lacks-so : Concludes bound r' stop.NoMemory r'' → RunsSo w OutOfMemory r'' hosts'
+    lacks-so c = Steps-run HostStep bound no_frame first.steps (over-lacks HostStep bound r' r'' hosts' first.new (c first.new first.rests))
+
+    -- A host function is called.
+    module _ (address behind : ℕ) (c : Concludes bound r' (stop.CallsHost address behind) r'') where
+      abbrev stops : StopsAtRest bound r' first.new (stop.CallsHost address behind) r''
+      stops = c first.new first.rests
+
+      abbrev pub waiting : Whole
+      waiting = stops.there.new
+
+      pub waits-so : WaitsForHost bound r'' waiting address behind
+      waits-so = stops-waiting HostStep bound r' r'' hosts' first.new (stop.CallsHost address behind) stops refl address behind stops.by
+
+      abbrev pub called : ComesOver HostStep bound r hosts w r'' hosts'
+      called = over-then HostStep bound r r' r'' hosts hosts' hosts' w first (stops-over HostStep bound r' r'' hosts' first.new (stop.CallsHost address behind) stops refl)
+
+      pub ended-so : (r3 : AtRest) (hosts3 : List H) (ending : Ending) → Run HostStep bound no_frame (run_state (store_around r'') hosts' (fuel_left r'')) (whole called.new) ending (run_state (store_around r3) hosts3 (fuel_left r3)) → RunsSo w ending r3 hosts3
+      ended-so r3 hosts3 ending f = Steps-run HostStep bound no_frame called.steps f
+
+  pub came-answered : (r' r'' r3 : AtRest) (hosts' hosts3 : List H) → CameOver r' hosts' → (address behind : ℕ) → Concludes bound r' (stop.CallsHost address behind) r''
+      → ((u : Whole) → WaitsForHost bound r'' u address behind → ComesOver HostStep bound r'' hosts' u r3 hosts3) → CameOver r3 hosts3
+  came-answered r' r'' r3 hosts' hosts3 came address behind c answered = record {
+    from = λ w is.
+        over-then HostStep bound r r'' r3 hosts hosts' hosts3 w (called r' r'' hosts' came w is address behind c)
+        (answered (waiting r' r'' hosts' came w is address behind c) (waits-so r' r'' hosts' came w is address behind c));
+  }
+
+  -- The fuel does not grow.
+  pub came-fuel : (r' r'' : AtRest) (hosts' : List H) → CameOver r' hosts' → (address behind : ℕ) → Concludes bound r' (stop.CallsHost address behind) r'' → (w : Whole) → RestsWith bound r w types → fuel_left r'' ≤ fuel_left r'
+  came-fuel r' r'' hosts' came address behind c w is =
+      let f = first r' r'' hosts' came w is in
+      Steps-fuel HostStep bound no_frame (stops-over HostStep bound r' r'' hosts' f.new (stop.CallsHost address behind) (c f.new f.rests) refl).steps
+
+  -- It never stops for want of cells alone, nor where other code or an instruction of the loop's caller is next.
+  module _ (r' r'' : AtRest) (hosts' : List H) (came : CameOver r' hosts') (w : Whole) (is : RestsWith bound r w types) (s : Stop) (c : Concludes bound r' s r'') where
+    pub never-room : s ≡ stop.NoRoom → ⊥
+    never-room e = subst (λ (t : Stop). Concludes bound r' t r'') e c (came.from w is).new (came.from w is).rests
+
+    pub never-switches : s ≡ stop.Switches → ⊥
+    never-switches e = subst (λ (t : Stop). Concludes bound r' t r'') e c (came.from w is).new (came.from w is).rests
+
+    pub never-leaves : (kind : OtherInstruction) (n : ℕ) → s ≡ stop.LeavesOther kind n → ⊥
+    never-leaves kind n e = subst (λ (t : Stop). Concludes bound r' t r'') e c (came.from w is).new (came.from w is).rests

@@ -1,0 +1,218 @@
+-- Runs of code of instances, one behind the other.
+use Rattle.std.proofs.Common.{◌≡◌, ◌≢◌, ℕ, suc, ◌+◌, ◌-◌, ◌*◌, ◌^◌, ◌<◌, ◌≤◌, List, ◌++◌, length, replicate, refl, ap, sym, subst, ◌∙◌, arith, length-append}
+use Rattle.std.proofs.lemmas.List.{length-replicate}
+use Rattle.std.specs.Global.{Vec}
+use Rattle.core_types.specs.declared.types.ValType.{ValType}
+use Rattle.core_types.specs.declared.op.PlainOp.{PlainOp}
+use Rattle.meaning.specs.execution.Configurations.{Configuration, depth, no_frame}
+use Rattle.meaning.specs.execution.Instructions.{Next}
+use Rattle.meaning.specs.execution.Runs.{AsksForMemory, IsStep, IsWithinBound, NoHosts, State, Steps, calls, goes, grows, none, one_more, opens, price}
+use Rattle.meaning.proofs.lemmas.Runs.{Steps-join}
+use Rattle.soundness.specs.Stores.{StoreIsValid}
+use Rattle.sidetable.specs.Flat.{Plain}
+use Rattle.sidetable.specs.Packing.{other_op}
+use Rattle.sidetable.specs.declared.operations.OtherInstruction.{OtherInstruction}
+use Rattle.interpreter.specs.Looping.{loop_at}
+use Rattle.interpreter.specs.Turns.{IsLeft, StandsThere}
+use Rattle.exec.specs.Instructions.{GoesOn, RestsBefore, RestsSomeBefore, StopsFor, left_op}
+use Rattle.exec.specs.Resting.{AsksNext, AtRest, Comes, Concludes, ConcludesFrom, LacksMemory, Rests, RestsSome, RunsFrom, RunsTo, StopsAtRest, fuel_left, left_of, loop_of, machine_of, store_around}
+use Rattle.interpreter.specs.Whole.{HasResults, RunsWhole, Whole, left_at, paid_for, whole}
+use Rattle.interpreter.specs.declared.machine.Frame.{Frame}
+use Rattle.interpreter.specs.declared.machine.Stop.{Stop}
+use Rattle.interpreter.specs.declared.machine.Stop.TheVariants as stop
+use Rattle.interpreter.proofs.Forms.{inside}
+use Rattle.exec.proofs.Growing.{longer-whole}
+use Rattle.exec.proofs.Resting.{rests-valid}
+
+-- A call has come from one place to another.
+pub record Came (bound : ℕ) (r r' : AtRest) : Type 0 where
+  pub from : (u : Whole) → Rests bound r u → Comes bound r u r' (fuel_left r')
+
+-- With other cells.
+abbrev pub with_cells : AtRest → Vec ℕ → AtRest
+with_cells r v = record r { call = record r.call { cells = v } }
+
+-- As much is left to do, with more cells.
+pub measure-grows : (left left' : ℕ) (old mid new : List ℕ) → left' ≤ left → length mid ≡ length old → 1 ≤ length old → new ≡ mid ++ replicate (length mid) 0 → length new < 2 ^ 64
+    → 2 ^ 64 * left' + (2 ^ 64 - length new) < 2 ^ 64 * left + (2 ^ 64 - length old)
+measure-grows left left' old mid new le same some is few =
+    let all = ap (λ (z : List ℕ). length z) is in
+    let sum = length-append mid (replicate (length mid) 0) in
+    let more : length (replicate (length mid) 0) ≡ length mid = length-replicate {A = ℕ} (length mid) 0 in
+    omega (arith, le, same, some, all, sum, more, few)
+
+-- Less is left to do with less fuel.
+measure-falls : (fuel fuel' callers callers' place place' size size' : ℕ) → fuel' < fuel → suc callers' < 2 ^ 64 → size' ≡ size → 2 ^ 64 * left_at fuel' callers' place' + (2 ^ 64 - size') < 2 ^ 64 * left_at fuel callers place + (2 ^ 64 - size)
+measure-falls fuel fuel' callers callers' place place' size size' less few same = omega (arith, less, few, same)
+
+-- Steps spend fuel.
+module _ (bound : ℕ) where
+  step-spends : {at at' : State ⊥} {c c' : Configuration} → IsStep NoHosts bound no_frame at c at' c' → at'.fuel ≤ at.fuel
+  step-spends (goes is enough left hosts) = omega (arith, left)
+  step-spends (grows is enough left hosts) = omega (arith, left)
+  step-spends (opens is enough left hosts within) = omega (arith, left)
+  step-spends (calls is enough left told after) = absurd told
+
+  steps-spend : {at at' : State ⊥} {c c' : Configuration} → Steps NoHosts bound no_frame at c at' c' → at'.fuel ≤ at.fuel
+  steps-spend none = omega arith
+  steps-spend (one_more before last) = let first = steps-spend before in let then_last = step-spends last in omega (arith, first, then_last)
+
+module _ (bound : ℕ) where
+  pub came-first : (r : AtRest) → Came bound r r
+  came-first r = record { from = λ u rests. record { new = u; results = refl; steps = none; rests = rests } }
+
+  pub rests-there : (r r' : AtRest) → RestsSome bound r → Came bound r r' → RestsSome bound r'
+  rests-there r r' (u, rests) came = let there = came.from u rests in (there.new, there.rests)
+
+  pub some-cells : (r : AtRest) → RestsSome bound r → 1 ≤ length r.call.cells.items
+  some-cells r (u, rests) = let within = inside rests.world (machine_of r) u.ghost rests.runs.runs in omega (arith, within)
+
+  abbrev comes-then : (r r' r'' : AtRest) (u : Whole) (left : ℕ) (first : Comes bound r u r' (fuel_left r')) → Comes bound r' first.new r'' left → Comes bound r u r'' left
+  comes-then r r' r'' u left first second = record {
+    new = second.new;
+    results = second.results ∙ first.results;
+    steps = Steps-join NoHosts bound no_frame first.steps second.steps;
+    rests = second.rests;
+  }
+
+  abbrev stops-later : (r r' r'' : AtRest) (u : Whole) (s : Stop) (first : Comes bound r u r' (fuel_left r')) → StopsAtRest bound r' first.new s r'' → StopsAtRest bound r u s r''
+  stops-later r r' r'' u s first last = record { there = comes-then r r' r'' u (fuel_left r'' + paid_for s) first last.there; by = last.by }
+
+  -- For a frame that is opened it asks for memory.
+  asks-for-memory : (r r' : AtRest) (u : Whole) → StopsAtRest bound r u stop.NoMemory r' → LacksMemory bound r u r'
+  asks-for-memory r r' u stops =
+      let new = stops.there.new in
+      let (opening, deep) = stops.by in
+      let same : fuel_left r' + 0 ≡ fuel_left r' = omega arith in
+      let asks : AsksNext bound (store_around r') (fuel_left r' + 0) new = record {
+        asks = subst AsksForMemory (sym opening.opens) tt;
+        within = subst (λ (n : Next). IsWithinBound bound (depth (whole new)) n) (sym opening.opens) deep;
+        enough = subst (λ (n : Next). price n ≤ fuel_left r' + 0) (sym opening.opens) opening.paid;
+      } in
+      let both = subst (λ (left : ℕ). (c : Comes bound r u r' left) × AsksNext bound (store_around r') left c.new) same (stops.there, asks) in
+      record { there = both.0; by = both.1 }
+
+  module _ (r r' r'' : AtRest) (came : Came bound r r') where
+    -- Code of another instance is next.
+    pub came-switched : RunsFrom bound r' stop.Switches r'' → Came bound r r''
+    came-switched runs = record { from = λ u rests. let first = came.from u rests in comes-then r r' r'' u (fuel_left r'') first (runs.from first.new first.rests) }
+
+    -- It is over, or stops.
+    concludes-from : (s : Stop) → s ≢ stop.Switches → s ≢ stop.NoRoom → ((kind : OtherInstruction) (n : ℕ) → s ≢ stop.LeavesOther kind n) → (u : Whole) (first : Comes bound r u r' (fuel_left r')) → RunsTo bound r' first.new s r'' → ConcludesFrom bound r u s r''
+    concludes-from stop.Over apart roomy its u first ends = record {
+      values = ends.values;
+      steps = Steps-join NoHosts bound no_frame first.steps ends.steps;
+      results = subst (λ (ts : List ValType). HasResults (store_around r'') (machine_of r'') ts ends.values) first.results ends.results;
+    }
+    concludes-from stop.Switches apart roomy its u first there = apart refl
+    concludes-from stop.NoRoom apart roomy its u first stops = roomy refl
+    concludes-from (stop.LeavesOther kind n) apart roomy its u first stops = absurd (its kind n refl)
+    concludes-from stop.NoMemory apart roomy its u first stops = asks-for-memory r r'' u (stops-later r r' r'' u stop.NoMemory first stops)
+    concludes-from s apart roomy its u first stops = stops-later r r' r'' u s first stops
+
+    pub concludes-so : (s : Stop) → s ≢ stop.Switches → s ≢ stop.NoRoom → ((kind : OtherInstruction) (n : ℕ) → s ≢ stop.LeavesOther kind n) → RunsFrom bound r' s r'' → Concludes bound r s r''
+    concludes-so s apart roomy its runs u rests = let first = came.from u rests in concludes-from s apart roomy its u first (runs.from first.new first.rests)
+
+    valid-from : (s : Stop) → s ≢ stop.Switches → s ≢ stop.NoRoom → ((kind : OtherInstruction) (n : ℕ) → s ≢ stop.LeavesOther kind n) → (u : Whole) → ConcludesFrom bound r u s r'' → StoreIsValid (store_around r'')
+    valid-from stop.Over apart roomy its u ends = ends.results.valid
+    valid-from stop.Switches apart roomy its u wrong = absurd wrong
+    valid-from stop.NoRoom apart roomy its u wrong = absurd wrong
+    valid-from (stop.LeavesOther kind n) apart roomy its u wrong = absurd wrong
+    valid-from s apart roomy its u stops = rests-valid bound r'' (stops.there.new, stops.there.rests)
+
+    pub concludes-valid : (s : Stop) → s ≢ stop.Switches → s ≢ stop.NoRoom → ((kind : OtherInstruction) (n : ℕ) → s ≢ stop.LeavesOther kind n) → RunsFrom bound r' s r'' → RestsSome bound r → StoreIsValid (store_around r'')
+    concludes-valid s apart roomy its runs (u, rests) = valid-from s apart roomy its u (concludes-so s apart roomy its runs u rests)
+
+    -- There is no room.
+    module _ (runs : RunsFrom bound r' stop.NoRoom r'') where
+      abbrev stopped : (u : Whole) → Rests bound r u → StopsAtRest bound r u stop.NoRoom r''
+      stopped u rests = let first = came.from u rests in stops-later r r' r'' u stop.NoRoom first (runs.from first.new first.rests)
+
+      pub unable-valid : RestsSome bound r → StoreIsValid (store_around r'')
+      unable-valid (u, rests) = let there = (stopped u rests).there in rests-valid bound r'' (there.new, there.rests)
+
+      -- Then there are other cells.
+      module _ (v : Vec ℕ) where
+        abbrev moved : (u : Whole) (left : ℕ) (there : Comes bound r u r'' left) → RunsWhole bound (loop_at there.rests.world v.items r''.call.callers r''.call.position) there.new → Comes bound r u (with_cells r'' v) left
+        moved u left there runs_whole = record {
+          new = there.new;
+          results = there.results;
+          steps = there.steps;
+          rests = record { world = there.rests.world; sees = there.rests.sees; runs = runs_whole };
+        }
+
+        pub came-grown : (more : List ℕ) → v.items ≡ r''.call.cells.items ++ more → Came bound r (with_cells r'' v)
+        came-grown more is = record {
+          from = λ u rests.
+              let there = (stopped u rests).there in
+              let same : fuel_left r'' + 0 ≡ fuel_left r'' = omega arith in
+              subst (λ (left : ℕ). Comes bound r u (with_cells r'' v) left) same
+              (moved u (fuel_left r'' + 0) there
+              (subst (λ (z : List ℕ). RunsWhole bound (loop_at there.rests.world z r''.call.callers r''.call.position) there.new) (sym is)
+              (longer-whole bound (loop_of there.rests.world r'') there.new more there.rests.runs)));
+        }
+
+        pub concludes-unable : v.items ≡ r''.call.cells.items → Concludes bound r stop.NoMemory (with_cells r'' v)
+        concludes-unable is u rests =
+            let stops = stopped u rests in
+            asks-for-memory r (with_cells r'' v) u
+            (record {
+              there = moved u (fuel_left r'' + 0) stops.there
+                  (subst (λ (z : List ℕ). RunsWhole bound (loop_at stops.there.rests.world z r''.call.callers r''.call.position) stops.there.new) (sym is) stops.there.rests.runs);
+              by = stops.by;
+            })
+
+  -- ---- instructions that the loop leaves to others
+
+  module _ (r r' r'' r3 : AtRest) (came : Came bound r r') (kind : OtherInstruction) (n : ℕ) (runs : RunsFrom bound r' (stop.LeavesOther kind n) r'') where
+    abbrev op : PlainOp
+    op = left_op r'' kind n
+
+    -- The call has come before it.
+    come-before : (u : Whole) → Rests bound r u → (there : Comes bound r u r'' (fuel_left r'')) × RestsBefore bound r'' op there.new
+    come-before u rests =
+        let first = came.from u rests in
+        let stops = stops-later r r' r'' u (stop.LeavesOther kind n) first (runs.from first.new first.rests) in
+        let same : fuel_left r'' + 0 ≡ fuel_left r'' = omega arith in
+        let (there, stands) = subst (λ (left : ℕ). (c : Comes bound r u r'' left) × StandsThere (machine_of r'') c.new.ghost (Plain (other_op (machine_of r'').tables kind n))) same (stops.there, stops.by.1) in
+        (there, record { rests = there.rests; there = stands })
+
+    pub left-before : RestsSome bound r → IsLeft kind
+    left-before (u, rests) = let first = came.from u rests in (runs.from first.new first.rests).by.0
+
+    pub some-before : RestsSome bound r → RestsSomeBefore r'' op
+    some-before (u, rests) = let (there, b) = come-before u rests in (bound, there.new, b)
+
+    -- It goes on behind it.
+    pub came-done : GoesOn r'' op r3 → Came bound r r3
+    came-done done = record { from = λ u rests. let (there, b) = come-before u rests in comes-then r r'' r3 u (fuel_left r3) there (done.comes bound there.new b) }
+
+    pub falls-done : RestsSome bound r → bound < 2 ^ 64 → GoesOn r'' op r3 → (size : length r''.call.cells.items ≡ length r'.call.cells.items)
+        → 2 ^ 64 * left_of r3 + (2 ^ 64 - length r3.call.cells.items) < 2 ^ 64 * left_of r' + (2 ^ 64 - length r'.call.cells.items)
+    falls-done (u, rests) small done size =
+        let first = came.from u rests in
+        let spent : fuel_left r'' + 0 ≤ fuel_left r' = steps-spend bound (runs.from first.new first.rests).there.steps in
+        let deep = (come-before u rests).1.rests.runs.deep in
+        let as_many = ap (λ (fs : List Frame). length fs) done.callers in
+        measure-falls (fuel_left r') (fuel_left r3) (length r'.call.callers) (length r3.call.callers) r'.call.position.frame.place r3.call.position.frame.place (length r'.call.cells.items) (length r3.call.cells.items)
+        (omega (arith, spent, done.falls)) (omega (arith, deep, as_many, small)) (done.size ∙ size)
+
+    -- It stops there.
+    concludes-there : (s : Stop) (u : Whole) (there : Comes bound r u r'' (fuel_left r'')) → StopsFor bound r'' there.new s r3 → ConcludesFrom bound r u s r3
+    concludes-there stop.NoFuel u there stops = stops-later r r'' r3 u stop.NoFuel there stops
+    concludes-there stop.NoMemory u there lacks = record { there = comes-then r r'' r3 u (fuel_left r3) there lacks.there; by = lacks.by }
+    concludes-there (stop.Traps trap) u there stops = stops-later r r'' r3 u (stop.Traps trap) there stops
+    concludes-there s u there wrong = absurd wrong
+
+    valid-there : (s : Stop) (u : Whole) → StopsFor bound r'' u s r3 → StoreIsValid (store_around r3)
+    valid-there stop.NoFuel u stops = rests-valid bound r3 (stops.there.new, stops.there.rests)
+    valid-there stop.NoMemory u lacks = rests-valid bound r3 (lacks.there.new, lacks.there.rests)
+    valid-there (stop.Traps trap) u stops = rests-valid bound r3 (stops.there.new, stops.there.rests)
+    valid-there s u wrong = absurd wrong
+
+    module _ (s : Stop) (stops : (bound : ℕ) (u : Whole) → RestsBefore bound r'' op u → StopsFor bound r'' u s r3) where
+      pub concludes-before : Concludes bound r s r3
+      concludes-before u rests = let (there, b) = come-before u rests in concludes-there s u there (stops bound there.new b)
+
+      pub valid-before : RestsSome bound r → StoreIsValid (store_around r3)
+      valid-before (u, rests) = let (there, b) = come-before u rests in valid-there s there.new (stops bound there.new b)

@@ -1,0 +1,136 @@
+ghost use Rattle.std.specs.Prelude.{◌≡◌, ◌++◌, length, replicate, slice_get, Some, None, OnErr, OnOk};
+ghost use Rattle.soundness.specs.Stores.{StoreIsValid};
+ghost use Rattle.exec.specs.Resting.{Concludes, RestsSome, RunsFrom, at_rest, store_around};
+
+use crate::call::Call;
+use crate::instructions::step;
+use core_types::Limits;
+use interpreter::{Stop, Surroundings, run};
+use std::alloc::AllocError;
+use store::{Code, Instance, State};
+
+// Runs code of an instance that has a memory, which is taken out of the state meanwhile.
+fn run_with_memory<'a>(
+    code: &'a Code,
+    instance: &'a Instance,
+    address: u32,
+    state: &mut State,
+    bound: u64,
+    call: &mut Call<'a>,
+) -> Stop
+    requires rests { RestsSome bound (at_rest code.now state.old call.old) }
+    requires there { slice_get code.now.instances call.old.position.frame.instance ≡ Some
+        instance.now }
+    requires memory { slice_get instance.now.addresses.memories.items 0 ≡ Some address }
+    ensures runs { RunsFrom bound (at_rest code.now state.old call.old) result
+        (at_rest code.now state.new call.new) }
+    ensures size { length call.new.cells.items ≡ length call.old.cells.items }
+{
+    let mut memory = state.take_memory(address);
+    let around = Surroundings {
+        code,
+        instance,
+        number: call.position.frame.instance,
+        address: Some(address),
+        limits: memory.limits(),
+        bound,
+    };
+    let stop = run(
+        around,
+        state,
+        memory.bytes_mut(),
+        call.cells.as_mut_slice(),
+        &mut call.callers,
+        &mut call.position,
+    );
+    state.put_memory(address, memory);
+    stop
+}
+
+// Runs code of an instance that has none.
+fn run_without_memory<'a>(
+    code: &'a Code,
+    instance: &'a Instance,
+    state: &mut State,
+    bound: u64,
+    call: &mut Call<'a>,
+) -> Stop
+    requires rests { RestsSome bound (at_rest code.now state.old call.old) }
+    requires there { slice_get code.now.instances call.old.position.frame.instance ≡ Some
+        instance.now }
+    requires memory { slice_get instance.now.addresses.memories.items 0 ≡ None }
+    ensures runs { RunsFrom bound (at_rest code.now state.old call.old) result
+        (at_rest code.now state.new call.new) }
+    ensures size { length call.new.cells.items ≡ length call.old.cells.items }
+{
+    let around = Surroundings {
+        code,
+        instance,
+        number: call.position.frame.instance,
+        address: None,
+        limits: Limits { min: 0, max: None },
+        bound,
+    };
+    run(
+        around,
+        state,
+        &mut [],
+        call.cells.as_mut_slice(),
+        &mut call.callers,
+        &mut call.position,
+    )
+}
+
+// Runs code of the instance of the innermost frame.
+fn run_code<'a>(code: &'a Code, state: &mut State, bound: u64, call: &mut Call<'a>) -> Stop
+    requires rests { RestsSome bound (at_rest code.now state.old call.old) }
+    ensures runs { RunsFrom bound (at_rest code.now state.old call.old) result
+        (at_rest code.now state.new call.new) }
+    ensures size { length call.new.cells.items ≡ length call.old.cells.items }
+{
+    let Some(instance) = code.instance(call.position.frame.instance) else {
+        unreachable!()
+    };
+    match instance.addresses.memories.first().copied() {
+        Some(address) => run_with_memory(code, instance, address, state, bound, call),
+        None => run_without_memory(code, instance, state, bound, call),
+    }
+}
+
+// Twice as many cells. Where memory runs out, there are as many as before.
+fn grow(cells: &mut Vec<u64>) -> Result<(), AllocError>
+    ensures grown { OnOk result (cells.new.items ≡ cells.old.items ++ replicate
+        (length cells.old.items) 0) }
+    ensures unchanged { OnErr result (cells.new.items ≡ cells.old.items) }
+{
+    let size = cells.len() * 2;
+    cells.resize(size, 0)
+}
+
+/// Runs a call on, in code of any instances, until it is over or stops (Execution, Instructions).
+///
+/// At most so many frames may be open. Cells are added as frames need them. Where there is no memory for them, for a frame, or for a
+/// table or a memory that grows, it stops with `NoMemory`. It never stops with `NoRoom` or `Switches`, nor before an instruction that
+/// the loop leaves to others. Where it stops it can be run on, from there and with the fuel that is left.
+pub fn go_on<'a>(code: &'a Code, state: &mut State, bound: u64, call: &mut Call<'a>) -> Stop
+    requires rests { RestsSome bound (at_rest code.now state.old call.old) }
+    ensures concludes { Concludes bound (at_rest code.now state.old call.old) result
+        (at_rest code.now state.new call.new) }
+    ensures valid { StoreIsValid (store_around (at_rest code.now state.new call.new)) }
+{
+    loop {
+        match run_code(code, state, bound, call) {
+            Stop::Switches => {}
+            Stop::NoRoom => {
+                let Ok(()) = grow(&mut call.cells) else {
+                    return Stop::NoMemory;
+                };
+            }
+            Stop::LeavesOther(kind, n) => match step(code, state, kind, n, call) {
+                Ok(()) => {}
+                Err(stop) => return stop,
+            },
+            stop => return stop,
+        }
+    }
+}

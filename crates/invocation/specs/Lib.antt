@@ -1,4 +1,0 @@
-pub mod Resting
-pub mod Starting
-pub mod Instructions
-pub mod Hosting

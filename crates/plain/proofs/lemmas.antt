@@ -1,2 +1,0 @@
--- What the instructions share.
-pub mod Lookups
