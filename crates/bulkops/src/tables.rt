@@ -2,6 +2,8 @@ ghost use Rattle.std.specs.Prelude.{◌≡◌, ◌<◌, ◌≤◌, [], length};
 ghost use Rattle.core_types.specs.declared.outcome.Val.{Val as AnyVal};
 ghost use Rattle.meaning.specs.execution.Effects.{entries_cost as cost_of_entries};
 ghost use Rattle.meaning.specs.execution.Tables.{copy_entries, fill_entries, grow_entries, most_entries, read_entry, write_entry};
+ghost use Rattle.meaning.specs.execution.Values.{type_of};
+ghost use Rattle.meaning.specs.validation.Types.{reference_type};
 ghost use Rattle.store.specs.State.{elements_of, put_elements, put_table, table_of};
 ghost use Rattle.bulkops.specs.Accesses.{Wrote, price_if, price_of_access};
 ghost use Rattle.bulkops.specs.Growth.{DidGrow, price_of_growth, size_to_grow as size_by};
@@ -57,9 +59,10 @@ pub fn table_get(state: &State, address: u32, offset: u32) -> Result<Val, Trap>
     }
 }
 
-/// Sets the entry of a table at an offset, or traps and changes nothing (table.set).
+/// Sets the entry of a table at an offset to a value of its type, or traps and changes nothing (table.set).
 pub fn table_set(state: &mut State, address: u32, offset: u32, value: Val) -> Result<(), Trap>
-    requires { address < length state.old.contents.tables }
+    requires there { address < length state.old.contents.tables }
+    requires typed { type_of value ≡ reference_type (table_of state.old address).ty.element }
     ensures { Wrote result state.old state.new
         (state_with_entries state.old address
         (write_entry (table_of state.old address).entries offset value)) }
@@ -93,7 +96,7 @@ pub fn table_fill_cost(state: &State, address: u32, offset: u32, count: u32) -> 
     entries_cost(is_within(length_of(state, address), offset, count), count)
 }
 
-/// Gives that many entries of a table a value, or traps and changes nothing (table.fill).
+/// Gives that many entries of a table a value of its type, or traps and changes nothing (table.fill).
 pub fn table_fill(
     state: &mut State,
     address: u32,
@@ -101,7 +104,8 @@ pub fn table_fill(
     value: Val,
     count: u32,
 ) -> Result<(), Trap>
-    requires { address < length state.old.contents.tables }
+    requires there { address < length state.old.contents.tables }
+    requires typed { type_of value ≡ reference_type (table_of state.old address).ty.element }
     ensures { Wrote result state.old state.new
         (state_with_entries state.old address
         (fill_entries (table_of state.old address).entries offset value count)) }
@@ -228,15 +232,16 @@ pub fn table_grow_cost(state: &State, address: u32, count: u32) -> u64
     entries_cost(size_for(state, address, count).is_some(), count)
 }
 
-/// Adds entries of a value to a table, and answers its size before; or answers -1 and changes nothing where the table may not grow
-/// so (table.grow). Where there is no memory for the entries, nothing has changed.
+/// Adds entries to a table, of a value of its type, and answers its size before; or answers -1 and changes nothing where the table may
+/// not grow so (table.grow). Where there is no memory for the entries, nothing has changed.
 pub fn table_grow(
     state: &mut State,
     address: u32,
     value: Val,
     count: u32,
 ) -> Result<u32, AllocError>
-    requires { address < length state.old.contents.tables }
+    requires there { address < length state.old.contents.tables }
+    requires typed { type_of value ≡ reference_type (table_of state.old address).ty.element }
     ensures { DidGrow (size_by state.old.bounds.entries most_entries
         (table_of state.old address).ty.limits count) result state.old state.new
         (put_table state.old address (grow_entries (table_of state.old address) value count)) }

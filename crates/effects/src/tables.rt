@@ -2,6 +2,7 @@ ghost use Rattle.std.specs.Prelude.{◌≡◌, ◌<◌, [], ◌∷◌, length};
 ghost use Rattle.core_types.specs.declared.outcome.Val.TheVariants as value;
 ghost use Rattle.meaning.specs.execution.Effects.{entries_cost};
 ghost use Rattle.meaning.specs.execution.Memories.{can_grow};
+ghost use Rattle.meaning.specs.execution.Values.{type_of};
 ghost use Rattle.meaning.specs.execution.Tables.{copy_entries, fill_entries, most_entries, read_entry, write_entry};
 ghost use Rattle.cells.specs.Cells.{IsCellOf, value_of as value_at};
 ghost use Rattle.simulation.specs.Outcomes.{made};
@@ -23,7 +24,8 @@ use store::State;
 fn entry(state: &State, address: u32, cell: u64) -> Val
     requires there { address < length state.now.contents.tables }
     requires cell { IsCellOf (entry_of (table_of state.now address)) cell }
-    ensures { result ≡ value_at (entry_of (table_of state.now address)) cell }
+    ensures entry { result ≡ value_at (entry_of (table_of state.now address)) cell }
+    ensures typed { type_of result ≡ entry_of (table_of state.now address) }
 {
     let Some(table) = state.table(address) else {
         unreachable!()

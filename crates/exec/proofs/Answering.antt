@@ -7,7 +7,6 @@ use Rattle.core_types.specs.declared.outcome.Trap.TheVariants.{Host}
 use Rattle.core_types.specs.declared.outcome.Val.{Val}
 use Rattle.core_types.specs.declared.types.FuncType.{FuncType}
 use Rattle.core_types.specs.declared.types.ValType.{ValType}
-use Rattle.core_types.specs.declared.types.ValType.TheVariants as ty
 use Rattle.meaning.specs.structure.Bodies.{Body}
 use Rattle.meaning.specs.execution.Configurations.{Configuration, Frame as Activated, answered, depth, no_frame}
 use Rattle.meaning.specs.execution.Instructions.{CallsHost, Next, lent_memory, next}
@@ -29,7 +28,8 @@ use Rattle.soundness.proofs.Extension.{configuration-extended}
 use Rattle.soundness.proofs.Hosts.{hosts-answer-well}
 use Rattle.soundness.proofs.Steps.{stays-good}
 use Rattle.soundness.proofs.Values.{values-length}
-use Rattle.cells.specs.Cells.{AreCellsOf, cell_of, value_of, values_of}
+use Rattle.cells.specs.Cells.{AreCellsOf, cell_of, values_of}
+use Rattle.cells.proofs.Reading.{type-of-value}
 use Rattle.simulation.specs.Callees.{IsCalling, IsHostCall, behind_call}
 use Rattle.simulation.specs.Outcomes.{operand_cells}
 use Rattle.simulation.specs.Runs.{Ghost, config_of, frame_of}
@@ -61,17 +61,11 @@ use Rattle.exec.proofs.Putting.{operands-there, results-below, results-on-top, r
 use Rattle.exec.proofs.Seeing.{seen-from}
 
 -- Cells that are read at types have these types.
-type-read : (t : ValType) (n : ℕ) → type_of (value_of t n) ≡ t
-type-read ty.I32 n = refl
-type-read ty.I64 n = refl
-type-read ty.FuncRef n = refl
-type-read ty.ExternRef n = refl
-
 types-read : (ts : List ValType) (ns : List ℕ) → AreCellsOf ts ns → map type_of (values_of ts ns) ≡ ts
 types-read [] [] fit = refl
 types-read [] (n ∷ ns) fit = absurd fit
 types-read (t ∷ ts) [] fit = absurd fit
-types-read (t ∷ ts) (n ∷ ns) fit = rw (type-read t n, types-read ts ns fit.1) refl
+types-read (t ∷ ts) (n ∷ ns) fit = rw (type-of-value t n, types-read ts ns fit.1) refl
 
 module _ (bound : ℕ) (r : AtRest) (w : Whole) (address behind : ℕ) (wait : WaitsForHost bound r w address behind) (number : ℕ) (t : FuncType)
     (found : slice_get (functions_in r.code) address ≡ Some (host_function number t)) where

@@ -29,7 +29,6 @@ first_position f fuel = record {
     function = f.flat.function;
     tables = f.flat.tables;
     instance = f.instance;
-    locals = f.flat.function.now.locals;
     base = 0;
     place = 0;
   };

@@ -52,7 +52,6 @@ pub fn begin<'a>(
         function: flat,
         tables: function.flat.tables,
         instance: function.instance,
-        locals: flat.locals,
         base: 0,
         place: 0,
     };

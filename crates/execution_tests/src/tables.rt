@@ -1,12 +1,17 @@
 //! What `bulkops` does to the tables and the element segments of a store, and what it costs.
 
+ghost use Rattle.std.specs.Prelude.{◌≡◌, ◌<◌, length, IsTrue};
+ghost use Rattle.meaning.specs.execution.Values.{type_of};
+ghost use Rattle.meaning.specs.validation.Types.{reference_type};
+ghost use Rattle.store.specs.State.{table_of};
+
 use crate::modules::store_with;
 use Step::{Copy, Drop, Entries, Fill, Get, Grow, Init, Set, Size};
 use bulkops::{
     elem_drop, table_copy, table_copy_cost, table_fill, table_fill_cost, table_get, table_grow,
     table_grow_cost, table_init, table_init_cost, table_set, table_size,
 };
-use core_types::{Trap, Val};
+use core_types::{RefType, Trap, Val};
 use std::alloc::Global;
 use store::State;
 
@@ -92,6 +97,21 @@ fn shows(state: &State, address: u32, entries: &[Val]) -> bool {
     }
 }
 
+// Whether a value is of the type of a table's entries.
+fn is_entry(state: &State, address: u32, value: Val) -> bool
+    requires { address < length state.now.contents.tables }
+    ensures { IsTrue result
+        → type_of value ≡ reference_type (table_of state.now address).ty.element }
+{
+    let Some(table) = state.table(address) else {
+        return false;
+    };
+    match (table.ty().element, value) {
+        (RefType::FuncRef, Val::FuncRef(_)) | (RefType::ExternRef, Val::ExternRef(_)) => true,
+        _ => false,
+    }
+}
+
 // Whether a copy costs so and answers so.
 fn copies(
     state: &mut State,
@@ -128,7 +148,7 @@ fn accesses(state: &mut State, step: Step) -> bool {
             table_get(state, address, offset) == value
         }
         Set(address, offset, value, answer) if (address as usize) < state.table_count() => {
-            table_set(state, address, offset, value) == answer
+            is_entry(state, address, value) && table_set(state, address, offset, value) == answer
         }
         Size(address, size) if (address as usize) < state.table_count() => {
             table_size(state, address) == size
@@ -144,12 +164,14 @@ fn takes(state: &mut State, step: Step) -> bool {
     }
     match step {
         Fill(offset, value, count, cost, answer) => {
-            table_fill_cost(state, 0, offset, count) == cost
+            is_entry(state, 0, value)
+                && table_fill_cost(state, 0, offset, count) == cost
                 && table_fill(state, 0, offset, value, count) == answer
         }
         Init(offsets, cost, answer) => inits(state, offsets, cost, answer),
         Grow(value, count, cost, size) => {
-            table_grow_cost(state, 0, count) == cost
+            is_entry(state, 0, value)
+                && table_grow_cost(state, 0, count) == cost
                 && table_grow(state, 0, value, count) == Ok(size)
         }
         Drop => {

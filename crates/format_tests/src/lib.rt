@@ -4,6 +4,8 @@
 #[cfg(test)]
 mod assembling;
 #[cfg(test)]
+mod counts;
+#[cfg(test)]
 mod decoding;
 #[cfg(test)]
 mod integers;

@@ -31,6 +31,7 @@ use Rattle.interpreter.specs.Worlds.{World, store_in}
 use Rattle.interpreter.specs.declared.callees.Found.{Found}
 use Rattle.interpreter.specs.declared.machine.Frame.{Frame}
 use Rattle.interpreter.specs.declared.machine.Position.{Position}
+use Rattle.interpreter.specs.declared.machine.Stop.{Stop}
 use Rattle.interpreter.specs.declared.machine.Stop.TheVariants as stop
 use Rattle.interpreter.proofs.Calling.{entry-calls, entry-found, entry-traps, refers, within-code}
 use Rattle.interpreter.proofs.Cells.{frame-length, popped-frame}
@@ -45,7 +46,7 @@ record CallsFrom (w : World) (cells : List ℕ) (at from : Position) (op : Plain
   pub height : ℕ
   pub top_is : from.top ≡ at.frame.base + height
   pub inside : from.top < length cells
-  pub same : take height (put_back at.frame.locals at.frame.base cells from.top from.operand) ≡ take height (cells_in (machine_at cells at))
+  pub same : take height (put_back at.frame.function.now.locals at.frame.base cells from.top from.operand) ≡ take height (cells_in (machine_at cells at))
   pub calls : (g : Ghost) → RunsAt w (machine_at cells at) g → IsCalling op address function g (cells_in (machine_at cells at)) at.frame.place (height_in (machine_at cells at)) height
 
 module _ (bound : ℕ) (w : World) (cells : List ℕ) (callers : List Frame) (at from : Position) (op : PlainOp) (address : ℕ) where
@@ -66,12 +67,12 @@ module _ (bound : ℕ) (w : World) (cells : List ℕ) (callers : List Frame) (at
       abbrev settles : Reaches bound l u l
       settles = lifted-there bound l u r at.fuel (record { new = c.new; same = c.same; store = c.store; steps = c.steps at.fuel; runs = c.runs })
 
-      size : length (put_back at.frame.locals at.frame.base cells from.top from.operand) ≡ length (cells_in m)
+      size : length (put_back at.frame.function.now.locals at.frame.base cells from.top from.operand) ≡ length (cells_in m)
       size =
           let one = length-set cells from.top from.operand in
           let two = length-set cells at.top at.operand in
-          let first = frame-length at.frame.locals at.frame.base (set cells from.top from.operand) (omega (arith, one, r.runs.scrap)) in
-          let second = frame-length at.frame.locals at.frame.base (set cells at.top at.operand) (omega (arith, two, r.runs.scrap)) in
+          let first = frame-length at.frame.function.now.locals at.frame.base (set cells from.top from.operand) (omega (arith, one, r.runs.scrap)) in
+          let second = frame-length at.frame.function.now.locals at.frame.base (set cells at.top at.operand) (omega (arith, two, r.runs.scrap)) in
           omega (arith, one, two, first, second)
 
       abbrev stands : StandsBeforeCall op m c.new from.top from.operand f.ty.now f.instance (code_of f.func.now)
@@ -163,8 +164,8 @@ module _ (bound : ℕ) (w : World) (cells : List ℕ) (callers : List Frame) (at
 
   -- ---- through a table
 
-  pub through-lacks : (n : ℕ) → Turns w (machine_at cells at) (op.Transfer transfer.CallIndirect n) → at.fuel ≡ 0 → StopsAt bound loop stop.NoFuel loop
-  through-lacks n turns none = stops-lacking bound loop (λ g r. (turns g r).1 at.fuel (omega (arith, none)))
+  pub through-lacks : (n : ℕ) → Turns w (machine_at cells at) (op.Transfer transfer.CallIndirect n) → (why : Stop) → (why ≡ stop.NoFuel) × (at.fuel ≡ 0) → StopsAt bound loop why loop
+  through-lacks n turns why (is, none) = subst (λ (s : Stop). StopsAt bound loop s loop) (sym is) (stops-lacking bound loop (λ g r. (turns g r).1 at.fuel (omega (arith, none))))
 
   module _ (n : ℕ) (turns : Turns w (machine_at cells at) (op.Transfer transfer.CallIndirect n)) (pair : IndexPair) (pair_is : pair ≡ pair_of at.frame.tables.now n) where
     abbrev type : ℕ
@@ -192,7 +193,7 @@ module _ (bound : ℕ) (w : World) (cells : List ℕ) (callers : List Frame) (at
     through-traps left (paid, left_is) trap finds = stops-failing bound loop left trap
         (λ g r. entry-traps w.code g (found-in g r) (cells_in its) its.place (height_in its) type x (type_of w.instance type) entry trap finds (through g r entry refl) at.fuel left paid left_is)
 
-    pub through-calls : RunsSomeWhole bound loop → at.frame.base + at.frame.locals + 1 ≤ at.top → (f : Found) → FindsEntry w.code (type_of w.instance type) entry (Ok f)
+    pub through-calls : RunsSomeWhole bound loop → at.frame.base + at.frame.function.now.locals + 1 ≤ at.top → (f : Found) → FindsEntry w.code (type_of w.instance type) entry (Ok f)
         → Calls bound w cells callers at (record at { top = at.top - 1; operand = get_or cells (at.top - 1) 0 }) f.address f.callee
     through-calls (u, r) few f finds =
         let in_cells = inside w its u.ghost r.runs in
@@ -201,6 +202,6 @@ module _ (bound : ℕ) (w : World) (cells : List ℕ) (callers : List Frame) (at
           height = height_in its - 1;
           top_is = omega (arith, few);
           inside = omega (arith, in_cells);
-          same = ap (take (height_in its - 1)) (popped-frame at.frame.locals at.frame.base cells (at.top - 1)) ∙ sym (lower w its u.ghost r.runs 1 (omega arith) few);
+          same = ap (take (height_in its - 1)) (popped-frame at.frame.function.now.locals at.frame.base cells (at.top - 1)) ∙ sym (lower w its u.ghost r.runs 1 (omega arith) few);
           calls = λ g s. entry-calls w.code g (found-in g s) (cells_in its) its.place (height_in its) type x (type_of w.instance type) entry f finds (through g s entry refl);
         })

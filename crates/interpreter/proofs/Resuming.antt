@@ -99,7 +99,7 @@ module _ (bound : ℕ) (w : World) (cells : List ℕ) (at : Position) (fuel cost
       size : length cells' ≡ length cells
       size = same-size w m h r.runs n many w.code frame c h.code.outermost.kept stands cells' operand' moved
 
-      base : at.frame.base ≡ suc (frame.base + frame.locals) + held_values c
+      base : at.frame.base ≡ suc (frame.base + frame.function.now.locals) + held_values c
       base = base-is w m h r.runs n many w.code frame c h.code.outermost.kept stands
 
       abbrev top' : ℕ
@@ -113,11 +113,11 @@ module _ (bound : ℕ) (w : World) (cells : List ℕ) (at : Position) (fuel cost
           let joined = length-append (take n h.values) c.values in
           let low = r.runs.low in
           let in_cells = inside w m h r.runs in
-          let scrap : frame.base + frame.locals < length cells' = omega (arith, base, size, low, in_cells) in
+          let scrap : frame.base + frame.function.now.locals < length cells' = omega (arith, base, size, low, in_cells) in
           let written = length-set cells' top' operand' in
-          let whole_size = frame-length frame.locals frame.base (set cells' top' operand') (omega (arith, written, scrap)) in
-          let top_is : frame.base + frame.locals + held_values c + n ≡ top' = omega (arith, base) in
-          let height_is : frame.locals + held_values c + n ≡ top' - frame.base = omega (arith, base) in
+          let whole_size = frame-length frame.function.now.locals frame.base (set cells' top' operand') (omega (arith, written, scrap)) in
+          let top_is : frame.base + frame.function.now.locals + held_values c + n ≡ top' = omega (arith, base) in
+          let height_is : frame.function.now.locals + held_values c + n ≡ top' - frame.base = omega (arith, base) in
           let holds : List ℕ = map cell_of c.locals ++ cells_of ((take n h.values ++ c.values) ++ values_under c.labels) in
           let now : Ghost = record {
             code = c.code;
@@ -135,8 +135,8 @@ module _ (bound : ℕ) (w : World) (cells : List ℕ) (at : Position) (fuel cost
             runs = record {
               stands = subst (λ (p : ℕ). StandsIn c.code p (take n h.values ++ c.values) c.labels c.rest) (sym stands.place) (stands.stands (take n h.values) (taken ∙ n_is));
               holds = record {
-                held = subst (λ (q : ℕ). take q (put_back frame.locals frame.base cells' top' operand') ≡ holds) height_is
-                    (subst (λ (q : ℕ). take (frame.locals + held_values c + n) (put_back frame.locals frame.base cells' q operand') ≡ holds) top_is
+                held = subst (λ (q : ℕ). take q (put_back frame.function.now.locals frame.base cells' top' operand') ≡ holds) height_is
+                    (subst (λ (q : ℕ). take (frame.function.now.locals + held_values c + n) (put_back frame.function.now.locals frame.base cells' q operand') ≡ holds) top_is
                     (results-land w m h r.runs n many w.code frame c h.code.outermost.kept stands cells' operand' moved));
                 top_is = omega (arith, base, stands.count, taken, joined);
                 room = omega (arith, stands.room, whole_size, written, size, stands.count);

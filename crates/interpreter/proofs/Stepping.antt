@@ -1,9 +1,9 @@
 -- Instructions in their frame.
-use Rattle.std.proofs.Common.{◌≡◌, ℕ, ◌-◌, ◌<◌, List, length, set, slice_get, get_or, refl, subst, sym, arith, ◌⊎◌, inl, inr, Bool, true, false, eqb}
+use Rattle.std.proofs.Common.{◌≡◌, ℕ, ◌-◌, ◌<◌, ◌≤◌, List, length, set, slice_get, get_or, refl, subst, sym, arith, ◌⊎◌, inl, inr, Bool, true, false, eqb}
 use Rattle.std.proofs.lemmas.Bool.{eqb-false, eqb-true}
 use Rattle.std.proofs.lemmas.List.{get_or_read}
 use Rattle.std.proofs.lemmas.Option.{get_or_from_slice_get}
-use Rattle.std.specs.Prelude.{Result, Ok, Err, OnErr, OnOk, Some}
+use Rattle.std.specs.Prelude.{Option, Some, None, IfNone, OnSome}
 use mir.Val.{bool_byte}
 use Rattle.meaning.specs.execution.Store.{GlobalInstance}
 use Rattle.sidetable.specs.declared.operations.OtherInstruction.{OtherInstruction}
@@ -41,27 +41,27 @@ module _ (w : World) (cells : List ℕ) (at : Position) (kind : OtherInstruction
     stops s is none dear = rw is (record { same = refl; kept = refl; there = λ g r. dear g (leads-as g r) at.fuel (omega (arith, none)) })
 
     -- An operand more.
-    pub pushes : (result : Result Position Stop) (cell cell' : ℕ) (cells' : List ℕ) → IsPaid at result (position_pushed at cell) → OnOk result (cells' ≡ set cells at.top at.operand) → OnErr result (cells' ≡ cells) → cell ≡ cell'
-        → ((g : Ghost) → OtherLeads w m g kind' n → Costs w m g (pushed m cell')) → Steps w cells at result w cells'
-    pushes (Ok to) cell cell' cells' (paid, there) put kept same costs =
+    pub pushes : (result : Option Position) (why : Stop) (cell cell' : ℕ) (cells' : List ℕ) → IsPaid at result why (position_pushed at cell) → OnSome result (cells' ≡ set cells at.top at.operand) → IfNone result (cells' ≡ cells) → cell ≡ cell'
+        → ((g : Ghost) → OtherLeads w m g kind' n → Costs w m g (pushed m cell')) → Steps w cells at result why w cells'
+    pushes (Some to) why cell cell' cells' (paid, there) put kept same costs =
         rw (there, put, same) (record { frame = refl; falls = omega (arith, paid); leads = λ g r. (costs g (leads-as g r)).0 at.fuel (at.fuel - 1) paid refl })
-    pushes (Err s) cell cell' cells' (there, none) put kept same costs = rw kept (stops s there none (λ g leads. (costs g leads).1))
+    pushes None why cell cell' cells' (there, none) put kept same costs = rw kept (stops why there none (λ g leads. (costs g leads).1))
 
     -- A topmost one in the place of so many.
-    pub lowers : (result : Result Position Stop) (by cell : ℕ) → IsPaid at result (position_lowered at by cell)
-        → ((g : Ghost) → OtherLeads w m g kind' n → Costs w m g (lowered m by cell)) → Steps w cells at result w cells
-    lowers (Ok to) by cell (paid, there) costs =
+    pub lowers : (result : Option Position) (why : Stop) (by cell : ℕ) → IsPaid at result why (position_lowered at by cell)
+        → ((g : Ghost) → OtherLeads w m g kind' n → Costs w m g (lowered m by cell)) → Steps w cells at result why w cells
+    lowers (Some to) why by cell (paid, there) costs =
         rw there (record { frame = refl; falls = omega (arith, paid); leads = λ g r. (costs g (leads-as g r)).0 at.fuel (at.fuel - 1) paid refl })
-    lowers (Err s) by cell (there, none) costs = stops s there none (λ g leads. (costs g leads).1)
+    lowers None why by cell (there, none) costs = stops why there none (λ g leads. (costs g leads).1)
 
   -- In the place of none.
   pub replaced-here : (g : Ghost) (cell : ℕ) → Costs w m g (replaced m cell) → Costs w m g (lowered m 0 cell)
   replaced-here g cell costs = let same : at.top ≡ at.top - 0 = omega arith in subst (λ (t : ℕ). Costs w m g (record (replaced m cell) { top = t })) same costs
 
   -- The null of a type.
-  pub pushes-null : (kind ≡ other.RefNullFunc) ⊎ (kind ≡ other.RefNullExtern) → (result : Result Position Stop) (cells' : List ℕ) → IsPaid at result (position_pushed at 0) → OnOk result (cells' ≡ set cells at.top at.operand) → OnErr result (cells' ≡ cells) → Steps w cells at result w cells'
-  pushes-null (inl is) result cells' paid put kept = pushes other.RefNullFunc is result 0 0 cells' paid put kept refl (λ g leads. leads)
-  pushes-null (inr is) result cells' paid put kept = pushes other.RefNullExtern is result 0 0 cells' paid put kept refl (λ g leads. leads)
+  pub pushes-null : (kind ≡ other.RefNullFunc) ⊎ (kind ≡ other.RefNullExtern) → (result : Option Position) (why : Stop) (cells' : List ℕ) → IsPaid at result why (position_pushed at 0) → OnSome result (cells' ≡ set cells at.top at.operand) → IfNone result (cells' ≡ cells) → Steps w cells at result why w cells'
+  pushes-null (inl is) result why cells' paid put kept = pushes other.RefNullFunc is result why 0 0 cells' paid put kept refl (λ g leads. leads)
+  pushes-null (inr is) result why cells' paid put kept = pushes other.RefNullExtern is result why 0 0 cells' paid put kept refl (λ g leads. leads)
 
   -- A test of the operand for the null.
   pub tests-null : (g : Ghost) (t : Bool) → eqb at.operand 0 ≡ t → OtherLeads w m g other.RefIsNull n → Costs w m g (replaced m (bool_byte t))
@@ -69,7 +69,7 @@ module _ (w : World) (cells : List ℕ) (at : Position) (kind : OtherInstruction
   tests-null g false e (null, other, dear) = (other (eqb-false at.operand 0 e), dear)
 
   -- Another value of a global.
-  pub sets : kind ≡ other.GlobalSet → (to : Position) (state' : StateContents) → IsPaid at (Ok to) (position_lowered at 1 (get_or cells (at.top - 1) 0)) → state' ≡ (with_global_cell w (global_address w n) at.operand).state
+  pub sets : kind ≡ other.GlobalSet → (to : Position) (state' : StateContents) → (1 ≤ at.fuel) × (to ≡ position_lowered at 1 (get_or cells (at.top - 1) 0)) → state' ≡ (with_global_cell w (global_address w n) at.operand).state
       → StepsTo w cells at (record w { state = state' }) cells to
   sets is to state' (paid, there) same =
       rw (there, same) (record { frame = refl; falls = omega (arith, paid); leads = λ g r. (leads-as other.GlobalSet is g r).0 at.fuel (at.fuel - 1) paid refl })

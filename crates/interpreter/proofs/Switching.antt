@@ -24,6 +24,7 @@ use Rattle.interpreter.specs.declared.machine.Crossing.{Crossing}
 use Rattle.interpreter.specs.declared.machine.Crossing.TheVariants.{Enters, Goes, Stops, Switches}
 use Rattle.interpreter.specs.declared.machine.Frame.{Frame}
 use Rattle.interpreter.specs.declared.machine.Position.{Position}
+use Rattle.interpreter.specs.declared.machine.Stop.{Stop}
 use Rattle.interpreter.proofs.Lifting.{steps-typed}
 
 -- ---- how many frames are open
@@ -79,12 +80,12 @@ switched bound l l' u new other seen r results steps runs callers arity deep =
 
 -- Code of the same instance is gone on with, and code of another one is next.
 pub crosses : (bound : ℕ) (l : Loop) (cells' : List ℕ) (callers' : List Frame) (result : Crossing) (to : Position) → RunsSomeWhole bound l → IsCrossed l.world.number result to.frame.instance
-    → CrossesTo bound l (loop_at l.world cells' callers' to) → left_to_do (loop_at l.world cells' callers' to) < left_to_do l → Crosses bound l result cells' callers' to
-crosses bound l cells' callers' Goes to some is goes less = absurd is
-crosses bound l cells' callers' Enters to (u, r) number goes less = (
+    → CrossesTo bound l (loop_at l.world cells' callers' to) → left_to_do (loop_at l.world cells' callers' to) < left_to_do l → (why : Stop) → Crosses bound l result why cells' callers' to
+crosses bound l cells' callers' Goes to some is goes less why = absurd is
+crosses bound l cells' callers' Enters to (u, r) number goes less why = (
   record { from = λ v s. (goes v s).1 l.world (record { store = refl; code = refl; seen_from = sym number; instance = s.runs.instance }); falls = omega (arith, less) },
   number ∙ sym r.number,
   less,
 )
-crosses bound l cells' callers' Switches to some is goes less = (goes, less)
-crosses bound l cells' callers' (Stops s) to some is goes less = absurd is
+crosses bound l cells' callers' Switches to some is goes less why = (goes, less)
+crosses bound l cells' callers' Stops to some is goes less why = absurd is

@@ -9,14 +9,13 @@ use Rattle.sidetable.specs.declared.operations.TransferInstruction.{TransferInst
 use Rattle.sidetable.specs.declared.operations.TransferInstruction.TheVariants as transfer
 use Rattle.simulation.specs.Runs.{Ghost}
 use Rattle.interpreter.specs.Calling.{Leaves, position_landed}
-use Rattle.interpreter.specs.Crossing.{Crosses}
+use Rattle.interpreter.specs.Crossing.{GoesOn}
 use Rattle.interpreter.specs.Layout.{AreMoved}
 use Rattle.interpreter.specs.Looping.{loop_at, machine_at}
 use Rattle.interpreter.specs.Running.{GoesTo, IsDear, Machine, RunsAt}
 use Rattle.interpreter.specs.Turns.{Fits, Turns}
 use Rattle.interpreter.specs.Whole.{Loop, RunsSomeWhole, StopsAt}
 use Rattle.interpreter.specs.Worlds.{World}
-use Rattle.interpreter.specs.declared.machine.Crossing.TheVariants.{Goes}
 use Rattle.interpreter.specs.declared.machine.Frame.{Frame}
 use Rattle.interpreter.specs.declared.machine.Position.{Position}
 use Rattle.interpreter.specs.declared.machine.Stop.{Stop}
@@ -73,55 +72,55 @@ module _ (bound : ℕ) (w : World) (cells : List ℕ) (callers : List Frame) (at
 
     -- To another place of the frame.
     goes : (cells' : List ℕ) (place top operand : ℕ) → ((g : Ghost) → RunsAt w m g → GoesTo g m at.fuel w (record m { cells = cells'; place = place; top = top; operand = operand }) left)
-        → Crosses bound l Goes cells' callers (record { frame = record at.frame { place = place }; top = top; operand = operand; fuel = left })
+        → GoesOn bound l cells' callers (record { frame = record at.frame { place = place }; top = top; operand = operand; fuel = left })
     goes cells' place top operand step = (ran-turned bound l w.state w.bytes cells' place top operand left step (omega (arith, both)), refl, omega (arith, both), refl)
 
     pub if-goes : kind ≡ transfer.If → (place : ℕ) → place ≡ e.target → at.operand ≡ 0
-        → Crosses bound l Goes cells callers (record { frame = record at.frame { place = place }; top = at.top - 1; operand = get_or cells (at.top - 1) 0; fuel = left })
+        → GoesOn bound l cells callers (record { frame = record at.frame { place = place }; top = at.top - 1; operand = get_or cells (at.top - 1) 0; fuel = left })
     if-goes is place place_is zero =
         goes cells place (at.top - 1) (get_or cells (at.top - 1) 0)
         (λ g r. subst (λ (p : ℕ). GoesTo g m at.fuel w (record m { place = p; top = at.top - 1; operand = get_or cells (at.top - 1) 0 }) left) (sym place_is) ((turns-at transfer.If is g r).0 zero at.fuel left both.0 both.1))
 
     pub if-goes-on : kind ≡ transfer.If → (place : ℕ) → place ≡ at.frame.place + 1 → (at.operand ≡ 0 → ⊥)
-        → Crosses bound l Goes cells callers (record { frame = record at.frame { place = place }; top = at.top - 1; operand = get_or cells (at.top - 1) 0; fuel = left })
+        → GoesOn bound l cells callers (record { frame = record at.frame { place = place }; top = at.top - 1; operand = get_or cells (at.top - 1) 0; fuel = left })
     if-goes-on is place place_is other =
         goes cells place (at.top - 1) (get_or cells (at.top - 1) 0)
         (λ g r. subst (λ (p : ℕ). GoesTo g m at.fuel w (record m { place = p; top = at.top - 1; operand = get_or cells (at.top - 1) 0 }) left) (sym place_is) ((turns-at transfer.If is g r).1 other at.fuel left both.0 both.1))
 
     -- To where a branch landed.
-    lands : (held : List ℕ) (top : ℕ) (x : Entry) → ((g : Ghost) → RunsAt w m g → (cells' : List ℕ) (operand' : ℕ) → AreMoved held top (at.frame.base + at.frame.locals + x.height) x.kept cells' operand'
-        → GoesTo g m at.fuel w (record m { cells = cells'; place = x.target; top = at.frame.base + at.frame.locals + x.height + x.kept; operand = operand' }) left)
-        → (cells' : List ℕ) (to from : Position) → AreMoved held top (at.frame.base + at.frame.locals + x.height) x.kept cells' to.operand → from.frame ≡ at.frame → from.fuel ≡ left → to ≡ position_landed from x to.operand
-        → Crosses bound l Goes cells' callers to
+    lands : (held : List ℕ) (top : ℕ) (x : Entry) → ((g : Ghost) → RunsAt w m g → (cells' : List ℕ) (operand' : ℕ) → AreMoved held top (at.frame.base + at.frame.function.now.locals + x.height) x.kept cells' operand'
+        → GoesTo g m at.fuel w (record m { cells = cells'; place = x.target; top = at.frame.base + at.frame.function.now.locals + x.height + x.kept; operand = operand' }) left)
+        → (cells' : List ℕ) (to from : Position) → AreMoved held top (at.frame.base + at.frame.function.now.locals + x.height) x.kept cells' to.operand → from.frame ≡ at.frame → from.fuel ≡ left → to ≡ position_landed from x to.operand
+        → GoesOn bound l cells' callers to
     lands held top x step cells' to from moved same_frame same_fuel to_is =
-        subst (λ (p : Position). Crosses bound l Goes cells' callers p) (sym to_is)
-        (subst (λ (f : Frame). Crosses bound l Goes cells' callers (position_landed (record from { frame = f }) x to.operand)) (sym same_frame)
-        (subst (λ (k : ℕ). Crosses bound l Goes cells' callers (record { frame = record at.frame { place = x.target }; top = at.frame.base + at.frame.locals + x.height + x.kept; operand = to.operand; fuel = k })) (sym same_fuel)
-        (goes cells' x.target (at.frame.base + at.frame.locals + x.height + x.kept) to.operand (λ g r. step g r cells' to.operand moved))))
+        subst (λ (p : Position). GoesOn bound l cells' callers p) (sym to_is)
+        (subst (λ (f : Frame). GoesOn bound l cells' callers (position_landed (record from { frame = f }) x to.operand)) (sym same_frame)
+        (subst (λ (k : ℕ). GoesOn bound l cells' callers (record { frame = record at.frame { place = x.target }; top = at.frame.base + at.frame.function.now.locals + x.height + x.kept; operand = to.operand; fuel = k })) (sym same_fuel)
+        (goes cells' x.target (at.frame.base + at.frame.function.now.locals + x.height + x.kept) to.operand (λ g r. step g r cells' to.operand moved))))
 
-    pub br-lands : kind ≡ transfer.Br → (x : Entry) → x ≡ e → (cells' : List ℕ) (to : Position) → AreMoved (set cells at.top at.operand) at.top (at.frame.base + at.frame.locals + x.height) x.kept cells' to.operand
-        → to ≡ position_landed (record at { fuel = left }) x to.operand → Crosses bound l Goes cells' callers to
+    pub br-lands : kind ≡ transfer.Br → (x : Entry) → x ≡ e → (cells' : List ℕ) (to : Position) → AreMoved (set cells at.top at.operand) at.top (at.frame.base + at.frame.function.now.locals + x.height) x.kept cells' to.operand
+        → to ≡ position_landed (record at { fuel = left }) x to.operand → GoesOn bound l cells' callers to
     br-lands is x x_is cells' to moved to_is =
         lands (set cells at.top at.operand) at.top x
-        (λ g r held' operand' there. subst (λ (y : Entry). AreMoved (set cells at.top at.operand) at.top (at.frame.base + at.frame.locals + y.height) y.kept held' operand' → GoesTo g m at.fuel w (record m { cells = held'; place = y.target; top = at.frame.base + at.frame.locals + y.height + y.kept; operand = operand' }) left)
+        (λ g r held' operand' there. subst (λ (y : Entry). AreMoved (set cells at.top at.operand) at.top (at.frame.base + at.frame.function.now.locals + y.height) y.kept held' operand' → GoesTo g m at.fuel w (record m { cells = held'; place = y.target; top = at.frame.base + at.frame.function.now.locals + y.height + y.kept; operand = operand' }) left)
         (sym x_is) (λ landed. (turns-at transfer.Br is g r).0 held' operand' landed at.fuel left both.0 both.1) there)
         cells' to (record at { fuel = left }) moved refl refl to_is
 
     abbrev chosen_entry : Entry
     chosen_entry = get_or (branch_entries at.frame.tables.now (branch_range_of at.frame.tables.now n)) at.operand (entry_of_number at.frame.tables.now (branch_range_of at.frame.tables.now n).default)
 
-    pub br-table-lands : kind ≡ transfer.BrTable → (x : Entry) → x ≡ chosen_entry → (cells' : List ℕ) (to : Position) (operand : ℕ) → AreMoved cells (at.top - 1) (at.frame.base + at.frame.locals + x.height) x.kept cells' to.operand
-        → to ≡ position_landed (record { frame = at.frame; top = at.top - 1; operand = operand; fuel = left }) x to.operand → Crosses bound l Goes cells' callers to
+    pub br-table-lands : kind ≡ transfer.BrTable → (x : Entry) → x ≡ chosen_entry → (cells' : List ℕ) (to : Position) (operand : ℕ) → AreMoved cells (at.top - 1) (at.frame.base + at.frame.function.now.locals + x.height) x.kept cells' to.operand
+        → to ≡ position_landed (record { frame = at.frame; top = at.top - 1; operand = operand; fuel = left }) x to.operand → GoesOn bound l cells' callers to
     br-table-lands is x x_is cells' to operand moved to_is =
         lands cells (at.top - 1) x
-        (λ g r held' operand' there. subst (λ (y : Entry). AreMoved cells (at.top - 1) (at.frame.base + at.frame.locals + y.height) y.kept held' operand' → GoesTo g m at.fuel w (record m { cells = held'; place = y.target; top = at.frame.base + at.frame.locals + y.height + y.kept; operand = operand' }) left)
+        (λ g r held' operand' there. subst (λ (y : Entry). AreMoved cells (at.top - 1) (at.frame.base + at.frame.function.now.locals + y.height) y.kept held' operand' → GoesTo g m at.fuel w (record m { cells = held'; place = y.target; top = at.frame.base + at.frame.function.now.locals + y.height + y.kept; operand = operand' }) left)
         (sym x_is) (λ landed. (turns-at transfer.BrTable is g r).0 held' operand' landed at.fuel left both.0 both.1) there)
         cells' to (record { frame = at.frame; top = at.top - 1; operand = operand; fuel = left }) moved refl refl to_is
 
   -- ---- for nothing
 
-  pub jumps : kind ≡ transfer.Jump → at.frame.place + 1 < 2 ^ 64 → Fits w m (op.Transfer kind n) → (x : Entry) → x ≡ e → Crosses bound l Goes cells callers (record at { frame = record at.frame { place = x.target } })
+  pub jumps : kind ≡ transfer.Jump → at.frame.place + 1 < 2 ^ 64 → Fits w m (op.Transfer kind n) → (x : Entry) → x ≡ e → GoesOn bound l cells callers (record at { frame = record at.frame { place = x.target } })
   jumps is next fits x x_is =
       let later : at.frame.place < e.target = (subst (λ (k : TransferInstruction). Fits w m (op.Transfer k n)) is fits).1 in
-      subst (λ (y : Entry). Crosses bound l Goes cells callers (record at { frame = record at.frame { place = y.target } })) (sym x_is)
+      subst (λ (y : Entry). GoesOn bound l cells callers (record at { frame = record at.frame { place = y.target } })) (sym x_is)
       (ran-turned bound l w.state w.bytes cells e.target at.top at.operand at.fuel (λ g r. turns-at transfer.Jump is g r at.fuel) (omega (arith, later)), refl, omega (arith, later, next), refl)

@@ -89,7 +89,7 @@ module _ (bound : ℕ) (w : World) (cells : List ℕ) (callers : List Frame) (at
 
   -- ---- what is there
 
-  pub fits : at.frame.base + at.frame.locals + f.flat.function.now.params ≤ top
+  pub fits : at.frame.base + at.frame.function.now.locals + f.flat.function.now.params ≤ top
   fits = let fit = arguments-fit w m h r.runs op top operand f.ty.now f.instance (code_of f.func.now) b in omega (arith, fit, found.flat.params)
 
   pub declared : f.flat.function.now.params ≤ f.flat.function.now.locals
@@ -131,7 +131,7 @@ module _ (bound : ℕ) (w : World) (cells : List ℕ) (callers : List Frame) (at
         let many : length h.values ≡ length b.values + b.over = omega (arith, r.runs.runs.holds.top_is, b.holds.top_is, b.above) in
         let next_place : suc at.frame.place ≡ at.frame.place + 1 = omega arith in
         let written = length-set cells top operand in
-        let whole_size = frame-length at.frame.locals at.frame.base (set cells top operand) (omega (arith, written, r.runs.scrap)) in record {
+        let whole_size = frame-length at.frame.function.now.locals at.frame.base (set cells top operand) (omega (arith, written, r.runs.scrap)) in record {
           place = refl;
           packed = r.runs.packed;
           within = r.runs.within;

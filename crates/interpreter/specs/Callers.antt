@@ -44,13 +44,13 @@ pub record CallerStands (code : Contents) (size : ℕ) (frame : Frame) (c : Call
       c.code.outermost.kept
   pub number : frame.instance ≡ c.instance
   pub there : c.instance < length code.instances
-  pub count : frame.locals ≡ length c.locals
+  pub count : frame.function.now.locals ≡ length c.locals
   pub signatures : AreOfContext c.code.signatures
       (instance_context (code_store code) (instance_of (code_store code) (Some c.instance)))
-  pub held : without_scrap frame.locals frame.base below ≡
+  pub held : without_scrap frame.function.now.locals frame.base below ≡
       map cell_of c.locals ++ cells_of (c.values ++ values_under c.labels)
-  pub high : length below ≡ frame.base + frame.locals + 1 + (length c.values + under c.labels)
-  pub room : frame.base + frame.locals + 1 + c.code.greatest ≤ size
+  pub high : length below ≡ frame.base + frame.function.now.locals + 1 + (length c.values + under c.labels)
+  pub room : frame.base + frame.function.now.locals + 1 + c.code.greatest ≤ size
   pub stands : (results : List Val) → length results ≡ arity
       → StandsIn c.code c.at (results ++ c.values) c.labels c.rest
 

@@ -23,7 +23,7 @@ abbrev pub IsCrossed : (number : ℕ) → Crossing → (instance : ℕ) → Type
 IsCrossed number Goes instance = ⊥
 IsCrossed number Enters instance = instance ≡ number
 IsCrossed number Switches instance = Unit {0}
-IsCrossed number (Stops s) instance = ⊥
+IsCrossed number Stops instance = ⊥
 
 -- ---- branches
 
@@ -31,7 +31,7 @@ IsCrossed number (Stops s) instance = ⊥
 abbrev pub position_landed : Position → Entry → (operand : ℕ) → Position
 position_landed at e operand = record {
   frame = record at.frame { place = e.target };
-  top = at.frame.base + at.frame.locals + e.height + e.kept;
+  top = at.frame.base + at.frame.function.now.locals + e.height + e.kept;
   operand = operand;
   fuel = at.fuel;
 }
@@ -53,7 +53,6 @@ position_opened at top f = record {
     function = f.flat.function;
     tables = f.flat.tables;
     instance = f.instance;
-    locals = f.flat.function.now.locals;
     base = top + 1 - f.flat.function.now.params;
     place = 0;
   };
@@ -66,7 +65,7 @@ position_opened at top f = record {
 pub record CallsModule (bound : ℕ) (w : World) (cells : List ℕ) (callers : List Frame)
     (at from : Position) (f : ModuleFunction) : Type 0 where
   pub room : from.top < length cells
-  pub arguments : at.frame.base + at.frame.locals + f.flat.function.now.params ≤ from.top
+  pub arguments : at.frame.base + at.frame.function.now.locals + f.flat.function.now.params ≤ from.top
   pub declared : f.flat.function.now.params ≤ f.flat.function.now.locals
   pub no_depth : 1 ≤ at.fuel → bound ≤ suc (length callers)
       → StopsAt bound (loop_at w cells callers at) stop.NoDepth (loop_at w cells callers at)

@@ -6,19 +6,25 @@ use Rattle.interpreter.specs.declared.machine.Crossing.{Crossing}
 use Rattle.interpreter.specs.declared.machine.Crossing.TheVariants.{Enters, Goes, Stops, Switches}
 use Rattle.interpreter.specs.declared.machine.Frame.{Frame}
 use Rattle.interpreter.specs.declared.machine.Position.{Position}
+use Rattle.interpreter.specs.declared.machine.Stop.{Stop}
 
--- With the cells, the callers and the position afterwards.
-abbrev pub Crosses : (bound : ℕ) → Loop → Crossing → (cells' : List ℕ) → (callers' : List Frame)
+-- It goes on in the same frame.
+abbrev pub GoesOn : (bound : ℕ) → Loop → (cells' : List ℕ) → (callers' : List Frame)
     → (to : Position) → Type 0
-Crosses bound l Goes cells' callers' to =
+GoesOn bound l cells' callers' to =
     Ran bound l (loop_at l.world cells' callers' to) × (to.frame.instance ≡ l.number)
     × (left_to_do (loop_at l.world cells' callers' to) < left_to_do l)
     × (to.frame.function.now.operations.items ≡ l.machine.operations)
-Crosses bound l Enters cells' callers' to =
+
+-- With why it stops, if it does, and the cells, the callers and the position afterwards.
+abbrev pub Crosses : (bound : ℕ) → Loop → Crossing → (why : Stop) → (cells' : List ℕ)
+    → (callers' : List Frame) → (to : Position) → Type 0
+Crosses bound l Goes why cells' callers' to = GoesOn bound l cells' callers' to
+Crosses bound l Enters why cells' callers' to =
     Ran bound l (loop_at l.world cells' callers' to) × (to.frame.instance ≡ l.number)
     × (left_to_do (loop_at l.world cells' callers' to) < left_to_do l)
-Crosses bound l Switches cells' callers' to =
+Crosses bound l Switches why cells' callers' to =
     ((w : Whole) → RunsWhole bound l w → SwitchesTo bound l w (loop_at l.world cells' callers' to))
     × (left_to_do (loop_at l.world cells' callers' to) < left_to_do l)
-Crosses bound l (Stops s) cells' callers' to =
-    StopsAt bound l s (loop_at l.world cells' callers' to)
+Crosses bound l Stops why cells' callers' to =
+    StopsAt bound l why (loop_at l.world cells' callers' to)

@@ -23,7 +23,7 @@ abbrev pub machine_at : (cells : List ℕ) → Position → Machine
 machine_at cells at = record {
   operations = at.frame.function.now.operations.items;
   tables = at.frame.tables.now;
-  locals = at.frame.locals;
+  locals = at.frame.function.now.locals;
   base = at.frame.base;
   cells = cells;
   place = at.frame.place;

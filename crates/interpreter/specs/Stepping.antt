@@ -1,5 +1,5 @@
 -- What an instruction leads to in its frame.
-use Rattle.std.specs.Prelude.{◌≡◌, ℕ, ◌+◌, ◌-◌, ◌<◌, ◌≤◌, List, Result, Ok, Err}
+use Rattle.std.specs.Prelude.{◌≡◌, ℕ, ◌+◌, ◌-◌, ◌<◌, ◌≤◌, List, Option, Some, None}
 use Rattle.sidetable.specs.Flat.{Plain}
 use Rattle.sidetable.specs.Packing.{other_op}
 use Rattle.simulation.specs.Runs.{Ghost, Lacks}
@@ -29,9 +29,9 @@ position_lowered at by cell = record {
 }
 
 -- It was paid for, or there was no fuel.
-abbrev pub IsPaid : Position → Result Position Stop → Position → Type 0
-IsPaid at (Ok to) there = (1 ≤ at.fuel) × (to ≡ there)
-IsPaid at (Err s) there = (s ≡ stop.NoFuel) × (at.fuel ≡ 0)
+abbrev pub IsPaid : Position → Option Position → (why : Stop) → Position → Type 0
+IsPaid at (Some to) why there = (1 ≤ at.fuel) × (to ≡ there)
+IsPaid at None why there = (why ≡ stop.NoFuel) × (at.fuel ≡ 0)
 
 -- With nothing changed, fuel is lacking, or the instruction is left to others.
 abbrev pub StopsThere : Stop → Machine → (fuel : ℕ) → Ghost → Type 0
@@ -55,7 +55,8 @@ pub record StopsBefore (w : World) (cells : List ℕ) (at : Position) (w' : Worl
   pub there : (g : Ghost) → RunsAt w (machine_at cells at) g
       → StopsThere s (machine_at cells at) at.fuel g
 
-abbrev pub Steps : World → (cells : List ℕ) → Position → Result Position Stop → (w' : World)
-    → (cells' : List ℕ) → Type 0
-Steps w cells at (Ok to) w' cells' = StepsTo w cells at w' cells' to
-Steps w cells at (Err s) w' cells' = StopsBefore w cells at w' cells' s
+-- It goes on, or it stops, and why.
+abbrev pub Steps : World → (cells : List ℕ) → Position → Option Position → (why : Stop)
+    → (w' : World) → (cells' : List ℕ) → Type 0
+Steps w cells at (Some to) why w' cells' = StepsTo w cells at w' cells' to
+Steps w cells at None why w' cells' = StopsBefore w cells at w' cells' why

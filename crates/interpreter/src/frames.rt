@@ -37,6 +37,7 @@ fn open<'a>(
     function: &ModuleFunction<'a>,
     from: Position<'a>,
     at: &mut Position<'a>,
+    why: &mut Stop,
 ) -> Crossing
     requires sound { RunsSomeWhole around.bound
         (loop_at (world_at around state.now memory.now) cells.old callers.old at.old) }
@@ -47,18 +48,20 @@ fn open<'a>(
     requires next { at.old.frame.place + 1 < 2 ^ 64 }
     ensures { Crosses around.entry.bound
         (loop_at (world_at around.entry state.now memory.now) cells.old callers.old at.old)
-        result cells.new callers.new at.new }
+        result why.new cells.new callers.new at.new }
 {
     let flat = function.flat.function;
     let declared = flat.locals - flat.params;
     let room = cells.len() - from.top - 1;
     if declared > room || flat.greatest >= (room - declared) as u64 {
-        return Crossing::Stops(Stop::NoRoom);
+        *why = Stop::NoRoom;
+        return Crossing::Stops;
     }
     let mut waiting = at.frame;
     waiting.place += 1;
     let Ok(()) = callers.push(waiting) else {
-        return Crossing::Stops(Stop::NoMemory);
+        *why = Stop::NoMemory;
+        return Crossing::Stops;
     };
     let behind = from.top + 1;
     cells[from.top] = from.operand;
@@ -68,7 +71,6 @@ fn open<'a>(
             function: flat,
             tables: function.flat.tables,
             instance: function.instance,
-            locals: flat.locals,
             base: behind - flat.params,
             place: 0,
         },
@@ -90,6 +92,7 @@ fn enter<'a>(
     found: Found<'a>,
     from: Position<'a>,
     at: &mut Position<'a>,
+    why: &mut Stop,
 ) -> Crossing
     requires sound { RunsSomeWhole around.bound
         (loop_at (world_at around state.now memory.now) cells.old callers.old at.old) }
@@ -99,16 +102,22 @@ fn enter<'a>(
     requires next { at.old.frame.place + 1 < 2 ^ 64 }
     ensures { Crosses around.entry.bound
         (loop_at (world_at around.entry state.now memory.now) cells.old callers.old at.old)
-        result cells.new callers.new at.new }
+        result why.new cells.new callers.new at.new }
 {
     match found.callee {
         Callee::InModule(function) => {
             if callers.len() as u64 + 1 >= around.bound {
-                return Crossing::Stops(Stop::NoDepth);
+                *why = Stop::NoDepth;
+                return Crossing::Stops;
             }
-            open(around, state, memory, cells, callers, &function, from, at)
+            open(
+                around, state, memory, cells, callers, &function, from, at, why,
+            )
         }
-        Callee::InHost(_) => Crossing::Stops(Stop::CallsHost(found.address, from.top + 1)),
+        Callee::InHost(_) => {
+            *why = Stop::CallsHost(found.address, from.top + 1);
+            Crossing::Stops
+        }
     }
 }
 
@@ -122,6 +131,7 @@ pub fn call<'a>(
     callers: &mut Stack<Frame<'a>>,
     index: u32,
     at: &mut Position<'a>,
+    why: &mut Stop,
 ) -> Crossing
     requires sound { RunsSomeWhole around.bound
         (loop_at (world_at around state.now memory.now) cells.old callers.old at.old) }
@@ -132,16 +142,17 @@ pub fn call<'a>(
     requires next { at.old.frame.place + 1 < 2 ^ 64 }
     ensures { Crosses around.entry.bound
         (loop_at (world_at around.entry state.now memory.now) cells.old callers.old at.old)
-        result cells.new callers.new at.new }
+        result why.new cells.new callers.new at.new }
 {
     if at.fuel == 0 {
-        return Crossing::Stops(Stop::NoFuel);
+        *why = Stop::NoFuel;
+        return Crossing::Stops;
     }
     let address = around.instance.addresses.functions[index as usize];
     let callee = around.code.callee(address);
     let found = Found { address, callee };
     let from = *at;
-    enter(around, state, memory, cells, callers, found, from, at)
+    enter(around, state, memory, cells, callers, found, from, at, why)
 }
 
 /// Calls the function to which an entry of a table refers, whose offset is the topmost operand. The type that it has to be of, and
@@ -155,6 +166,7 @@ pub fn call_indirect<'a>(
     callers: &mut Stack<Frame<'a>>,
     number: u32,
     at: &mut Position<'a>,
+    why: &mut Stop,
 ) -> Crossing
     requires sound { RunsSomeWhole around.bound
         (loop_at (world_at around state.now memory.now) cells.old callers.old at.old) }
@@ -165,10 +177,10 @@ pub fn call_indirect<'a>(
     requires next { at.old.frame.place + 1 < 2 ^ 64 }
     ensures { Crosses around.entry.bound
         (loop_at (world_at around.entry state.now memory.now) cells.old callers.old at.old)
-        result cells.new callers.new at.new }
+        result why.new cells.new callers.new at.new }
 {
-    let Ok(left) = pay(at.fuel) else {
-        return Crossing::Stops(Stop::NoFuel);
+    let Some(left) = pay(at.fuel, why) else {
+        return Crossing::Stops;
     };
     let indices = at.frame.tables.pairs[number as usize];
     match find_through(around.code, around.instance, state, indices, at.operand) {
@@ -176,11 +188,12 @@ pub fn call_indirect<'a>(
             let mut from = *at;
             from.top -= 1;
             from.operand = cells[from.top];
-            enter(around, state, memory, cells, callers, found, from, at)
+            enter(around, state, memory, cells, callers, found, from, at, why)
         }
         Err(trap) => {
             at.fuel = left;
-            Crossing::Stops(Stop::Traps(trap))
+            *why = Stop::Traps(trap);
+            Crossing::Stops
         }
     }
 }
@@ -195,6 +208,7 @@ pub fn leave<'a>(
     callers: &mut Stack<Frame<'a>>,
     results: usize,
     at: &mut Position<'a>,
+    why: &mut Stop,
 ) -> Crossing
     requires leaves { (fuel : ℕ) × Leaves around.bound
         (world_at around state.now memory.now) cells.old callers.old at.old fuel results }
@@ -205,10 +219,11 @@ pub fn leave<'a>(
         → Crosses around.entry.bound
         (loop_at (world_at around.entry state.now memory.now) cells.old callers.old
         (record at.old { fuel = fuel }))
-        result cells.new callers.new at.new }
+        result why.new cells.new callers.new at.new }
 {
     let Some(frame) = callers.pop() else {
-        return Crossing::Stops(Stop::Over);
+        *why = Stop::Over;
+        return Crossing::Stops;
     };
     let to = at.frame.base - 1;
     cells[at.top] = at.operand;

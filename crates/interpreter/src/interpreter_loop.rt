@@ -34,6 +34,7 @@ pub fn run<'a>(
 {
     let mut at = *position;
     let mut operations = at.frame.function.operations.as_slice();
+    let mut why = Stop::Over;
     let stop = loop {
         match fetch(around, state, memory, cells, operations, at) {
             PackedOp::LocalGet(x) => {
@@ -103,7 +104,7 @@ pub fn run<'a>(
                 } else {
                     let e = entry(at.frame.tables, *n);
                     let kept = e.kept as usize;
-                    let to = at.frame.base + at.frame.locals + e.height as usize;
+                    let to = at.frame.base + at.frame.function.locals + e.height as usize;
                     at.operand = land(cells, at.top, to, kept, at.operand);
                     at.top = to + kept;
                     at.frame.place = e.target as usize;
@@ -191,17 +192,21 @@ pub fn run<'a>(
                 at.frame.place += 1;
             }
             PackedOp::Transfer(kind, n) => {
-                match transfer(around, state, memory, cells, callers, *kind, *n, &mut at) {
+                match transfer(
+                    around, state, memory, cells, callers, *kind, *n, &mut at, &mut why,
+                ) {
                     Crossing::Goes => {}
                     Crossing::Enters => operations = at.frame.function.operations.as_slice(),
                     Crossing::Switches => break Stop::Switches,
-                    Crossing::Stops(stop) => break stop,
+                    Crossing::Stops => break why,
                 }
             }
-            PackedOp::Other(kind, n) => match step_other(around, state, cells, *kind, *n, at) {
-                Ok(to) => at = to,
-                Err(stop) => break stop,
-            },
+            PackedOp::Other(kind, n) => {
+                match step_other(around, state, cells, *kind, *n, at, &mut why) {
+                    Some(to) => at = to,
+                    None => break why,
+                }
+            }
         }
     };
     *position = at;

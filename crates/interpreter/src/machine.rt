@@ -2,14 +2,13 @@ use core_types::{Limits, Trap};
 use sidetable::{OtherInstruction, PackedFunction, SideTables};
 use store::{Code, Instance};
 
-/// A frame: the flat code that runs in it, with the side tables that it names numbers of, the number of its instance, how many locals
-/// it has and where they begin among the cells, and the place of the next operation.
+/// A frame: the flat code that runs in it, with the side tables that it names numbers of, the number of its instance, where its locals
+/// begin among the cells, and the place of the next operation.
 #[derive(Clone, Copy)]
 pub struct Frame<'a> {
     pub function: &'a PackedFunction,
     pub tables: &'a SideTables,
     pub instance: u32,
-    pub locals: usize,
     pub base: usize,
     pub place: usize,
 }
@@ -67,6 +66,6 @@ pub enum Crossing {
     Enters,
     /// In code of another instance.
     Switches,
-    /// Nowhere.
-    Stops(Stop),
+    /// Nowhere. Why lies elsewhere, so that the loop carries no reason to stop from turn to turn.
+    Stops,
 }

@@ -1,4 +1,4 @@
-ghost use Rattle.std.specs.Prelude.{◌≡◌, ◌+◌, ◌-◌, ◌<◌, ◌≤◌, ◌^◌, ℕ, List, length, set, IfErr, IfOk, OnErr, OnOk};
+ghost use Rattle.std.specs.Prelude.{◌≡◌, ◌+◌, ◌-◌, ◌<◌, ◌≤◌, ◌^◌, ℕ, List, length, set, IfNone, OnSome};
 ghost use Rattle.interpreter.specs.Looping.{machine_at, world_at};
 ghost use Rattle.interpreter.specs.Stepping.{IsPaid, Steps, position_lowered, position_pushed};
 ghost use Rattle.interpreter.specs.Turns.{Fits, Turns};
@@ -13,35 +13,35 @@ use store::State;
 
 // With one operand more.
 #[inline(always)]
-fn push<'a>(cells: &mut [u64], at: Position<'a>, cell: u64) -> Result<Position<'a>, Stop>
+fn push<'a>(cells: &mut [u64], at: Position<'a>, cell: u64, why: &mut Stop) -> Option<Position<'a>>
     requires room { at.top < length cells.old }
     requires next { at.frame.place + 1 < 2 ^ 64 }
-    ensures paid { IsPaid at.entry result (position_pushed at.entry cell) }
-    ensures pushed { OnOk result (cells.new ≡ set cells.old at.entry.top at.entry.operand) }
-    ensures kept { OnErr result (cells.new ≡ cells.old) }
+    ensures paid { IsPaid at.entry result why.new (position_pushed at.entry cell) }
+    ensures pushed { OnSome result (cells.new ≡ set cells.old at.entry.top at.entry.operand) }
+    ensures kept { IfNone result (cells.new ≡ cells.old) }
 {
     let mut to = at;
-    to.fuel = pay(at.fuel)?;
+    to.fuel = pay(at.fuel, why)?;
     cells[at.top] = at.operand;
     to.top += 1;
     to.operand = cell;
     to.frame.place += 1;
-    Ok(to)
+    Some(to)
 }
 
 // With the topmost operand in the place of so many.
 #[inline(always)]
-fn lower<'a>(at: Position<'a>, by: usize, cell: u64) -> Result<Position<'a>, Stop>
+fn lower<'a>(at: Position<'a>, by: usize, cell: u64, why: &mut Stop) -> Option<Position<'a>>
     requires enough { by ≤ at.top }
     requires next { at.frame.place + 1 < 2 ^ 64 }
-    ensures { IsPaid at.entry result (position_lowered at.entry by cell) }
+    ensures { IsPaid at.entry result why.new (position_lowered at.entry by cell) }
 {
     let mut to = at;
-    to.fuel = pay(at.fuel)?;
+    to.fuel = pay(at.fuel, why)?;
     to.top -= by;
     to.operand = cell;
     to.frame.place += 1;
-    Ok(to)
+    Some(to)
 }
 
 /// Does an instruction that is rarer, or leaves it to others.
@@ -53,7 +53,8 @@ pub fn step_other<'a>(
     kind: OtherInstruction,
     n: u32,
     at: Position<'a>,
-) -> Result<Position<'a>, Stop>
+    why: &mut Stop,
+) -> Option<Position<'a>>
     requires next { at.frame.place + 1 < 2 ^ 64 }
     requires fits { (bytes : List ℕ) × Fits (world_at around state.old bytes)
         (machine_at cells.old at) (op.Other kind n) }
@@ -62,27 +63,27 @@ pub fn step_other<'a>(
         (op.Other kind n)
         → Turns (world_at around.entry state.old bytes) (machine_at cells.old at.entry)
         (op.Other kind n)
-        → Steps (world_at around.entry state.old bytes) cells.old at.entry result
+        → Steps (world_at around.entry state.old bytes) cells.old at.entry result why.new
         (world_at around.entry state.new bytes) cells.new }
 {
     let addresses = &around.instance.addresses;
     match kind {
-        OtherInstruction::Nop => lower(at, 0, at.operand),
-        OtherInstruction::DropOperand => lower(at, 1, cells[at.top - 1]),
+        OtherInstruction::Nop => lower(at, 0, at.operand, why),
+        OtherInstruction::DropOperand => lower(at, 1, cells[at.top - 1], why),
         OtherInstruction::Select => {
             let chosen = if at.operand == 0 {
                 at.top - 1
             } else {
                 at.top - 2
             };
-            lower(at, 2, cells[chosen])
+            lower(at, 2, cells[chosen], why)
         }
         OtherInstruction::GlobalGet => {
             let address = addresses.globals[n as usize];
             let Some(variable) = state.global(address) else {
                 unreachable!()
             };
-            push(cells, at, cell_of(variable.value()))
+            push(cells, at, cell_of(variable.value()), why)
         }
         OtherInstruction::GlobalSet => {
             let address = addresses.globals[n as usize];
@@ -90,17 +91,25 @@ pub fn step_other<'a>(
                 unreachable!()
             };
             let value = value_of(variable.ty().value, at.operand);
-            let to = lower(at, 1, cells[at.top - 1])?;
+            let to = lower(at, 1, cells[at.top - 1], why)?;
             state.set_global(address, value);
-            Ok(to)
+            Some(to)
         }
-        OtherInstruction::I64Const => push(cells, at, at.frame.tables.constants[n as usize]),
-        OtherInstruction::RefNullFunc | OtherInstruction::RefNullExtern => push(cells, at, 0),
-        OtherInstruction::RefIsNull => lower(at, 0, u64::from(at.operand == 0)),
+        OtherInstruction::I64Const => push(cells, at, at.frame.tables.constants[n as usize], why),
+        OtherInstruction::RefNullFunc | OtherInstruction::RefNullExtern => push(cells, at, 0, why),
+        OtherInstruction::RefIsNull => lower(at, 0, u64::from(at.operand == 0), why),
         OtherInstruction::RefFunc => {
-            push(cells, at, u64::from(addresses.functions[n as usize]) + 1)
+            push(
+                cells,
+                at,
+                u64::from(addresses.functions[n as usize]) + 1,
+                why,
+            )
         }
-        OtherInstruction::MemorySize => push(cells, at, u64::from(around.limits.min)),
-        _ => Err(Stop::LeavesOther(kind, n)),
+        OtherInstruction::MemorySize => push(cells, at, u64::from(around.limits.min), why),
+        _ => {
+            *why = Stop::LeavesOther(kind, n);
+            None
+        }
     }
 }

@@ -1,17 +1,17 @@
-ghost use Rattle.std.specs.Prelude.{◌≡◌, ◌-◌, ◌≤◌, IfErr, IfOk};
+ghost use Rattle.std.specs.Prelude.{◌≡◌, ◌-◌, ◌≤◌, IfNone, IfSome};
 ghost use Rattle.interpreter.specs.declared.machine.Stop.TheVariants as stop;
 
 use crate::machine::Stop;
 
-/// The fuel that is left once a unit was paid.
+/// The fuel that is left once a unit was paid. Without one, that is why the loop stops.
 #[inline(always)]
-pub fn pay(fuel: u64) -> Result<u64, Stop>
-    ensures ok { IfOk result (λ left. (1 ≤ fuel) × (left ≡ fuel - 1)) }
-    ensures err { IfErr result (λ s. (s ≡ stop.NoFuel) × (fuel ≡ 0)) }
+pub fn pay(fuel: u64, why: &mut Stop) -> Option<u64>
+    ensures some { IfSome result (λ left. (1 ≤ fuel) × (left ≡ fuel - 1)) }
+    ensures none { IfNone result ((why.new ≡ stop.NoFuel) × (fuel ≡ 0)) }
 {
     if fuel == 0 {
-        Err(Stop::NoFuel)
-    } else {
-        Ok(fuel - 1)
+        *why = Stop::NoFuel;
+        return None;
     }
+    Some(fuel - 1)
 }

@@ -41,15 +41,15 @@ fn chosen(tables: &SideTables, number: u32, operand: u64) -> Entry
 // Branches to an entry, where the topmost operand lies at the top, too, and was paid for.
 #[inline(always)]
 fn branch<'a>(cells: &mut [u64], e: Entry, at: &mut Position<'a>)
-    requires low { at.old.frame.base + at.old.frame.locals + e.height + e.kept ≤ at.old.top }
+    requires low { at.old.frame.base + at.old.frame.function.now.locals + e.height + e.kept ≤ at.old.top }
     requires within { at.old.top < length cells.old }
     requires there { get_or cells.old at.old.top 0 ≡ at.old.operand }
     ensures moved { AreMoved cells.old at.old.top
-        (at.old.frame.base + at.old.frame.locals + e.height) e.kept cells.new at.new.operand }
+        (at.old.frame.base + at.old.frame.function.now.locals + e.height) e.kept cells.new at.new.operand }
     ensures landed { at.new ≡ position_landed at.old e at.new.operand }
 {
     let kept = e.kept as usize;
-    let to = at.frame.base + at.frame.locals + e.height as usize;
+    let to = at.frame.base + at.frame.function.locals + e.height as usize;
     at.operand = land(cells, at.top, to, kept, at.operand);
     at.top = to + kept;
     at.frame.place = e.target as usize;
@@ -66,6 +66,7 @@ pub fn transfer<'a>(
     kind: TransferInstruction,
     n: u32,
     at: &mut Position<'a>,
+    why: &mut Stop,
 ) -> Crossing
     requires sound { RunsSomeWhole around.bound
         (loop_at (world_at around state.now memory.now) cells.old callers.old at.old) }
@@ -76,68 +77,71 @@ pub fn transfer<'a>(
     requires next { at.old.frame.place + 1 < 2 ^ 64 }
     ensures { Crosses around.entry.bound
         (loop_at (world_at around.entry state.now memory.now) cells.old callers.old at.old)
-        result cells.new callers.new at.new }
+        result why.new cells.new callers.new at.new }
 {
     let tables = at.frame.tables;
     match kind {
-        TransferInstruction::Unreachable => match pay(at.fuel) {
-            Ok(fuel) => {
-                at.fuel = fuel;
-                Crossing::Stops(Stop::Traps(Trap::Unreachable))
-            }
-            Err(stop) => Crossing::Stops(stop),
-        },
-        TransferInstruction::If => match pay(at.fuel) {
-            Ok(fuel) => {
-                let condition = at.operand;
-                at.fuel = fuel;
-                at.top -= 1;
-                at.operand = cells[at.top];
-                at.frame.place = if condition == 0 {
-                    entry(tables, n).target as usize
-                } else {
-                    at.frame.place + 1
-                };
-                Crossing::Goes
-            }
-            Err(stop) => Crossing::Stops(stop),
-        },
+        TransferInstruction::Unreachable => {
+            let Some(fuel) = pay(at.fuel, why) else {
+                return Crossing::Stops;
+            };
+            at.fuel = fuel;
+            *why = Stop::Traps(Trap::Unreachable);
+            Crossing::Stops
+        }
+        TransferInstruction::If => {
+            let Some(fuel) = pay(at.fuel, why) else {
+                return Crossing::Stops;
+            };
+            let condition = at.operand;
+            at.fuel = fuel;
+            at.top -= 1;
+            at.operand = cells[at.top];
+            at.frame.place = if condition == 0 {
+                entry(tables, n).target as usize
+            } else {
+                at.frame.place + 1
+            };
+            Crossing::Goes
+        }
         TransferInstruction::Jump => {
             at.frame.place = entry(tables, n).target as usize;
             Crossing::Goes
         }
-        TransferInstruction::Br => match pay(at.fuel) {
-            Ok(fuel) => {
-                at.fuel = fuel;
-                cells[at.top] = at.operand;
-                branch(cells, entry(tables, n), at);
-                Crossing::Goes
-            }
-            Err(stop) => Crossing::Stops(stop),
-        },
-        TransferInstruction::BrTable => match pay(at.fuel) {
-            Ok(fuel) => {
-                let e = chosen(tables, n, at.operand);
-                at.fuel = fuel;
-                at.top -= 1;
-                at.operand = cells[at.top];
-                branch(cells, e, at);
-                Crossing::Goes
-            }
-            Err(stop) => Crossing::Stops(stop),
-        },
-        TransferInstruction::Return => match pay(at.fuel) {
-            Ok(fuel) => {
-                at.fuel = fuel;
-                let results = entry(tables, n).kept as usize;
-                leave(around, state, memory, cells, callers, results, at)
-            }
-            Err(stop) => Crossing::Stops(stop),
-        },
-        TransferInstruction::Call => call(around, state, memory, cells, callers, n, at),
-        TransferInstruction::CallIndirect => {
-            call_indirect(around, state, memory, cells, callers, n, at)
+        TransferInstruction::Br => {
+            let Some(fuel) = pay(at.fuel, why) else {
+                return Crossing::Stops;
+            };
+            at.fuel = fuel;
+            cells[at.top] = at.operand;
+            branch(cells, entry(tables, n), at);
+            Crossing::Goes
         }
-        TransferInstruction::Leave => leave(around, state, memory, cells, callers, n as usize, at),
+        TransferInstruction::BrTable => {
+            let Some(fuel) = pay(at.fuel, why) else {
+                return Crossing::Stops;
+            };
+            let e = chosen(tables, n, at.operand);
+            at.fuel = fuel;
+            at.top -= 1;
+            at.operand = cells[at.top];
+            branch(cells, e, at);
+            Crossing::Goes
+        }
+        TransferInstruction::Return => {
+            let Some(fuel) = pay(at.fuel, why) else {
+                return Crossing::Stops;
+            };
+            at.fuel = fuel;
+            let results = entry(tables, n).kept as usize;
+            leave(around, state, memory, cells, callers, results, at, why)
+        }
+        TransferInstruction::Call => call(around, state, memory, cells, callers, n, at, why),
+        TransferInstruction::CallIndirect => {
+            call_indirect(around, state, memory, cells, callers, n, at, why)
+        }
+        TransferInstruction::Leave => {
+            leave(around, state, memory, cells, callers, n as usize, at, why)
+        }
     }
 }

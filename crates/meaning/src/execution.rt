@@ -16,7 +16,7 @@ ghost use Rattle.meaning.specs.execution.Effects.{Done, effect, instruction_cost
 ghost use Rattle.meaning.specs.execution.Instructions.{Next, next};
 ghost use Rattle.meaning.specs.execution.Modules.{constant};
 ghost use Rattle.meaning.specs.execution.Store.{Store, instance_of};
-ghost use Rattle.meaning.specs.execution.Runs.{AsksForMemory, Ending, IsEnd, IsWithinBound, NoHosts, OutOfDepth, OutOfFuel, OutOfMemory, Run, State, Steps, WithTrap, WithValues, price};
+ghost use Rattle.meaning.specs.execution.Runs.{AsksForMemory, Ending, IsEnd, IsReady, IsWithinBound, NoHosts, OutOfDepth, OutOfFuel, OutOfMemory, Run, State, Steps, WithTrap, WithValues, price};
 
 /// Worked rows of runs: a function that adds its two arguments, called with 1 and 2 with fuel 10, 3 and 2, and with no depth.
 pub fn adding_one_and_two_costs_three()
@@ -105,9 +105,10 @@ pub fn some_steps_ask_for_memory()
     ensures trap { Asks (store_with_pages 1) ([]) (alone (Control Unreachable)) → ⊥ }
 {}
 
-/// Law: a run ends out of memory only before a step that asks for memory, and may do so before each that its fuel and the depth bound
-/// allow.
+/// Law: a step that asks for memory is ready; a run ends out of memory only before such a step, and may do so before each that its fuel
+/// and the depth bound allow.
 pub fn memory_is_lacked_where_it_is_asked_for()
+    ensures ready { (what : Next) → AsksForMemory what → IsReady what }
     ensures only { (bound : ℕ) (outside : Frame) (at last : State ⊥) (configuration : Configuration)
         → IsEnd NoHosts bound outside at configuration OutOfMemory last
         → AsksForMemory (next at.store outside configuration) }

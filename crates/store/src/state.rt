@@ -1,10 +1,13 @@
-ghost use Rattle.std.specs.Prelude.{◌≡◌, ◌≢◌, ◌+◌, ◌<◌, ◌≤◌, [], length, replicate, slice_get, slice_set, option_copied, OnOk, OnErr};
+ghost use Rattle.std.specs.Prelude.{◌≡◌, ◌≢◌, ◌+◌, ◌<◌, ◌≤◌, [], length, replicate, slice_get, slice_set, option_copied, IfSome, OnOk, OnErr};
 ghost use Rattle.std.specs.Borrow.{sem};
+ghost use Rattle.core_types.specs.declared.types.Mutability.TheVariants.{Var};
 ghost use Rattle.meaning.specs.execution.Memories.{grow_by};
 ghost use Rattle.store.specs.Lending.{LendsMemory};
 ghost use Rattle.meaning.specs.execution.Storage.{items_at, overwrite};
 ghost use Rattle.meaning.specs.execution.Tables.{grow_entries};
-ghost use Rattle.store.specs.State.{AreWithin, Fits, append_objects, data_of, elements_of, memory_of, no_memory, no_objects, put_data, put_elements, put_global, put_memory, put_table, table_of};
+ghost use Rattle.meaning.specs.execution.Values.{type_of};
+ghost use Rattle.meaning.specs.validation.Types.{reference_type};
+ghost use Rattle.store.specs.State.{AreWithin, Fits, append_objects, data_of, elements_of, global_of, memory_of, no_memory, no_objects, put_data, put_elements, put_global, put_memory, put_table, table_of};
 ghost use Rattle.store.specs.Tables.{with_entries};
 
 use crate::globals::GlobalVariable;
@@ -183,10 +186,11 @@ impl State {
         self.tables.get(address as usize)
     }
 
-    /// Sets an entry of a table.
+    /// Sets an entry of a table, to a value of its type.
     pub fn set_entry(&mut self, address: u32, offset: u32, value: Val)
         requires there { address < length self.old.contents.tables }
         requires within { offset < length (table_of self.old address).entries }
+        requires typed { type_of value ≡ reference_type (table_of self.old address).ty.element }
         ensures { self.new ≡ put_table self.old address (with_entries (table_of self.old address)
             (slice_set (table_of self.old address).entries offset value)) }
     {
@@ -194,10 +198,11 @@ impl State {
         table.set(offset, value);
     }
 
-    /// Gives that many entries of a table a value.
+    /// Gives that many entries of a table a value of its type.
     pub fn fill_entries(&mut self, address: u32, offset: u32, value: Val, count: u32)
         requires there { address < length self.old.contents.tables }
         requires within { offset + count ≤ length (table_of self.old address).entries }
+        requires typed { type_of value ≡ reference_type (table_of self.old address).ty.element }
         ensures { self.new ≡ put_table self.old address (with_entries (table_of self.old address)
             (overwrite (table_of self.old address).entries offset (replicate count value))) }
     {
@@ -255,12 +260,15 @@ impl State {
         table.copy_from(source.references(), target, from, count);
     }
 
-    /// Adds entries of a value to a table. Where memory runs out, nothing has changed.
+    /// Adds entries to a table, of a value of its type. Where memory runs out, nothing has changed.
     pub fn grow_table(&mut self, address: u32, value: Val, count: u32) -> Result<(), AllocError>
         requires there { address < length self.old.contents.tables }
+        requires typed { type_of value ≡ reference_type (table_of self.old address).ty.element }
         requires most { (table_of self.old address).ty.limits.min + count ≤ 4294967295 }
         requires within { (table_of self.old address).ty.limits.min + count ≤
             self.old.bounds.entries }
+        requires declared { IfSome (table_of self.old address).ty.limits.max
+            (λ max. (table_of self.old address).ty.limits.min + count ≤ max) }
         ensures grown { OnOk result (self.new ≡ put_table self.old address
             (grow_entries (table_of self.old address) value count)) }
         ensures unchanged { OnErr result (self.new ≡ self.old) }
@@ -323,6 +331,8 @@ impl State {
         requires there { address < length self.old.contents.memories }
         requires most { (memory_of self.old address).limits.min + pages ≤ 65536 }
         requires within { (memory_of self.old address).limits.min + pages ≤ self.old.bounds.pages }
+        requires declared { IfSome (memory_of self.old address).limits.max
+            (λ max. (memory_of self.old address).limits.min + pages ≤ max) }
         ensures grown { OnOk result
             (self.new ≡ put_memory self.old address (grow_by (memory_of self.old address) pages)) }
         ensures unchanged { OnErr result (self.new ≡ self.old) }
@@ -338,9 +348,11 @@ impl State {
         self.globals.get(address as usize)
     }
 
-    /// Sets the value of a global.
+    /// Sets a global that may be set, to a value of its type.
     pub fn set_global(&mut self, address: u32, value: Val)
-        requires { address < length self.old.contents.globals }
+        requires there { address < length self.old.contents.globals }
+        requires variable { (global_of self.old address).ty.mutability ≡ Var }
+        requires typed { type_of value ≡ (global_of self.old address).ty.value }
         ensures { self.new ≡ put_global self.old address value }
     {
         let variable = &mut self.globals[address as usize];

@@ -3,15 +3,15 @@ use Rattle.interpreter.proofs.Called.{through-calls, through-lacks, through-refe
 use Rattle.interpreter.proofs.frames.call_indirect.Goals as goal
 
 pub returns-in_default : goal.returns-in_default
-returns-in_default c = through-lacks _ _ _ _ c.args.at.now _ c.requires.turns c.in_default.ensures.err.1
+returns-in_default c = through-lacks _ _ _ _ c.args.at.now _ c.requires.turns _ c.in_default.ensures.none
 
 pub find_through-requires-clause-refers : goal.find_through-requires-clause-refers
 find_through-requires-clause-refers c = through-refers _ _ _ _ c.args.at.now _ c.requires.turns _ (get_or_read _ _ _ c.requires.fits.1 c.index-indices.ensures _) c.requires.sound
 
 pub enter-requires-clause-calls : goal.enter-requires-clause-calls
 enter-requires-clause-calls c =
-    through-calls _ _ _ _ c.args.at.now _ c.requires.turns _ (get_or_read _ _ _ c.requires.fits.1 c.index-indices.ensures _) c.requires.sound c.requires.fits.0.0 c.in-Ok-find_through.found c.in-Ok-find_through.ensures
+    through-calls _ _ _ _ c.args.at.now _ c.requires.turns _ (get_or_read _ _ _ c.requires.fits.1 c.index-indices.ensures _) c.requires.sound c.requires.fits.0.0 c.in-Ok.found c.in-Ok.ensures
 
 pub returns-in-Err : goal.returns-in-Err
 returns-in-Err c =
-    through-traps _ _ _ _ c.args.at.now _ c.requires.turns _ (get_or_read _ _ _ c.requires.fits.1 c.index-indices.ensures _) c.in-Ok.left c.in-Ok.ensures.ok c.in-Err.trap c.in-Err.ensures
+    through-traps _ _ _ _ c.args.at.now _ c.requires.turns _ (get_or_read _ _ _ c.requires.fits.1 c.index-indices.ensures _) c.in-Some.left c.in-Some.ensures.some c.in-Err.trap c.in-Err.ensures

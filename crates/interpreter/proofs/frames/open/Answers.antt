@@ -13,4 +13,4 @@ pub returns : goal.returns
 returns c =
     let size : length (set c.args.cells.now c.args.from.top c.args.from.operand) ≡ length c.args.cells.now = length-set c.args.cells.now c.args.from.top c.args.from.operand in
     crosses-in c.args.around.bound _ c.args.cells.now c.args.callers.now c.args.at.now c.requires.next c.args.from c.args.function.now c.requires.sound c.requires.calls c.requires.paid c.requires.shallow
-    (omega (arith, c.if-declared-room.false, c.if-flat-room.false, c.requires.calls.declared)) c.clear.new.cells c.clear.ensures.cleared (c.clear.ensures.size ∙ size) c.push.new.self c.in-Ok.ensures.ok c.cross.result c.cross.ensures
+    (omega (arith, c.if-declared-room.false, c.if-flat-room.false, c.requires.calls.declared)) c.clear.new.cells c.clear.ensures.cleared (c.clear.ensures.size ∙ size) c.push.new.self c.in-Ok.ensures.ok c.cross.result c.cross.ensures _

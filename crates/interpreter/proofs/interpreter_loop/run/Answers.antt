@@ -77,9 +77,9 @@ loop-x-preserved-in-Enters c = record { ran = ran-then _ _ _ _ c.loop-x.invarian
 
 pub loop-x-preserved : goal.loop-x-preserved
 loop-x-preserved c =
-    let stepped = c.in-Ok-step_other.ensures c.loop-x.memory (rw c.in-Other.is at c.fetch.ensures.fits) (rw c.in-Other.is at c.fetch.ensures.turns) in
+    let stepped = c.in-Some.ensures c.loop-x.memory (rw c.in-Other.is at c.fetch.ensures.fits) (rw c.in-Other.is at c.fetch.ensures.turns) in
     record {
-      ran = steps-on _ _ (world_at c.args.around c.loop-x.state c.loop-x.memory) c.loop-x.cells c.loop-x.callers c.loop-x.at c.loop-x.invariant.ran c.step_other.new.state c.loop-x.memory _ c.in-Ok-step_other.to stepped;
+      ran = steps-on _ _ (world_at c.args.around c.loop-x.state c.loop-x.memory) c.loop-x.cells c.loop-x.callers c.loop-x.at c.loop-x.invariant.ran c.step_other.new.state c.loop-x.memory _ c.in-Some.to stepped;
       code = c.loop-x.invariant.code ∙ ap (λ (f : Frame). f.function.now.operations.items) (sym stepped.frame);
     }
 
@@ -153,8 +153,8 @@ returns-in-Switches c = record { stops = stops-across _ _ _ c.loop-x.invariant.r
 pub returns-in-Stops : goal.returns-in-Stops
 returns-in-Stops c = record { stops = stops-across _ _ _ c.loop-x.invariant.ran _ c.transfer.new.at _ _ c.in-Stops.ensures }
 
-pub returns-in-Err-step_other : goal.returns-in-Err-step_other
-returns-in-Err-step_other c = record {
+pub returns-in-None : goal.returns-in-None
+returns-in-None c = record {
   stops = stops-before _ _ (world_at c.args.around c.loop-x.state c.loop-x.memory) c.loop-x.cells c.loop-x.callers c.loop-x.at c.loop-x.invariant.ran c.requires.sound _ _ _
-      (c.in-Err-step_other.ensures c.loop-x.memory (rw c.in-Other.is at c.fetch.ensures.fits) (rw c.in-Other.is at c.fetch.ensures.turns));
+      (c.in-None.ensures c.loop-x.memory (rw c.in-Other.is at c.fetch.ensures.fits) (rw c.in-Other.is at c.fetch.ensures.turns));
 }

@@ -5,7 +5,7 @@ use Rattle.store.specs.Contents.{store_with}
 use Rattle.store.specs.State.{table_of}
 use Rattle.exec.specs.Resting.{at_rest, machine_of}
 use Rattle.exec.proofs.Acting.{measures, room-one}
-use Rattle.exec.proofs.instructions.table_size.Goals as goal
+use Rattle.exec.proofs.tables.table_size.Goals as goal
 
 pub table_at-address-requires : goal.table_at-address-requires
 table_at-address-requires c = let (bound, u, b) = c.requires in let (k, room) = measures _ u bound c.args.x b in (k.address, k.named)

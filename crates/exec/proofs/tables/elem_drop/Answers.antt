@@ -5,7 +5,7 @@ use Rattle.store.specs.Contents.{store_with}
 use Rattle.store.specs.State.{elements_of}
 use Rattle.exec.specs.Resting.{at_rest, machine_of}
 use Rattle.exec.proofs.Acting.{drops, room-none}
-use Rattle.exec.proofs.instructions.elem_drop.Goals as goal
+use Rattle.exec.proofs.tables.elem_drop.Goals as goal
 
 pub elements_at-address-requires : goal.elements_at-address-requires
 elements_at-address-requires c = let (bound, u, b) = c.requires in let k = drops _ u bound c.args.segment b in (k.address, k.named)

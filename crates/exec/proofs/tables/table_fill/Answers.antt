@@ -1,7 +1,7 @@
 use Rattle.std.proofs.Common.{◌≡◌, arith}
 use Rattle.exec.specs.Resting.{at_rest, machine_of}
 use Rattle.exec.proofs.Acting.{fills, room-taken}
-use Rattle.exec.proofs.instructions.table_fill.Goals as goal
+use Rattle.exec.proofs.tables.table_fill.Goals as goal
 
 pub table_at-address-requires : goal.table_at-address-requires
 table_at-address-requires c = let (bound, u, b) = c.requires in let k = fills _ u bound c.args.x b in (k.address, k.named)

@@ -4,7 +4,7 @@ use Rattle.simulation.specs.Outcomes.{made}
 use Rattle.store.specs.Contents.{store_with}
 use Rattle.exec.specs.Resting.{at_rest, machine_of}
 use Rattle.exec.proofs.Acting.{drops-bytes, room-none}
-use Rattle.exec.proofs.instructions.data_drop.Goals as goal
+use Rattle.exec.proofs.memories.data_drop.Goals as goal
 
 pub data_at-address-requires : goal.data_at-address-requires
 data_at-address-requires c = let (bound, u, b) = c.requires in let k = drops-bytes _ u bound c.args.segment b in (k.address, k.named)

@@ -1,7 +1,7 @@
 use Rattle.std.proofs.Common.{◌≡◌, arith}
 use Rattle.exec.specs.Resting.{at_rest, machine_of}
 use Rattle.exec.proofs.Acting.{copies-bytes, room-taken}
-use Rattle.exec.proofs.instructions.memory_copy.Goals as goal
+use Rattle.exec.proofs.memories.memory_copy.Goals as goal
 
 pub memory_at-address-requires : goal.memory_at-address-requires
 memory_at-address-requires c = let (bound, u, b) = c.requires in let k = copies-bytes _ u bound b in (k.address, k.named)

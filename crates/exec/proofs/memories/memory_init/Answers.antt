@@ -1,7 +1,7 @@
 use Rattle.std.proofs.Common.{◌≡◌, arith}
 use Rattle.exec.specs.Resting.{at_rest, machine_of}
 use Rattle.exec.proofs.Acting.{initializes-bytes, room-taken}
-use Rattle.exec.proofs.instructions.memory_init.Goals as goal
+use Rattle.exec.proofs.memories.memory_init.Goals as goal
 
 pub memory_at-address-requires : goal.memory_at-address-requires
 memory_at-address-requires c = let (bound, u, b) = c.requires in let (other, named, inside, k) = initializes-bytes _ u bound c.args.segment b in (k.address, k.named)
