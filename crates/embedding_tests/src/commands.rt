@@ -304,3 +304,22 @@ fn commands_get_their_answers(rt: HostRuntime) {
         assert!(rt; all_are_so(rt.alloc(), row.steps), "{}", row.name);
     }
 }
+
+// Whether the first bytes of the module that adds are loaded where they are a module: without sections, with its type alone, and whole.
+fn loads_first(alloc: Global, count: usize) -> bool {
+    let answer = match count {
+        8 | 17 | 41 => Number(0),
+        _ => Refused(Refusal::Malformed),
+    };
+    match fresh_embedding(alloc) {
+        Some(mut at) => loads(alloc, &mut at, &ADD[..count.min(ADD.len())], answer),
+        None => false,
+    }
+}
+
+#[test]
+fn the_first_bytes_of_a_module_are_no_module(rt: HostRuntime) {
+    for count in 0..=ADD.len() {
+        assert!(rt; loads_first(rt.alloc(), count), "{count} bytes");
+    }
+}

@@ -6,19 +6,19 @@ use Rattle.core_types.specs.declared.outcome.Val.{Val}
 use Rattle.core_types.specs.declared.outcome.Val.TheVariants.{I32, I64, FuncRef, ExternRef}
 use Rattle.meaning.specs.execution.Configurations.{Configuration, Frame}
 use Rattle.meaning.specs.execution.Modules.{HasNoValues, RunTasks, Task}
-use Rattle.meaning.specs.execution.Runs.{Answer, Ending, IsStep, Run, State, WithTrap, WithValues}
+use Rattle.meaning.specs.execution.Runs.{Answer, Ending, IsStep, Run, State, WithValues}
 use Rattle.meaning.specs.execution.Store.{ModuleInstance, Store}
 use Rattle.soundness.specs.Progress.{GetsStuck, TasksGetStuck}
 use Rattle.simulation.specs.Outcomes.{Outcome, failed, grown, made}
 use Rattle.effects.specs.Outcomes.{IsTrap, LacksMemory, cost_of}
 use Rattle.exec.specs.declared.outcome.Outcome.{Outcome as CallOutcome}
-use Rattle.exec.specs.declared.outcome.Outcome.TheVariants.{Values}
-use Rattle.exec.specs.Endings.{ending_of, exhausted_ending, run_state}
+use Rattle.exec.specs.declared.outcome.Outcome.TheVariants.{Exhausted, Trap, Values}
+use Rattle.exec.specs.Endings.{ending_of, run_state}
 use Rattle.store.specs.Contents.{AddressLists, Contents, instances_in, lists_of, module_instance, store_with}
 use Rattle.store.specs.State.{StateContents}
 use Rattle.instantiate.specs.declared.copies.Linked.{Linked}
 use Rattle.instantiate.specs.declared.link_end.TaskEnd.{TaskEnd}
-use Rattle.instantiate.specs.declared.link_end.TaskEnd.TheVariants.{Exhausted, Stuck, Trap}
+use Rattle.instantiate.specs.declared.link_end.TaskEnd.TheVariants.{Ended, Stuck}
 
 -- The state of a link over both parts of the store, with this fuel left.
 abbrev pub link_state : Contents → StateContents → (fuel : ℕ) → State ⊥
@@ -48,8 +48,7 @@ HasNoI32 (Some (ExternRef n)) = Unit {0}
 
 -- How a run ended, if it did.
 abbrev pub ending_in : TaskEnd → Option Ending
-ending_in (Trap trap) = Some (WithTrap trap)
-ending_in (Exhausted what) = Some (exhausted_ending what)
+ending_in (Ended outcome) = Some (ending_of outcome)
 ending_in Stuck = None
 
 -- It did not end with values.
@@ -60,7 +59,8 @@ IsWithoutValues (Some ending) = HasNoValues ending
 -- What is left where a call from outside ended so: nothing, after values.
 abbrev pub EndsAs : {U : Type 0} → Result U TaskEnd → CallOutcome → Type 0
 EndsAs (Ok u) outcome = (values : List Val) × (outcome ≡ Values values)
-EndsAs (Err o) outcome = Some (ending_of outcome) ≡ ending_in o
+EndsAs (Err o) outcome =
+    (Some (ending_of outcome) ≡ ending_in o) × IsWithoutValues (ending_in o)
 
 -- An instruction was done at its cost, and left this store and so much of the fuel.
 abbrev pub IsPaidFor : Outcome → (new : Store) → (fuel left : ℕ) → Type 0
@@ -74,11 +74,11 @@ IsPaidFor (failed trap) new fuel left = ⊥
 abbrev pub Passes : {U : Type 0} → Result U TaskEnd → Outcome → (old new : Store)
     → (fuel left : ℕ) → Type 0
 Passes (Ok u) o old new fuel left = IsPaidFor o new fuel left
-Passes (Err (Trap trap)) o old new fuel left =
+Passes (Err (Ended (Trap trap))) o old new fuel left =
     IsTrap o fuel trap × (new ≡ old) × (left ≡ fuel - 1)
-Passes (Err (Exhausted exhausted.Fuel)) o old new fuel left =
+Passes (Err (Ended (Exhausted exhausted.Fuel))) o old new fuel left =
     (fuel < cost_of o) × (new ≡ old) × (left ≡ fuel)
-Passes (Err (Exhausted exhausted.Memory)) o old new fuel left =
+Passes (Err (Ended (Exhausted exhausted.Memory))) o old new fuel left =
     LacksMemory o fuel × (new ≡ old) × (left ≡ fuel)
 Passes (Err other) o old new fuel left = ⊥
 

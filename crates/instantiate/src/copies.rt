@@ -17,6 +17,7 @@ ghost use Rattle.instantiate.specs.Tasks.{Passes, RunsTo, StepsOrEnds, frame_in,
 use crate::link_end::TaskEnd;
 use core_types::{Exhaustion, Module};
 use effects::{Paid, Refusal, drop_data, drop_elements, init_memory, init_table};
+use exec::Outcome;
 use fuel::Meter;
 use store::{Addresses, Code, State};
 
@@ -44,10 +45,10 @@ fn pass(answer: Result<Paid, Refusal>, meter: &mut Meter) -> Result<(), TaskEnd>
         }
         Err(Refusal::Traps(trap)) => {
             let _ = meter.try_spend(1);
-            Err(TaskEnd::Trap(trap))
+            Err(TaskEnd::Ended(Outcome::Trap(trap)))
         }
-        Err(Refusal::NoFuel) => Err(TaskEnd::Exhausted(Exhaustion::Fuel)),
-        Err(Refusal::NoMemory) => Err(TaskEnd::Exhausted(Exhaustion::Memory)),
+        Err(Refusal::NoFuel) => Err(TaskEnd::Ended(Outcome::Exhausted(Exhaustion::Fuel))),
+        Err(Refusal::NoMemory) => Err(TaskEnd::Ended(Outcome::Exhausted(Exhaustion::Memory))),
     }
 }
 

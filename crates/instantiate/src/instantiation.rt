@@ -181,8 +181,7 @@ fn link(
     let _ = store.state();
     match run_tasks(alloc, store, hosts, meter, instance, wanted) {
         Ok(()) => Ok(instance),
-        Err(TaskEnd::Trap(trap)) => Err(LinkEnd::Ended(Outcome::Trap(trap))),
-        Err(TaskEnd::Exhausted(what)) => Err(LinkEnd::Ended(Outcome::Exhausted(what))),
+        Err(TaskEnd::Ended(outcome)) => Err(LinkEnd::Ended(outcome)),
         Err(TaskEnd::Stuck) => unreachable!(),
     }
 }

@@ -2,7 +2,6 @@ ghost use Rattle.std.specs.Prelude.{◌≡◌};
 ghost use Rattle.instantiate.specs.declared.link_end.LinkEnd.TheVariants.{Refused as RefusedEnd};
 ghost use Rattle.instantiate.specs.declared.link_end.LinkRefusal.TheVariants.{OutOfMemory as OutOfMemoryCause};
 
-use core_types::{Exhaustion, Trap};
 use exec::Outcome;
 use std::alloc::{AllocError, AllocFailed};
 
@@ -20,12 +19,10 @@ pub enum LinkRefusal {
 }
 
 /// How a task of a link ends that does not come to its end.
-#[derive(Clone, Copy)]
+#[derive(Drop)]
 pub enum TaskEnd {
-    /// With a trap.
-    Trap(Trap),
-    /// Out of fuel, depth or memory.
-    Exhausted(Exhaustion),
+    /// As a call may: with a trap, or out of fuel, depth or memory.
+    Ended(Outcome),
     /// It cannot go on. No task of a valid module in a valid store ends so.
     Stuck,
 }

@@ -157,8 +157,7 @@ fn end_of(outcome: Outcome) -> Result<(), TaskEnd>
 {
     match outcome {
         Outcome::Values(_) => Ok(()),
-        Outcome::Trap(trap) => Err(TaskEnd::Trap(trap)),
-        Outcome::Exhausted(what) => Err(TaskEnd::Exhausted(what)),
+        ended => Err(TaskEnd::Ended(ended)),
     }
 }
 

@@ -16,6 +16,8 @@ mod engine_script;
 #[cfg(test)]
 mod files;
 #[cfg(test)]
+mod large_modules;
+#[cfg(test)]
 mod lines;
 #[cfg(test)]
 mod memories;

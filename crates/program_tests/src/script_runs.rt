@@ -78,16 +78,6 @@ const EXAMPLE: &[u8] = b"{\"source_filename\":\"a.wast\",\"commands\":[
  \"args\":[{\"type\":\"i32\",\"value\":\"1\"},{\"type\":\"i32\",\"value\":\"2\"}]},
  \"expected\":[{\"type\":\"i32\",\"value\":\"4\"}]}]}";
 
-// The same before its last brace.
-const CUT: &[u8] = b"{\"source_filename\":\"a.wast\",\"commands\":[
-{\"type\":\"module\",\"line\":1,\"filename\":\"a.0.wasm\"},
-{\"type\":\"assert_return\",\"line\":5,\"action\":{\"type\":\"invoke\",\"field\":\"add\",
- \"args\":[{\"type\":\"i32\",\"value\":\"1\"},{\"type\":\"i32\",\"value\":\"2\"}]},
- \"expected\":[{\"type\":\"i32\",\"value\":\"3\"}]},
-{\"type\":\"assert_return\",\"line\":6,\"action\":{\"type\":\"invoke\",\"field\":\"add\",
- \"args\":[{\"type\":\"i32\",\"value\":\"1\"},{\"type\":\"i32\",\"value\":\"2\"}]},
- \"expected\":[{\"type\":\"i32\",\"value\":\"4\"}]}]";
-
 const FIVE: &[u8] =
     b"{\"commands\":[{\"type\":\"module\",\"line\":1,\"filename\":\"a\"},{\"type\":\"register\",\"line\":2,\"as\":\"M\"},{\"type\":\"assert_return\",\"line\":3,\"action\":{\"type\":\"invoke\",\"field\":\"add\",\"args\":[{\"type\":\"i32\",\"value\":\"1\"},{\"type\":\"i32\",\"value\":\"2\"}]},\"expected\":[{\"type\":\"i32\",\"value\":\"3\"}]},{\"type\":\"assert_unlinkable\",\"line\":4,\"filename\":\"b\",\"text\":\"unknown import\"},{\"type\":\"assert_trap\",\"line\":5,\"action\":{\"type\":\"invoke\",\"field\":\"call\",\"args\":[{\"type\":\"i32\",\"value\":\"0\"}]},\"text\":\"uninitialized element 2\"}]}";
 
@@ -122,7 +112,7 @@ const OFTEN: &[u8] =
 const BRACKETS: [u8; 200] = [b'['; 200];
 
 #[rattlefmt::skip]
-static ROWS: [Row; 19] = [
+static ROWS: [Row; 18] = [
     Row { name: "no commands", words: "script s", folder: Folder { path: "s", script: b"{\"commands\":[]}", modules: &[] }, ending: Prints("passed 0 failed 0 skipped 0\n", 0) },
     Row { name: "a module in text", words: "script s", folder: Folder { path: "s", script: TEXT_ALONE, modules: &[] }, ending: Prints("passed 0 failed 0 skipped 1\n", 0) },
     Row { name: "an action without an instance", words: "script s", folder: Folder { path: "s", script: ACTS_ALONE, modules: &[] }, ending: Prints("line 2: failed\npassed 0 failed 1 skipped 0\n", 1) },
@@ -137,7 +127,6 @@ static ROWS: [Row; 19] = [
     Row { name: "a named file beside a script in the root", words: "script /s", folder: Folder { path: "/s", script: ONE_MODULE, modules: &[("/a", ADD)] }, ending: Prints("passed 1 failed 0 skipped 0\n", 0) },
     Row { name: "module, register, assert_return, assert_unlinkable and assert_trap", words: "script s", folder: Folder { path: "s", script: FIVE, modules: &[("a", ADD_AND_CALL), ("b", MISSING)] }, ending: Prints("passed 5 failed 0 skipped 0\n", 0) },
     Row { name: "a right and a wrong sum", words: "script a.json", folder: Folder { path: "a.json", script: EXAMPLE, modules: &[("a.0.wasm", ADD)] }, ending: Prints("line 6: failed\npassed 2 failed 1 skipped 0\n", 1) },
-    Row { name: "the same without its last brace", words: "script a.json", folder: Folder { path: "a.json", script: CUT, modules: &[("a.0.wasm", ADD)] }, ending: Refuses("refused 15 NotJson\n", 4) },
     Row { name: "two hundred brackets", words: "script s", folder: Folder { path: "s", script: &BRACKETS, modules: &[] }, ending: Refuses("refused 15 NotJson\n", 4) },
     Row { name: "bytes that are no text", words: "script s", folder: Folder { path: "s", script: b"\xFF\xFE", modules: &[] }, ending: Refuses("refused 15 NotJson\n", 4) },
     Row { name: "exhaustion of little fuel", words: "script s --fuel 1000", folder: Folder { path: "s", script: EXHAUSTS, modules: &[("e", ENDLESS)] }, ending: Prints("passed 3 failed 0 skipped 0\n", 0) },
@@ -159,6 +148,39 @@ fn agrees(alloc: Global, row: &'static Row) -> Result<bool, AllocError> {
 fn scripts_are_run(rt: HostRuntime) {
     for row in &ROWS {
         assert!(rt; matches!(agrees(rt.alloc(), row), Ok(true)), "{}", row.name);
+    }
+}
+
+// The example up to so many bytes, whatever the path.
+#[derive(Drop)]
+struct CutExample {
+    alloc: Global,
+    count: usize,
+}
+
+impl Files for CutExample {
+    fn read(&mut self, _path: &str) -> Result<Vec<u8>, ReadFault> {
+        let count = self.count.min(EXAMPLE.len());
+        Vec::from_slice(self.alloc, &EXAMPLE[..count]).map_err(|_| ReadFault::Memory)
+    }
+}
+
+// Whether the example up to so many bytes is refused.
+fn is_refused(alloc: Global, count: usize) -> Result<bool, AllocError> {
+    let words = words_of(alloc, "script a.json")?;
+    let mut files = CutExample { alloc, count };
+    Ok(ends_so(
+        alloc,
+        words.as_slice(),
+        &mut files,
+        Refuses("refused 15 NotJson\n", 4),
+    ))
+}
+
+#[test]
+fn a_script_without_its_last_brace_is_refused(rt: HostRuntime) {
+    for count in 0..EXAMPLE.len() {
+        assert!(rt; is_refused(rt.alloc(), count) == Ok(true), "{count} bytes");
     }
 }
 

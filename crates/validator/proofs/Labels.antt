@@ -1,9 +1,11 @@
 -- A label by its index, from the inside out.
-use Rattle.std.proofs.Common.{◌≡◌, ℕ, zero, suc, ◌-◌, ◌<◌, ◌≤◌, List, ◌∷◌, length, map, reverse, get_or, ap, ◌∙◌, subst, sym, None, Some, arith}
+use Rattle.std.proofs.Common.{◌≡◌, ℕ, zero, suc, ◌-◌, ◌<◌, ◌≤◌, List, ◌∷◌, length, map, reverse, get_or, ap, ◌∙◌, subst, sym, None, Some, true, eqb, arith}
 use Rattle.std.proofs.lemmas.List.Elements.{All-get_or, All-weaker}
 use Rattle.std.proofs.lemmas.List.{length-map, length-reverse, get_or-reverse, get_or-map}
 use Rattle.std.proofs.lemmas.Option.{slice_get-get_or}
-use Rattle.std.specs.Prelude.{All, slice_get}
+use Rattle.std.proofs.lemmas.Bool.{eqb-true}
+use Rattle.std.specs.Option.{option_eq}
+use Rattle.std.specs.Prelude.{All, IfSome, Option, slice_get}
 use Rattle.core_types.specs.declared.types.OperandType.{OperandType}
 use Rattle.core_types.specs.declared.types.ValType.{ValType}
 use Rattle.meaning.proofs.lemmas.Typing.{AllFit-through}
@@ -49,3 +51,8 @@ carry-misfit innermost outer given ns i n types less is found wrong all =
 -- Operands that fit those that may be carried may be carried too.
 pub carry-through : (innermost : ControlFrame) (outer : List ControlFrame) (taken given : List OperandType) (ns : List ℕ) → AllFit taken given → All (FitsLabelAt innermost outer given) ns → All (FitsLabelAt innermost outer taken) ns
 carry-through innermost outer taken given ns fit all = All-weaker (FitsLabelAt innermost outer given) (FitsLabelAt innermost outer taken) (λ n (types, found, fits). (types, found, AllFit-through taken given (known types) fit fits)) ns all
+
+-- What holds of a label that is kept holds of one of the same number.
+pub same-label : (P : ℕ → Type 0) (kept : Option ℕ) (n : ℕ) → option_eq eqb kept (Some n) ≡ true → IfSome kept P → P n
+same-label P None n is holds = absurd cc
+same-label P (Some m) n is holds = subst P (eqb-true m n is) holds

@@ -14,7 +14,8 @@ use Rattle.simulation.specs.Outcomes.{IsOutcome, Outcome, effect_of, failed, gro
 use Rattle.effects.specs.Outcomes.{IsDone, IsTrap, cost_of}
 use Rattle.effects.specs.declared.payment.Paid.{Paid}
 use Rattle.instantiate.specs.declared.link_end.TaskEnd.{TaskEnd}
-use Rattle.instantiate.specs.declared.link_end.TaskEnd.TheVariants.{Exhausted, Stuck, Trap}
+use Rattle.exec.specs.declared.outcome.Outcome.TheVariants.{Exhausted, Trap, Values}
+use Rattle.instantiate.specs.declared.link_end.TaskEnd.TheVariants.{Ended, Stuck}
 use Rattle.instantiate.specs.Tasks.{Ends, IsPaidFor, Passes, RunsTo, StepsOrEnds}
 use Rattle.instantiate.proofs.lemmas.Tasks.{at, frame_of, step-over}
 
@@ -69,19 +70,19 @@ module _ (bound instance : ℕ) (old : Store) (fuel : ℕ) (configuration : Conf
     steps-or-ends (Ok u) (grown cost store []) many is (enough, left_is, same) = grows (is ∙ ap (λ (s : Store). Grows cost s its_frame (Running [] rest)) (sym same)) enough left_is refl
     steps-or-ends (Ok u) (grown cost store (v ∷ vs)) (count, stays) is passes = absurd (omega (arith, count))
     steps-or-ends (Ok u) (failed trap) many is passes = absurd passes
-    steps-or-ends (Err (Trap trap)) (made cost store results) many is (traps, same, left_is) = absurd traps
-    steps-or-ends (Err (Trap trap)) (grown cost store results) many is (traps, same, left_is) = absurd traps
-    steps-or-ends (Err (Trap trap)) (failed other) many is ((trap_is, enough), same, left_is) = record {
+    steps-or-ends (Err (Ended (Trap trap))) (made cost store results) many is (traps, same, left_is) = absurd traps
+    steps-or-ends (Err (Ended (Trap trap))) (grown cost store results) many is (traps, same, left_is) = absurd traps
+    steps-or-ends (Err (Ended (Trap trap))) (failed other) many is ((trap_is, enough), same, left_is) = record {
       ends = end (trapped is enough (ap WithTrap trap_is) (same-state same (fuel - 1) left_is));
       no_values = tt;
     }
-    steps-or-ends (Err (Exhausted exhausted.Fuel)) o many is (dear, same, left_is) = record {
+    steps-or-ends (Err (Ended (Exhausted exhausted.Fuel))) o many is (dear, same, left_is) = record {
       ends = end (no_fuel (subst (λ (n : ℕ). fuel < n) (sym (ap price is ∙ price-is o)) dear) refl (same-state same fuel left_is));
       no_values = tt;
     }
-    steps-or-ends (Err (Exhausted exhausted.Depth)) o many is passes = absurd passes
-    steps-or-ends (Err (Exhausted exhausted.Memory)) (made cost store results) many is (lacks, same, left_is) = absurd lacks
-    steps-or-ends (Err (Exhausted exhausted.Memory)) (grown cost store results) many is (enough, same, left_is) = record {
+    steps-or-ends (Err (Ended (Exhausted exhausted.Depth))) o many is passes = absurd passes
+    steps-or-ends (Err (Ended (Exhausted exhausted.Memory))) (made cost store results) many is (lacks, same, left_is) = absurd lacks
+    steps-or-ends (Err (Ended (Exhausted exhausted.Memory))) (grown cost store results) many is (enough, same, left_is) = record {
       ends = end
           (no_memory
           (subst AsksForMemory (sym is) tt)
@@ -91,7 +92,8 @@ module _ (bound instance : ℕ) (old : Store) (fuel : ℕ) (configuration : Conf
           (same-state same fuel left_is));
       no_values = tt;
     }
-    steps-or-ends (Err (Exhausted exhausted.Memory)) (failed trap) many is (lacks, same, left_is) = absurd lacks
+    steps-or-ends (Err (Ended (Exhausted exhausted.Memory))) (failed trap) many is (lacks, same, left_is) = absurd lacks
+    steps-or-ends (Err (Ended (Values values))) o many is passes = absurd passes
     steps-or-ends (Err Stuck) o many is passes = absurd passes
 
   -- It is stuck where it has no outcome.

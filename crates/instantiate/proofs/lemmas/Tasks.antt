@@ -8,7 +8,6 @@ use Rattle.core_types.specs.declared.op.Op.{Op}
 use Rattle.core_types.specs.declared.op.PlainOp.{PlainOp}
 use Rattle.core_types.specs.declared.op.PlainOp.TheVariants.{Memory, Table}
 use Rattle.core_types.specs.declared.op.TableOp.TheVariants.{Init as InitTable}
-use Rattle.core_types.specs.declared.outcome.Exhaustion.TheVariants as exhausted
 use Rattle.core_types.specs.declared.outcome.Val.{Val}
 use Rattle.core_types.specs.declared.outcome.Val.TheVariants.{I32, I64, FuncRef, ExternRef}
 use Rattle.meaning.specs.structure.Bodies.{Body, Empty, Then}
@@ -27,7 +26,7 @@ use Rattle.soundness.proofs.Runs.{waiting-stuck}
 use Rattle.instantiate.specs.declared.link_end.TaskEnd.{TaskEnd}
 use Rattle.exec.specs.declared.outcome.Outcome.{Outcome}
 use Rattle.exec.specs.Endings.{ending_of}
-use Rattle.instantiate.specs.declared.link_end.TaskEnd.TheVariants.{Exhausted, Stuck, Trap}
+use Rattle.instantiate.specs.declared.link_end.TaskEnd.TheVariants.{Stuck}
 use Rattle.instantiate.specs.Tasks.{DoneTasks, EndedTasks, EndsAs, HasNoI32, IsWithoutValues, RanTasks, RunsOn, RunsTo, TasksRunOn, ending_in}
 
 -- The frame of an instance, without locals.
@@ -54,19 +53,11 @@ step-runs (Err o) bound frame old mid new first second s run = record { ends = s
 pub step-over : (bound : ℕ) (frame : Frame) (old new : State ⊥) (first : Configuration) (values : List Val) → IsStep NoHosts bound frame old first new (Running values Empty) → Run NoHosts bound frame old first (WithValues (reverse values)) new
 step-over bound frame old new first values s = step s (end (values_left refl refl refl))
 
--- No task ends with values.
-no-values : (o : TaskEnd) → IsWithoutValues (ending_in o)
-no-values (Trap trap) = tt
-no-values (Exhausted exhausted.Fuel) = tt
-no-values (Exhausted exhausted.Depth) = tt
-no-values (Exhausted exhausted.Memory) = tt
-no-values Stuck = tt
-
 -- A call from outside that ended so.
 pub called : {H : Type 0} (HostStep : List H → ℕ → Option ℕ → List Val → Store → Answer → Store → List H → Type 0) {U : Type 0} (r : Result U TaskEnd) (outcome : Outcome) (bound : ℕ) (frame : Frame) (old new : State H) (configuration : Configuration)
     → EndsAs r outcome → Run HostStep bound frame old configuration (ending_of outcome) new → RunsTo HostStep r bound frame old configuration new
 called HostStep (Ok u) outcome bound frame old new configuration (values, is) run = (values, subst (λ (o : Outcome). Run HostStep bound frame old configuration (ending_of o) new) is run)
-called HostStep (Err o) outcome bound frame old new configuration is run = record { ends = subst (λ (e : Option Ending). RunsOn HostStep bound frame old configuration e new) is run; no_values = no-values o }
+called HostStep (Err o) outcome bound frame old new configuration (is, none) run = record { ends = subst (λ (e : Option Ending). RunsOn HostStep bound frame old configuration e new) is run; no_values = none }
 
 -- ---- tasks
 

@@ -32,30 +32,17 @@ returns-in-Ok-clause-linked g c =
       run = done-links c.in_ok-instance.instance m (take (length m.imports) c.args.externs.now) (store_of c.args.store.now) c.allocate.new.store.code c.allocate.new.store.state allocated _ c.args.hosts.now.objects.items c.args.meter.now.bound c.args.meter.now.left _ (rw module_is at c.in-Ok.ensures.ran);
     }
 
-pub returns-in-Err-Trap-clause-linked : goal.returns-in-Err-Trap-clause-linked
-returns-in-Err-Trap-clause-linked g c =
+pub returns-in-Err-Ended-clause-linked : goal.returns-in-Err-Ended-clause-linked
+returns-in-Err-Ended-clause-linked g c =
     let m = c.args.loaded.now.value in
     let module_is = c.module-wanted.ensures.same ∙ c.as_ref.ensures in
     let count_is = rw module_is at c.len.ensures in
     let allocated = rw count_is at c.in_ok-instance.ensures in
-    let ran = rw (module_is, c.in-Err-Trap.field-0-is) at c.in-Err-Trap.ensures.ran in
+    let ran = rw (module_is, c.in-Err-Ended.field-0-is) at c.in-Err-Ended.ensures.ran in
     record {
       allowed = rw module_is at c.in_default.ensures;
       no_values = ran.no_values;
-      run = ended-links c.in_ok-instance.instance m (take (length m.imports) c.args.externs.now) (store_of c.args.store.now) c.allocate.new.store.code c.allocate.new.store.state allocated _ c.args.hosts.now.objects.items c.args.meter.now.bound c.args.meter.now.left (end.Trap c.in-Err-Trap.trap) _ _ refl ran;
-    }
-
-pub returns-in-Err-Exhausted-clause-linked : goal.returns-in-Err-Exhausted-clause-linked
-returns-in-Err-Exhausted-clause-linked g c =
-    let m = c.args.loaded.now.value in
-    let module_is = c.module-wanted.ensures.same ∙ c.as_ref.ensures in
-    let count_is = rw module_is at c.len.ensures in
-    let allocated = rw count_is at c.in_ok-instance.ensures in
-    let ran = rw (module_is, c.in-Err-Exhausted.field-0-is) at c.in-Err-Exhausted.ensures.ran in
-    record {
-      allowed = rw module_is at c.in_default.ensures;
-      no_values = ran.no_values;
-      run = ended-links c.in_ok-instance.instance m (take (length m.imports) c.args.externs.now) (store_of c.args.store.now) c.allocate.new.store.code c.allocate.new.store.state allocated _ c.args.hosts.now.objects.items c.args.meter.now.bound c.args.meter.now.left (end.Exhausted c.in-Err-Exhausted.what) _ _ refl ran;
+      run = ended-links c.in_ok-instance.instance m (take (length m.imports) c.args.externs.now) (store_of c.args.store.now) c.allocate.new.store.code c.allocate.new.store.state allocated _ c.args.hosts.now.objects.items c.args.meter.now.bound c.args.meter.now.left (end.Ended c.in-Err-Ended.outcome) _ _ refl ran;
     }
 
 pub allocate-requires-clause-linkable : goal.allocate-requires-clause-linkable

@@ -37,7 +37,7 @@ pub fn step_br_if(stacks: &mut Stacks<'_>, index: u32) -> Result<(), Fault>
     apply(stacks, &takes_i32_gives(types, types))
 }
 
-// Whether operands may be carried to each of the labels.
+// Whether operands may be carried to each of the labels. One that stands many times in a row is looked at once.
 fn fit_labels<'a>(
     given: &[OperandType],
     innermost: &ControlFrame<'a>,
@@ -47,13 +47,18 @@ fn fit_labels<'a>(
     ensures fit { OnTrue result (All (FitsLabelAt innermost.now outer.now given.now) numbers.now) }
     ensures refused { OnFalse result (¬ All (FitsLabelAt innermost.now outer.now given.now) numbers.now) }
 {
+    let mut fitting = None;
     for index in numbers {
+        if fitting == Some(*index) {
+            continue;
+        }
         let Some(types) = find_label(innermost, outer, *index) else {
             return false;
         };
         if !all_fit(given, types) {
             return false;
         }
+        fitting = Some(*index);
     }
     true
 }

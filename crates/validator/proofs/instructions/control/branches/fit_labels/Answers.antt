@@ -1,21 +1,27 @@
-use Rattle.std.proofs.Common.{◌<◌, ◌≤◌, length, arith, refl, subst}
+use Rattle.std.proofs.Common.{◌<◌, ◌≤◌, get_or, length, arith, refl, sym, subst, ◌∙◌}
 use Rattle.std.proofs.lemmas.List.Elements.{All-more}
 use Rattle.std.proofs.lemmas.List.{take_all}
 use Rattle.std.specs.Prelude.{All}
 use Rattle.validator.specs.ControlFrames.{FitsLabelAt}
-use Rattle.validator.proofs.Labels.{carry-misfit, carry-missing}
+use Rattle.validator.proofs.Labels.{carry-misfit, carry-missing, same-label}
 use Rattle.validator.proofs.instructions.control.branches.fit_labels.Goals as goal
 
 pub loop-index-preserved : goal.loop-index-preserved
 loop-index-preserved c =
     let below : c.loop-index.index-index < length c.args.numbers.now = omega arith in
-    All-more (FitsLabelAt c.args.innermost.now c.args.outer.now c.args.given.now) c.args.numbers.now c.loop-index.index-index 0 below c.loop-index.invariant
-    (c.in-Some.types.now, c.in-Some.ensures.some, c.if-not-all_fit.ensures.0 refl)
+    let fits : FitsLabelAt c.args.innermost.now c.args.outer.now c.args.given.now (get_or c.args.numbers.now c.loop-index.index-index 0) = (c.in-Some.types.now, c.in-Some.ensures.some, c.if-not-all_fit.ensures.0 refl) in
+    (All-more (FitsLabelAt c.args.innermost.now c.args.outer.now c.args.given.now) c.args.numbers.now c.loop-index.index-index 0 below c.loop-index.invariant.0 fits, fits)
+
+pub loop-index-preserved-then-eq : goal.loop-index-preserved-then-eq
+loop-index-preserved-then-eq c =
+    let below : c.loop-index.index-index < length c.args.numbers.now = omega arith in
+    let fits = same-label (FitsLabelAt c.args.innermost.now c.args.outer.now c.args.given.now) c.loop-index.fitting _ (sym c.eq.ensures ∙ c.if-eq.true) c.loop-index.invariant.1 in
+    (All-more (FitsLabelAt c.args.innermost.now c.args.outer.now c.args.given.now) c.args.numbers.now c.loop-index.index-index 0 below c.loop-index.invariant.0 fits, c.loop-index.invariant.1)
 
 pub returns-clause-fit : goal.returns-clause-fit
 returns-clause-fit c =
     let past : length c.args.numbers.now ≤ c.loop-index.index-index = omega arith in
-    subst (All (FitsLabelAt c.args.innermost.now c.args.outer.now c.args.given.now)) (take_all c.loop-index.index-index c.args.numbers.now past) c.loop-index.invariant
+    subst (All (FitsLabelAt c.args.innermost.now c.args.outer.now c.args.given.now)) (take_all c.loop-index.index-index c.args.numbers.now past) c.loop-index.invariant.0
 
 pub returns-in_default-clause-refused : goal.returns-in_default-clause-refused
 returns-in_default-clause-refused c = λ all.

@@ -1,0 +1,234 @@
+//! Large modules, which are made here: they nest deeply, or have very many of something.
+
+use crate::runs::{Ending, ends_so, words_of};
+use Large::{Exports, ExportsOfOneName, Functions, Lists, Nests};
+use program::{Files, ReadFault};
+use std::alloc::{AllocError, Global};
+
+// What a module has many of. The bodies are those of function 0, without their last `end`; the first number is that of its type.
+#[derive(Clone, Copy)]
+enum Large {
+    // Some bytes so often, some in the middle, and some as often.
+    Nests(u8, &'static [u8], &'static [u8], &'static [u8]),
+    // Some bytes, the count, so many items, and some bytes behind them.
+    Lists(u8, &'static [u8], &'static [u8], &'static [u8]),
+    // Functions with an empty body.
+    Functions,
+    // Exports of function 0, with names of their own.
+    Exports,
+    // The same, but the last two have one name.
+    ExportsOfOneName,
+}
+
+// The types of the modules: no results, one, and a thousand, which function 1 has, whose body is `unreachable`.
+const NONE: u8 = 0;
+
+const ONE: u8 = 1;
+
+const THOUSAND: u8 = 2;
+
+// What a module has many of, and how many, the words of a run with it, and how the run ends.
+struct Row {
+    name: &'static str,
+    large: Large,
+    count: u32,
+    words: &'static str,
+    ending: Ending<'static>,
+}
+
+const MILLION: u32 = 1_000_000;
+
+const VALID: Ending<'static> = Ending::Out("valid\n", 0);
+
+const INVALID: Ending<'static> = Ending::Err("refused 4 Invalid\n", 5);
+
+const LIMIT: Ending<'static> = Ending::Err("refused 3 Limit\n", 5);
+
+#[rattlefmt::skip]
+static ROWS: [Row; 17] = [
+    Row { name: "nested blocks", large: Nests(NONE, &[0x02, 0x40], &[], &[0x0B]), count: MILLION, words: "check m", ending: VALID },
+    Row { name: "a call of nested blocks", large: Nests(NONE, &[0x02, 0x40], &[], &[0x0B]), count: MILLION, words: "call m f", ending: Ending::Out("fuel left 999000000\n", 0) },
+    Row { name: "nested loops", large: Nests(NONE, &[0x03, 0x40], &[], &[0x0B]), count: MILLION, words: "check m", ending: VALID },
+    Row { name: "a call of nested loops", large: Nests(NONE, &[0x03, 0x40], &[], &[0x0B]), count: MILLION, words: "call m f", ending: Ending::Out("fuel left 999000000\n", 0) },
+    Row { name: "nested ifs", large: Nests(NONE, &[0x41, 0x01, 0x04, 0x40], &[], &[0x05, 0x0B]), count: MILLION, words: "check m", ending: VALID },
+    Row { name: "a call of nested ifs", large: Nests(NONE, &[0x41, 0x01, 0x04, 0x40], &[], &[0x05, 0x0B]), count: MILLION, words: "call m f", ending: Ending::Out("fuel left 998000000\n", 0) },
+    Row { name: "nested blocks with a result", large: Nests(ONE, &[0x02, 0x7F], &[0x41, 0x07], &[0x0B]), count: MILLION, words: "check m", ending: VALID },
+    Row { name: "a call of nested blocks with a result", large: Nests(ONE, &[0x02, 0x7F], &[0x41, 0x07], &[0x0B]), count: MILLION, words: "call m f", ending: Ending::Out("i32 7\nfuel left 998999999\n", 0) },
+    Row { name: "labels", large: Lists(NONE, &[0x00, 0x41, 0x00, 0x0E], &[0x00], &[0x00]), count: MILLION, words: "check m", ending: VALID },
+    Row { name: "functions", large: Functions, count: MILLION, words: "check m", ending: VALID },
+    Row { name: "exports", large: Exports, count: MILLION, words: "check m", ending: VALID },
+    Row { name: "exports of one name", large: ExportsOfOneName, count: MILLION, words: "check m", ending: INVALID },
+    Row { name: "groups of no locals", large: Lists(NONE, &[], &[0x00, 0x7F], &[]), count: MILLION, words: "check m", ending: VALID },
+    Row { name: "groups of one local", large: Lists(NONE, &[], &[0x01, 0x7F], &[]), count: MILLION, words: "check m", ending: LIMIT },
+    Row { name: "calls of a function of a thousand results", large: Nests(NONE, &[0x10, 0x01], &[0x00], &[]), count: MILLION, words: "check m", ending: VALID },
+    Row { name: "labels with a thousand results", large: Lists(THOUSAND, &[0x00, 0x10, 0x01, 0x41, 0x00, 0x0E], &[0x00], &[0x00]), count: 50_000, words: "check m", ending: VALID },
+    Row { name: "the same after unreachable", large: Lists(THOUSAND, &[0x00, 0x00, 0x0E], &[0x00], &[0x00]), count: 50_000, words: "check m", ending: VALID },
+];
+
+// The spelling of a number in five bytes.
+fn spell(number: u32) -> [u8; 5] {
+    [
+        (number % 128) as u8 | 0x80,
+        (number / 128 % 128) as u8 | 0x80,
+        (number / 16_384 % 128) as u8 | 0x80,
+        (number / 2_097_152 % 128) as u8 | 0x80,
+        (number / 268_435_456) as u8,
+    ]
+}
+
+// Adds bytes so often.
+fn push_often(into: &mut Vec<u8>, bytes: &[u8], count: u32) -> Result<(), AllocError> {
+    for _ in 0..count {
+        into.extend_from_slice(bytes)?;
+    }
+    Ok(())
+}
+
+// Adds bytes behind their number.
+fn push_sized(into: &mut Vec<u8>, bytes: &[u8]) -> Result<(), AllocError> {
+    let size = (bytes.len() % 4_294_967_296) as u32;
+    into.extend_from_slice(&spell(size))?;
+    into.extend_from_slice(bytes)?;
+    Ok(())
+}
+
+// Adds a section.
+fn push_section(into: &mut Vec<u8>, number: u8, content: &[u8]) -> Result<(), AllocError> {
+    into.push(number)?;
+    push_sized(into, content)
+}
+
+// Three types: no results, an i32, and a thousand of them.
+fn types(alloc: Global) -> Result<Vec<u8>, AllocError> {
+    let mut content = Vec::from_slice(
+        alloc,
+        &[
+            0x03, 0x60, 0x00, 0x00, 0x60, 0x00, 0x01, 0x7F, 0x60, 0x00, 0xE8, 0x07,
+        ],
+    )?;
+    push_often(&mut content, &[0x7F], 1000)?;
+    Ok(content)
+}
+
+// The types of the functions.
+fn functions(alloc: Global, large: Large, count: u32) -> Result<Vec<u8>, AllocError> {
+    match large {
+        Nests(ty, ..) | Lists(ty, ..) => Vec::from_slice(alloc, &[0x02, ty, THOUSAND]),
+        Functions => {
+            let mut content = Vec::from_slice(alloc, &spell(count))?;
+            push_often(&mut content, &[NONE], count)?;
+            Ok(content)
+        }
+        Exports | ExportsOfOneName => Vec::from_slice(alloc, &[0x02, NONE, THOUSAND]),
+    }
+}
+
+// The last seven digits of a number.
+fn digits(number: u32) -> [u8; 7] {
+    let mut text = [b'0'; 7];
+    let mut rest = number;
+    for k in 0..7 {
+        text[6 - k] = b'0' + (rest % 10) as u8;
+        rest /= 10;
+    }
+    text
+}
+
+// So many exports of function 0, whose names are their numbers, up to a greatest one.
+fn numbered_exports(alloc: Global, count: u32, greatest: u32) -> Result<Vec<u8>, AllocError> {
+    let mut content = Vec::from_slice(alloc, &spell(count))?;
+    for k in 0..count {
+        let number = if k < greatest { k } else { greatest };
+        content.push(0x07)?;
+        content.extend_from_slice(&digits(number))?;
+        content.extend_from_slice(&[0x00, 0x00])?;
+    }
+    Ok(content)
+}
+
+// The exports: one of function 0, named f, or as many as there are to be.
+fn exports(alloc: Global, large: Large, count: u32) -> Result<Vec<u8>, AllocError> {
+    match large {
+        Exports => numbered_exports(alloc, count, count),
+        ExportsOfOneName => numbered_exports(alloc, count, count.saturating_sub(2)),
+        _ => Vec::from_slice(alloc, &[0x01, 0x01, b'f', 0x00, 0x00]),
+    }
+}
+
+// The body of function 0.
+fn body(alloc: Global, large: Large, count: u32) -> Result<Vec<u8>, AllocError> {
+    let mut bytes = Vec::new(alloc);
+    match large {
+        Nests(_, front, middle, back) => {
+            bytes.push(0x00)?;
+            push_often(&mut bytes, front, count)?;
+            bytes.extend_from_slice(middle)?;
+            push_often(&mut bytes, back, count)?;
+        }
+        Lists(_, before, item, behind) => {
+            bytes.extend_from_slice(before)?;
+            bytes.extend_from_slice(&spell(count))?;
+            push_often(&mut bytes, item, count)?;
+            bytes.extend_from_slice(behind)?;
+        }
+        _ => bytes.push(0x00)?,
+    }
+    bytes.push(0x0B)?;
+    Ok(bytes)
+}
+
+// The bodies of the functions.
+fn code(alloc: Global, large: Large, count: u32) -> Result<Vec<u8>, AllocError> {
+    let mut content = Vec::new(alloc);
+    if matches!(large, Functions) {
+        content.extend_from_slice(&spell(count))?;
+        push_often(&mut content, &[0x02, 0x00, 0x0B], count)?;
+        return Ok(content);
+    }
+    content.push(0x02)?;
+    push_sized(&mut content, body(alloc, large, count)?.as_slice())?;
+    content.extend_from_slice(&[0x03, 0x00, 0x00, 0x0B])?;
+    Ok(content)
+}
+
+// The bytes of a module.
+fn module(alloc: Global, large: Large, count: u32) -> Result<Vec<u8>, AllocError> {
+    let mut bytes = Vec::from_slice(alloc, b"\0asm\x01\0\0\0")?;
+    push_section(&mut bytes, 1, types(alloc)?.as_slice())?;
+    push_section(&mut bytes, 3, functions(alloc, large, count)?.as_slice())?;
+    push_section(&mut bytes, 7, exports(alloc, large, count)?.as_slice())?;
+    push_section(&mut bytes, 10, code(alloc, large, count)?.as_slice())?;
+    Ok(bytes)
+}
+
+// A large module, whatever the path.
+#[derive(Drop)]
+struct LargeModule {
+    alloc: Global,
+    large: Large,
+    count: u32,
+}
+
+impl Files for LargeModule {
+    fn read(&mut self, _path: &str) -> Result<Vec<u8>, ReadFault> {
+        module(self.alloc, self.large, self.count).map_err(|_| ReadFault::Memory)
+    }
+}
+
+// Whether a row's run ends as the row says.
+fn agrees(alloc: Global, row: &Row) -> Result<bool, AllocError> {
+    let words = words_of(alloc, row.words)?;
+    let mut files = LargeModule {
+        alloc,
+        large: row.large,
+        count: row.count,
+    };
+    Ok(ends_so(alloc, words.as_slice(), &mut files, row.ending))
+}
+
+#[test]
+fn large_modules_end_with_an_answer(rt: HostRuntime) {
+    for row in &ROWS {
+        assert!(rt; agrees(rt.alloc(), row) == Ok(true), "{}", row.name);
+    }
+}

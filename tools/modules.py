@@ -1,0 +1,66 @@
+"""Modules in the binary format for the tools that measure: bytes that are put together here."""
+
+HEADER = b"\0asm\1\0\0\0"
+I32 = 0x7F
+TYPES, FUNCTIONS, TABLES, MEMORIES, EXPORTS, ELEMENTS, DATA_COUNT, CODE, DATA = 1, 3, 4, 5, 7, 9, 12, 10, 11
+ORDER = [TYPES, FUNCTIONS, TABLES, MEMORIES, EXPORTS, ELEMENTS, DATA_COUNT, CODE, DATA]
+
+
+def number(value):
+    """The unsigned LEB128 spelling of a number."""
+    out = bytearray()
+    while value >= 0x80:
+        out.append(value & 0x7F | 0x80)
+        value >>= 7
+    return bytes(out) + bytes([value])
+
+
+def constant(value):
+    """The instruction i32.const of a number below 2^31."""
+    out = bytearray(b"\x41")
+    while value >= 0x40:
+        out.append(value & 0x7F | 0x80)
+        value >>= 7
+    return bytes(out) + bytes([value])
+
+
+def vector(items):
+    """A vector."""
+    return number(len(items)) + b"".join(items)
+
+
+def sized(content):
+    """Bytes behind their number."""
+    return number(len(content)) + content
+
+
+def function_type(parameters, results):
+    """A function type, whose parameters and results are i32."""
+    return b"\x60" + sized(bytes([I32] * parameters)) + sized(bytes([I32] * results))
+
+
+def export(name, index):
+    """The export of a function."""
+    return sized(name) + b"\0" + number(index)
+
+
+def function(instructions, groups=b"\0"):
+    """The code of a function: its groups of locals, and its instructions without the last `end`."""
+    return sized(groups + instructions + b"\x0b")
+
+
+def module(sections):
+    """A module of these sections, by their numbers."""
+    return HEADER + b"".join(bytes([key]) + sized(content) for key, content in sections.items())
+
+
+def one_function(code, parameters=0, results=0, others={}):
+    """A module with one function, which is exported as f, and other sections."""
+    sections = {
+        TYPES: vector([function_type(parameters, results)]),
+        FUNCTIONS: vector([b"\0"]),
+        EXPORTS: vector([export(b"f", 0)]),
+        CODE: vector([code]),
+        **others,
+    }
+    return module({key: sections[key] for key in sorted(sections, key=ORDER.index)})
