@@ -81,6 +81,10 @@ module _ (bound : ℕ) (start l : Loop) (ran : Ran bound start l) where
   pub stops-across : (s : Stop) (to : Position) (cells' : List ℕ) (callers' : List Frame) → StopsAt bound l s (loop_at l.world cells' callers' to) → StopsAt bound start s (loop_at l.world cells' callers' to)
   stops-across s to cells' callers' stops = stops-then bound start l _ s ran stops
 
+-- The run that led to a position led to what is that position.
+pub ran-at : (bound : ℕ) (start : Loop) (w : World) (cells : List ℕ) (callers : List Frame) (at to : Position) → to ≡ at → Ran bound start (loop_at w cells callers at) → Ran bound start (loop_at w cells callers to)
+ran-at bound start w cells callers at to is ran = subst (λ (p : Position). Ran bound start (loop_at w cells callers p)) (sym is) ran
+
 -- ---- operations that are rarer
 
 module _ (bound : ℕ) (start : Loop) (w : World) (cells : List ℕ) (callers : List Frame) (at : Position) (ran : Ran bound start (loop_at w cells callers at)) where

@@ -51,30 +51,36 @@ fn open<'a>(
         result why.new cells.new callers.new at.new }
 {
     let flat = function.flat.function;
-    let declared = flat.locals - flat.params;
-    let room = cells.len() - from.top - 1;
-    if declared > room || flat.greatest >= (room - declared) as u64 {
+    let (locals, params) = (flat.locals, flat.params);
+    let behind = from.top + 1;
+    let base = behind - params;
+    let room = cells.len() - base;
+    if locals > room || flat.greatest >= (room - locals) as u64 {
         *why = Stop::NoRoom;
         return Crossing::Stops;
     }
-    let mut waiting = at.frame;
-    waiting.place += 1;
+    let waiting = Frame {
+        function: at.frame.function,
+        tables: at.frame.tables,
+        instance: at.frame.instance,
+        base: at.frame.base,
+        place: at.frame.place + 1,
+    };
     let Ok(()) = callers.push(waiting) else {
         *why = Stop::NoMemory;
         return Crossing::Stops;
     };
-    let behind = from.top + 1;
     cells[from.top] = from.operand;
-    clear(cells, behind, declared);
+    clear(cells, behind, locals - params);
     *at = Position {
         frame: Frame {
             function: flat,
             tables: function.flat.tables,
             instance: function.instance,
-            base: behind - flat.params,
+            base,
             place: 0,
         },
-        top: behind + declared,
+        top: base + locals,
         operand: 0,
         fuel: at.fuel - 1,
     };
@@ -228,7 +234,11 @@ pub fn leave<'a>(
     let to = at.frame.base - 1;
     cells[at.top] = at.operand;
     at.operand = land(cells, at.top, to, results, at.operand);
-    at.frame = frame;
+    at.frame.function = frame.function;
+    at.frame.tables = frame.tables;
+    at.frame.instance = frame.instance;
+    at.frame.base = frame.base;
+    at.frame.place = frame.place;
     at.top = to + results;
     cross(around, frame.instance)
 }

@@ -1,11 +1,10 @@
 ghost use Rattle.interpreter.specs.Looping.{loop_at, world_at};
 ghost use Rattle.interpreter.specs.Whole.{RunsSomeWhole, StopsAt};
 
-use crate::landing::land;
 use crate::machine::{Crossing, Frame, Position, Stop, Surroundings};
 use crate::others::step_other;
 use crate::reading::{entry, fetch};
-use crate::transfers::transfer;
+use crate::transfers::{branch, transfer};
 use core_types::Stack;
 use effects::{
     compute_binary, compute_unary, load_cell, load_i32, load_i32_8u, low, store_cell, store_i32_8,
@@ -32,7 +31,18 @@ pub fn run<'a>(
         result
         (loop_at (world_at around.entry state.new memory.new) cells.new callers.new position.new) }
 {
-    let mut at = *position;
+    let mut at = Position {
+        frame: Frame {
+            function: position.frame.function,
+            tables: position.frame.tables,
+            instance: position.frame.instance,
+            base: position.frame.base,
+            place: position.frame.place,
+        },
+        top: position.top,
+        operand: position.operand,
+        fuel: position.fuel,
+    };
     let mut operations = at.frame.function.operations.as_slice();
     let mut why = Stop::Over;
     let stop = loop {
@@ -98,16 +108,13 @@ pub fn run<'a>(
                 at.fuel -= 1;
                 let condition = at.operand;
                 at.top -= 1;
-                at.operand = cells[at.top];
                 if condition == 0 {
+                    at.operand = cells[at.top];
                     at.frame.place += 1;
                 } else {
                     let e = entry(at.frame.tables, *n);
-                    let kept = e.kept as usize;
-                    let to = at.frame.base + at.frame.function.locals + e.height as usize;
-                    at.operand = land(cells, at.top, to, kept, at.operand);
-                    at.top = to + kept;
-                    at.frame.place = e.target as usize;
+                    at.operand = cells[at.top];
+                    branch(cells, e, &mut at);
                 }
             }
             PackedOp::I32Load(offset) => {

@@ -32,12 +32,44 @@ pub fn land(cells: &mut [u64], top: usize, to: usize, kept: usize, operand: u64)
     operand
 }
 
-/// Clears cells.
-#[inline(always)]
-pub fn clear(cells: &mut [u64], from: usize, count: usize)
+// Clears any number of cells.
+#[cold]
+#[inline(never)]
+fn clear_many(cells: &mut [u64], from: usize, count: usize)
     requires { from + count ≤ length cells.old }
     ensures cleared { take (from + count) cells.new ≡ take from cells.old ++ replicate count 0 }
     ensures size { length cells.new ≡ length cells.old }
 {
     cells[from..from + count].fill(0);
+}
+
+// Clears cells, the first two by two writes.
+#[inline(always)]
+fn clear_more(cells: &mut [u64], from: usize, count: usize)
+    requires some { 1 ≤ count }
+    requires within { from + count < length cells.old }
+    ensures cleared { take (from + count) cells.new ≡ take from cells.old ++ replicate count 0 }
+    ensures size { length cells.new ≡ length cells.old }
+{
+    cells[from] = 0;
+    cells[from + 1] = 0;
+    if count > 2 {
+        clear_many(cells, from + 2, count - 2);
+    }
+}
+
+/// Clears cells, and may clear the one behind them: two at a time, as far as there are few.
+#[inline(always)]
+pub fn clear(cells: &mut [u64], from: usize, count: usize)
+    requires { from + count < length cells.old }
+    ensures cleared { take (from + count) cells.new ≡ take from cells.old ++ replicate count 0 }
+    ensures size { length cells.new ≡ length cells.old }
+{
+    if count > 0 {
+        cells[from] = 0;
+        cells[from + 1] = 0;
+        if count > 2 {
+            clear_more(cells, from + 2, count - 2);
+        }
+    }
 }

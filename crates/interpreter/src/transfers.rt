@@ -38,9 +38,9 @@ fn chosen(tables: &SideTables, number: u32, operand: u64) -> Entry
     }
 }
 
-// Branches to an entry, where the topmost operand lies at the top, too, and was paid for.
+/// Branches to an entry, where the topmost operand lies at the top, too, and was paid for.
 #[inline(always)]
-fn branch<'a>(cells: &mut [u64], e: Entry, at: &mut Position<'a>)
+pub fn branch<'a>(cells: &mut [u64], e: Entry, at: &mut Position<'a>)
     requires low { at.old.frame.base + at.old.frame.function.now.locals + e.height + e.kept ≤ at.old.top }
     requires within { at.old.top < length cells.old }
     requires there { get_or cells.old at.old.top 0 ≡ at.old.operand }

@@ -3,9 +3,10 @@ use Rattle.std.proofs.Math.Nat.{add-mod-mod, mod-add-mod}
 use Rattle.std.specs.Prelude.{Ok, Err}
 use Rattle.interpreter.specs.Looping.{world_at}
 use Rattle.interpreter.specs.declared.machine.Frame.{Frame}
+use Rattle.interpreter.specs.declared.machine.Position.{Position}
 use Rattle.interpreter.specs.declared.machine.Stop.TheVariants as stop
 use Rattle.interpreter.proofs.Lifting.{ran-first, ran-then}
-use Rattle.interpreter.proofs.Looping.{branches-op, fails-op, lacks-op, pays-op, runs-there, steps-on, stops-before, stops-across}
+use Rattle.interpreter.proofs.Looping.{branches-op, fails-op, lacks-op, pays-op, ran-at, runs-there, steps-on, stops-before, stops-across}
 use Rattle.interpreter.proofs.interpreter_loop.run.Goals as goal
 
 pub loop-x-init : goal.loop-x-init
@@ -40,7 +41,11 @@ pub loop-x-preserved-then-condition-eq0 : goal.loop-x-preserved-then-condition-e
 loop-x-preserved-then-condition-eq0 c = record { ran = pays-op _ _ _ c.loop-x.invariant.ran _ _ c.fetch.ensures.turns c.in-BrIf.is _ _ _ _ _ _ (omega arith) (λ g leads. leads.0 c.if-condition-eq0.true); code = c.loop-x.invariant.code }
 
 pub loop-x-preserved-else-condition-eq0 : goal.loop-x-preserved-else-condition-eq0
-loop-x-preserved-else-condition-eq0 c = record { ran = branches-op _ _ _ c.loop-x.invariant.ran _ _ c.fetch.ensures.turns c.in-BrIf.is c.entry-e.result c.entry-e.ensures _ _ c.land.ensures (omega arith) c.if-condition-eq0.false; code = c.loop-x.invariant.code }
+loop-x-preserved-else-condition-eq0 c = record {
+  ran = ran-at _ _ _ _ _ _ _ c.branch-cells.ensures.landed
+      (branches-op _ _ _ c.loop-x.invariant.ran _ _ c.fetch.ensures.turns c.in-BrIf.is c.entry-e.result c.entry-e.ensures _ _ c.branch-cells.ensures.moved (omega arith) c.if-condition-eq0.false);
+  code = c.loop-x.invariant.code ∙ ap (λ (to : Position). to.frame.function.now.operations.items) (sym c.branch-cells.ensures.landed);
+}
 
 pub loop-x-preserved-in-I32Load : goal.loop-x-preserved-in-I32Load
 loop-x-preserved-in-I32Load c = record { ran = pays-op _ _ _ c.loop-x.invariant.ran _ _ c.fetch.ensures.turns c.in-I32Load.is _ _ _ _ _ _ (omega arith) (λ g leads. rw c.in-Ok.is at (leads.0 c.load_i32.result (rw c.from-in-I32Load.ensures at c.load_i32.ensures))); code = c.loop-x.invariant.code }
