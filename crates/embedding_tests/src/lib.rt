@@ -4,6 +4,8 @@
 #[cfg(test)]
 mod commands;
 #[cfg(test)]
+mod constant_expressions;
+#[cfg(test)]
 mod example;
 #[cfg(test)]
 mod exports;

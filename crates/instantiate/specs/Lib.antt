@@ -1,4 +1,5 @@
 pub mod Addresses
-pub mod Objects
-pub mod Tasks
 pub mod Links
+pub mod Objects
+pub mod Offsets
+pub mod Tasks

@@ -1,13 +1,20 @@
-ghost use Rattle.std.specs.Prelude.{◌≡◌, [], ◌∷◌, Some};
+ghost use Rattle.std.specs.Prelude.{◌≡◌, ◌≢◌, ◌+◌, ◌<◌, ◌≤◌, ℕ, List, [], ◌∷◌, ◌++◌, length, reverse, IfOk, OnOk, IsTrue, Some, None, false, option_map, vec_capacity, vec_len};
 ghost use Rattle.core_types.specs.declared.module.Module.{Module};
-ghost use Rattle.core_types.specs.declared.op.PlainOp.TheVariants.{Reference as ReferenceForm, Variable as VariableForm};
+ghost use Rattle.core_types.specs.declared.op.NumericOp.{NumericOp as AnyNumericOp};
+ghost use Rattle.core_types.specs.declared.op.NumericOp.TheVariants.{Binary as BinaryForm};
+ghost use Rattle.core_types.specs.declared.op.Op.{Op as AnyOp};
+ghost use Rattle.core_types.specs.declared.op.PlainOp.TheVariants.{Numeric as NumericForm, Reference as ReferenceForm, Variable as VariableForm};
 ghost use Rattle.core_types.specs.declared.op.ReferenceOp.TheVariants.{Func as FuncForm};
 ghost use Rattle.core_types.specs.declared.op.VariableOp.TheVariants.{GlobalGet as GlobalGetForm};
-ghost use Rattle.meaning.specs.execution.Modules.{constant, constant_value};
+ghost use Rattle.core_types.specs.declared.outcome.Val.{Val as AnyVal};
+ghost use Rattle.meaning.specs.execution.Modules.{constant, constant_operands, constant_step, constant_value, only, operate as operate_of};
 ghost use Rattle.meaning.specs.execution.Values.{null_of};
 ghost use Rattle.store.specs.Contents.{Contents, lists_of, module_instance, store_with};
 
-use core_types::{Op, PlainOp, RefType, ReferenceOp, Val, VariableOp};
+use core_types::{BinaryOp, NumericOp, Op, PlainOp, RefType, ReferenceOp, Val, VariableOp, Width};
+use intops::{binary_32, binary_64};
+use std::alloc::{AllocError, Global};
+use std::marker::Model;
 use store::{Addresses, State};
 
 // The null of a type.
@@ -59,26 +66,223 @@ fn constant(op: &PlainOp, addresses: &Addresses, state: &State) -> Option<Val>
     }
 }
 
-// The value of an operation, in the instance with these addresses, if it is a constant instruction.
-fn operation_value(op: &Op, addresses: &Addresses, state: &State) -> Option<Val>
-    ensures { (contents : Contents) (m : Module) → result ≡ constant_value
-        (store_with contents state.now) (module_instance (lists_of addresses.now) m)
-        (op.now ∷ []) }
+// ---- operators
+
+// What an operator gives from two operands, if they are integers of its width and it does not trap.
+fn operator_value(width: Width, op: BinaryOp, first: Val, second: Val) -> Option<Val>
+    ensures { (rest : List AnyVal) → operate_of (BinaryForm width op) (second ∷ first ∷ rest)
+        ≡ option_map (λ v. v ∷ rest) result }
 {
-    match op {
-        Op::Plain(op) => constant(op, addresses, state),
+    match (width, first, second) {
+        (Width::W32, Val::I32(a), Val::I32(b)) => match binary_32(op, a, b) {
+            Ok(n) => Some(Val::I32(n)),
+            Err(_) => None,
+        },
+        (Width::W64, Val::I64(a), Val::I64(b)) => match binary_64(op, a, b) {
+            Ok(n) => Some(Val::I64(n)),
+            Err(_) => None,
+        },
         _ => None,
     }
 }
 
-/// The value of a constant expression, in the instance with these addresses (Execution, Modules, Instantiation). In a valid module
-/// it has one.
-pub fn constant_value(code: &[Op], addresses: &Addresses, state: &State) -> Option<Val>
-    ensures { (contents : Contents) (m : Module) → result ≡ constant_value
-        (store_with contents state.now) (module_instance (lists_of addresses.now) m) code.now }
+// Puts a value on top of the operands, for which there is room.
+fn push(operands: &mut Vec<Val>, value: Val)
+    requires room { vec_len operands.old < vec_capacity operands.old }
+    ensures pushed { operands.new.items ≡ operands.old.items ++ value ∷ [] }
+    ensures len { vec_len operands.new ≡ vec_len operands.old + 1 }
+    ensures capacity { vec_capacity operands.old ≤ vec_capacity operands.new }
 {
-    match code {
-        [op] => operation_value(op, addresses, state),
+    let _ = operands.push(value);
+}
+
+// Puts what an operator gives in the place of the two topmost operands, and says whether it gives anything.
+fn operate(op: NumericOp, operands: &mut Vec<Val>) -> bool
+    ensures done { IsTrue result → operate_of op (reverse operands.old.items) ≡ Some
+        (reverse operands.new.items) }
+    ensures none { result ≡ false → operate_of op (reverse operands.old.items) ≡ None }
+    ensures len { vec_len operands.new ≤ vec_len operands.old }
+    ensures capacity { vec_capacity operands.old ≤ vec_capacity operands.new }
+{
+    let NumericOp::Binary(width, operator) = op else {
+        return false;
+    };
+    let Some(second) = operands.pop() else {
+        return false;
+    };
+    let Some(first) = operands.pop() else {
+        return false;
+    };
+    match operator_value(width, operator, first, second) {
+        Some(value) => {
+            push(operands, value);
+            true
+        }
+        None => false,
+    }
+}
+
+// ---- expressions
+
+// Puts a constant on top of the operands, to which there is room for one more, and says whether the instruction gives one.
+fn put_constant(op: &PlainOp, addresses: &Addresses, state: &State, operands: &mut Vec<Val>) -> bool
+    requires no_operator { (n : AnyNumericOp) → op.now ≢ NumericForm n }
+    requires room { vec_len operands.old < vec_capacity operands.old }
+    ensures done { IsTrue result → (contents : Contents) (m : Module) → constant_step
+        (store_with contents state.now) (module_instance (lists_of addresses.now) m) op.now
+        (reverse operands.old.items) ≡ Some (reverse operands.new.items) }
+    ensures none { result ≡ false → (contents : Contents) (m : Module) → constant_step
+        (store_with contents state.now) (module_instance (lists_of addresses.now) m) op.now
+        (reverse operands.old.items) ≡ None }
+    ensures len { vec_len operands.new ≤ vec_len operands.old + 1 }
+    ensures capacity { vec_capacity operands.old ≤ vec_capacity operands.new }
+{
+    match constant(op, addresses, state) {
+        Some(value) => {
+            push(operands, value);
+            true
+        }
+        None => false,
+    }
+}
+
+// Executes a constant instruction on operands, to which there is room for one more, and says whether it could.
+fn execute_plain(
+    op: &PlainOp,
+    addresses: &Addresses,
+    state: &State,
+    operands: &mut Vec<Val>,
+) -> bool
+    requires room { vec_len operands.old < vec_capacity operands.old }
+    ensures done { IsTrue result → (contents : Contents) (m : Module) → constant_step
+        (store_with contents state.now) (module_instance (lists_of addresses.now) m) op.now
+        (reverse operands.old.items) ≡ Some (reverse operands.new.items) }
+    ensures none { result ≡ false → (contents : Contents) (m : Module) → constant_step
+        (store_with contents state.now) (module_instance (lists_of addresses.now) m) op.now
+        (reverse operands.old.items) ≡ None }
+    ensures len { vec_len operands.new ≤ vec_len operands.old + 1 }
+    ensures capacity { vec_capacity operands.old ≤ vec_capacity operands.new }
+{
+    let PlainOp::Numeric(operator) = op else {
+        return put_constant(op, addresses, state, operands);
+    };
+    operate(*operator, operands)
+}
+
+// Executes an instruction of a constant expression on operands, to which there is room for one more, and says whether it could.
+fn execute(op: &Op, addresses: &Addresses, state: &State, operands: &mut Vec<Val>) -> bool
+    requires room { vec_len operands.old < vec_capacity operands.old }
+    ensures done { IsTrue result → (contents : Contents) (m : Module) (ops : List AnyOp)
+        → constant_operands (store_with contents state.now)
+        (module_instance (lists_of addresses.now) m) (op.now ∷ ops) (reverse operands.old.items)
+        ≡ constant_operands (store_with contents state.now)
+        (module_instance (lists_of addresses.now) m) ops (reverse operands.new.items) }
+    ensures none { result ≡ false → (contents : Contents) (m : Module) (ops : List AnyOp)
+        → constant_operands (store_with contents state.now)
+        (module_instance (lists_of addresses.now) m) (op.now ∷ ops) (reverse operands.old.items)
+        ≡ None }
+    ensures len { vec_len operands.new ≤ vec_len operands.old + 1 }
+    ensures capacity { vec_capacity operands.old ≤ vec_capacity operands.new }
+{
+    let Op::Plain(plain) = op else {
+        return false;
+    };
+    execute_plain(plain, addresses, state, operands)
+}
+
+/// Operands of constant expressions. Contracts see how many there is room for; what they are between two expressions is of no account.
+#[derive(Drop)]
+pub struct ConstantOperands {
+    values: Vec<Val>,
+    room: usize,
+}
+
+impl Model for ConstantOperands {
+    ghost Value = { ℕ };
+
+    ghost view = { λ o. o.room };
+
+    ghost invariant = { λ o. o.room ≤ vec_capacity o.values };
+}
+
+// The only one of the operands, if there is one.
+fn only_value(operands: &[Val]) -> Option<Val>
+    ensures { result ≡ only (Some (reverse operands.now)) }
+{
+    match operands {
+        [value] => Some(*value),
         _ => None,
+    }
+}
+
+// Executes the instructions of a constant expression, for each of which there is room for an operand, and answers the value if one is
+// left alone.
+fn run_constant(
+    code: &[Op],
+    addresses: &Addresses,
+    state: &State,
+    operands: &mut Vec<Val>,
+) -> Option<Val>
+    requires room { length code.now ≤ vec_capacity operands.old }
+    ensures value { (contents : Contents) (m : Module) → result ≡ constant_value
+        (store_with contents state.now) (module_instance (lists_of addresses.now) m) code.now }
+    ensures capacity { vec_capacity operands.old ≤ vec_capacity operands.new }
+{
+    operands.clear();
+    for k in 0..code.len() {
+        if !execute(&code[k], addresses, state, operands) {
+            return None;
+        }
+    }
+    only_value(operands)
+}
+
+impl ConstantOperands {
+    /// Room for none. Takes no memory.
+    pub fn new(alloc: Global) -> ConstantOperands
+        ensures { result ≡ 0 }
+    {
+        ConstantOperands {
+            values: Vec::new(alloc),
+            room: 0,
+        }
+    }
+
+    /// Makes room for so many. Where memory runs out, the room is as before.
+    pub fn reserve(&mut self, count: usize) -> Result<(), AllocError>
+        ensures room { OnOk result (count ≤ self.new) }
+        ensures more { self.old ≤ self.new }
+    {
+        if count > self.room {
+            self.values.clear();
+            self.values.try_reserve(count)?;
+            self.room = count;
+        }
+        Ok(())
+    }
+
+    /// The value of a constant expression, in the instance with these addresses (Execution, Modules, Instantiation). In a valid module
+    /// it has one. There is room for an operand for each instruction; it takes no memory.
+    pub fn value_of(&mut self, code: &[Op], addresses: &Addresses, state: &State) -> Option<Val>
+        requires room { length code.now ≤ self.old }
+        ensures value { (contents : Contents) (m : Module) → result ≡ constant_value
+            (store_with contents state.now) (module_instance (lists_of addresses.now) m) code.now }
+        ensures room { self.new ≡ self.old }
+    {
+        run_constant(code, addresses, state, &mut self.values)
+    }
+
+    /// The same, where room is made first. Fails where there is no memory for the operands.
+    pub fn evaluate(
+        &mut self,
+        code: &[Op],
+        addresses: &Addresses,
+        state: &State,
+    ) -> Result<Option<Val>, AllocError>
+        ensures { IfOk result (λ value. (contents : Contents) (m : Module) → value ≡ constant_value
+            (store_with contents state.now) (module_instance (lists_of addresses.now) m) code.now) }
+    {
+        self.reserve(code.len())?;
+        Ok(self.value_of(code, addresses, state))
     }
 }

@@ -8,14 +8,17 @@ ghost use Rattle.hostfunc.specs.Boxes.{HaveHosts, HostStep};
 ghost use Rattle.exec.specs.Endings.{run_state};
 ghost use Rattle.store.specs.Contents.{code_store, store_of};
 ghost use Rattle.instantiate.specs.Links.{Allocates, IsCauseOrAllowed, LeavesInstance, Links};
+ghost use Rattle.instantiate.specs.Offsets.{HasRoomForOffsets};
 ghost use Rattle.instantiate.specs.Tasks.{HasInstance, RanTasks, link_state};
 
 use crate::addresses::new_addresses;
+use crate::constants::ConstantOperands;
 use crate::copies::Linked;
 use crate::imports::are_given;
 use crate::limits::is_within_limits;
 use crate::link_end::{LinkEnd, LinkRefusal, TaskEnd};
 use crate::objects::{ObjectFault, new_objects};
+use crate::offsets::reserve_operands;
 use crate::tasks::{run_data_segments, run_element_segments, run_start};
 use core_types::{Extern, Module};
 use exec::Outcome;
@@ -54,6 +57,7 @@ fn allocate(
     ensures { Allocates result loaded.now.value given.now (store_of store.old)
         (store_of store.new) }
 {
+    let _ = store.state();
     let addresses = new_addresses(alloc, store, loaded.as_ref().module(), given)?;
     let objects = match new_objects(alloc, store, loaded, &addresses) {
         Ok(objects) => objects,
@@ -71,10 +75,12 @@ fn copy_segments(
     meter: &mut Meter,
     instance: u32,
     wanted: &Module,
+    operands: &mut ConstantOperands,
 ) -> Result<(), TaskEnd>
     requires instance { HasInstance code.now instance wanted.now }
     requires elements { length wanted.now.elements < 2 ^ 32 }
     requires datas { length wanted.now.datas < 2 ^ 32 }
+    requires room { HasRoomForOffsets operands.old wanted.now }
     ensures ran { RanTasks NoHosts result meter.old.bound instance
         (instance_of (code_store code.now) (Some instance))
         (link_state code.now state.old meter.old.left)
@@ -92,8 +98,8 @@ fn copy_segments(
         addresses: &found.addresses,
         module_read: wanted,
     };
-    run_element_segments(&linked, state, meter)?;
-    run_data_segments(&linked, state, meter)
+    run_element_segments(&linked, state, meter, operands)?;
+    run_data_segments(&linked, state, meter, operands)
 }
 
 // The same in a store, where the segments go well, and which stays valid.
@@ -102,10 +108,12 @@ fn run_segments(
     meter: &mut Meter,
     instance: u32,
     wanted: &Module,
+    operands: &mut ConstantOperands,
 ) -> Result<(), TaskEnd>
     requires instance { HasInstance store.old.code instance wanted.now }
     requires elements { length wanted.now.elements < 2 ^ 32 }
     requires datas { length wanted.now.datas < 2 ^ 32 }
+    requires room { HasRoomForOffsets operands.old wanted.now }
     requires good { TasksAreGood (store_of store.old) instance
         (instance_of (code_store store.old.code) (Some instance))
         (element_tasks wanted.now.elements ++ data_tasks wanted.now.datas) }
@@ -119,7 +127,7 @@ fn run_segments(
     ensures frames { meter.new.frames ≡ meter.old.frames }
 {
     let (code, state) = (&store.code, &mut store.state);
-    copy_segments(code, state, meter, instance, wanted)
+    copy_segments(code, state, meter, instance, wanted, operands)
 }
 
 // Runs what a link runs in an instance of a module: the segments, and then the start function.
@@ -130,10 +138,12 @@ fn run_tasks(
     meter: &mut Meter,
     instance: u32,
     wanted: &Module,
+    operands: &mut ConstantOperands,
 ) -> Result<(), TaskEnd>
     requires instance { HasInstance store.old.code instance wanted.now }
     requires elements { length wanted.now.elements < 2 ^ 32 }
     requires datas { length wanted.now.datas < 2 ^ 32 }
+    requires room { HasRoomForOffsets operands.old wanted.now }
     requires good { TasksAreGood (store_of store.old) instance
         (instance_of (code_store store.old.code) (Some instance)) (tasks_of wanted.now) }
     requires hosts { HaveHosts (store_of store.old) hosts.old.objects.items }
@@ -147,7 +157,7 @@ fn run_tasks(
     ensures bound { meter.new.bound ≡ meter.old.bound }
     ensures closed { meter.new.frames ≡ 0 }
 {
-    run_segments(store, meter, instance, wanted)?;
+    run_segments(store, meter, instance, wanted, operands)?;
     run_start(alloc, store, hosts, meter, instance, wanted.start)
 }
 
@@ -177,9 +187,10 @@ fn link(
         return Err(LinkEnd::Refused(refusal));
     }
     let given = &externs[..wanted.imports.len()];
+    let mut operands = reserve_operands(alloc, wanted)?;
     let instance = allocate(alloc, store, loaded, given)?;
     let _ = store.state();
-    match run_tasks(alloc, store, hosts, meter, instance, wanted) {
+    match run_tasks(alloc, store, hosts, meter, instance, wanted, &mut operands) {
         Ok(()) => Ok(instance),
         Err(TaskEnd::Ended(outcome)) => Err(LinkEnd::Ended(outcome)),
         Err(TaskEnd::Stuck) => unreachable!(),

@@ -9,6 +9,7 @@ mod instantiation;
 mod limits;
 mod link_end;
 mod objects;
+mod offsets;
 mod tasks;
 
 pub use instantiation::instantiate;

@@ -10,7 +10,7 @@ ghost use Rattle.store.specs.Contents.{Contents, lists_of, module_instance, stor
 ghost use Rattle.instantiate.specs.Objects.{OnNoValue};
 ghost use Rattle.instantiate.specs.declared.objects.ObjectFault.TheVariants as faults;
 
-use crate::constants::{constant_value, function_reference};
+use crate::constants::{ConstantOperands, function_reference};
 use core_types::{
     ElementItems, ElementSegment as ModuleElements, Global as ModuleGlobal, Items, Limits, Op,
     TableType, Val,
@@ -71,12 +71,19 @@ fn new_memories(alloc: Global, wanted: &[Limits]) -> Result<Vec<Memory>, AllocEr
 }
 
 // A global of a module, with the value of its constant expression.
-fn new_global(wanted: &ModuleGlobal, addresses: &Addresses, state: &State) -> Option<GlobalVariable>
-    ensures { (code : Contents) (m : AnyModule) → result ≡ new_global
-        (store_with code state.now) (module_instance (lists_of addresses.now) m) wanted.now }
+fn new_global(
+    wanted: &ModuleGlobal,
+    addresses: &Addresses,
+    state: &State,
+    operands: &mut ConstantOperands,
+) -> Result<Option<GlobalVariable>, AllocError>
+    ensures { IfOk result (λ variable. (code : Contents) (m : AnyModule) → variable ≡ new_global
+        (store_with code state.now) (module_instance (lists_of addresses.now) m) wanted.now) }
 {
-    let value = constant_value(wanted.init.as_slice(), addresses, state)?;
-    Some(GlobalVariable::new(wanted.ty, value))
+    match operands.evaluate(wanted.init.as_slice(), addresses, state)? {
+        Some(value) => Ok(Some(GlobalVariable::new(wanted.ty, value))),
+        None => Ok(None),
+    }
 }
 
 // The globals of a module, with the values of their constant expressions.
@@ -85,6 +92,7 @@ fn new_globals(
     wanted: &[ModuleGlobal],
     addresses: &Addresses,
     state: &State,
+    operands: &mut ConstantOperands,
 ) -> Result<Vec<GlobalVariable>, ObjectFault>
     ensures values { IfOk result (λ globals. (code : Contents) (m : AnyModule) → map_all (new_global
         (store_with code state.now) (module_instance (lists_of addresses.now) m)) wanted.now ≡
@@ -94,7 +102,7 @@ fn new_globals(
 {
     let mut globals = Vec::new(alloc);
     for k in 0..wanted.len() {
-        match new_global(&wanted[k], addresses, state) {
+        match new_global(&wanted[k], addresses, state, operands)? {
             Some(variable) => globals.push(variable)?,
             None => return Err(ObjectFault::NoValue),
         }
@@ -133,6 +141,7 @@ fn values_of(
     expressions: &[Items<Op>],
     addresses: &Addresses,
     state: &State,
+    operands: &mut ConstantOperands,
 ) -> Result<Vec<Val>, ObjectFault>
     ensures values { IfOk result (λ found. (code : Contents) (m : AnyModule) → map_all (value_of
         (store_with code state.now) (module_instance (lists_of addresses.now) m)) expressions.now ≡
@@ -143,7 +152,7 @@ fn values_of(
 {
     let mut found = Vec::new(alloc);
     for k in 0..expressions.len() {
-        match constant_value(expressions[k].as_slice(), addresses, state) {
+        match operands.evaluate(expressions[k].as_slice(), addresses, state)? {
             Some(value) => found.push(value)?,
             None => return Err(ObjectFault::NoValue),
         }
@@ -157,6 +166,7 @@ fn references_of(
     items: &ElementItems,
     addresses: &Addresses,
     state: &State,
+    operands: &mut ConstantOperands,
 ) -> Result<Vec<Val>, ObjectFault>
     ensures values { IfOk result (λ found. (code : Contents) (m : AnyModule) → references
         (store_with code state.now) (module_instance (lists_of addresses.now) m) items.now ≡ Some
@@ -169,7 +179,7 @@ fn references_of(
             function_references(alloc, indices.as_slice(), addresses, state)
         }
         ElementItems::Expressions(expressions) => {
-            values_of(alloc, expressions.as_slice(), addresses, state)
+            values_of(alloc, expressions.as_slice(), addresses, state, operands)
         }
     }
 }
@@ -180,6 +190,7 @@ fn new_element_segments(
     wanted: &[ModuleElements],
     addresses: &Addresses,
     state: &State,
+    operands: &mut ConstantOperands,
 ) -> Result<Vec<ElementSegment>, ObjectFault>
     ensures values { IfOk result (λ elements. (code : Contents) (m : AnyModule) → map_all
         (new_elements (store_with code state.now) (module_instance (lists_of addresses.now) m))
@@ -190,7 +201,7 @@ fn new_element_segments(
 {
     let mut elements = Vec::new(alloc);
     for k in 0..wanted.len() {
-        match references_of(alloc, &wanted[k].items, addresses, state) {
+        match references_of(alloc, &wanted[k].items, addresses, state, operands) {
             Ok(found) => elements.push(ElementSegment::new(wanted[k].ty, found))?,
             Err(fault) => return Err(fault),
         }
@@ -226,8 +237,21 @@ pub fn new_objects(
 {
     let wanted = loaded.as_ref().module();
     let state = store.state();
-    let globals = new_globals(alloc, wanted.globals.as_slice(), addresses, state)?;
-    let elements = new_element_segments(alloc, wanted.elements.as_slice(), addresses, state)?;
+    let mut operands = ConstantOperands::new(alloc);
+    let globals = new_globals(
+        alloc,
+        wanted.globals.as_slice(),
+        addresses,
+        state,
+        &mut operands,
+    )?;
+    let elements = new_element_segments(
+        alloc,
+        wanted.elements.as_slice(),
+        addresses,
+        state,
+        &mut operands,
+    )?;
     Ok(Objects {
         tables: new_tables(alloc, wanted.tables.as_slice())?,
         memories: new_memories(alloc, wanted.memories.as_slice())?,

@@ -1,4 +1,4 @@
-ghost use Rattle.std.specs.Prelude.{◌≡◌, ◌%◌, ◌<◌, ◌^◌, [], length, MatchOption, Some};
+ghost use Rattle.std.specs.Prelude.{◌≡◌, ◌%◌, ◌<◌, ◌≤◌, ◌^◌, [], length, MatchOption, Some};
 ghost use Rattle.core_types.specs.declared.outcome.Val.TheVariants.{I32 as I32Value};
 ghost use Rattle.meaning.specs.execution.Modules.{constant_value as value_of, data_task, data_tasks, element_task, element_tasks, start_task};
 ghost use Rattle.meaning.specs.execution.Store.{instance_of};
@@ -8,9 +8,10 @@ ghost use Rattle.hostfunc.specs.Boxes.{HaveHosts, HostStep};
 ghost use Rattle.exec.specs.Endings.{run_state};
 ghost use Rattle.meaning.specs.execution.Configurations.{Invoking, no_frame};
 ghost use Rattle.meaning.specs.execution.Modules.{item_count as count_of};
+ghost use Rattle.instantiate.specs.Offsets.{HaveRoom, data_offset, element_offset};
 ghost use Rattle.instantiate.specs.Tasks.{EndsAs, HasNoI32, RanTasks, RunsTo, instance_in, link_state};
 
-use crate::constants::constant_value;
+use crate::constants::ConstantOperands;
 use crate::copies::{Linked, copy_bytes, copy_elements, drop_element_segment};
 use crate::link_end::TaskEnd;
 use core_types::{DataMode, DataSegment, ElementItems, ElementMode, ElementSegment, Op, Val};
@@ -21,13 +22,20 @@ use std::alloc::Global;
 use store::{State, Store, accepts};
 
 // The offset at which a segment is copied, if its constant expression has such a value.
-fn offset_of(code: &[Op], linked: &Linked<'_>, state: &State) -> Option<u32>
-    ensures { MatchOption result (HasNoI32 (value_of (store_with linked.now.code.now state.now)
+fn offset_of(
+    code: &[Op],
+    linked: &Linked<'_>,
+    state: &State,
+    operands: &mut ConstantOperands,
+) -> Option<u32>
+    requires room { length code.now ≤ operands.old }
+    ensures offset { MatchOption result (HasNoI32 (value_of (store_with linked.now.code.now state.now)
         (instance_in linked.now) code.now)) (λ n. value_of
         (store_with linked.now.code.now state.now) (instance_in linked.now) code.now ≡ Some
         (I32Value n)) }
+    ensures room { operands.new ≡ operands.old }
 {
-    match constant_value(code, linked.addresses, state) {
+    match operands.value_of(code, linked.addresses, state) {
         Some(Val::I32(n)) => Some(n),
         _ => None,
     }
@@ -57,7 +65,9 @@ fn run_element_segment(
     linked: &Linked<'_>,
     state: &mut State,
     meter: &mut Meter,
+    operands: &mut ConstantOperands,
 ) -> Result<(), TaskEnd>
+    requires room { element_offset wanted.now ≤ operands.old }
     ensures ran { RanTasks NoHosts result meter.old.bound linked.now.instance
         (instance_in linked.now)
         (link_state linked.now.code.now state.old meter.old.left)
@@ -65,13 +75,14 @@ fn run_element_segment(
         (link_state linked.now.code.now state.new meter.new.left) }
     ensures bound { meter.new.bound ≡ meter.old.bound }
     ensures frames { meter.new.frames ≡ meter.old.frames }
+    ensures operands { operands.new ≡ operands.old }
 {
     match &wanted.mode {
         ElementMode::Passive => Ok(()),
         ElementMode::Declarative => drop_element_segment(x, linked, state, meter),
         ElementMode::Active { table, offset } => {
             let count = count_operand(item_count(&wanted.items));
-            match offset_of(offset.as_slice(), linked, state) {
+            match offset_of(offset.as_slice(), linked, state, operands) {
                 Some(target) => copy_elements(x, *table, target, count, linked, state, meter),
                 None => Err(TaskEnd::Stuck),
             }
@@ -84,8 +95,10 @@ pub fn run_element_segments(
     linked: &Linked<'_>,
     state: &mut State,
     meter: &mut Meter,
+    operands: &mut ConstantOperands,
 ) -> Result<(), TaskEnd>
-    requires { length linked.now.module_read.now.elements < 2 ^ 32 }
+    requires count { length linked.now.module_read.now.elements < 2 ^ 32 }
+    requires room { HaveRoom element_offset operands.old linked.now.module_read.now.elements }
     ensures ran { RanTasks NoHosts result meter.old.bound linked.now.instance
         (instance_in linked.now)
         (link_state linked.now.code.now state.old meter.old.left)
@@ -93,10 +106,11 @@ pub fn run_element_segments(
         (link_state linked.now.code.now state.new meter.new.left) }
     ensures bound { meter.new.bound ≡ meter.old.bound }
     ensures frames { meter.new.frames ≡ meter.old.frames }
+    ensures operands { operands.new ≡ operands.old }
 {
     let elements = linked.module_read.elements.as_slice();
     for k in 0..elements.len() {
-        run_element_segment(k as u32, &elements[k], linked, state, meter)?;
+        run_element_segment(k as u32, &elements[k], linked, state, meter, operands)?;
     }
     Ok(())
 }
@@ -108,7 +122,9 @@ fn run_data_segment(
     linked: &Linked<'_>,
     state: &mut State,
     meter: &mut Meter,
+    operands: &mut ConstantOperands,
 ) -> Result<(), TaskEnd>
+    requires room { data_offset wanted.now ≤ operands.old }
     ensures ran { RanTasks NoHosts result meter.old.bound linked.now.instance
         (instance_in linked.now)
         (link_state linked.now.code.now state.old meter.old.left)
@@ -116,12 +132,13 @@ fn run_data_segment(
         (link_state linked.now.code.now state.new meter.new.left) }
     ensures bound { meter.new.bound ≡ meter.old.bound }
     ensures frames { meter.new.frames ≡ meter.old.frames }
+    ensures operands { operands.new ≡ operands.old }
 {
     match &wanted.mode {
         DataMode::Passive => Ok(()),
         DataMode::Active { offset, .. } => {
             let count = count_operand(wanted.bytes.len());
-            match offset_of(offset.as_slice(), linked, state) {
+            match offset_of(offset.as_slice(), linked, state, operands) {
                 Some(target) => copy_bytes(x, target, count, linked, state, meter),
                 None => Err(TaskEnd::Stuck),
             }
@@ -134,8 +151,10 @@ pub fn run_data_segments(
     linked: &Linked<'_>,
     state: &mut State,
     meter: &mut Meter,
+    operands: &mut ConstantOperands,
 ) -> Result<(), TaskEnd>
-    requires { length linked.now.module_read.now.datas < 2 ^ 32 }
+    requires count { length linked.now.module_read.now.datas < 2 ^ 32 }
+    requires room { HaveRoom data_offset operands.old linked.now.module_read.now.datas }
     ensures ran { RanTasks NoHosts result meter.old.bound linked.now.instance
         (instance_in linked.now)
         (link_state linked.now.code.now state.old meter.old.left)
@@ -143,10 +162,11 @@ pub fn run_data_segments(
         (link_state linked.now.code.now state.new meter.new.left) }
     ensures bound { meter.new.bound ≡ meter.old.bound }
     ensures frames { meter.new.frames ≡ meter.old.frames }
+    ensures operands { operands.new ≡ operands.old }
 {
     let datas = linked.module_read.datas.as_slice();
     for k in 0..datas.len() {
-        run_data_segment(k as u32, &datas[k], linked, state, meter)?;
+        run_data_segment(k as u32, &datas[k], linked, state, meter, operands)?;
     }
     Ok(())
 }

@@ -3,6 +3,7 @@
 ghost use Rattle.std.specs.Prelude.{◌≡◌, ◌≤◌, ◌∷◌, [], List, ℕ, ◌⊎◌, Some, None, replicate};
 ghost use Rattle.core_types.specs.declared.op.ControlOp.TheVariants.{Call, Unreachable};
 ghost use Rattle.core_types.specs.declared.op.MemoryOp.TheVariants.{Grow};
+ghost use Rattle.core_types.specs.declared.op.Op.TheVariants.{Plain};
 ghost use Rattle.core_types.specs.declared.op.PlainOp.{PlainOp};
 ghost use Rattle.core_types.specs.declared.op.PlainOp.TheVariants.{Control, I32Const, Memory, Table};
 ghost use Rattle.core_types.specs.declared.op.TableOp.TheVariants as table;
@@ -14,8 +15,8 @@ ghost use Rattle.meaning.specs.execution.Rows.{Asks, Calls, CallsEntry, CountsCa
 ghost use Rattle.meaning.specs.execution.Configurations.{Configuration, Frame, Invoking, depth, no_frame};
 ghost use Rattle.meaning.specs.execution.Effects.{Done, effect, instruction_cost};
 ghost use Rattle.meaning.specs.execution.Instructions.{Next, next};
-ghost use Rattle.meaning.specs.execution.Modules.{constant};
-ghost use Rattle.meaning.specs.execution.Store.{Store, instance_of};
+ghost use Rattle.meaning.specs.execution.Modules.{constant, constant_step, constant_value};
+ghost use Rattle.meaning.specs.execution.Store.{ModuleInstance, Store, instance_of};
 ghost use Rattle.meaning.specs.execution.Runs.{AsksForMemory, Ending, IsEnd, IsReady, IsWithinBound, NoHosts, OutOfDepth, OutOfFuel, OutOfMemory, Run, State, Steps, WithTrap, WithValues, price};
 
 /// Worked rows of runs: a function that adds its two arguments, called with 1 and 2 with fuel 10, 3 and 2, and with no depth.
@@ -134,9 +135,12 @@ pub fn steps_lead_to_runs()
         ending last }
 {}
 
-/// Law: the value of a constant instruction is what the reduction puts on the stack for it, in every frame of the instance.
+/// Law: what a constant instruction makes of the operands is what the reduction makes of them, in every frame of the instance; and an
+/// expression of one constant has its value.
 pub fn constants_are_values()
-    ensures { (store : Store) (frame : Frame) (op : PlainOp) (v : Val) (values : List Val)
-        → constant store (instance_of store frame.instance) op ≡ Some v
-        → effect store frame op values ≡ Done instruction_cost store frame.locals (v ∷ values) }
+    ensures step { (store : Store) (frame : Frame) (op : PlainOp) (operands after : List Val)
+        → constant_step store (instance_of store frame.instance) op operands ≡ Some after
+        → effect store frame op operands ≡ Done instruction_cost store frame.locals after }
+    ensures one { (store : Store) (i : ModuleInstance) (op : PlainOp) (v : Val)
+        → constant store i op ≡ Some v → constant_value store i (Plain op ∷ []) ≡ Some v }
 {}

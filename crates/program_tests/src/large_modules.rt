@@ -1,7 +1,7 @@
 //! Large modules, which are made here: they nest deeply, or have very many of something.
 
 use crate::runs::{Ending, ends_so, words_of};
-use Large::{Exports, ExportsOfOneName, Functions, Lists, Nests};
+use Large::{Exports, ExportsOfOneName, Functions, Lists, Nests, Sum};
 use program::{Files, ReadFault};
 use std::alloc::{AllocError, Global};
 
@@ -18,6 +18,8 @@ enum Large {
     Exports,
     // The same, but the last two have one name.
     ExportsOfOneName,
+    // Terms of the sum that is the first value of a global, which function 0 answers.
+    Sum,
 }
 
 // The types of the modules: no results, one, and a thousand, which function 1 has, whose body is `unreachable`.
@@ -45,7 +47,7 @@ const INVALID: Ending<'static> = Ending::Err("refused 4 Invalid\n", 5);
 const LIMIT: Ending<'static> = Ending::Err("refused 3 Limit\n", 5);
 
 #[rattlefmt::skip]
-static ROWS: [Row; 17] = [
+static ROWS: [Row; 18] = [
     Row { name: "nested blocks", large: Nests(NONE, &[0x02, 0x40], &[], &[0x0B]), count: MILLION, words: "check m", ending: VALID },
     Row { name: "a call of nested blocks", large: Nests(NONE, &[0x02, 0x40], &[], &[0x0B]), count: MILLION, words: "call m f", ending: Ending::Out("fuel left 999000000\n", 0) },
     Row { name: "nested loops", large: Nests(NONE, &[0x03, 0x40], &[], &[0x0B]), count: MILLION, words: "check m", ending: VALID },
@@ -58,6 +60,7 @@ static ROWS: [Row; 17] = [
     Row { name: "functions", large: Functions, count: MILLION, words: "check m", ending: VALID },
     Row { name: "exports", large: Exports, count: MILLION, words: "check m", ending: VALID },
     Row { name: "exports of one name", large: ExportsOfOneName, count: MILLION, words: "check m", ending: INVALID },
+    Row { name: "terms of a constant expression", large: Sum, count: MILLION, words: "call m f", ending: Ending::Out("i32 1000000\nfuel left 999999999\n", 0) },
     Row { name: "groups of no locals", large: Lists(NONE, &[], &[0x00, 0x7F], &[]), count: MILLION, words: "check m", ending: VALID },
     Row { name: "groups of one local", large: Lists(NONE, &[], &[0x01, 0x7F], &[]), count: MILLION, words: "check m", ending: LIMIT },
     Row { name: "calls of a function of a thousand results", large: Nests(NONE, &[0x10, 0x01], &[0x00], &[]), count: MILLION, words: "check m", ending: VALID },
@@ -120,7 +123,17 @@ fn functions(alloc: Global, large: Large, count: u32) -> Result<Vec<u8>, AllocEr
             Ok(content)
         }
         Exports | ExportsOfOneName => Vec::from_slice(alloc, &[0x02, NONE, THOUSAND]),
+        Sum => Vec::from_slice(alloc, &[0x02, ONE, THOUSAND]),
     }
+}
+
+// The globals: one i32, whose first value is a sum of so many times one.
+fn globals(alloc: Global, count: u32) -> Result<Vec<u8>, AllocError> {
+    let mut content = Vec::from_slice(alloc, &[0x01, 0x7F, 0x00])?;
+    push_often(&mut content, &[0x41, 0x01], count)?;
+    push_often(&mut content, &[0x6A], count.saturating_sub(1))?;
+    content.push(0x0B)?;
+    Ok(content)
 }
 
 // The last seven digits of a number.
@@ -171,6 +184,7 @@ fn body(alloc: Global, large: Large, count: u32) -> Result<Vec<u8>, AllocError> 
             push_often(&mut bytes, item, count)?;
             bytes.extend_from_slice(behind)?;
         }
+        Sum => bytes.extend_from_slice(&[0x00, 0x23, 0x00])?,
         _ => bytes.push(0x00)?,
     }
     bytes.push(0x0B)?;
@@ -196,6 +210,9 @@ fn module(alloc: Global, large: Large, count: u32) -> Result<Vec<u8>, AllocError
     let mut bytes = Vec::from_slice(alloc, b"\0asm\x01\0\0\0")?;
     push_section(&mut bytes, 1, types(alloc)?.as_slice())?;
     push_section(&mut bytes, 3, functions(alloc, large, count)?.as_slice())?;
+    if matches!(large, Sum) {
+        push_section(&mut bytes, 6, globals(alloc, count)?.as_slice())?;
+    }
     push_section(&mut bytes, 7, exports(alloc, large, count)?.as_slice())?;
     push_section(&mut bytes, 10, code(alloc, large, count)?.as_slice())?;
     Ok(bytes)

@@ -52,7 +52,7 @@ use Rattle.soundness.proofs.Appends.{Keeps-append, append-at, append-first, cons
 use Rattle.soundness.proofs.Imports.{AreAllThere, functions-given, given-there, globals-given, mapped, memories-given, tables-given}
 use Rattle.soundness.proofs.Objects.{All-map, All-none, made-all, made-same, objects-made}
 use Rattle.soundness.proofs.Writes.{elements-still, functions-still, globals-still, instances-still, tables-still}
-use Rattle.soundness.proofs.Constants.{constant-typed}
+use Rattle.soundness.proofs.Constants.{constant-found, constant-typed}
 use Rattle.soundness.proofs.Extension.{Keeps-length, types-found}
 use Rattle.soundness.proofs.Values.{All-at, default-typed, value-extended}
 
@@ -136,6 +136,31 @@ module _ (old : Store) (m : Module) (given : List Extern) (linkable : IsLinkable
       let same : length instance.functions ≡ length (functions_of m) = sym (length-map instance.functions _) ∙ ap (λ (fs : List FuncType). length fs) functions-are in
       (get_or instance.functions x 0, slice_get-get_or instance.functions x 0 (omega (arith, inside, same)))
 
+  -- ---- values of constant expressions
+
+  held : (v : Val) (t : ValType) → ValueHasType old v t → ValueHasType new v t
+  held = value-extended old new (Keeps-length (λ (f g : FunctionInstance). f ≡ g) old.functions new.functions extends.functions)
+
+  instance-there : AreThere new.functions instance.functions
+  instance-there = there-append old.functions (map (new_function (length old.instances) m) m.funcs) (given_addresses function_address given) (length m.funcs) there.functions (length-map m.funcs _)
+
+  module _ (valid : StoreIsValid old) where
+    global-there : (x : ℕ) (t : GlobalType) → slice_get (imported_globals m.imports) x ≡ Some t → (g : GlobalInstance) × (item_at old.globals instance.globals x ≡ Some g) × ValueHasType new g.value t.value
+    global-there x t is =
+        let (address, g, at, found, type) = global-given x t is in
+        (g, ap (item_of old.globals) at ∙ found, held g.value t.value (subst (λ (u : GlobalType). ValueHasType old g.value u.value) type (All-at (GlobalIsValid old) old.globals address g found valid.globals)))
+
+    function-there : (x : ℕ) (f : FuncType) → slice_get (functions_of m) x ≡ Some f → (a : ℕ) × (slice_get instance.functions x ≡ Some a) × (a < length new.functions)
+    function-there x f is =
+        let (a, at) = function-given x f is in
+        (a, at, All-at (λ (b : ℕ). b < length new.functions) instance.functions x a at instance-there)
+
+    pub constant-there : (ops : List Op) (t : ValType) → IsConstantExpression (constant_context m) ops t → (v : Val) × (constant_value old instance ops ≡ Some v) × ValueHasType new v t
+    constant-there = constant-found old new m instance function-there global-there
+
+    constant-held : (ops : List Op) (t : ValType) (v : Val) → IsConstantExpression (constant_context m) ops t → constant_value old instance ops ≡ Some v → ValueHasType new v t
+    constant-held = constant-typed old new m instance function-there global-there
+
   module _ (globals_made : map_all (new_global old instance) m.globals ≡ Some gs) (elements_made : map_all (new_elements old instance) m.elements ≡ Some es) where
     pub globals-are : (instance_context new instance).globals ≡ globals_of m
     globals-are =
@@ -207,27 +232,13 @@ module _ (old : Store) (m : Module) (given : List Extern) (linkable : IsLinkable
       references = λ x f is named. named-carried x f is;
     })
 
-    -- ---- values of constant expressions
-
-    held : (v : Val) (t : ValType) → ValueHasType old v t → ValueHasType new v t
-    held = value-extended old new (Keeps-length (λ (f g : FunctionInstance). f ≡ g) old.functions new.functions extends.functions)
-
-    instance-there : AreThere new.functions instance.functions
-    instance-there = there-append old.functions (map (new_function (length old.instances) m) m.funcs) (given_addresses function_address given) (length m.funcs) there.functions (length-map m.funcs _)
+    -- ---- objects with the values of constant expressions
 
     module _ (valid : StoreIsValid old) where
-      global-there : (x : ℕ) (t : GlobalType) → slice_get (imported_globals m.imports) x ≡ Some t → (g : GlobalInstance) × (item_at old.globals instance.globals x ≡ Some g) × ValueHasType new g.value t.value
-      global-there x t is =
-          let (address, g, at, found, type) = global-given x t is in
-          (g, ap (item_of old.globals) at ∙ found, held g.value t.value (subst (λ (u : GlobalType). ValueHasType old g.value u.value) type (All-at (GlobalIsValid old) old.globals address g found valid.globals)))
-
-      constant-held : (ops : List Op) (t : ValType) (v : Val) → IsConstantExpression (constant_context m) ops t → constant_value old instance ops ≡ Some v → ValueHasType new v t
-      constant-held = constant-typed old new m instance (λ x a at. All-at (λ (b : ℕ). b < length new.functions) instance.functions x a at instance-there) global-there
-
       global-made : (g : Global) (made : GlobalInstance) → IsConstantExpression (constant_context m) g.init g.ty.value → new_global old instance g ≡ Some made → GlobalIsValid new made
       global-made g made expression is =
           let (v, value, same) = mapped (λ (v : Val). record { ty = g.ty; value = v }) (constant_value old instance g.init) made is in
-          subst (GlobalIsValid new) same (constant-held g.init g.ty.value v expression value)
+          subst (GlobalIsValid new) same (constant-held valid g.init g.ty.value v expression value)
 
       referred : (x : ℕ) (v : Val) → x < length (function_indices m) → constant old instance (Reference (reference.Func x)) ≡ Some v → ValueHasType new v ty.FuncRef
       referred x v inside is =
@@ -240,7 +251,7 @@ module _ (old : Store) (m : Module) (given : List Extern) (linkable : IsLinkable
           (λ x v below made. subst (λ (r : RefType). ValueHasType new v (reference_type r)) (sym functions) (referred x v below made)) indices vs inside is
       references-held t (Expressions expressions) vs all is =
           made-all (constant_value old instance) (λ (v : Val). ValueHasType new v (reference_type t)) (λ (ops : List Op). IsConstantExpression (constant_context m) ops (reference_type t))
-          (λ ops v expression made. constant-held ops (reference_type t) v expression made) expressions vs all is
+          (λ ops v expression made. constant-held valid ops (reference_type t) v expression made) expressions vs all is
 
       elements-made-valid : (e : ElementSegment) (made : ElementInstance) → IsValidElement m e → new_elements old instance e ≡ Some made → ElementIsValid new made
       elements-made-valid e made valid_element is =

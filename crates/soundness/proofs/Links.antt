@@ -36,9 +36,9 @@ use Rattle.soundness.specs.Places.{Place, RunsOn, context_at, instance_context, 
 use Rattle.soundness.specs.Progress.{TasksGetStuck, later, not_there, stuck}
 use Rattle.soundness.specs.Runs.{EndsTyped, EndsWell, HostsAnswerWell, NoConditions}
 use Rattle.soundness.specs.Stores.{Extends, GlobalIsValid, InstanceIsValid, StoreIsValid}
-use Rattle.soundness.proofs.Allocation.{extends, function-given, functions-are, global-given, globals-are, module-carried, store-valid}
+use Rattle.soundness.proofs.Allocation.{constant-there, extends, function-given, functions-are, globals-are, module-carried, store-valid}
 use Rattle.soundness.proofs.Appends.{append-at, append-first}
-use Rattle.soundness.proofs.Constants.{constant-found, constant-typed}
+use Rattle.soundness.proofs.Constants.{constant-found}
 use Rattle.soundness.proofs.Effects.{Extends-same}
 use Rattle.soundness.proofs.Extension.{RunsOn-extended, functions-more, instance-valid, types-found}
 use Rattle.soundness.proofs.Objects.{all-found, objects-found, objects-made}
@@ -48,15 +48,12 @@ use Rattle.soundness.proofs.Values.{All-at}
 
 -- ---- objects are found
 
-module _ (old : Store) (m : Module) (given : List Extern) (linkable : IsLinkable old m given) where
+module _ (old : Store) (m : Module) (given : List Extern) (linkable : IsLinkable old m given) (valid : StoreIsValid old) where
   abbrev instance : ModuleInstance
   instance = new_instance old m given
 
-  global-found : (x : ℕ) (t : GlobalType) → slice_get (imported_globals m.imports) x ≡ Some t → (g : GlobalInstance) × (item_at old.globals instance.globals x ≡ Some g)
-  global-found x t is = let (address, g, at, found, type) = global-given old m given linkable [] [] x t is in (g, ap (item_of old.globals) at ∙ found)
-
   value-found : (ops : List Op) (t : ValType) → IsConstantExpression (constant_context m) ops t → (v : Val) × (constant_value old instance ops ≡ Some v)
-  value-found = constant-found old m instance (function-given old m given linkable [] []) global-found
+  value-found ops t expression = let (v, is, typed) = constant-there old m given linkable [] [] valid ops t expression in (v, is)
 
   globals-found : (gs : List GlobalInstance) × (map_all (new_global old instance) m.globals ≡ Some gs)
   globals-found = all-found (new_global old instance) m.globals (λ k d inside.
@@ -114,12 +111,14 @@ module _ (old : Store) (m : Module) (given : List Extern) (linkable : IsLinkable
         (h, ap (item_of at.globals) here ∙ there, subst (λ (u : GlobalType). ValueHasType at h.value u.value) (sym stays.0 ∙ type) (All-at (GlobalIsValid at) at.globals address h there valid.globals))
 
     constant-now : (ops : List Op) (t : ValType) → IsConstantExpression (constant_context m) ops t → (v : Val) × (constant_value at i ops ≡ Some v) × ValueHasType at v t
-    constant-now ops t expression =
-        let (v, is) = constant-found at m i (function-given old m given linkable [] []) (λ x t there. let (g, found, typed) = global-now x t there in (g, found)) ops t expression in
-        let there : (x a : ℕ) → slice_get i.functions x ≡ Some a → a < length at.functions = λ x a found.
-        let below = All-at (λ (b : ℕ). b < length new.functions) i.functions x a found i-valid.functions in
-        let longer = functions-more new at new_valid more in omega (arith, below, longer) in
-        (v, is, constant-typed at at m i there global-now ops t v expression is)
+    constant-now = constant-found at at m i there global-now
+      where
+        there : (x : ℕ) (f : FuncType) → slice_get (functions_of m) x ≡ Some f → (a : ℕ) × (slice_get i.functions x ≡ Some a) × (a < length at.functions)
+        there x f is =
+            let (a, found) = function-given old m given linkable [] [] x f is in
+            let below = All-at (λ (b : ℕ). b < length new.functions) i.functions x a found i-valid.functions in
+            let longer = functions-more new at new_valid more in
+            (a, found, omega (arith, below, longer))
 
     abbrev own_place : Place
     own_place = record { instance = Some (length old.instances); locals = []; labels = []; results = None }
@@ -221,10 +220,10 @@ module _ {H : Type 0} (HostStep : List H → ℕ → Option ℕ → List Val →
 -- ---- the parts of a link, one after the other
 
 -- The constants of a module that is linked have values.
-pub objects-there : (old : Store) (m : Module) (given : List Extern) → IsLinkable old m given → new_objects old (new_instance old m given) m ≡ None → ⊥
-objects-there old m given linkable none =
-    let (gs, first) = globals-found old m given linkable in
-    let (es, second) = elements-found old m given linkable in
+pub objects-there : (old : Store) (m : Module) (given : List Extern) → StoreIsValid old → IsLinkable old m given → new_objects old (new_instance old m given) m ≡ None → ⊥
+objects-there old m given valid linkable none =
+    let (gs, first) = globals-found old m given linkable valid in
+    let (es, second) = elements-found old m given linkable valid in
     objects-found m _ _ gs es first second none
 
 -- What it runs is there, and is typed, whatever runs before.

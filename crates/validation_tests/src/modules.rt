@@ -52,7 +52,15 @@ global_with_nop | (global i32 i32.const 0 nop) | invalid
 global_of_unreachable | (global i32 unreachable) | invalid
 global_with_a_block | (global i32 block (result i32) i32.const 0 end) | invalid
 global_that_is_constant | (global i32 i32.const 0) | valid
-global_of_a_sum | (global i32 i32.const 0 i32.const 0 i32.add) | invalid
+global_of_a_sum | (global i32 i32.const 0 i32.const 0 i32.add) | valid
+global_of_a_sum_of_the_other_width | (global i32 i64.const 0 i64.const 0 i64.add) | invalid
+global_of_a_quotient | (global i32 i32.const 1 i32.const 1 i32.div_u) | invalid
+global_of_an_operator_with_one_operand | (global i32 i32.const 1 i32.add) | invalid
+global_of_a_comparison | (global i32 i32.const 1 i32.const 1 i32.eq) | invalid
+global_of_a_sum_of_widths | (global i64 i64.const 1 i32.const 1 i64.add) | invalid
+global_of_a_difference | (global i64 i64.const 5 i64.const 7 i64.sub) | valid
+offset_of_a_product | (memory 1) (data (offset i32.const 2 i32.const 3 i32.mul) \"x\") | valid
+offset_of_a_product_of_i64 | (memory 1) (data (offset i64.const 2 i64.const 3 i64.mul) \"x\") | invalid
 global_of_two_values | (global i32 i32.const 0 i32.const 0) | invalid
 global_of_no_value | (global i32) | invalid
 global_of_one_value | (global i32 i32.const 0) | valid
@@ -154,5 +162,5 @@ two_imports_of_one_name | (type (func)) (import \"m\" \"i\" (func (type 0))) (im
 
 #[test]
 fn checks_the_parts_of_modules(rt: HostRuntime) {
-    check_rows(&rt, rt.alloc(), ROWS, 148);
+    check_rows(&rt, rt.alloc(), ROWS, 156);
 }

@@ -1,9 +1,11 @@
 -- Constant expressions, in the terms of the context that is lent to them.
-use Rattle.std.specs.Prelude.{◌≡◌, ◌^◌, ◌<◌, true, Some, slice_get, List, [], ◌∷◌}
+use Rattle.std.specs.Prelude.{◌≡◌, ◌^◌, ◌<◌, ◌≤◌, ◌⊎◌, ℕ, suc, true, Some, slice_get, List, [], ◌∷◌}
 use Rattle.core_types.specs.declared.module.Module.{Module}
+use Rattle.core_types.specs.declared.op.BinaryOp.TheVariants.{Add, Sub, Mul}
+use Rattle.core_types.specs.declared.op.NumericOp.TheVariants.{Binary}
 use Rattle.core_types.specs.declared.op.Op.TheVariants.{Plain}
 use Rattle.core_types.specs.declared.op.Op.{Op}
-use Rattle.core_types.specs.declared.op.PlainOp.TheVariants.{Variable, Reference, I32Const, I64Const}
+use Rattle.core_types.specs.declared.op.PlainOp.TheVariants.{Numeric, Variable, Reference, I32Const, I64Const}
 use Rattle.core_types.specs.declared.op.PlainOp.{PlainOp}
 use Rattle.core_types.specs.declared.op.ReferenceOp.TheVariants as reference
 use Rattle.core_types.specs.declared.op.ReferenceOp.{ReferenceOp}
@@ -12,6 +14,7 @@ use Rattle.core_types.specs.declared.op.VariableOp.{VariableOp}
 use Rattle.core_types.specs.declared.types.Mutability.TheVariants.{Const}
 use Rattle.core_types.specs.declared.types.ValType.TheVariants.{FuncRef, I32, I64}
 use Rattle.core_types.specs.declared.types.ValType.{ValType}
+use Rattle.meaning.specs.validation.Instructions.{integer_type}
 use Rattle.meaning.specs.validation.Modules.{imported_globals}
 use Rattle.meaning.specs.validation.Types.{reference_type}
 use Rattle.validator.specs.declared.constants.ConstantContext.{ConstantContext}
@@ -42,7 +45,27 @@ GivesConstant context (Reference op) t = GivesReference context op t
 GivesConstant context (Variable op) t = GivesGlobal context op t
 GivesConstant context op t = ⊥
 
--- One such instruction.
-unfoldable pub IsConstantIn : ConstantContext → List Op → ValType → Type 0
-IsConstantIn context (Plain op ∷ []) t = GivesConstant context op t
-IsConstantIn context ops t = ⊥
+-- The instruction is an operator of constant expressions, which takes two operands of this type and gives one.
+unfoldable pub Operates : PlainOp → ValType → Type 0
+Operates (Numeric (Binary width Add)) t = integer_type width ≡ t
+Operates (Numeric (Binary width Sub)) t = integer_type width ≡ t
+Operates (Numeric (Binary width Mul)) t = integer_type width ≡ t
+Operates op t = ⊥
+
+-- From that many operands, all of this type, an instruction leads to so many.
+abbrev pub Leads : ConstantContext → ValType → PlainOp → (before after : ℕ) → Type 0
+Leads context t op before after =
+    (GivesConstant context op t × (after ≡ suc before)) ⊎
+    (Operates op t × (2 ≤ before) × (suc after ≡ before))
+
+-- From that many operands, these instructions lead to one.
+abbrev pub LeadsToOne : ConstantContext → ValType → (before : ℕ) → List Op → Type 0
+LeadsToOne context t before [] = before ≡ 1
+LeadsToOne context t before (Plain op ∷ ops) =
+    (between : ℕ) × Leads context t op before between × LeadsToOne context t between ops
+LeadsToOne context t before (op ∷ ops) = ⊥
+
+-- Constant instructions that lead from no operand to one. An operator takes operands of the type that it gives, so that all operands
+-- have the type of the last one.
+abbrev pub IsConstantIn : ConstantContext → List Op → ValType → Type 0
+IsConstantIn context ops t = LeadsToOne context t 0 ops

@@ -1,9 +1,11 @@
-ghost use Rattle.std.specs.Prelude.{IsTrue, Some, ◌↔◌, ◌≡◌};
+ghost use Rattle.std.specs.Prelude.{IsTrue, Some, ℕ, ◌+◌, ◌<◌, ◌^◌, ◌↔◌, ◌≡◌};
 ghost use Rattle.core_types.specs.declared.types.ValType.{ValType as Value};
-ghost use Rattle.validator.specs.Constants.{GivesConstant, GivesGlobal, GivesReference, IsConstantIn};
+ghost use Rattle.validator.specs.Constants.{GivesConstant, GivesGlobal, GivesReference, IsConstantIn, Leads, Operates};
 
-use crate::types::reference_type;
-use core_types::{GlobalType, Mutability, Op, PlainOp, ReferenceOp, ValType, VariableOp};
+use crate::types::{integer_type, reference_type};
+use core_types::{
+    BinaryOp, GlobalType, Mutability, NumericOp, Op, PlainOp, ReferenceOp, ValType, VariableOp,
+};
 
 /// What a constant expression is typed in (Validation, Constant Expressions).
 #[derive(Clone, Copy)]
@@ -65,13 +67,57 @@ fn constant_type(context: &ConstantContext<'_>, op: &PlainOp) -> Option<ValType>
     }
 }
 
-// Whether an expression is one constant instruction, which gives a value of this type.
-#[tactic(auto, unfolding(crate::specs::Constants::IsConstantIn))]
+// Whether an instruction is a constant of this type.
+fn is_constant_of(context: &ConstantContext<'_>, op: &PlainOp, wanted: ValType) -> bool
+    ensures { IsTrue result ↔ GivesConstant context.now op.now wanted }
+{
+    constant_type(context, op) == Some(wanted)
+}
+
+// Whether an instruction is an operator of constant expressions, on operands of this type.
+#[tactic(auto, unfolding(crate::specs::Constants::Operates))]
+fn is_operator(op: &PlainOp, wanted: ValType) -> bool
+    ensures { IsTrue result ↔ Operates op.now wanted }
+{
+    match op {
+        PlainOp::Numeric(NumericOp::Binary(width, BinaryOp::Add | BinaryOp::Sub | BinaryOp::Mul)) =>
+            { integer_type(*width) == wanted }
+        _ => false,
+    }
+}
+
+// How many operands of a type there are behind a constant instruction, if it is one on that type.
+fn height_behind(
+    context: &ConstantContext<'_>,
+    op: &PlainOp,
+    wanted: ValType,
+    height: usize,
+) -> Option<usize>
+    requires { height + 1 < 2 ^ 64 }
+    ensures { (after : ℕ) → (result ≡ Some after) ↔ Leads context.now wanted op.now height after }
+{
+    if is_constant_of(context, op, wanted) {
+        return Some(height + 1);
+    }
+    if height >= 2 && is_operator(op, wanted) {
+        return Some(height - 1);
+    }
+    None
+}
+
+// Whether an expression is made of constant instructions, which leave one value of this type.
 pub fn is_constant(context: &ConstantContext<'_>, ops: &[Op], wanted: ValType) -> bool
     ensures { IsTrue result ↔ IsConstantIn context.now ops.now wanted }
 {
-    match ops {
-        [Op::Plain(op)] => constant_type(context, op) == Some(wanted),
-        _ => false,
+    let mut height = 0;
+    for k in 0..ops.len() {
+        let Op::Plain(op) = &ops[k] else {
+            return false;
+        };
+        match height_behind(context, op, wanted, height) {
+            Some(after) => height = after,
+            None => return false,
+        }
     }
+    height == 1
 }

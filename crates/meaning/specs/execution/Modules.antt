@@ -1,5 +1,5 @@
 -- Allocation and instantiation of modules (Execution, Modules).
-use Rattle.std.specs.Prelude.{◌≡◌, ℕ, zero, suc, ◌+◌, ◌%◌, ◌<◌, ◌≤◌, ◌^◌, List, [], ◌∷◌, ◌++◌, length, map, Option, Some, None, option_map, slice_get}
+use Rattle.std.specs.Prelude.{◌≡◌, ℕ, zero, suc, ◌+◌, ◌%◌, ◌<◌, ◌≤◌, ◌^◌, List, [], ◌∷◌, ◌++◌, length, map, Option, Some, None, option_map, option_and_then, Result, Ok, Err, slice_get}
 use Rattle.std.specs.List.{All}
 use Rattle.core_types.specs.declared.module.DataMode.{DataMode}
 use Rattle.core_types.specs.declared.module.DataMode.TheVariants as data_mode
@@ -17,14 +17,18 @@ use Rattle.core_types.specs.declared.module.ImportDesc.TheVariants as import
 use Rattle.core_types.specs.declared.module.Module.{Module}
 use Rattle.core_types.specs.declared.op.MemoryOp.TheVariants as memory_op
 use Rattle.core_types.specs.declared.op.Op.{Op}
+use Rattle.core_types.specs.declared.op.NumericOp.{NumericOp}
+use Rattle.core_types.specs.declared.op.NumericOp.TheVariants.{Binary}
 use Rattle.core_types.specs.declared.op.Op.TheVariants.{Plain}
 use Rattle.core_types.specs.declared.op.PlainOp.{PlainOp}
-use Rattle.core_types.specs.declared.op.PlainOp.TheVariants.{I32Const, I64Const, Memory, Reference, Table, Variable}
+use Rattle.core_types.specs.declared.op.PlainOp.TheVariants.{I32Const, I64Const, Memory, Numeric, Reference, Table, Variable}
 use Rattle.core_types.specs.declared.op.ReferenceOp.TheVariants as reference
 use Rattle.core_types.specs.declared.op.TableOp.TheVariants as table_op
 use Rattle.core_types.specs.declared.op.VariableOp.TheVariants.{GlobalGet}
+use Rattle.core_types.specs.declared.op.Width.TheVariants.{W32, W64}
 use Rattle.core_types.specs.declared.outcome.Extern.{Extern}
 use Rattle.core_types.specs.declared.outcome.Extern.TheVariants as value
+use Rattle.core_types.specs.declared.outcome.Trap.{Trap}
 use Rattle.core_types.specs.declared.outcome.Val.{Val}
 use Rattle.core_types.specs.declared.outcome.Val.TheVariants.{I32, I64, FuncRef}
 use Rattle.core_types.specs.declared.types.ExternType.{ExternType}
@@ -37,6 +41,7 @@ use Rattle.meaning.specs.validation.Matching.{Matches}
 use Rattle.meaning.specs.validation.Modules.{type_at}
 use Rattle.meaning.specs.execution.Configurations.{Configuration, Frame, Invoking, Running, no_frame}
 use Rattle.meaning.specs.execution.Memories.{new_memory}
+use Rattle.meaning.specs.execution.Numerics.{binary_operator}
 use Rattle.meaning.specs.execution.Runs.{Answer, Ending, WithValues, WithTrap, OutOfFuel, OutOfDepth, OutOfMemory, Run, State}
 use Rattle.meaning.specs.execution.Store.{Code, DataInstance, FunctionInstance, GlobalInstance, InCode, ModuleInstance, ObjectLists, Store, extern_type, item_at}
 use Rattle.meaning.specs.execution.Tables.{ElementInstance, new_table}
@@ -138,10 +143,40 @@ constant store i (Variable (GlobalGet x)) =
     option_map (λ (g : GlobalInstance). g.value) (item_at store.globals i.globals x)
 constant store i op = None
 
--- The value of a constant expression, which is one instruction.
+-- An integer on top of the operands, if there is one.
+abbrev pub with_integer : (ℕ → Val) → Result ℕ Trap → List Val → Option (List Val)
+with_integer integer (Ok n) operands = Some (integer n ∷ operands)
+with_integer integer (Err trap) operands = None
+
+-- What an operator makes of the operands, of which the last comes first (Numeric Instructions).
+abbrev pub operate : NumericOp → List Val → Option (List Val)
+operate (Binary W32 op) (I32 b ∷ (I32 a ∷ operands)) =
+    with_integer I32 (binary_operator 32 op a b) operands
+operate (Binary W64 op) (I64 b ∷ (I64 a ∷ operands)) =
+    with_integer I64 (binary_operator 64 op a b) operands
+operate op operands = None
+
+-- What a constant instruction makes of the operands.
+abbrev pub constant_step : Store → ModuleInstance → PlainOp → List Val → Option (List Val)
+constant_step store i (Numeric op) operands = operate op operands
+constant_step store i op operands =
+    option_map (λ (v : Val). v ∷ operands) (constant store i op)
+
+-- What constant instructions make of the operands, one after the other.
+abbrev pub constant_operands : Store → ModuleInstance → List Op → List Val → Option (List Val)
+constant_operands store i [] operands = Some operands
+constant_operands store i (Plain op ∷ ops) operands =
+    option_and_then (constant_operands store i ops) (constant_step store i op operands)
+constant_operands store i (op ∷ ops) operands = None
+
+-- The only one of these values, if there is one.
+abbrev pub only : Option (List Val) → Option Val
+only (Some (v ∷ [])) = Some v
+only values = None
+
+-- The value of a constant expression: that which its instructions leave.
 abbrev pub constant_value : Store → ModuleInstance → List Op → Option Val
-constant_value store i (Plain op ∷ []) = constant store i op
-constant_value store i ops = None
+constant_value store i ops = only (constant_operands store i ops [])
 
 -- What all of these have, if each of them has it.
 abbrev pub cons : {A : Type 0} → Option A → Option (List A) → Option (List A)

@@ -16,9 +16,12 @@ use Rattle.core_types.specs.declared.module.Global.{Global}
 use Rattle.core_types.specs.declared.module.Import.{Import}
 use Rattle.core_types.specs.declared.module.ImportDesc.TheVariants as import
 use Rattle.core_types.specs.declared.module.Module.{Module}
+use Rattle.core_types.specs.declared.op.BinaryOp.TheVariants.{Add, Sub, Mul}
+use Rattle.core_types.specs.declared.op.NumericOp.{NumericOp}
+use Rattle.core_types.specs.declared.op.NumericOp.TheVariants.{Binary}
 use Rattle.core_types.specs.declared.op.Op.{Op}
 use Rattle.core_types.specs.declared.op.Op.TheVariants.{Plain}
-use Rattle.core_types.specs.declared.op.PlainOp.TheVariants.{Variable, Reference, I32Const, I64Const}
+use Rattle.core_types.specs.declared.op.PlainOp.TheVariants.{Numeric, Variable, Reference, I32Const, I64Const}
 use Rattle.core_types.specs.declared.op.ReferenceOp.TheVariants as reference
 use Rattle.core_types.specs.declared.op.VariableOp.TheVariants.{GlobalGet}
 use Rattle.core_types.specs.declared.types.FuncType.{FuncType}
@@ -160,6 +163,13 @@ constant_context m = record (module_context m) { globals = imported_globals m.im
 
 -- ---- constant expressions (Instructions, Constant Expressions)
 
+-- The integer operators of constant expressions.
+abbrev pub IsConstantOperator : NumericOp → Type 0
+IsConstantOperator (Binary width Add) = Unit {0}
+IsConstantOperator (Binary width Sub) = Unit {0}
+IsConstantOperator (Binary width Mul) = Unit {0}
+IsConstantOperator op = ⊥
+
 abbrev pub IsConstant : Context → Op → Type 0
 IsConstant context (Plain (I32Const n)) = Unit {0}
 IsConstant context (Plain (I64Const n)) = Unit {0}
@@ -167,9 +177,10 @@ IsConstant context (Plain (Reference (reference.Null t))) = Unit {0}
 IsConstant context (Plain (Reference (reference.Func x))) = Unit {0}
 IsConstant context (Plain (Variable (GlobalGet x))) =
     (g : GlobalType) × (slice_get context.globals x ≡ Some g) × (g.mutability ≡ Const)
+IsConstant context (Plain (Numeric op)) = IsConstantOperator op
 IsConstant context op = ⊥
 
--- Constant instructions that give one value of the type.
+-- Constant instructions that together give one value of the type.
 pub record IsConstantExpression (context : Context) (ops : List Op) (t : ValType) : Type 0 where
   pub constant : All (IsConstant context) ops
   pub body : Body

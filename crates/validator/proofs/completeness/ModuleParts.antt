@@ -1,6 +1,6 @@
 -- What valid parts of a module show in the terms of its index spaces.
-use Rattle.std.proofs.Common.{◌≡◌, ℕ, ◌<◌, Bool, false, List, [], ◌∷◌, length, map, get_or, sym, ap, ◌∙◌, subst, arith}
-use Rattle.std.proofs.lemmas.List.Elements.{All-get_or, All-weaker}
+use Rattle.std.proofs.Common.{◌≡◌, ℕ, ◌<◌, Bool, false, List, [], ◌∷◌, length, map, get_or, inl, inr, refl, sym, ap, ◌∙◌, subst, arith}
+use Rattle.std.proofs.lemmas.List.Elements.{All-get_or, All-head, All-tail, All-weaker}
 use Rattle.std.proofs.lemmas.List.{length-map}
 use Rattle.std.proofs.lemmas.Option.{slice_get-map, slice_get-get_or, slice_get_within}
 use Rattle.std.specs.Prelude.{◌↔◌, All, IfErr, IsTrue, Option, Some, None, Result, Ok, Err, option_map, slice_get, unwrap_or}
@@ -14,7 +14,8 @@ use Rattle.core_types.specs.declared.module.ElementMode.{ElementMode}
 use Rattle.core_types.specs.declared.module.ElementSegment.{ElementSegment}
 use Rattle.core_types.specs.declared.module.Global.{Global}
 use Rattle.core_types.specs.declared.module.Module.{Module}
-use Rattle.core_types.specs.declared.op.Op.TheVariants.{Plain}
+use Rattle.core_types.specs.declared.op.NumericOp.{NumericOp}
+use Rattle.core_types.specs.declared.op.Op.TheVariants.{Plain, Block, Loop, If}
 use Rattle.core_types.specs.declared.op.Op.{Op}
 use Rattle.core_types.specs.declared.op.PlainOp.TheVariants.{Control, BrTable, Reference, Parametric, SelectTyped, Variable, Table, Memory, Numeric, I32Const, I64Const}
 use Rattle.core_types.specs.declared.op.PlainOp.{PlainOp}
@@ -26,19 +27,21 @@ use Rattle.core_types.specs.declared.types.FuncType.{FuncType}
 use Rattle.core_types.specs.declared.types.GlobalType.{GlobalType}
 use Rattle.core_types.specs.declared.types.Mutability.TheVariants.{Const}
 use Rattle.core_types.specs.declared.types.Mutability.{Mutability}
+use Rattle.core_types.specs.declared.types.OperandType.{OperandType}
 use Rattle.core_types.specs.declared.types.RefType.{RefType}
 use Rattle.core_types.specs.declared.types.ValType.TheVariants.{I32}
 use Rattle.core_types.specs.declared.types.ValType.{ValType}
-use Rattle.meaning.specs.validation.Instructions.{known, Rule}
+use Rattle.meaning.specs.structure.Bodies.{Body, BlockKind, Empty, IfElse, IfKind, LoopKind, Nested, Then, writing}
+use Rattle.meaning.specs.validation.Instructions.{AllFit, HasType, known, Rule}
 use Rattle.meaning.specs.validation.Modules.{constant_context, function_indices, HasDataMode, HasElementMode, HasItemsOfType, IsConstant, IsConstantExpression, IsValidElement, IsValidStart, type_at}
 use Rattle.meaning.specs.validation.Types.{reference_type}
 use Rattle.validator.specs.declared.constants.ConstantContext.{ConstantContext}
 use Rattle.validator.specs.declared.context.IndexSpaces.{IndexSpaces}
-use Rattle.validator.specs.Constants.{GivesConstant, GivesGlobal, GivesReference, IsConstantContext, IsConstantIn}
+use Rattle.validator.specs.Constants.{GivesConstant, GivesGlobal, GivesReference, IsConstantContext, IsConstantIn, LeadsToOne, Operates}
 use Rattle.validator.specs.IndexSpaces.{AreIndexSpaces}
 use Rattle.validator.specs.ModuleParts.{AreItemsIn, IsDataModeIn, IsElementIn, IsElementModeIn, IsStartIn}
 use Rattle.validator.specs.References.{HasMarks}
-use Rattle.validator.proofs.completeness.Constants.{only_one}
+use Rattle.validator.proofs.completeness.Constants.{AreFit, before-operator, before-put, gives_one, operator_rule}
 
 -- A rule that does not hold is refused.
 pub answer_refused : {P Q : Type 0} (answer : Bool) → IsTrue answer ↔ P → answer ≡ false → (Q → P) → ¬ Q
@@ -76,6 +79,11 @@ module _ {m : Module} {s : IndexSpaces} {context : ConstantContext} (spaces : Ar
       rw lends.globals (found ∙ ap Some (constant_global constant.0 t value constant.2))
   global_given (GlobalSet x) t constant rule = absurd constant
 
+  -- An operator takes something.
+  no_operator : (op : NumericOp) (t : ValType) → IsConstant (constant_context m) (Plain (Numeric op)) → Rule (constant_context m) (Numeric op) [] (known (t ∷ [])) → GivesConstant context (Numeric op) t
+  no_operator op t constant rule =
+      let (u, operates, two, one) = operator_rule (constant_context m) op [] (known (t ∷ [])) constant rule in absurd cc
+
   instruction_given : (op : PlainOp) (t : ValType) → IsConstant (constant_context m) (Plain op) → Rule (constant_context m) op [] (known (t ∷ [])) → GivesConstant context op t
   unfolding GivesConstant
   instruction_given (I32Const n) t constant rule = (rule.0, let same = rule.1.1 in cc)
@@ -88,13 +96,41 @@ module _ {m : Module} {s : IndexSpaces} {context : ConstantContext} (spaces : Ar
   instruction_given (SelectTyped types) t constant rule = absurd constant
   instruction_given (Table op) t constant rule = absurd constant
   instruction_given (Memory op) t constant rule = absurd constant
-  instruction_given (Numeric op) t constant rule = absurd constant
+  instruction_given (Numeric op) t constant rule = no_operator op t constant rule
+
+  -- What a body of constant instructions finds fits the type of what it leaves, and its instructions lead to one operand.
+  leads_from : (body : Body) (t : ValType) (before : List OperandType) → All (IsConstant (constant_context m)) (writing body) → HasType (constant_context m) body before (known (t ∷ []))
+      → AreFit t before × LeadsToOne context t (length before) (writing body)
+  leads_from Empty t before all typed = one before typed
+    where
+      one : (before : List OperandType) → AllFit before (known (t ∷ [])) → AreFit t before × (length before ≡ 1)
+      one [] fits = absurd fits
+      one (u ∷ []) fits = (fits, refl)
+      one (u ∷ v ∷ us) fits = absurd fits.1
+  leads_from (Then op rest) t before all (operands, results, between, rule, frame, typed) =
+      let (fits, leads) = leads_from rest t between (All-tail (IsConstant (constant_context m)) (Plain op) (writing rest) all) typed in
+      let constant = All-head (IsConstant (constant_context m)) (Plain op) (writing rest) all in
+      elim (gives_one (constant_context m) op operands results constant rule) [
+        | inl given ↦ (
+            let (u, none, one) = given in
+            let (type, fits_before, longer) = before-put t u operands results before between none one frame fits in
+            let rule_of : Rule (constant_context m) op [] (known (t ∷ [])) = subst (λ (ts : List OperandType). Rule (constant_context m) op [] ts) (one ∙ ap (λ (v : ValType). known (v ∷ [])) type) (subst (λ (ts : List OperandType). Rule (constant_context m) op ts results) none rule) in
+            (fits_before, (length between, inl (instruction_given op t constant rule_of, longer), leads)))
+        | inr given ↦ (
+            let (n, op_is, (u, operates, two, one)) = given in
+            let (type, fits_before, enough, shorter) = before-operator t u operands results before between two one frame fits in
+            let operates_t : Operates op t = subst (λ (o : PlainOp). Operates o t) (sym op_is) (subst (Operates (Numeric n)) type operates) in
+            (fits_before, (length between, inr (operates_t, enough, shorter), leads)))
+      ]
+  leads_from (Nested BlockKind type inner rest) t before all typed = absurd (All-head (IsConstant (constant_context m)) (Block type) _ all)
+  leads_from (Nested LoopKind type inner rest) t before all typed = absurd (All-head (IsConstant (constant_context m)) (Loop type) _ all)
+  leads_from (Nested IfKind type inner rest) t before all typed = absurd (All-head (IsConstant (constant_context m)) (If type) _ all)
+  leads_from (IfElse type inner other rest) t before all typed = absurd (All-head (IsConstant (constant_context m)) (If type) _ all)
 
   expression_given : (ops : List Op) (t : ValType) → IsConstantExpression (constant_context m) ops t → IsConstantIn context ops t
-  unfolding IsConstantIn
   expression_given ops t expression =
-      let only = only_one (constant_context m) expression.body t (subst (All (IsConstant (constant_context m))) expression.written expression.constant) expression.typed in
-      subst (λ (written : List Op). IsConstantIn context written t) (sym (expression.written ∙ only.1)) (instruction_given only.0 t only.2 only.3)
+      let (fits, leads) = leads_from expression.body t [] (subst (All (IsConstant (constant_context m))) expression.written expression.constant) expression.typed in
+      subst (λ (written : List Op). IsConstantIn context written t) (sym expression.written) leads
 
   pub globals_given : (globals : List Global) → All (λ (g : Global). IsConstantExpression (constant_context m) g.init g.ty.value) globals → All (λ (g : Global). IsConstantIn context g.init g.ty.value) globals
   globals_given = All-weaker (λ (g : Global). IsConstantExpression (constant_context m) g.init g.ty.value) (λ (g : Global). IsConstantIn context g.init g.ty.value) (λ g. expression_given g.init g.ty.value)

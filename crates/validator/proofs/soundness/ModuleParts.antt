@@ -1,8 +1,9 @@
 -- The rules of a module's parts, from what was checked by its index spaces.
-use Rattle.std.proofs.Common.{◌≡◌, ℕ, ◌<◌, List, [], ◌∷◌, length, map, get_or, refl, ap, ◌∙◌, subst, arith}
+use Rattle.std.proofs.Common.{◌≡◌, ℕ, suc, ◌+◌, ◌-◌, ◌<◌, ◌≤◌, List, [], ◌∷◌, ◌++◌, length, map, get_or, inl, inr, refl, ap, sym, ◌∙◌, subst, arith}
 use Rattle.std.proofs.lemmas.List.Elements.{All-nil, All-cons, All-weaker}
+use Rattle.std.proofs.lemmas.List.{append-nil, map-append, replicate-append-replicate}
 use Rattle.std.proofs.lemmas.Option.{slice_get-map, slice_get-get_or, slice_get_within}
-use Rattle.std.specs.Prelude.{All, Option, Some, None, option_map, true, slice_get, unwrap_or}
+use Rattle.std.specs.Prelude.{All, Option, Some, None, option_map, true, slice_get, unwrap_or, replicate}
 use Rattle.core_types.specs.declared.module.DataMode.TheVariants as data_mode
 use Rattle.core_types.specs.declared.module.DataMode.{DataMode}
 use Rattle.core_types.specs.declared.module.DataSegment.{DataSegment}
@@ -16,6 +17,8 @@ use Rattle.core_types.specs.declared.module.ExportDesc.TheVariants as export
 use Rattle.core_types.specs.declared.module.ExportDesc.{ExportDesc}
 use Rattle.core_types.specs.declared.module.Global.{Global}
 use Rattle.core_types.specs.declared.module.Module.{Module}
+use Rattle.core_types.specs.declared.op.BinaryOp.TheVariants.{Add, Sub, Mul, DivS, DivU, RemS, RemU, And, Or, Xor, Shl, ShrS, ShrU, Rotl, Rotr}
+use Rattle.core_types.specs.declared.op.NumericOp.TheVariants.{Binary, Compare, Convert, Eqz, Unary}
 use Rattle.core_types.specs.declared.op.Op.TheVariants.{Plain, Block, Loop, If, Else, End}
 use Rattle.core_types.specs.declared.op.Op.{Op}
 use Rattle.core_types.specs.declared.op.PlainOp.TheVariants.{Control, BrTable, Reference, Parametric, SelectTyped, Variable, Table, Memory, Numeric, I32Const, I64Const}
@@ -27,29 +30,48 @@ use Rattle.core_types.specs.declared.op.VariableOp.{VariableOp}
 use Rattle.core_types.specs.declared.types.FuncType.{FuncType}
 use Rattle.core_types.specs.declared.types.GlobalType.{GlobalType}
 use Rattle.core_types.specs.declared.types.Mutability.TheVariants.{Const}
+use Rattle.core_types.specs.declared.types.OperandType.{OperandType}
+use Rattle.core_types.specs.declared.types.OperandType.TheVariants.{Known}
 use Rattle.core_types.specs.declared.types.RefType.{RefType}
 use Rattle.core_types.specs.declared.types.ValType.TheVariants.{I32}
 use Rattle.core_types.specs.declared.types.ValType.{ValType}
-use Rattle.meaning.specs.structure.Bodies.{Empty, Then}
-use Rattle.meaning.specs.validation.Context.{Context}
-use Rattle.meaning.specs.validation.Instructions.{known, Rule}
+use Rattle.meaning.specs.structure.Bodies.{Body, Empty, Then, writing}
+use Rattle.meaning.specs.validation.Instructions.{Frames, HasType, known, Rule}
 use Rattle.meaning.specs.validation.Modules.{constant_context, Exists, function_indices, HasDataMode, HasElementMode, HasItemsOfType, IsConstant, IsConstantExpression, IsValidElement, IsValidStart, type_at}
 use Rattle.meaning.specs.validation.Types.{reference_type}
 use Rattle.validator.specs.declared.constants.ConstantContext.{ConstantContext}
 use Rattle.validator.specs.declared.context.IndexSpaces.{IndexSpaces}
-use Rattle.validator.specs.Constants.{GivesConstant, GivesGlobal, GivesReference, IsConstantContext, IsConstantIn}
+use Rattle.validator.specs.Constants.{GivesConstant, GivesGlobal, GivesReference, IsConstantContext, IsConstantIn, LeadsToOne, Operates}
+use Rattle.meaning.proofs.lemmas.Typing.{AllFit-same}
 use Rattle.validator.specs.IndexSpaces.{AreIndexSpaces}
 use Rattle.validator.specs.ModuleParts.{AreItemsIn, ExistsIn, IsDataModeIn, IsElementIn, IsElementModeIn, IsStartIn}
 use Rattle.validator.specs.References.{HasMarks}
 
--- One constant instruction is a constant expression.
-alone : (context : Context) (op : PlainOp) (t : ValType) → IsConstant context (Plain op) → Rule context op [] (known (t ∷ [])) → IsConstantExpression context (Plain op ∷ []) t
-alone context op t constant rule = record {
-  constant = All-cons (IsConstant context) (Plain op) [] constant (All-nil (IsConstant context));
-  body = Then op Empty;
-  written = refl;
-  typed = ([], known (t ∷ []), known (t ∷ []), rule, record { below = []; given = []; before_is = refl; fits = tt; after_is = refl }, (refl, tt));
-}
+-- That many operands of a type.
+abbrev all_of : (t : ValType) (height : ℕ) → List OperandType
+all_of t height = known (replicate height t)
+
+all_of-parts : (t : ValType) (m n : ℕ) → all_of t (m + n) ≡ all_of t m ++ all_of t n
+all_of-parts t m n = ap (λ (ts : List ValType). known ts) (sym (replicate-append-replicate m n t)) ∙ map-append Known (replicate m t) (replicate n t)
+
+-- One more operand is put on top of that many.
+puts_one : (t : ValType) (height : ℕ) → Frames [] (known (t ∷ [])) (all_of t height) (all_of t (suc height))
+puts_one t height =
+    let more : suc height ≡ height + 1 = omega (arith) in
+    record { below = all_of t height; given = []; before_is = sym (append-nil _); fits = tt; after_is = ap (all_of t) more ∙ all_of-parts t height 1 }
+
+-- Two of that many operands are taken, and one is put in their place.
+takes_two : (t : ValType) (height behind : ℕ) → 2 ≤ height → suc behind ≡ height → Frames (known (t ∷ t ∷ [])) (known (t ∷ [])) (all_of t height) (all_of t behind)
+takes_two t height behind two is =
+    let both : height ≡ (height - 2) + 2 = omega (arith, two) in
+    let one : behind ≡ (height - 2) + 1 = omega (arith, two, is) in
+    record {
+      below = all_of t (height - 2);
+      given = known (t ∷ t ∷ []);
+      before_is = ap (all_of t) both ∙ all_of-parts t (height - 2) 2;
+      fits = AllFit-same (known (t ∷ t ∷ []));
+      after_is = ap (all_of t) one ∙ all_of-parts t (height - 2) 1;
+    }
 
 module _ {m : Module} {s : IndexSpaces} {context : ConstantContext} (spaces : AreIndexSpaces m s) (marks : HasMarks m s) (lends : IsConstantContext m s context) where
   -- A function that is marked is there.
@@ -59,30 +81,34 @@ module _ {m : Module} {s : IndexSpaces} {context : ConstantContext} (spaces : Ar
       let index = get_or (function_indices m) x 0 in
       (type_at m.types index, slice_get-map (type_at m.types) (function_indices m) x ∙ ap (option_map (type_at m.types)) (slice_get-get_or (function_indices m) x 0 inside))
 
-  reference_constant : (op : ReferenceOp) (t : ValType) → GivesReference context op t → IsConstantExpression (constant_context m) (Plain (Reference op) ∷ []) t
-  unfolding GivesReference
-  reference_constant (reference.Null r) t h = alone (constant_context m) (Reference (reference.Null r)) t tt (refl, ap (λ (u : ValType). known (u ∷ [])) h)
+  -- A constant instruction of the rules, which gives one value of the type.
+  IsConstantOf : PlainOp → ValType → Type 0
+  IsConstantOf op t = IsConstant (constant_context m) (Plain op) × Rule (constant_context m) op [] (known (t ∷ []))
+
+  reference_constant : (op : ReferenceOp) (t : ValType) → GivesReference context op t → IsConstantOf (Reference op) t
+  unfolding GivesReference IsConstantOf
+  reference_constant (reference.Null r) t h = (tt, (refl, ap (λ (u : ValType). known (u ∷ [])) h))
   reference_constant reference.IsNull t h = absurd h
   reference_constant (reference.Func x) t h =
       let set = rw lends.declared at h.0 in
       let f = function_there x set in
-      alone (constant_context m) (Reference (reference.Func x)) t tt (f.0, f.1, spaces.declared x set, (refl, ap (λ (u : ValType). known (u ∷ [])) h.1))
+      (tt, (f.0, f.1, spaces.declared x set, (refl, ap (λ (u : ValType). known (u ∷ [])) h.1)))
 
-  global_constant : (op : VariableOp) (t : ValType) → GivesGlobal context op t → IsConstantExpression (constant_context m) (Plain (Variable op) ∷ []) t
-  unfolding GivesGlobal
+  global_constant : (op : VariableOp) (t : ValType) → GivesGlobal context op t → IsConstantOf (Variable op) t
+  unfolding GivesGlobal IsConstantOf
   global_constant (LocalGet x) t h = absurd h
   global_constant (LocalSet x) t h = absurd h
   global_constant (LocalTee x) t h = absurd h
   global_constant (GlobalGet x) t h =
       let g : GlobalType = record { value = t; mutability = Const } in
       let there = rw lends.globals at h in
-      alone (constant_context m) (Variable (GlobalGet x)) t (g, there, refl) (g, there, (refl, refl))
+      ((g, there, refl), (g, there, (refl, refl)))
   global_constant (GlobalSet x) t h = absurd h
 
-  instruction_constant : (op : PlainOp) (t : ValType) → GivesConstant context op t → IsConstantExpression (constant_context m) (Plain op ∷ []) t
-  unfolding GivesConstant
-  instruction_constant (I32Const n) t h = alone (constant_context m) (I32Const n) t tt (h.0, (refl, ap (λ (u : ValType). known (u ∷ [])) h.1))
-  instruction_constant (I64Const n) t h = alone (constant_context m) (I64Const n) t tt (h.0, (refl, ap (λ (u : ValType). known (u ∷ [])) h.1))
+  instruction_constant : (op : PlainOp) (t : ValType) → GivesConstant context op t → IsConstantOf op t
+  unfolding GivesConstant IsConstantOf
+  instruction_constant (I32Const n) t h = (tt, (h.0, (refl, ap (λ (u : ValType). known (u ∷ [])) h.1)))
+  instruction_constant (I64Const n) t h = (tt, (h.0, (refl, ap (λ (u : ValType). known (u ∷ [])) h.1)))
   instruction_constant (Reference op) t h = reference_constant op t h
   instruction_constant (Variable op) t h = global_constant op t h
   instruction_constant (Control op) t h = absurd h
@@ -93,16 +119,77 @@ module _ {m : Module} {s : IndexSpaces} {context : ConstantContext} (spaces : Ar
   instruction_constant (Memory op) t h = absurd h
   instruction_constant (Numeric op) t h = absurd h
 
+  -- An operator of constant expressions, of the rules.
+  IsOperatorOf : PlainOp → ValType → Type 0
+  IsOperatorOf op t = IsConstant (constant_context m) (Plain op) × Rule (constant_context m) op (known (t ∷ t ∷ [])) (known (t ∷ []))
+
+  operator_constant : (op : PlainOp) (t : ValType) → Operates op t → IsOperatorOf op t
+  unfolding Operates IsOperatorOf
+  operator_constant (Numeric (Binary width Add)) t h = rw h (tt, (refl, refl))
+  operator_constant (Numeric (Binary width Sub)) t h = rw h (tt, (refl, refl))
+  operator_constant (Numeric (Binary width Mul)) t h = rw h (tt, (refl, refl))
+  operator_constant (Numeric (Binary width DivS)) t h = absurd h
+  operator_constant (Numeric (Binary width DivU)) t h = absurd h
+  operator_constant (Numeric (Binary width RemS)) t h = absurd h
+  operator_constant (Numeric (Binary width RemU)) t h = absurd h
+  operator_constant (Numeric (Binary width And)) t h = absurd h
+  operator_constant (Numeric (Binary width Or)) t h = absurd h
+  operator_constant (Numeric (Binary width Xor)) t h = absurd h
+  operator_constant (Numeric (Binary width Shl)) t h = absurd h
+  operator_constant (Numeric (Binary width ShrS)) t h = absurd h
+  operator_constant (Numeric (Binary width ShrU)) t h = absurd h
+  operator_constant (Numeric (Binary width Rotl)) t h = absurd h
+  operator_constant (Numeric (Binary width Rotr)) t h = absurd h
+  operator_constant (Numeric (Eqz width)) t h = absurd h
+  operator_constant (Numeric (Compare width op)) t h = absurd h
+  operator_constant (Numeric (Unary width op)) t h = absurd h
+  operator_constant (Numeric (Convert op)) t h = absurd h
+  operator_constant (I32Const n) t h = absurd h
+  operator_constant (I64Const n) t h = absurd h
+  operator_constant (Reference op) t h = absurd h
+  operator_constant (Variable op) t h = absurd h
+  operator_constant (Control op) t h = absurd h
+  operator_constant (BrTable table) t h = absurd h
+  operator_constant (Parametric op) t h = absurd h
+  operator_constant (SelectTyped types) t h = absurd h
+  operator_constant (Table op) t h = absurd h
+  operator_constant (Memory op) t h = absurd h
+
+  -- The instructions are constant, and the writing of a body that leads from that many operands of the type to one.
+  IsBodyFrom : ValType → (height : ℕ) → List Op → Type 0
+  IsBodyFrom t height ops =
+      (body : Body) × (ops ≡ writing body) × All (IsConstant (constant_context m)) ops × HasType (constant_context m) body (all_of t height) (known (t ∷ []))
+
+  with_instruction : (t : ValType) (height behind : ℕ) (op : PlainOp) (ops : List Op) (operands results : List OperandType) → IsConstant (constant_context m) (Plain op) → Rule (constant_context m) op operands results
+      → Frames operands results (all_of t height) (all_of t behind) → IsBodyFrom t behind ops → IsBodyFrom t height (Plain op ∷ ops)
+  unfolding IsBodyFrom
+  with_instruction t height behind op ops operands results constant rule frame (body, written, all, typed) = (
+    Then op body,
+    ap (λ (z : List Op). Plain op ∷ z) written,
+    All-cons (IsConstant (constant_context m)) (Plain op) ops constant all,
+    (operands, results, all_of t behind, rule, frame, typed),
+  )
+
+  body_from : (ops : List Op) (t : ValType) (height : ℕ) → LeadsToOne context t height ops → IsBodyFrom t height ops
+  unfolding IsBodyFrom IsConstantOf IsOperatorOf
+  body_from [] t height one = (Empty, refl, All-nil (IsConstant (constant_context m)), rw one (refl, tt))
+  body_from (Plain op ∷ ops) t height (between, inl (gives, is), rest) =
+      let constant = instruction_constant op t gives in
+      with_instruction t height between op ops [] (known (t ∷ [])) constant.0 constant.1 (rw is (puts_one t height)) (body_from ops t between rest)
+  body_from (Plain op ∷ ops) t height (between, inr (operates, two, is), rest) =
+      let constant = operator_constant op t operates in
+      with_instruction t height between op ops (known (t ∷ t ∷ [])) (known (t ∷ [])) constant.0 constant.1 (takes_two t height between two is) (body_from ops t between rest)
+  body_from (Block type ∷ ops) t height leads = absurd leads
+  body_from (Loop type ∷ ops) t height leads = absurd leads
+  body_from (If type ∷ ops) t height leads = absurd leads
+  body_from (Else ∷ ops) t height leads = absurd leads
+  body_from (End ∷ ops) t height leads = absurd leads
+
   expression_constant : (ops : List Op) (t : ValType) → IsConstantIn context ops t → IsConstantExpression (constant_context m) ops t
-  unfolding IsConstantIn
-  expression_constant [] t h = absurd h
-  expression_constant (Plain op ∷ []) t h = instruction_constant op t h
-  expression_constant (Plain op ∷ next ∷ ops) t h = absurd h
-  expression_constant (Block type ∷ ops) t h = absurd h
-  expression_constant (Loop type ∷ ops) t h = absurd h
-  expression_constant (If type ∷ ops) t h = absurd h
-  expression_constant (Else ∷ ops) t h = absurd h
-  expression_constant (End ∷ ops) t h = absurd h
+  unfolding IsBodyFrom
+  expression_constant ops t leads =
+      let (body, written, all, typed) = body_from ops t 0 leads in
+      record { constant = all; body = body; written = written; typed = typed }
 
   pub globals_valid : (globals : List Global) → All (λ (g : Global). IsConstantIn context g.init g.ty.value) globals → All (λ (g : Global). IsConstantExpression (constant_context m) g.init g.ty.value) globals
   globals_valid = All-weaker (λ (g : Global). IsConstantIn context g.init g.ty.value) (λ (g : Global). IsConstantExpression (constant_context m) g.init g.ty.value) (λ g. expression_constant g.init g.ty.value)

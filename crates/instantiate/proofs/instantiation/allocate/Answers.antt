@@ -35,4 +35,4 @@ unreachable-requires c =
     let module_is = c.module.ensures.same ∙ c.as_ref.ensures in
     let is : module_instance (lists_of c.in_ok-addresses.addresses) m ≡ new_instance store m c.args.given.now = rw module_is at c.in_ok-addresses.ensures in
     let none = rw c.in-Err-NoValue.field-0-is at c.in-Err-NoValue.ensures.none in
-    objects-there store m c.args.given.now c.requires.linkable (subst (λ (i : ModuleInstance). new_objects store i m ≡ None) is none)
+    objects-there store m c.args.given.now c.state.ensures.valid c.requires.linkable (subst (λ (i : ModuleInstance). new_objects store i m ≡ None) is none)
