@@ -1,5 +1,6 @@
 //! Commands that follow one another, and their replies.
 
+use crate::engines::{Asked, answer};
 use core_types::{Exhaustion, Trap, Val};
 use embed::{Command, Config, Embedding, Refusal, Reply};
 use std::alloc::Global;
@@ -169,22 +170,34 @@ fn is_answer(reply: &Reply, answer: Answer) -> bool {
 }
 
 // Whether a command gets this answer.
-fn gets(at: &mut Embedding, command: &Command, answer: Answer) -> bool {
-    is_answer(&at.apply(command), answer)
+fn gets(at: &mut Embedding, wanting: Option<Asked>, command: &Command, wanted: Answer) -> bool {
+    is_answer(&answer(at, wanting, command), wanted)
 }
 
 // Whether a module is loaded with this answer.
-fn loads(alloc: Global, at: &mut Embedding, bytes: &[u8], answer: Answer) -> bool {
+fn loads(
+    alloc: Global,
+    at: &mut Embedding,
+    wanting: Option<Asked>,
+    bytes: &[u8],
+    wanted: Answer,
+) -> bool {
     match Vec::from_slice(alloc, bytes) {
-        Ok(copied) => gets(at, &Command::Load(copied), answer),
+        Ok(copied) => gets(at, wanting, &Command::Load(copied), wanted),
         Err(_) => false,
     }
 }
 
 // Whether the module of a text is loaded with this answer.
-fn loads_text(alloc: Global, at: &mut Embedding, text: &str, answer: Answer) -> bool {
+fn loads_text(
+    alloc: Global,
+    at: &mut Embedding,
+    wanting: Option<Asked>,
+    text: &str,
+    wanted: Answer,
+) -> bool {
     match assemble(alloc, text) {
-        Ok(bytes) => gets(at, &Command::Load(bytes), answer),
+        Ok(bytes) => gets(at, wanting, &Command::Load(bytes), wanted),
         Err(_) => false,
     }
 }
@@ -227,9 +240,16 @@ fn links_others(alloc: Global, at: &mut Embedding, first: u64, last: u64) -> boo
 }
 
 // Whether an instance is registered with this answer.
-fn registers(alloc: Global, at: &mut Embedding, number: u64, name: &str, answer: Answer) -> bool {
+fn registers(
+    alloc: Global,
+    at: &mut Embedding,
+    wanting: Option<Asked>,
+    number: u64,
+    name: &str,
+    wanted: Answer,
+) -> bool {
     match String::from_str(alloc, name) {
-        Ok(copied) => gets(at, &Command::Register(number, copied), answer),
+        Ok(copied) => gets(at, wanting, &Command::Register(number, copied), wanted),
         Err(_) => false,
     }
 }
@@ -238,50 +258,73 @@ fn registers(alloc: Global, at: &mut Embedding, number: u64, name: &str, answer:
 fn calls(
     alloc: Global,
     at: &mut Embedding,
+    wanting: Option<Asked>,
     (number, name): (u64, &str),
     args: &[Val],
-    answer: Answer,
+    wanted: Answer,
 ) -> bool {
     match (String::from_str(alloc, name), Vec::from_slice(alloc, args)) {
-        (Ok(copied), Ok(values)) => gets(at, &Command::Call(number, copied, values), answer),
+        (Ok(copied), Ok(values)) => gets(
+            at,
+            wanting,
+            &Command::Call(number, copied, values),
+            wanted,
+        ),
         _ => false,
     }
 }
 
 // Whether a global is read with this answer.
-fn reads(alloc: Global, at: &mut Embedding, number: u64, name: &str, answer: Answer) -> bool {
+fn reads(
+    alloc: Global,
+    at: &mut Embedding,
+    wanting: Option<Asked>,
+    number: u64,
+    name: &str,
+    wanted: Answer,
+) -> bool {
     match String::from_str(alloc, name) {
-        Ok(copied) => gets(at, &Command::GetGlobal(number, copied), answer),
+        Ok(copied) => gets(at, wanting, &Command::GetGlobal(number, copied), wanted),
         Err(_) => false,
     }
 }
 
 // Whether a step is as it says.
-fn is_so(alloc: Global, at: &mut Embedding, step: Step) -> bool {
+fn is_so(alloc: Global, at: &mut Embedding, wanting: Option<Asked>, step: Step) -> bool {
     match step {
-        LoadBytes(bytes, answer) => loads(alloc, at, bytes, answer),
-        Load(text, answer) => loads_text(alloc, at, text, answer),
-        Link(number, answer) => gets(at, &Command::Link(number), answer),
+        LoadBytes(bytes, wanted) => loads(alloc, at, wanting, bytes, wanted),
+        Load(text, wanted) => loads_text(alloc, at, wanting, text, wanted),
+        Link(number, wanted) => gets(at, wanting, &Command::Link(number), wanted),
         LinkTimes(number, times) => {
             link_times(at, number, times);
             true
         }
         LinkOthers(first, last) => links_others(alloc, at, first, last),
-        Register(number, name, answer) => registers(alloc, at, number, name, answer),
-        Call(number, name, args, answer) => calls(alloc, at, (number, name), args, answer),
-        GetGlobal(number, name, answer) => reads(alloc, at, number, name, answer),
-        SetFuel(fuel) => gets(at, &Command::SetFuel(fuel), Done),
+        Register(number, name, wanted) => registers(alloc, at, wanting, number, name, wanted),
+        Call(number, name, args, wanted) => calls(alloc, at, wanting, (number, name), args, wanted),
+        GetGlobal(number, name, wanted) => reads(alloc, at, wanting, number, name, wanted),
+        SetFuel(fuel) => gets(at, wanting, &Command::SetFuel(fuel), Done),
         Left(fuel) => at.fuel_left() == fuel,
     }
 }
 
-/// Whether all steps are as they say.
-pub fn steps_hold(alloc: Global, at: &mut Embedding, steps: &[Step]) -> bool {
+/// Whether all steps are as they say, where one command, if it is given, always wants memory.
+pub fn steps_hold_wanting(
+    alloc: Global,
+    at: &mut Embedding,
+    wanting: Option<Asked>,
+    steps: &[Step],
+) -> bool {
     let mut all = true;
     for step in steps {
-        all &= is_so(alloc, at, *step);
+        all &= is_so(alloc, at, wanting, *step);
     }
     all
+}
+
+/// Whether all steps are as they say.
+pub fn steps_hold(alloc: Global, at: &mut Embedding, steps: &[Step]) -> bool {
+    steps_hold_wanting(alloc, at, None, steps)
 }
 
 /// A fresh embedding without host functions.
@@ -307,12 +350,12 @@ fn commands_get_their_answers(rt: HostRuntime) {
 
 // Whether the first bytes of the module that adds are loaded where they are a module: without sections, with its type alone, and whole.
 fn loads_first(alloc: Global, count: usize) -> bool {
-    let answer = match count {
+    let wanted = match count {
         8 | 17 | 41 => Number(0),
         _ => Refused(Refusal::Malformed),
     };
     match fresh_embedding(alloc) {
-        Some(mut at) => loads(alloc, &mut at, &ADD[..count.min(ADD.len())], answer),
+        Some(mut at) => loads(alloc, &mut at, None, &ADD[..count.min(ADD.len())], wanted),
         None => false,
     }
 }

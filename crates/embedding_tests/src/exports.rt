@@ -2,7 +2,7 @@
 
 use core_types::{ExternType, Mutability, ValType};
 use embed::{Command, Config, Embedding};
-use std::alloc::Global;
+use std::alloc::{AllocError, Global};
 use testing::assemble;
 
 // An export of each kind, and a function that grows the memory by two pages.
@@ -70,12 +70,17 @@ fn grown(alloc: Global) -> Option<Embedding> {
     Some(at)
 }
 
-// Whether an export has its type.
-fn is_so(at: &Embedding, row: &Row) -> bool {
-    match at.export_type(row.instance, row.name) {
+// Whether an answer is the type of a row.
+fn is_right(answer: Result<Option<ExternType>, AllocError>, row: &Row) -> bool {
+    match answer {
         Ok(found) => is_type(&found, row.ty),
         Err(_) => false,
     }
+}
+
+// Whether an export has its type.
+fn is_so(at: &Embedding, row: &Row) -> bool {
+    is_right(at.export_type(row.instance, row.name), row)
 }
 
 // Whether all exports have their types.
@@ -93,4 +98,11 @@ fn all_are_so(alloc: Global) -> bool {
 #[test]
 fn exports_have_their_types(rt: HostRuntime) {
     assert!(rt; all_are_so(rt.alloc()));
+}
+
+#[test]
+fn call_always_out_of_memory(rt: HostRuntime) {
+    for row in &ROWS {
+        assert!(rt; !is_right(Err(AllocError), row), "{}", row.name);
+    }
 }

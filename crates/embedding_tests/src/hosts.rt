@@ -12,7 +12,7 @@ use crate::kinds::Kind;
 use Answer::{Done, Lacks, Number, Refused, Trapped, Values};
 use Step::{Call, Left, Link, Load, Register, SetFuel};
 use core_types::{Exhaustion, FuncType, Items, Trap, Val};
-use embed::{Config, Embedding, HostDef, Refusal};
+use embed::{Config, Embedding, HostDef, NewFault, Refusal};
 use hostfunc::{HostFault, HostFn};
 use std::alloc::{AllocError, Global};
 
@@ -214,6 +214,11 @@ fn defined(alloc: Global, name: &str, func: Box<dyn HostFn>) -> Result<HostDef, 
     })
 }
 
+// Whether there is no embedding for the reason of a row.
+fn is_refusal(fault: &NewFault, row: &Row) -> bool {
+    row.refused == Some(fault.number())
+}
+
 // Whether a row is as it says.
 fn is_so(alloc: Global, row: &Row) -> Result<bool, AllocError> {
     let mut hosts = Vec::new(alloc);
@@ -227,15 +232,22 @@ fn is_so(alloc: Global, row: &Row) -> Result<bool, AllocError> {
     if hosts.len() > 10 {
         return Ok(false);
     }
-    match Embedding::new(alloc, config, hosts) {
-        Ok(mut at) => Ok(row.refused.is_none() && steps_hold(alloc, &mut at, row.steps)),
-        Err(fault) => Ok(row.refused == Some(fault.number())),
-    }
+    Ok(match Embedding::new(alloc, config, hosts) {
+        Ok(mut at) => row.refused.is_none() && steps_hold(alloc, &mut at, row.steps),
+        Err(fault) => is_refusal(&fault, row),
+    })
 }
 
 #[test]
 fn host_functions_are_called(rt: HostRuntime) {
     for row in &ROWS {
         assert!(rt; is_so(rt.alloc(), row) == Ok(true), "{}", row.name);
+    }
+}
+
+#[test]
+fn call_always_out_of_memory(rt: HostRuntime) {
+    for row in &ROWS {
+        assert!(rt; !is_refusal(&NewFault::OutOfMemory, row), "{}", row.name);
     }
 }

@@ -6,6 +6,8 @@ mod commands;
 #[cfg(test)]
 mod constant_expressions;
 #[cfg(test)]
+mod engines;
+#[cfg(test)]
 mod example;
 #[cfg(test)]
 mod exports;
@@ -20,3 +22,5 @@ mod lists;
 mod setups;
 #[cfg(test)]
 mod sharing;
+#[cfg(test)]
+mod wanting;

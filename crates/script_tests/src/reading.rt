@@ -81,14 +81,19 @@ fn needs(script: &Script, files: &[&str]) -> bool {
             .all(|(name, file)| name.as_str() == *file)
 }
 
-// Whether a text is read as its row says.
-fn is_read(alloc: Global, row: &Row) -> bool {
-    match (read_script(alloc, row.bytes), row.outcome) {
+// Whether what was read is what a row says.
+fn is_outcome(read: Result<Script, ScriptFault>, row: &Row) -> bool {
+    match (read, row.outcome) {
         (Ok(script), Files(files)) => needs(&script, files),
         (Err(ScriptFault::NotJson), NotJson) => true,
         (Err(ScriptFault::BadCommand(index)), BadCommand(wanted)) => index == wanted,
         _ => false,
     }
+}
+
+// Whether a text is read as its row says.
+fn is_read(alloc: Global, row: &Row) -> bool {
+    is_outcome(read_script(alloc, row.bytes), row)
 }
 
 #[test]
@@ -109,4 +114,15 @@ fn has_its_numbers() -> bool {
 #[test]
 fn refusals_have_numbers(rt: HostRuntime) {
     assert!(rt; has_its_numbers());
+}
+
+#[test]
+fn call_always_out_of_memory(rt: HostRuntime) {
+    for row in &ROWS {
+        assert!(rt;
+            !is_outcome(Err(ScriptFault::OutOfMemory), row),
+            "{}",
+            row.name
+        );
+    }
 }

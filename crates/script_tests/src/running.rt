@@ -149,3 +149,14 @@ fn scripts_are_run(rt: HostRuntime) {
         assert!(rt; is_run(rt.alloc(), row), "{}", row.name);
     }
 }
+
+#[test]
+fn call_always_out_of_memory(rt: HostRuntime) {
+    for row in &ROWS {
+        assert!(rt;
+            !is_end(Err(ScriptFault::OutOfMemory), row.end),
+            "{}",
+            row.name
+        );
+    }
+}
