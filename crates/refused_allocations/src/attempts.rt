@@ -1,0 +1,35 @@
+//! Calls that are made once more where they wanted memory.
+
+use crate::padding::pad;
+use crate::verdicts::{Answer, Verdict};
+use std::alloc::Global;
+
+/// A call that may be made twice, with all that it needs.
+pub trait Attempt {
+    /// Makes the call.
+    fn attempt(&mut self) -> Answer;
+}
+
+/// Makes a call, and once more where it wanted memory: then it has to answer as with ample memory. So many allocations come before
+/// it. It wants memory at one place alone, which is named.
+pub fn judge<T: Attempt + Drop>(
+    prepared: Option<T>,
+    alloc: Global,
+    before: usize,
+    place: &'static str,
+) -> Verdict {
+    let Some(mut subject) = prepared else {
+        return Verdict::Unready(0);
+    };
+    if let Err(verdict) = pad(alloc, before) {
+        return verdict;
+    }
+    match subject.attempt() {
+        Answer::Ample => Verdict::Ample,
+        Answer::Wrong => Verdict::Wrong(place),
+        Answer::Wanting => match subject.attempt() {
+            Answer::Ample => Verdict::Wanting(place),
+            _ => Verdict::Wrong(place),
+        },
+    }
+}

@@ -1,0 +1,94 @@
+//! A host function, and host functions that are taken in.
+
+ghost use Rattle.std.specs.Prelude.{◌≡◌, ◌∷◌, []};
+ghost use Rattle.std.proofs.Props.{props};
+ghost use Rattle.core_types.specs.declared.outcome.Val.TheVariants.{I32 as Number};
+ghost use Rattle.core_types.specs.declared.types.ValType.TheVariants.{I32};
+ghost use Rattle.meaning.specs.execution.Runs.{Results};
+
+use crate::padding::pad;
+use crate::verdicts::{Answer, Verdict};
+use core_types::{FuncType, Items, Val, ValType};
+use hostfunc::{HostFault, HostFn, HostTable, has_funcref, object_type};
+use std::alloc::{AllocError, Global};
+
+/// A host function that answers how often it was called.
+#[derive(Drop)]
+pub struct Counter {
+    alloc: Global,
+    calls: u32,
+    ty: FuncType,
+    ghost gives_number: { ty.results ≡ I32 ∷ [] } by { Prim.hlevel props },
+}
+
+impl Counter {
+    /// One that was not called yet.
+    pub fn new(alloc: Global) -> Result<Counter, AllocError> {
+        let mut results = Vec::new(alloc);
+        results.push(ValType::I32)?;
+        Ok(Counter {
+            alloc,
+            calls: 0,
+            ty: FuncType {
+                params: Items::from_vec(Vec::new(alloc)),
+                results: Items::from_vec(results),
+            },
+        })
+    }
+}
+
+impl HostFn for Counter {
+    ghost declared = { λ counter. counter.ty };
+
+    ghost Answers = { λ counter arguments bytes answer then counter'. answer ≡ Results (Number counter'.calls ∷ []) };
+
+    fn ty(&self) -> &FuncType {
+        &self.ty
+    }
+
+    fn call(&mut self, _args: &[Val], _memory: &mut [u8]) -> Result<Vec<Val>, HostFault> {
+        let calls = self.calls.wrapping_add(1);
+        let mut results = Vec::new(self.alloc);
+        match results.push(Val::I32(calls)) {
+            Ok(()) => self.calls = calls,
+            Err(_) => return Err(HostFault::Memory),
+        }
+        Ok(results)
+    }
+}
+
+// Takes a host function in, as the first one.
+fn take_in(hosts: &mut HostTable, object: Box<dyn HostFn>) -> Answer {
+    if hosts.len() > 0 || has_funcref(object_type(&object).results.as_slice()) {
+        return Answer::Wrong;
+    }
+    let answer = hosts.push(object);
+    match (answer, hosts.len()) {
+        (Ok(0), 1) => Answer::Ample,
+        (Err(_), 0) => Answer::Wanting,
+        _ => Answer::Wrong,
+    }
+}
+
+// Takes a host function in, and another one where there was no memory; none where there is no memory before that.
+fn take_in_twice(alloc: Global, before: usize) -> Result<Verdict, AllocError> {
+    let first = Box::new(alloc, Counter::new(alloc)?)?;
+    let second = Box::new(alloc, Counter::new(alloc)?)?;
+    let mut hosts = HostTable::new(alloc);
+    if let Err(verdict) = pad(alloc, before) {
+        return Ok(verdict);
+    }
+    Ok(match take_in(&mut hosts, first) {
+        Answer::Ample => Verdict::Ample,
+        Answer::Wrong => Verdict::Wrong("push"),
+        Answer::Wanting => match take_in(&mut hosts, second) {
+            Answer::Ample => Verdict::Wanting("push"),
+            _ => Verdict::Wrong("push"),
+        },
+    })
+}
+
+/// Takes a host function in, and another one where there was no memory. So many allocations come before.
+pub fn judge_push(alloc: Global, before: usize) -> Verdict {
+    take_in_twice(alloc, before).unwrap_or(Verdict::Unready(0))
+}

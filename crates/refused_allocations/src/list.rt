@@ -1,0 +1,189 @@
+//! The list is given to an embedding, and each reply judged.
+
+use crate::embeddings::{load_of, usual_config};
+use crate::hosts::Counter;
+use crate::machine::{Left, Machine};
+use crate::padding::pad;
+use crate::seen::{REFUSED, Seen, seen_in};
+use crate::steps::{Kind, STEPS, Step};
+use crate::verdicts::Verdict;
+use core_types::Val;
+use embed::{Command, Embedding, HostDef};
+use hostfunc::HostFn;
+use scripts::{Script, read_script, run_script_lent};
+use std::alloc::{AllocError, Global};
+use std::mem;
+use testing::assemble;
+
+// The script: a module, a call of its function, and its global.
+const SCRIPT: &str =
+    "{\"commands\":[{\"type\":\"module\",\"line\":1,\"filename\":\"passer.wasm\"},{\"type\":\"assert_return\",\"line\":2,\"action\":{\"type\":\"invoke\",\"field\":\"bump\",\"args\":[]},\"expected\":[]},{\"type\":\"assert_return\",\"line\":3,\"action\":{\"type\":\"get\",\"field\":\"g\"},\"expected\":[{\"type\":\"i32\",\"value\":\"8\"}]}]}";
+
+// How many machines may stand for the embedding.
+const MOST: usize = 400;
+
+// What is known of an embedding: the machines that it may be. Until memory is wanted there is one.
+#[derive(Drop)]
+struct Judge {
+    machines: Vec<Machine>,
+    // Those of the next step, and what may be left where memory is wanted.
+    next: Vec<Machine>,
+    left: Vec<Left>,
+    // Where memory was wanted.
+    place: Option<&'static str>,
+}
+
+impl Judge {
+    // One for a fresh embedding. It takes no memory from then on.
+    fn new(alloc: Global) -> Result<Judge, AllocError> {
+        let mut machines = Vec::new(alloc);
+        let mut next = Vec::new(alloc);
+        let mut left = Vec::new(alloc);
+        machines.try_reserve(MOST)?;
+        next.try_reserve(MOST)?;
+        left.try_reserve(MOST)?;
+        machines.push(Machine::new())?;
+        Ok(Judge {
+            machines,
+            next,
+            left,
+            place: None,
+        })
+    }
+
+    // The machines that took a step with this reply and have so much fuel left, for ample memory.
+    fn follow(&mut self, step: Step, seen: Seen, fuel: u64) {
+        for before in &self.machines {
+            let mut machine = *before;
+            if machine.take(step, &mut self.left) == seen && machine.fuel() == fuel {
+                let _ = self.next.push(machine);
+            }
+        }
+    }
+
+    // The machines that may be left where memory was wanted with this reply, and that have so much fuel left.
+    fn follow_want(&mut self, seen: Seen, fuel: u64) {
+        for it in &self.left {
+            if it.seen == seen && it.machine.fuel() == fuel {
+                let _ = self.next.push(it.machine);
+            }
+        }
+    }
+
+    // Whether a reply to a step and the fuel that is left are right.
+    fn is_right(&mut self, name: &'static str, step: Step, seen: Seen, fuel: u64) -> bool {
+        self.follow(step, seen, fuel);
+        if self.next.is_empty() && self.place.is_none() {
+            self.place = Some(name);
+            self.follow_want(seen, fuel);
+        }
+        self.left.clear();
+        mem::swap(&mut self.machines, &mut self.next);
+        self.next.clear();
+        !self.machines.is_empty()
+    }
+}
+
+// All that the list needs.
+#[derive(Drop)]
+struct Stock {
+    commands: Vec<Option<Command>>,
+    script: Script,
+    files: Vec<(String, Vec<u8>)>,
+}
+
+// The command of a step; none for the script.
+fn command_of(alloc: Global, step: Step) -> Option<Command> {
+    Some(match step {
+        Step::Load(kind) => load_of(alloc, kind.text())?,
+        Step::Link(number) => Command::Link(number),
+        Step::Register(number, name) => {
+            Command::Register(number, String::from_str(alloc, name.text()).ok()?)
+        }
+        Step::Call(number, function, argument) => {
+            let mut args = Vec::new(alloc);
+            if let Some(value) = argument {
+                args.push(Val::I32(value)).ok()?;
+            }
+            Command::Call(number, String::from_str(alloc, function.name()).ok()?, args)
+        }
+        Step::GetGlobal(number) => Command::GetGlobal(number, String::from_str(alloc, "g").ok()?),
+        Step::SetFuel(fuel) => Command::SetFuel(fuel),
+        Step::Script => return None,
+    })
+}
+
+// All that the list needs.
+fn new_stock(alloc: Global) -> Option<Stock> {
+    let mut commands = Vec::new(alloc);
+    for (_, step) in &STEPS {
+        commands.push(command_of(alloc, *step)).ok()?;
+    }
+    let script = read_script(alloc, SCRIPT.as_bytes()).ok()?;
+    let mut files = Vec::new(alloc);
+    let name = String::from_str(alloc, "passer.wasm").ok()?;
+    files
+        .push((name, assemble(alloc, Kind::Passer.text()).ok()?))
+        .ok()?;
+    Some(Stock {
+        commands,
+        script,
+        files,
+    })
+}
+
+// What an embedding answers to a command, or to the script.
+fn perform(alloc: Global, at: &mut Embedding, stock: &Stock, command: &Option<Command>) -> Seen {
+    if let Some(command) = command {
+        return seen_in(&at.apply_lent(command));
+    }
+    match run_script_lent(alloc, &stock.script, &stock.files, at) {
+        Ok(report) => Seen::Counted(report.passed, report.failed),
+        Err(fault) if fault.number() == 13 => REFUSED,
+        Err(_) => Seen::Others,
+    }
+}
+
+// Gives the list to an embedding, and judges each reply.
+fn give_list(alloc: Global, at: &mut Embedding, stock: &Stock, judge: &mut Judge) -> Verdict {
+    for (command, (name, step)) in stock.commands.iter().zip(&STEPS) {
+        let seen = perform(alloc, at, stock, command);
+        if !judge.is_right(name, *step, seen, at.fuel_left()) {
+            return Verdict::Wrong(name);
+        }
+    }
+    match judge.place {
+        None => Verdict::Ample,
+        Some(place) => Verdict::Wanting(place),
+    }
+}
+
+// Gives the list to a fresh embedding with a host function.
+fn give_list_to_fresh(alloc: Global, before: usize) -> Result<Verdict, AllocError> {
+    let (Some(stock), Some(config)) = (new_stock(alloc), usual_config()) else {
+        return Ok(Verdict::Unready(0));
+    };
+    let mut judge = Judge::new(alloc)?;
+    let func = Box::new(alloc, Counter::new(alloc)?)?;
+    let mut hosts = Vec::new(alloc);
+    hosts.push(HostDef {
+        module: String::from_str(alloc, "host")?,
+        name: String::from_str(alloc, "count")?,
+        func,
+    })?;
+    if hosts.len() > 1 {
+        return Ok(Verdict::Unready(0));
+    }
+    let Ok(mut at) = Embedding::new(alloc, config, hosts) else {
+        return Ok(Verdict::Unready(0));
+    };
+    if let Err(verdict) = pad(alloc, before) {
+        return Ok(verdict);
+    }
+    Ok(give_list(alloc, &mut at, &stock, &mut judge))
+}
+
+/// Gives the list to a fresh embedding with a host function. So many allocations come before the first command.
+pub fn judge_list(alloc: Global, before: usize) -> Verdict {
+    give_list_to_fresh(alloc, before).unwrap_or(Verdict::Unready(0))
+}

@@ -1,0 +1,284 @@
+//! What an embedding answers to the list, by what was asked of it alone.
+//!
+//! An instruction costs 1, and a bulk instruction, a growth that succeeds and a segment what their sizes cost besides.
+
+use crate::embeddings::FUEL;
+use crate::numbered::Numbered;
+use crate::seen::{EXHAUSTED, REFUSED, Seen};
+use crate::steps::{Function, Kind, Name, Step};
+use core_types::Trap;
+use embed::Refusal;
+
+// How many pages the memory may have, and how many entries the table.
+const MOST_PAGES: u32 = 5;
+
+const MOST_ENTRIES: u32 = 8;
+
+// What a page costs that a memory grows by.
+const PAGE_COST: u64 = 1_024;
+
+/// The state of an embedding as it has to be.
+#[derive(Clone, Copy)]
+pub struct Machine {
+    modules: Numbered,
+    instances: Numbered,
+    // What is registered under the names.
+    a: Option<Kind>,
+    b: Option<Kind>,
+    // The memory, the table and the global of the maker, and whether a user has written into the first two.
+    pages: u32,
+    entries: u32,
+    global: u32,
+    is_written: bool,
+    // How often the host was called.
+    calls: u32,
+    fuel: u64,
+}
+
+/// What may be left where memory is wanted: the reply, and the machine then.
+#[derive(Clone, Copy)]
+pub struct Left {
+    pub seen: Seen,
+    pub machine: Machine,
+}
+
+impl Machine {
+    /// A fresh one.
+    pub fn new() -> Machine {
+        Machine {
+            modules: Numbered::new(),
+            instances: Numbered::new(),
+            a: None,
+            b: None,
+            pages: 1,
+            entries: 2,
+            global: 7,
+            is_written: false,
+            calls: 0,
+            fuel: FUEL,
+        }
+    }
+
+    /// The fuel that is left.
+    pub fn fuel(&self) -> u64 {
+        self.fuel
+    }
+
+    // Spends fuel.
+    fn spend(&mut self, cost: u64) {
+        self.fuel = self.fuel.saturating_sub(cost);
+    }
+
+    // Nothing has changed where the command is refused.
+    fn may_refuse(&self, left: &mut Vec<Left>) {
+        let _ = left.push(Left {
+            seen: REFUSED,
+            machine: *self,
+        });
+    }
+
+    // So much was spent where memory is wanted.
+    fn may_exhaust(&self, cost: u64, left: &mut Vec<Left>) {
+        let mut machine = *self;
+        machine.spend(cost);
+        let _ = left.push(Left {
+            seen: EXHAUSTED,
+            machine,
+        });
+    }
+
+    // Loads a module.
+    fn load(&mut self, kind: Kind, left: &mut Vec<Left>) -> Seen {
+        self.may_refuse(left);
+        Seen::Loaded(self.modules.append(kind))
+    }
+
+    // Whether all that a module imports is there.
+    fn has_imports(&self, kind: Kind) -> bool {
+        match kind {
+            Kind::Maker | Kind::Empty => true,
+            Kind::User | Kind::Passer => self.a == Some(Kind::Maker),
+            Kind::Caller => self.a == Some(Kind::Maker) && self.b == Some(Kind::User),
+        }
+    }
+
+    // Copies the segments of a user, by two instructions each, and calls its start function, which grows the memory by a page.
+    fn start_user(&mut self, left: &mut Vec<Left>) {
+        self.is_written = true;
+        self.spend(4);
+        self.may_exhaust(0, left);
+        self.may_exhaust(1, left);
+        self.spend(3);
+        if self.pages < MOST_PAGES {
+            self.pages += 1;
+            self.spend(PAGE_COST);
+        }
+    }
+
+    // Links a module.
+    fn link(&mut self, number: u64, left: &mut Vec<Left>) -> Seen {
+        let Some(kind) = self.modules.get(number) else {
+            return Seen::Refused(Refusal::UnknownModule);
+        };
+        self.may_refuse(left);
+        if !self.has_imports(kind) {
+            return Seen::Refused(Refusal::UnknownImport);
+        }
+        if kind == Kind::User {
+            self.start_user(left);
+        }
+        Seen::Linked(self.instances.append(kind))
+    }
+
+    // Registers an instance.
+    fn register(&mut self, number: u64, name: Name, left: &mut Vec<Left>) -> Seen {
+        let Some(kind) = self.instances.get(number) else {
+            return Seen::Refused(Refusal::UnknownInstance);
+        };
+        self.may_refuse(left);
+        match name {
+            Name::A => self.a = Some(kind),
+            Name::B => self.b = Some(kind),
+        }
+        Seen::Done
+    }
+
+    // Calls the host, after so much was spent in the call.
+    fn call_host(&mut self, spent: u64, left: &mut Vec<Left>) -> Seen {
+        self.may_exhaust(spent, left);
+        self.spend(spent.saturating_add(1));
+        self.calls = self.calls.saturating_add(1);
+        Seen::Number(self.calls)
+    }
+
+    // Calls the first entry of the table, which a user has written or which is null.
+    fn call_entry(&mut self, left: &mut Vec<Left>) -> Seen {
+        if !self.is_written {
+            self.spend(2);
+            return Seen::Trapped(Trap::UninitializedElement);
+        }
+        self.may_exhaust(1, left);
+        self.call_host(2, left)
+    }
+
+    // Grows the memory, after an operand.
+    fn grow_memory(&mut self, count: u32, left: &mut Vec<Left>) -> Seen {
+        let before = self.pages;
+        let after = before.saturating_add(count);
+        if after > MOST_PAGES {
+            self.spend(2);
+            return Seen::Number(u32::MAX);
+        }
+        self.may_exhaust(1, left);
+        self.pages = after;
+        self.spend(PAGE_COST.saturating_mul(u64::from(count)).saturating_add(2));
+        Seen::Number(before)
+    }
+
+    // Grows the table, after two operands.
+    fn grow_table(&mut self, count: u32, left: &mut Vec<Left>) -> Seen {
+        let before = self.entries;
+        let after = before.saturating_add(count);
+        if after > MOST_ENTRIES {
+            self.spend(3);
+            return Seen::Number(u32::MAX);
+        }
+        self.may_exhaust(2, left);
+        self.entries = after;
+        self.spend(u64::from(count / 8).saturating_add(3));
+        Seen::Number(before)
+    }
+
+    // Calls a function that calls itself so often: six instructions come before each of these calls, and two behind it; the last time
+    // it takes four.
+    fn call_deep(&mut self, times: u32, left: &mut Vec<Left>) -> Seen {
+        for time in 0..times {
+            self.may_exhaust(u64::from(time).saturating_mul(7).saturating_add(6), left);
+        }
+        self.spend(u64::from(times).saturating_mul(9).saturating_add(4));
+        Seen::Number(times)
+    }
+
+    // Calls a function. A frame is opened before anything is spent.
+    fn call(
+        &mut self,
+        number: u64,
+        function: Function,
+        argument: u32,
+        left: &mut Vec<Left>,
+    ) -> Seen {
+        let Some(kind) = self.instances.get(number) else {
+            return Seen::Refused(Refusal::UnknownInstance);
+        };
+        if kind != function.exporter() {
+            return Seen::Refused(Refusal::UnknownExport);
+        }
+        self.may_exhaust(0, left);
+        match function {
+            Function::Read => {
+                self.spend(2);
+                Seen::Number(if self.is_written { 120 } else { 0 })
+            }
+            Function::Through => self.call_entry(left),
+            Function::Deep => self.call_deep(argument, left),
+            Function::Counts => self.call_host(0, left),
+            Function::Calls => self.call_host(1, left),
+            Function::GrowMemory => self.grow_memory(argument, left),
+            Function::GrowTable => self.grow_table(argument, left),
+        }
+    }
+
+    // Reads the global.
+    fn get_global(&self, number: u64, left: &mut Vec<Left>) -> Seen {
+        match self.instances.get(number) {
+            None => Seen::Refused(Refusal::UnknownInstance),
+            Some(Kind::Maker | Kind::Passer) => {
+                self.may_refuse(left);
+                Seen::Number(self.global)
+            }
+            Some(_) => Seen::Refused(Refusal::UnknownExport),
+        }
+    }
+
+    // Runs the script: it loads and links a passer, calls its function, and reads its global. Before each command the fuel is that of
+    // the setup. It may end for want of memory before and behind each command that it gives.
+    fn run_script(&mut self, left: &mut Vec<Left>) -> Seen {
+        self.may_refuse(left);
+        self.fuel = FUEL;
+        self.may_refuse(left);
+        self.modules.append(Kind::Passer);
+        self.may_refuse(left);
+        if !self.has_imports(Kind::Passer) {
+            return Seen::Counted(0, 3);
+        }
+        self.instances.append(Kind::Passer);
+        self.may_refuse(left);
+        self.global = self.global.saturating_add(1);
+        self.spend(4);
+        self.may_refuse(left);
+        self.fuel = FUEL;
+        self.may_refuse(left);
+        Seen::Counted(
+            if self.global == 8 { 3 } else { 2 },
+            if self.global == 8 { 0 } else { 1 },
+        )
+    }
+
+    /// Takes a step with ample memory, and answers the reply. What may be left where memory is wanted is appended.
+    pub fn take(&mut self, step: Step, left: &mut Vec<Left>) -> Seen {
+        match step {
+            Step::Load(kind) => self.load(kind, left),
+            Step::Link(number) => self.link(number, left),
+            Step::Register(number, name) => self.register(number, name, left),
+            Step::Call(number, function, argument) => {
+                self.call(number, function, argument.unwrap_or(0), left)
+            }
+            Step::GetGlobal(number) => self.get_global(number, left),
+            Step::SetFuel(fuel) => {
+                self.fuel = fuel;
+                Seen::Done
+            }
+            Step::Script => self.run_script(left),
+        }
+    }
+}
