@@ -2,7 +2,7 @@
 use Rattle.std.specs.Prelude.{List, None, Option, Some, [], if◌then◌else◌, length, nat_le, nat_lt, slice_get, ℕ, ◌+◌, ◌-◌, ◌==◌, ◌∷◌}
 use Rattle.core_types.specs.declared.op.BranchTable.{BranchTable}
 use Rattle.core_types.specs.declared.op.ControlOp.{ControlOp}
-use Rattle.core_types.specs.declared.op.ControlOp.TheVariants.{Br, BrIf, Call, CallIndirect, Nop, Return, Unreachable}
+use Rattle.core_types.specs.declared.op.ControlOp.TheVariants.{Br, BrIf, Call, CallIndirect, Nop, Return, ReturnCall, ReturnCallIndirect, Unreachable}
 use Rattle.core_types.specs.declared.op.Conversion.TheVariants.{I32WrapI64, I64Extend32S, I64ExtendI32S, I64ExtendI32U}
 use Rattle.core_types.specs.declared.op.MemArg.{MemArg}
 use Rattle.core_types.specs.declared.op.MemoryOp.{MemoryOp}
@@ -42,7 +42,10 @@ control_at code bytes =
     (case_at 0x0D (mapped_at BrIf index_at)
     (case_at 0x0F (bare_at Return)
     (case_at 0x10 (mapped_at Call index_at)
-    (case_at 0x11 (mapped_at (λ x. CallIndirect x.0 x.1) two_indices_at) no_case))))))) code bytes
+    (case_at 0x11 (mapped_at (λ x. CallIndirect x.0 x.1) two_indices_at)
+    (case_at 0x12 (mapped_at ReturnCall index_at)
+    (case_at 0x13 (mapped_at (λ x. ReturnCallIndirect x.0 x.1) two_indices_at) no_case))))))))) code
+    bytes
 
 abbrev pub branch_table : List ℕ × ℕ → BranchTable
 branch_table parts = record { labels = parts.0; default = parts.1 }
@@ -181,7 +184,7 @@ numeric_at code bytes = numeric_of code >>= λ op. Some (op, bytes)
 -- An instruction of a group whose opcodes are next to each other, behind its opcode.
 unfoldable pub group_at : Cases PlainOp
 group_at code bytes =
-    (up_to 0x11 (mapped_case Control control_at)
+    (up_to 0x13 (mapped_case Control control_at)
     (up_to 0x1B (mapped_case Parametric parametric_at)
     (up_to 0x24 (mapped_case Variable variable_at)
     (up_to 0x27 (mapped_case Table table_at)

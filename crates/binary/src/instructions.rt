@@ -71,8 +71,8 @@ fn read_group(reader: &mut Reader<'_>, code: u8, offset: usize) -> Result<PlainO
     ensures { Gives result reader.new (group_at code reader.old) }
 {
     match code {
-        0x00..=0x11 => Ok(PlainOp::Control(read_control(reader, code, offset)?)),
-        0x12..=0x1B => Ok(PlainOp::Parametric(read_parametric(reader, code, offset)?)),
+        0x00..=0x13 => Ok(PlainOp::Control(read_control(reader, code, offset)?)),
+        0x14..=0x1B => Ok(PlainOp::Parametric(read_parametric(reader, code, offset)?)),
         0x1C..=0x24 => Ok(PlainOp::Variable(read_variable(reader, code, offset)?)),
         0x25..=0x27 => Ok(PlainOp::Table(read_table(reader, code, offset)?)),
         0x28..=0x40 => Ok(PlainOp::Memory(read_memory(reader, code, offset)?)),

@@ -166,6 +166,8 @@ pub enum ControlOp {
     Return,
     Call(u32),
     CallIndirect { ty: u32, table: u32 },
+    ReturnCall(u32),
+    ReturnCallIndirect { ty: u32, table: u32 },
 }
 
 /// The labels of a branch by number, and the label for all further numbers.

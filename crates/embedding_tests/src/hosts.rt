@@ -1,9 +1,11 @@
 //! Host functions: what they answer, what they are lent, and which definitions are refused.
 
-ghost use Rattle.std.specs.Prelude.{◌≡◌, ◌∷◌, [], IfOk, IfErr};
+ghost use Rattle.std.specs.Prelude.{◌≡◌, ◌∷◌, [], IfOk, IfErr, map};
 ghost use Rattle.std.proofs.Props.{props};
 ghost use Rattle.core_types.specs.declared.outcome.Val.{Val as AnyVal};
 ghost use Rattle.core_types.specs.declared.outcome.Val.TheVariants.{I32 as I32Value};
+ghost use Rattle.core_types.specs.declared.types.ValType.TheVariants.{I32, I64};
+ghost use Rattle.meaning.specs.execution.Values.{type_of};
 ghost use Rattle.hostfunc.specs.declared.host_function.HostFault.TheVariants.{Memory as MemoryFault};
 ghost use Rattle.embedding_tests.specs.Kinds.{results_of};
 
@@ -28,13 +30,14 @@ struct Host {
 
 // A host function of this kind.
 fn new_host(alloc: Global, kind: Kind) -> Result<Host, AllocError> {
+    let params = Vec::from_slice(alloc, kind.params())?;
     let results = Vec::from_slice(alloc, kind.results())?;
     Ok(Host {
         alloc,
         kind,
         calls: 0,
         ty: FuncType {
-            params: Items::from_vec(Vec::new(alloc)),
+            params: Items::from_vec(params),
             results: Items::from_vec(results),
         },
     })
@@ -49,6 +52,29 @@ fn one_result(alloc: Global, number: u32) -> Result<Vec<Val>, HostFault>
     match values.push(Val::I32(number)) {
         Ok(()) => Ok(values),
         Err(_) => Err(HostFault::Memory),
+    }
+}
+
+// These results.
+fn results(alloc: Global, values: &[Val]) -> Result<Vec<Val>, HostFault>
+    ensures ok { IfOk result (λ copied. copied.items ≡ values.now) }
+    ensures err { IfErr result (λ fault. fault ≡ MemoryFault) }
+{
+    match Vec::from_slice(alloc, values) {
+        Ok(copied) => Ok(copied),
+        Err(_) => Err(HostFault::Memory),
+    }
+}
+
+// An i32 and an i64 as results, in the other order.
+fn swapped(alloc: Global, args: &[Val]) -> Result<Vec<Val>, HostFault>
+    ensures ok { IfOk result (λ values. map type_of values.items ≡ I64 ∷ I32 ∷ []) }
+{
+    match args {
+        [Val::I32(first), Val::I64(second)] => {
+            results(alloc, &[Val::I64(*second), Val::I32(*first)])
+        }
+        _ => Err(HostFault::Trap(0)),
     }
 }
 
@@ -69,7 +95,6 @@ impl HostFn for Host {
     }
 
     fn call(&mut self, args: &[Val], memory: &mut [u8]) -> Result<Vec<Val>, HostFault> {
-        let _ = args;
         match self.kind {
             Kind::Counts => {
                 let next = self.calls.wrapping_add(1);
@@ -92,6 +117,17 @@ impl HostFn for Host {
                 self.alloc,
                 u32::try_from(memory.len()).unwrap_or(u32::MAX),
             ),
+            Kind::GivesFive => results(
+                self.alloc,
+                &[
+                    Val::I32(1),
+                    Val::I64(2),
+                    Val::ExternRef(Some(3)),
+                    Val::ExternRef(None),
+                    Val::I32(5),
+                ],
+            ),
+            Kind::Swaps => swapped(self.alloc, args),
             Kind::GivesFunction => Err(HostFault::Trap(0)),
         }
     }
@@ -125,11 +161,11 @@ const CALLS_THROUGH_A_TABLE: &str =
     "(type (func (result i32))) (import \"host\" \"c\" (func (result i32))) (table 1 funcref) (func (result i32) i32.const 0 call_indirect (type 0)) (elem (offset i32.const 0) func 0) (export \"f\" (func 1))";
 
 // Has a memory, and a table with the host function in it.
-const LENDS_A_TABLE: &str =
+pub const LENDS_A_TABLE: &str =
     "(import \"host\" \"w\" (func (result i32))) (memory 1) (table 1 funcref) (func (result i32) i32.const 0 i32.load8_u) (elem (offset i32.const 0) func 0) (export \"table\" (table 0)) (export \"byte\" (func 1))";
 
 // Has another memory, and calls through that table.
-const CALLS_THROUGH_THAT_TABLE: &str =
+pub const CALLS_THROUGH_THAT_TABLE: &str =
     "(type (func (result i32))) (import \"a\" \"table\" (table 1 funcref)) (memory 1) (func (result i32) i32.const 0 call_indirect (type 0)) (func (result i32) i32.const 0 i32.load8_u) (export \"f\" (func 0)) (export \"byte\" (func 1))";
 
 const WRITES_AND_READS: &str =
@@ -214,28 +250,40 @@ fn defined(alloc: Global, name: &str, func: Box<dyn HostFn>) -> Result<HostDef, 
     })
 }
 
-// Whether there is no embedding for the reason of a row.
-fn is_refusal(fault: &NewFault, row: &Row) -> bool {
-    row.refused == Some(fault.number())
+// Whether there is no embedding for this reason.
+fn is_refusal(fault: &NewFault, refused: Option<u8>) -> bool {
+    refused == Some(fault.number())
 }
 
-// Whether a row is as it says.
-fn is_so(alloc: Global, row: &Row) -> Result<bool, AllocError> {
+/// Whether all steps are as they say in a fresh embedding with these host functions, where so many frames may be open; or whether
+/// there is none for the reason of this number.
+pub fn steps_hold_with(
+    alloc: Global,
+    defs: &[(&str, Kind)],
+    depth: u32,
+    refused: Option<u8>,
+    steps: &[Step],
+) -> Result<bool, AllocError> {
     let mut hosts = Vec::new(alloc);
-    for (name, kind) in row.hosts {
+    for (name, kind) in defs {
         let host = new_host(alloc, *kind)?;
         hosts.push(defined(alloc, name, Box::new(alloc, host)?)?)?;
     }
-    let Some(config) = Config::new(1_000_000_000, 1_024, 1_024, 1_000_000) else {
+    let Some(config) = Config::new(1_000_000_000, depth, 1_024, 1_000_000) else {
         return Ok(false);
     };
     if hosts.len() > 10 {
         return Ok(false);
     }
     Ok(match Embedding::new(alloc, config, hosts) {
-        Ok(mut at) => row.refused.is_none() && steps_hold(alloc, &mut at, row.steps),
-        Err(fault) => is_refusal(&fault, row),
+        Ok(mut at) => refused.is_none() && steps_hold(alloc, &mut at, steps),
+        Err(fault) => is_refusal(&fault, refused),
     })
+}
+
+// Whether a row is as it says.
+fn is_so(alloc: Global, row: &Row) -> Result<bool, AllocError> {
+    steps_hold_with(alloc, row.hosts, 1_024, row.refused, row.steps)
 }
 
 #[test]
@@ -248,6 +296,10 @@ fn host_functions_are_called(rt: HostRuntime) {
 #[test]
 fn call_always_out_of_memory(rt: HostRuntime) {
     for row in &ROWS {
-        assert!(rt; !is_refusal(&NewFault::OutOfMemory, row), "{}", row.name);
+        assert!(rt;
+            !is_refusal(&NewFault::OutOfMemory, row.refused),
+            "{}",
+            row.name
+        );
     }
 }

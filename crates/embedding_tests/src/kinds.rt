@@ -20,11 +20,23 @@ pub enum Kind {
     Marks,
     /// Answers how many bytes it is lent.
     Measures,
+    /// Answers five values: 1 and 2, an i32 and an i64, a reference and null, and the i32 5.
+    GivesFive,
+    /// Takes an i32 and an i64, and answers them in the other order.
+    Swaps,
     /// Has a funcref result, and is never called.
     GivesFunction,
 }
 
 impl Kind {
+    /// The types of what it takes.
+    pub fn params(self) -> &'static [ValType] {
+        match self {
+            Kind::Swaps => &[ValType::I32, ValType::I64],
+            _ => &[],
+        }
+    }
+
     /// The types of what it answers.
     pub fn results(self) -> &'static [ValType]
         ensures { result.now ≡ results_of self }
@@ -32,6 +44,14 @@ impl Kind {
         match self {
             Kind::Counts | Kind::Writes | Kind::Measures => &[ValType::I32],
             Kind::Traps | Kind::LacksMemory | Kind::Marks => &[],
+            Kind::GivesFive => &[
+                ValType::I32,
+                ValType::I64,
+                ValType::ExternRef,
+                ValType::ExternRef,
+                ValType::I32,
+            ],
+            Kind::Swaps => &[ValType::I64, ValType::I32],
             Kind::GivesFunction => &[ValType::FuncRef],
         }
     }

@@ -23,4 +23,6 @@ mod setups;
 #[cfg(test)]
 mod sharing;
 #[cfg(test)]
+mod tail_calls;
+#[cfg(test)]
 mod wanting;

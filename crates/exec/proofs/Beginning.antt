@@ -1,5 +1,6 @@
 -- What a call from outside begins with.
 use Rattle.std.proofs.Common.{◌≡◌, ℕ, ◌+◌, ◌-◌, ◌<◌, ◌≤◌, List, [], ◌∷◌, ◌++◌, length, map, reverse, take, drop, set, replicate, Option, Some, None, slice_get, refl, ap, sym, ◌∙◌, arith, length-append, subst}
+use Rattle.std.proofs.lemmas.Option.{same_Some}
 use Rattle.std.proofs.lemmas.List.{append-nil, drop-replicate, drop_all, length-map, length-replicate, length-reverse, length-set, map-append, reverse-reverse, take-replicate, take_all}
 use Rattle.std.proofs.Math.Seq.{take-append-add}
 use Rattle.core_types.specs.declared.outcome.Val.{Val}
@@ -30,7 +31,7 @@ use Rattle.interpreter.specs.Layout.{put_back}
 use Rattle.exec.specs.Starting.{FunctionAddress, Takes}
 use Rattle.interpreter.specs.Whole.{Whole, whole}
 use Rattle.interpreter.proofs.Cells.{frame-length}
-use Rattle.interpreter.proofs.Finding.{IsAtAddress, flat-body, some-same}
+use Rattle.interpreter.proofs.Finding.{IsAtAddress, flat-body}
 use Rattle.interpreter.proofs.Opening.{own-cells}
 
 module _ (a : FunctionAddress) (f : ModuleFunction) (arguments : List Val) (takes : Takes a f arguments) where
@@ -58,7 +59,7 @@ module _ (a : FunctionAddress) (f : ModuleFunction) (arguments : List Val) (take
   typed : ValuesHaveTypes store arguments t.params
   typed =
       let (g, there, types) = takes.accepted in
-      subst (λ (i : FunctionInstance). ValuesHaveTypes store arguments i.ty.params) (some-same g (record { ty = t; implementation = InCode f.instance code }) (sym there ∙ takes.found)) types
+      subst (λ (i : FunctionInstance). ValuesHaveTypes store arguments i.ty.params) (same_Some g (record { ty = t; implementation = InCode f.instance code }) (sym there ∙ takes.found)) types
 
   pub count : length arguments ≡ n
   count = values-length store arguments t.params typed

@@ -28,7 +28,7 @@ use Rattle.effects.specs.declared.payment.Refusal.TheVariants as refusal
 use Rattle.interpreter.specs.Callers.{CallersStand, layers_around}
 use Rattle.interpreter.specs.Looping.{loop_at}
 use Rattle.interpreter.specs.Running.{GoesTo, RunsAt, cells_in, height_in}
-use Rattle.interpreter.specs.Whole.{Loop, Reaches, RunsWhole, StopsBy, Whole, layers_of, state, whole}
+use Rattle.interpreter.specs.Whole.{AsksNext, Loop, Reaches, RunsWhole, StopsBy, Whole, layers_of, state, whole}
 use Rattle.interpreter.specs.Worlds.{Sees, World, store_in}
 use Rattle.interpreter.specs.declared.machine.Frame.{Frame as WaitingFrame}
 use Rattle.interpreter.specs.declared.machine.Position.{Position}
@@ -37,7 +37,7 @@ use Rattle.interpreter.proofs.Lifting.{fails-whole, lacks-whole, layers-out, lif
 use Rattle.interpreter.proofs.Forms.{inside}
 use Rattle.interpreter.proofs.Turning.{operations-turn}
 use Rattle.exec.specs.Instructions.{Acts, GoesOn, HasRoom, RestsBefore, RestsSomeBefore, cells_behind, operand_behind, position_behind, top_behind}
-use Rattle.exec.specs.Resting.{AsksNext, AtRest, Comes, LacksMemory, Rests, StopsAtRest, at_rest, fuel_left, loop_of, machine_of, store_around}
+use Rattle.exec.specs.Resting.{AtRest, Comes, LacksMemory, Rests, StopsAtRest, at_rest, fuel_left, loop_of, machine_of, store_around}
 use Rattle.exec.specs.declared.call.Call.{Call}
 use Rattle.exec.proofs.Behind.{goes-on, machine_behind}
 use Rattle.exec.proofs.Seeing.{seen-from}

@@ -13,6 +13,7 @@ use Rattle.meaning.proofs.lemmas.Hosts.{steps-over}
 use Rattle.meaning.proofs.lemmas.Runs.{Steps-fuel, Steps-join, Steps-run}
 use Rattle.sidetable.specs.declared.operations.OtherInstruction.{OtherInstruction}
 use Rattle.interpreter.specs.Whole.{CallsHostNext, HasResults, OpensNext, Whole, paid_for, whole}
+use Rattle.interpreter.specs.declared.machine.CallKind.{CallKind}
 use Rattle.interpreter.specs.declared.machine.Stop.{Stop}
 use Rattle.interpreter.specs.declared.machine.Stop.TheVariants as stop
 use Rattle.exec.specs.Hosting.{ComesOver, RestsWith, WaitsForHost}
@@ -84,10 +85,10 @@ module _ {H : Type 0} (HostStep : List H → ℕ → Option ℕ → List Val →
           rests = there.rests;
         }
 
-        pub stops-waiting : (address behind : ℕ) → CallsHostNext (fuel_left r' + paid_for s) (machine_of r') there.new address behind → WaitsForHost bound r' there.new address behind
-        stops-waiting address behind calls = record {
+        pub stops-waiting : (kind : CallKind) (address behind : ℕ) → CallsHostNext (fuel_left r' + paid_for s) (machine_of r') there.new kind address behind → WaitsForHost bound r' there.new kind address behind
+        stops-waiting kind address behind calls = record {
           rests = there.rests;
-          next = subst (λ (n : ℕ). CallsHostNext n (machine_of r') there.new address behind) (omega (arith, unpaid)) calls;
+          next = subst (λ (n : ℕ). CallsHostNext n (machine_of r') there.new kind address behind) (omega (arith, unpaid)) calls;
         }
 
 -- ---- a run from its start
@@ -133,35 +134,35 @@ module _ {H : Type 0} (HostStep : List H → ℕ → Option ℕ → List Val →
     lacks-so c = Steps-run HostStep bound no_frame first.steps (over-lacks HostStep bound r' r'' hosts' first.new (c first.new first.rests))
 
     -- A host function is called.
-    module _ (address behind : ℕ) (c : Concludes bound r' (stop.CallsHost address behind) r'') where
-      abbrev stops : StopsAtRest bound r' first.new (stop.CallsHost address behind) r''
+    module _ (kind : CallKind) (address behind : ℕ) (c : Concludes bound r' (stop.CallsHost kind address behind) r'') where
+      abbrev stops : StopsAtRest bound r' first.new (stop.CallsHost kind address behind) r''
       stops = c first.new first.rests
 
       abbrev pub waiting : Whole
       waiting = stops.there.new
 
-      pub waits-so : WaitsForHost bound r'' waiting address behind
-      waits-so = stops-waiting HostStep bound r' r'' hosts' first.new (stop.CallsHost address behind) stops refl address behind stops.by
+      pub waits-so : WaitsForHost bound r'' waiting kind address behind
+      waits-so = stops-waiting HostStep bound r' r'' hosts' first.new (stop.CallsHost kind address behind) stops refl kind address behind stops.by
 
       abbrev pub called : ComesOver HostStep bound r hosts w r'' hosts'
-      called = over-then HostStep bound r r' r'' hosts hosts' hosts' w first (stops-over HostStep bound r' r'' hosts' first.new (stop.CallsHost address behind) stops refl)
+      called = over-then HostStep bound r r' r'' hosts hosts' hosts' w first (stops-over HostStep bound r' r'' hosts' first.new (stop.CallsHost kind address behind) stops refl)
 
       pub ended-so : (r3 : AtRest) (hosts3 : List H) (ending : Ending) → Run HostStep bound no_frame (run_state (store_around r'') hosts' (fuel_left r'')) (whole called.new) ending (run_state (store_around r3) hosts3 (fuel_left r3)) → RunsSo w ending r3 hosts3
       ended-so r3 hosts3 ending f = Steps-run HostStep bound no_frame called.steps f
 
-  pub came-answered : (r' r'' r3 : AtRest) (hosts' hosts3 : List H) → CameOver r' hosts' → (address behind : ℕ) → Concludes bound r' (stop.CallsHost address behind) r''
-      → ((u : Whole) → WaitsForHost bound r'' u address behind → ComesOver HostStep bound r'' hosts' u r3 hosts3) → CameOver r3 hosts3
-  came-answered r' r'' r3 hosts' hosts3 came address behind c answered = record {
+  pub came-answered : (r' r'' r3 : AtRest) (hosts' hosts3 : List H) → CameOver r' hosts' → (kind : CallKind) (address behind : ℕ) → Concludes bound r' (stop.CallsHost kind address behind) r''
+      → ((u : Whole) → WaitsForHost bound r'' u kind address behind → ComesOver HostStep bound r'' hosts' u r3 hosts3) → CameOver r3 hosts3
+  came-answered r' r'' r3 hosts' hosts3 came kind address behind c answered = record {
     from = λ w is.
-        over-then HostStep bound r r'' r3 hosts hosts' hosts3 w (called r' r'' hosts' came w is address behind c)
-        (answered (waiting r' r'' hosts' came w is address behind c) (waits-so r' r'' hosts' came w is address behind c));
+        over-then HostStep bound r r'' r3 hosts hosts' hosts3 w (called r' r'' hosts' came w is kind address behind c)
+        (answered (waiting r' r'' hosts' came w is kind address behind c) (waits-so r' r'' hosts' came w is kind address behind c));
   }
 
   -- The fuel does not grow.
-  pub came-fuel : (r' r'' : AtRest) (hosts' : List H) → CameOver r' hosts' → (address behind : ℕ) → Concludes bound r' (stop.CallsHost address behind) r'' → (w : Whole) → RestsWith bound r w types → fuel_left r'' ≤ fuel_left r'
-  came-fuel r' r'' hosts' came address behind c w is =
+  pub came-fuel : (r' r'' : AtRest) (hosts' : List H) → CameOver r' hosts' → (kind : CallKind) (address behind : ℕ) → Concludes bound r' (stop.CallsHost kind address behind) r'' → (w : Whole) → RestsWith bound r w types → fuel_left r'' ≤ fuel_left r'
+  came-fuel r' r'' hosts' came kind address behind c w is =
       let f = first r' r'' hosts' came w is in
-      Steps-fuel HostStep bound no_frame (stops-over HostStep bound r' r'' hosts' f.new (stop.CallsHost address behind) (c f.new f.rests) refl).steps
+      Steps-fuel HostStep bound no_frame (stops-over HostStep bound r' r'' hosts' f.new (stop.CallsHost kind address behind) (c f.new f.rests) refl).steps
 
   -- It never stops for want of cells alone, nor where other code or an instruction of the loop's caller is next.
   module _ (r' r'' : AtRest) (hosts' : List H) (came : CameOver r' hosts') (w : Whole) (is : RestsWith bound r w types) (s : Stop) (c : Concludes bound r' s r'') where

@@ -15,8 +15,8 @@ use Rattle.sidetable.specs.declared.operations.OtherInstruction.{OtherInstructio
 use Rattle.interpreter.specs.Looping.{loop_at}
 use Rattle.interpreter.specs.Turns.{IsLeft, StandsThere}
 use Rattle.exec.specs.Instructions.{GoesOn, RestsBefore, RestsSomeBefore, StopsFor, left_op}
-use Rattle.exec.specs.Resting.{AsksNext, AtRest, Comes, Concludes, ConcludesFrom, LacksMemory, Rests, RestsSome, RunsFrom, RunsTo, StopsAtRest, fuel_left, left_of, loop_of, machine_of, store_around}
-use Rattle.interpreter.specs.Whole.{HasResults, RunsWhole, Whole, left_at, paid_for, whole}
+use Rattle.exec.specs.Resting.{AtRest, Comes, Concludes, ConcludesFrom, LacksMemory, Rests, RestsSome, RunsFrom, RunsTo, StopsAtRest, fuel_left, left_of, loop_of, machine_of, store_around}
+use Rattle.interpreter.specs.Whole.{AsksNext, HasResults, RunsWhole, Whole, left_at, paid_for, whole}
 use Rattle.interpreter.specs.declared.machine.Frame.{Frame}
 use Rattle.interpreter.specs.declared.machine.Stop.{Stop}
 use Rattle.interpreter.specs.declared.machine.Stop.TheVariants as stop
@@ -78,18 +78,11 @@ module _ (bound : ℕ) where
   abbrev stops-later : (r r' r'' : AtRest) (u : Whole) (s : Stop) (first : Comes bound r u r' (fuel_left r')) → StopsAtRest bound r' first.new s r'' → StopsAtRest bound r u s r''
   stops-later r r' r'' u s first last = record { there = comes-then r r' r'' u (fuel_left r'' + paid_for s) first last.there; by = last.by }
 
-  -- For a frame that is opened it asks for memory.
+  -- It asks for memory.
   asks-for-memory : (r r' : AtRest) (u : Whole) → StopsAtRest bound r u stop.NoMemory r' → LacksMemory bound r u r'
   asks-for-memory r r' u stops =
-      let new = stops.there.new in
-      let (opening, deep) = stops.by in
       let same : fuel_left r' + 0 ≡ fuel_left r' = omega arith in
-      let asks : AsksNext bound (store_around r') (fuel_left r' + 0) new = record {
-        asks = subst AsksForMemory (sym opening.opens) tt;
-        within = subst (λ (n : Next). IsWithinBound bound (depth (whole new)) n) (sym opening.opens) deep;
-        enough = subst (λ (n : Next). price n ≤ fuel_left r' + 0) (sym opening.opens) opening.paid;
-      } in
-      let both = subst (λ (left : ℕ). (c : Comes bound r u r' left) × AsksNext bound (store_around r') left c.new) same (stops.there, asks) in
+      let both = subst (λ (left : ℕ). (c : Comes bound r u r' left) × AsksNext bound (store_around r') left c.new) same (stops.there, stops.by) in
       record { there = both.0; by = both.1 }
 
   module _ (r r' r'' : AtRest) (came : Came bound r r') where

@@ -1,20 +1,25 @@
 -- Calls of host functions, and where calls go on behind them.
-use Rattle.std.specs.Prelude.{◌≡◌, ℕ, ◌+◌, ◌-◌, List, ◌++◌, Option, length, map, take, drop, get_or}
+use Rattle.std.specs.Prelude.{◌≡◌, ℕ, ◌+◌, ◌-◌, ◌≤◌, List, [], ◌∷◌, ◌++◌, Option, length, map, take, drop, get_or}
 use Rattle.core_types.specs.declared.outcome.Val.{Val}
 use Rattle.core_types.specs.declared.types.ValType.{ValType}
 use Rattle.meaning.specs.execution.Configurations.{no_frame}
-use Rattle.meaning.specs.execution.Runs.{Answer, Steps}
+use Rattle.meaning.specs.execution.Runs.{Answer, Steps, WithValues}
 use Rattle.meaning.specs.execution.Store.{Store}
 use Rattle.cells.specs.Cells.{cell_of}
 use Rattle.interpreter.specs.Whole.{CallsHostNext, Whole, whole}
+use Rattle.interpreter.specs.declared.machine.CallKind.{CallKind}
+use Rattle.interpreter.specs.declared.machine.Frame.{Frame}
 use Rattle.interpreter.specs.declared.machine.Position.{Position}
-use Rattle.exec.specs.Endings.{run_state}
+use Rattle.exec.specs.Endings.{ending_of, run_state}
+use Rattle.exec.specs.declared.call.Call.{Call}
+use Rattle.exec.specs.declared.outcome.Outcome.{Outcome}
 use Rattle.exec.specs.Resting.{AtRest, Rests, fuel_left, machine_of, store_around}
 
 -- The call rests before that.
-pub record WaitsForHost (bound : ℕ) (r : AtRest) (w : Whole) (address behind : ℕ) : Type 0 where
+pub record WaitsForHost (bound : ℕ) (r : AtRest) (w : Whole) (kind : CallKind)
+    (address behind : ℕ) : Type 0 where
   pub rests : Rests bound r w
-  pub next : CallsHostNext (fuel_left r) (machine_of r) w address behind
+  pub next : CallsHostNext (fuel_left r) (machine_of r) w kind address behind
 
 -- The call rests, and leads to results of these types.
 abbrev pub RestsWith : (bound : ℕ) → AtRest → Whole → List ValType → Type 0
@@ -25,14 +30,35 @@ abbrev pub with_results : List ℕ → (first : ℕ) → List Val → List ℕ
 with_results cells first values =
     take first cells ++ (map cell_of values ++ drop (first + length values) cells)
 
--- Behind a call, which was paid for, with so many results from a place on.
-abbrev pub position_answered : Position → (first : ℕ) → List Val → List ℕ → Position
-position_answered at first values cells = record {
-  frame = record at.frame { place = at.frame.place + 1 };
+-- In a frame behind a call, which was paid for, with so many results from a place on.
+abbrev pub position_answered : Frame → Position → (first : ℕ) → List Val → List ℕ → Position
+position_answered frame at first values cells = record {
+  frame = frame;
   top = first + length values - 1;
   operand = get_or (with_results cells first values) (first + length values - 1) 0;
   fuel = at.fuel - 1;
 }
+
+-- In the place of the innermost frame there is room for so many results, if a frame waits for them.
+abbrev pub HasRoomForResults : Call → (many : ℕ) → Type 0
+HasRoomForResults call many =
+    (frame : Frame) (others : List Frame) → call.callers ≡ frame ∷ others
+    → (1 ≤ call.position.frame.base)
+    × (call.position.frame.base + many ≤ length call.cells.items)
+
+-- Results took the place of the innermost frame, in the one that waited.
+abbrev pub GoesBack : Call → List Val → Call → Type 0
+GoesBack old values new =
+    (frame : Frame) × (old.callers ≡ frame ∷ new.callers)
+    × (new.cells.items ≡ with_results old.cells.items old.position.frame.base values)
+    × (new.position ≡
+    position_answered frame old.position old.position.frame.base values old.cells.items)
+
+-- None waited, and the call ended with them.
+abbrev pub EndsWith : Call → List Val → Outcome → Call → Type 0
+EndsWith old values outcome new =
+    (old.callers ≡ []) × (ending_of outcome ≡ WithValues values)
+    × (new.position.fuel ≡ old.position.fuel - 1)
 
 module _ {H : Type 0} (HostStep : List H → ℕ → Option ℕ → List Val → Store → Answer → Store
     → List H → Type 0) (bound : ℕ) where

@@ -2,15 +2,14 @@
 use Rattle.std.specs.Prelude.{◌≡◌, ℕ, ◌+◌, ◌<◌, ◌≤◌, List, length}
 use Rattle.core_types.specs.declared.outcome.Val.{Val}
 use Rattle.meaning.specs.structure.Bodies.{Empty}
-use Rattle.meaning.specs.execution.Configurations.{Configuration, Running, depth, no_frame}
-use Rattle.meaning.specs.execution.Instructions.{next}
-use Rattle.meaning.specs.execution.Runs.{AsksForMemory, IsWithinBound, NoHosts, Steps, price}
+use Rattle.meaning.specs.execution.Configurations.{Configuration, Running, no_frame}
+use Rattle.meaning.specs.execution.Runs.{NoHosts, Steps}
 use Rattle.meaning.specs.execution.Store.{Store}
 use Rattle.store.specs.Contents.{Contents, store_with}
 use Rattle.store.specs.State.{StateContents}
 use Rattle.interpreter.specs.Looping.{loop_at, machine_at}
 use Rattle.interpreter.specs.Running.{Machine}
-use Rattle.interpreter.specs.Whole.{HasResults, Loop, RunsWhole, StopsBy, Whole, left_at, paid_for, state, whole}
+use Rattle.interpreter.specs.Whole.{AsksNext, HasResults, Loop, RunsWhole, StopsBy, Whole, left_at, paid_for, state, whole}
 use Rattle.interpreter.specs.Worlds.{Sees, World}
 use Rattle.exec.specs.declared.call.Call.{Call}
 use Rattle.interpreter.specs.declared.machine.Stop.{Stop}
@@ -67,12 +66,6 @@ pub record StopsAtRest (bound : ℕ) (r : AtRest) (w : Whole) (s : Stop) (r' : A
     : Type 0 where
   pub there : Comes bound r w r' (fuel_left r' + paid_for s)
   pub by : StopsBy bound s (store_around r') (fuel_left r' + paid_for s) (machine_of r') there.new
-
--- The next step asks for memory, within the bound, and there is fuel for it.
-pub record AsksNext (bound : ℕ) (store : Store) (fuel : ℕ) (w : Whole) : Type 0 where
-  pub asks : AsksForMemory (next store no_frame (whole w))
-  pub within : IsWithinBound bound (depth (whole w)) (next store no_frame (whole w))
-  pub enough : price (next store no_frame (whole w)) ≤ fuel
 
 -- It came to where it asks for memory that is not there.
 pub record LacksMemory (bound : ℕ) (r : AtRest) (w : Whole) (r' : AtRest) : Type 0 where

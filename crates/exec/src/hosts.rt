@@ -10,14 +10,15 @@ ghost use Rattle.hostfunc.specs.declared.host_function.HostFault.TheVariants.{Tr
 ghost use Rattle.store.specs.Contents.{callee_function, code_store, store_of, store_with};
 ghost use Rattle.exec.specs.Endings.{ending_of, first_memory, run_state};
 ghost use Rattle.interpreter.specs.Whole.{Whole, whole};
-ghost use Rattle.exec.specs.Hosting.{ComesOver, WaitsForHost, position_answered, with_results};
+ghost use Rattle.exec.specs.Hosting.{ComesOver, EndsWith, GoesBack, HasRoomForResults, WaitsForHost, position_answered, with_results};
 ghost use Rattle.exec.specs.Resting.{at_rest, fuel_left, store_around};
 
 use crate::call::{Call, frame_behind};
 use crate::outcome::Outcome;
 use cells::{values_of, write_cells};
-use core_types::{Exhaustion, Trap, Val};
+use core_types::{Exhaustion, Items, Trap, Val};
 use hostfunc::{HostFault, HostFn, HostTable};
+use interpreter::{CallKind, Frame};
 use std::alloc::Global;
 use store::{Callee, Code, State, Store};
 
@@ -63,34 +64,51 @@ fn call_lent(
     }
 }
 
-// Puts results from a cell on, and goes on behind the call, which was paid for.
-fn put_results(values: &[Val], first: usize, call: &mut Call<'_>)
+// Puts results from a cell on, and goes on in a frame behind the call, which was paid for.
+fn put_results<'a>(values: &[Val], first: usize, frame: Frame<'a>, call: &mut Call<'a>)
     requires room { first + length values.now ≤ length call.old.cells.items }
     requires above { 1 ≤ first }
-    requires code { call.old.position.frame.place < length
-        call.old.position.frame.function.now.operations.items }
     requires paid { 1 ≤ call.old.position.fuel }
     ensures cells { call.new.cells.items ≡ with_results call.old.cells.items first values.now }
-    ensures position { call.new.position ≡ position_answered call.old.position first values.now
-        call.old.cells.items }
+    ensures position { call.new.position ≡ position_answered frame.entry call.old.position first
+        values.now call.old.cells.items }
     ensures callers { call.new.callers ≡ call.old.callers }
 {
     write_cells(values, &mut call.cells[first..]);
     let top = first + values.len() - 1;
     call.position.top = top;
     call.position.operand = call.cells[top];
-    call.position.frame = frame_behind(call.position.frame);
+    call.position.frame = frame;
     call.position.fuel -= 1;
 }
 
-/// A host function that a call waits for: its address, and the place among the cells below which its arguments lie.
+// Puts results in the place of the innermost frame, whose last step was paid for. The frame that waits goes on with them; where none
+// waits, the call ends with them.
+fn return_results(values: Vec<Val>, call: &mut Call<'_>) -> Result<(), Outcome>
+    requires room { HasRoomForResults call.old (length values.items) }
+    requires paid { 1 ≤ call.old.position.fuel }
+    ensures back { IfOk result (λ done. GoesBack call.old values.items call.new) }
+    ensures over { IfErr result (λ outcome. EndsWith call.old values.items outcome call.new) }
+{
+    let Some(frame) = call.callers.pop() else {
+        call.position.fuel -= 1;
+        return Err(Outcome::Values(Items::from_vec(values)));
+    };
+    let first = call.position.frame.base;
+    put_results(&values, first, frame, call);
+    Ok(())
+}
+
+/// A host function that a call waits for: how it is called, its address, and the place among the cells below which its arguments lie.
 #[derive(Clone, Copy)]
 pub struct HostCall {
+    pub kind: CallKind,
     pub address: u32,
     pub behind: usize,
 }
 
-/// Calls the host function that a call waits for: its results take the place of its arguments.
+/// Calls the host function that a call waits for: its results take the place of its arguments, or, behind a tail call, that of the
+/// innermost frame, which may end the call.
 pub fn call_host(
     alloc: Global,
     code: &Code,
@@ -101,18 +119,18 @@ pub fn call_host(
     call: &mut Call<'_>,
 ) -> Result<(), Outcome>
     requires waits { (w : Whole)
-        × WaitsForHost bound (at_rest code.now state.old call.old) w wanted.address
-        wanted.behind }
+        × WaitsForHost bound (at_rest code.now state.old call.old) w wanted.kind
+        wanted.address wanted.behind }
     requires hosts { HaveHosts (store_with code.now state.old) hosts.old.objects.items }
     ensures answered { IfOk result (λ done. (w : Whole)
-        → WaitsForHost bound (at_rest code.now state.old call.old) w wanted.address
-        wanted.behind
+        → WaitsForHost bound (at_rest code.now state.old call.old) w wanted.kind
+        wanted.address wanted.behind
         → ComesOver (HostStep ⟦<dyn HostFn as HostFn>⟧) bound
         (at_rest code.now state.old call.old) hosts.old.objects.items w
         (at_rest code.now state.new call.new) hosts.new.objects.items) }
     ensures ended { IfErr result (λ outcome. (w : Whole)
-        → WaitsForHost bound (at_rest code.now state.old call.old) w wanted.address
-        wanted.behind
+        → WaitsForHost bound (at_rest code.now state.old call.old) w wanted.kind
+        wanted.address wanted.behind
         → Run (HostStep ⟦<dyn HostFn as HostFn>⟧) bound no_frame
         (run_state (store_with code.now state.old) hosts.old.objects.items
         call.old.position.fuel) (whole w) (ending_of outcome)
@@ -139,10 +157,14 @@ pub fn call_host(
         host.number,
         &args,
     ) {
-        Ok(values) => {
-            put_results(&values, first, call);
-            Ok(())
-        }
+        Ok(values) => match wanted.kind {
+            CallKind::Nested => {
+                let frame = frame_behind(call.position.frame);
+                put_results(&values, first, frame, call);
+                Ok(())
+            }
+            CallKind::Tail => return_results(values, call),
+        },
         Err(HostFault::Trap(why)) => {
             call.position.fuel -= 1;
             Err(Outcome::Trap(Trap::Host(why)))

@@ -62,8 +62,12 @@ fn run_to_end<'a>(
             Stop::NoFuel => return Outcome::Exhausted(Exhaustion::Fuel),
             Stop::NoDepth => return Outcome::Exhausted(Exhaustion::Depth),
             Stop::NoMemory => return Outcome::Exhausted(Exhaustion::Memory),
-            Stop::CallsHost(address, behind) => {
-                let wanted = HostCall { address, behind };
+            Stop::CallsHost(kind, address, behind) => {
+                let wanted = HostCall {
+                    kind,
+                    address,
+                    behind,
+                };
                 if let Err(outcome) = call_host(alloc, code, state, hosts, bound, wanted, call) {
                     return outcome;
                 }

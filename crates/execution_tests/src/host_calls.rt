@@ -1,81 +1,13 @@
-//! Calls of host functions: directly, through a table and from outside.
+//! Calls and tail calls of host functions: directly, through a table and from outside.
 
-ghost use Rattle.std.specs.Prelude.{◌≡◌, ◌<◌, ◌-◌, ◌^◌, ◌∷◌, [], length, IfOk, IfErr};
-ghost use Rattle.std.proofs.Props.{props};
-ghost use Rattle.core_types.specs.declared.outcome.Val.TheVariants.{I32 as I32Value};
-ghost use Rattle.core_types.specs.declared.types.ValType.TheVariants.{I32};
-ghost use Rattle.hostfunc.specs.declared.host_function.HostFault.TheVariants.{Memory as MemoryFault};
-
+use crate::hosts::{Hosted, new_hosted};
 use crate::modules::loaded_module;
 use crate::runs::calls_so;
-use core_types::{Extern, FuncType, Items, Val, ValType};
+use core_types::{Extern, Val};
 use exec::have_hosts;
 use fuel::Meter;
-use hostfunc::{HostFault, HostFn, HostTable, has_funcref, object_type};
 use instantiate::instantiate;
-use std::alloc::{AllocError, Global};
-use store::Store;
-
-// Answers the difference of two i32 and writes the byte 7 at 0; traps with the code 5 where the second is 0.
-#[derive(Drop)]
-struct Difference {
-    alloc: Global,
-    ty: FuncType,
-    ghost gives_number: { ty.results ≡ I32 ∷ [] } by { Prim.hlevel props },
-}
-
-fn new_difference(alloc: Global) -> Result<Difference, AllocError> {
-    let params = Vec::from_slice(alloc, &[ValType::I32, ValType::I32])?;
-    let results = Vec::from_slice(alloc, &[ValType::I32])?;
-    Ok(Difference {
-        alloc,
-        ty: FuncType {
-            params: Items::from_vec(params),
-            results: Items::from_vec(results),
-        },
-    })
-}
-
-// One i32 as results.
-fn one_result(alloc: Global, number: u32) -> Result<Vec<Val>, HostFault>
-    ensures ok { IfOk result (λ values. values.items ≡ I32Value number ∷ []) }
-    ensures err { IfErr result (λ fault. fault ≡ MemoryFault) }
-{
-    let mut values = Vec::new(alloc);
-    match values.push(Val::I32(number)) {
-        Ok(()) => Ok(values),
-        Err(_) => Err(HostFault::Memory),
-    }
-}
-
-// Writes the byte 7 at 0, if there is anything.
-fn mark(memory: &mut [u8]) {
-    if !memory.is_empty() {
-        memory[0] = 7;
-    }
-}
-
-impl HostFn for Difference {
-    ghost declared = { λ h. h.ty };
-
-    ghost Answers = { λ h arguments bytes answer then h'. h'.ty ≡ h.ty };
-
-    fn ty(&self) -> &FuncType {
-        &self.ty
-    }
-
-    fn call(&mut self, args: &[Val], memory: &mut [u8]) -> Result<Vec<Val>, HostFault> {
-        match args {
-            [Val::I32(_), Val::I32(0)] => Err(HostFault::Trap(5)),
-            [Val::I32(a), Val::I32(b)] => {
-                let values = one_result(self.alloc, a.wrapping_sub(*b))?;
-                mark(memory);
-                Ok(values)
-            }
-            _ => Err(HostFault::Trap(0)),
-        }
-    }
-}
+use std::alloc::Global;
 
 const CALLER: &str = "\
 (type (func (param i32 i32) (result i32))) (import \"host\" \"difference\" (func (type 0))) (memory 1) (table 1 funcref) \
@@ -84,88 +16,129 @@ const CALLER: &str = "\
 (func (type 0) i32.const 100 local.get 0 local.get 1 i32.const 0 call_indirect (type 0) i32.add) \
 (func (type 0) local.get 0 local.get 1 call 0 drop i32.const 0 i32.load8_u)";
 
-// A call of the function at an address, the fuel, how it ends, and the fuel left.
+// Its first function of its own has the index 4, which is its address too.
+const TAIL_CALLER: &str = "\
+(type (func (param i32 i32) (result i32))) (type (func (result i32))) \
+(import \"host\" \"difference\" (func (type 0))) (import \"host\" \"sum\" (func (param i32) (result i32))) \
+(import \"host\" \"four\" (func (result i32 i64 i32 i32))) (import \"host\" \"marker\" (func)) \
+(memory 1) (table 2 funcref) (elem (offset i32.const 0) func 0 3) \
+(func (type 0) local.get 0 local.get 1 return_call 0) \
+(func (type 0) i32.const 100 local.get 0 local.get 1 i32.const 0 return_call_indirect (type 0)) \
+(func (type 0) i32.const 100 local.get 0 local.get 1 call 4 i32.add) \
+(func (type 0) i32.const 0 i32.const 0 i32.store8 local.get 0 local.get 1 call 4 drop i32.const 0 i32.load8_u) \
+(func (param i32) (result i32) local.get 0 return_call 1) \
+(func (result i32 i64 i32 i32) return_call 2) \
+(func (result i32 i32 i64 i32 i32) i32.const 50 call 9) \
+(func return_call 3) \
+(func (result i32) i32.const 0 i32.const 0 i32.store8 i32.const 5 call 11 i32.const 0 i32.load8_u i32.add) \
+(func (type 0) i32.const 100 local.get 0 local.get 1 call 14 i32.add) \
+(func (type 0) local.get 0 local.get 1 call 4 local.get 1 return_call 0) \
+(func (type 0) local.get 1 local.get 0 return_call 4) \
+(func (type 0) (local i64 i64) i32.const 1 block i64.const 2 block loop i32.const 3 local.get 0 local.get 1 return_call 0 end end drop end) \
+(func (result i32) i32.const 1 return_call_indirect (type 1)) \
+(func call 11 call 11) \
+(func (param i32) (result i32) local.get 0 call 8 drop local.get 0 return_call 8) \
+(func (result i32) i32.const 1 i32.const 0 call 8 i32.add)";
+
+// A call of the function at an address, the fuel and the depth bound, how it ends, and the fuel left.
 struct Call {
     name: &'static str,
     address: u32,
-    args: [Val; 2],
-    fuel: u64,
+    args: &'static [Val],
+    bounds: (u64, u32),
     ends: &'static str,
     left: u64,
 }
 
 #[rattlefmt::skip]
 static CALLS: [Call; 8] = [
-    Call { name: "from outside", address: 0, args: [Val::I32(7), Val::I32(5)], fuel: 10, ends: "values i32 2", left: 10 },
-    Call { name: "from outside, with a trap", address: 0, args: [Val::I32(7), Val::I32(0)], fuel: 10, ends: "trap host trap", left: 10 },
-    Call { name: "directly", address: 1, args: [Val::I32(7), Val::I32(5)], fuel: 10, ends: "values i32 102", left: 5 },
-    Call { name: "directly, with a trap", address: 1, args: [Val::I32(7), Val::I32(0)], fuel: 10, ends: "trap host trap", left: 6 },
-    Call { name: "directly, without fuel", address: 1, args: [Val::I32(7), Val::I32(5)], fuel: 3, ends: "exhausted fuel", left: 0 },
-    Call { name: "through a table", address: 2, args: [Val::I32(7), Val::I32(5)], fuel: 10, ends: "values i32 102", left: 4 },
-    Call { name: "through a table, with a trap", address: 2, args: [Val::I32(7), Val::I32(0)], fuel: 10, ends: "trap host trap", left: 5 },
-    Call { name: "what it writes is read", address: 3, args: [Val::I32(7), Val::I32(5)], fuel: 10, ends: "values i32 7", left: 4 },
+    Call { name: "from outside", address: 0, args: &[Val::I32(7), Val::I32(5)], bounds: (10, 2), ends: "values i32 2", left: 10 },
+    Call { name: "from outside, with a trap", address: 0, args: &[Val::I32(7), Val::I32(0)], bounds: (10, 2), ends: "trap host trap 5", left: 10 },
+    Call { name: "directly", address: 4, args: &[Val::I32(7), Val::I32(5)], bounds: (10, 2), ends: "values i32 102", left: 5 },
+    Call { name: "directly, with a trap", address: 4, args: &[Val::I32(7), Val::I32(0)], bounds: (10, 2), ends: "trap host trap 5", left: 6 },
+    Call { name: "directly, without fuel", address: 4, args: &[Val::I32(7), Val::I32(5)], bounds: (3, 2), ends: "exhausted fuel", left: 0 },
+    Call { name: "through a table", address: 5, args: &[Val::I32(7), Val::I32(5)], bounds: (10, 2), ends: "values i32 102", left: 4 },
+    Call { name: "through a table, with a trap", address: 5, args: &[Val::I32(7), Val::I32(0)], bounds: (10, 2), ends: "trap host trap 5", left: 5 },
+    Call { name: "what it writes is read", address: 6, args: &[Val::I32(7), Val::I32(5)], bounds: (10, 2), ends: "values i32 7", left: 4 },
 ];
 
-// Takes in an object that gives no funcref, and answers its type.
-fn take_in(
-    alloc: Global,
-    hosts: &mut HostTable,
-    object: Box<dyn HostFn>,
-) -> Result<FuncType, AllocError>
-    requires { length hosts.old.objects.items < 2 ^ 32 - 1 }
-{
-    let ty = object_type(&object).copy(alloc)?;
-    if has_funcref(object_type(&object).results.as_slice()) {
-        return Err(AllocError);
-    }
-    hosts.push(object)?;
-    Ok(ty)
-}
+// Tail calls, of which the first ones are the last step of a call from outside.
+#[rattlefmt::skip]
+static TAIL_CALLS: [Call; 12] = [
+    Call { name: "directly", address: 4, args: &[Val::I32(7), Val::I32(5)], bounds: (3, 1), ends: "values i32 2", left: 0 },
+    Call { name: "directly, one fuel short", address: 4, args: &[Val::I32(7), Val::I32(5)], bounds: (2, 1), ends: "exhausted fuel", left: 0 },
+    Call { name: "directly, with a trap", address: 4, args: &[Val::I32(7), Val::I32(0)], bounds: (10, 1), ends: "trap host trap 5", left: 7 },
+    Call { name: "through a table", address: 5, args: &[Val::I32(7), Val::I32(5)], bounds: (5, 1), ends: "values i32 2", left: 0 },
+    Call { name: "through a table, one fuel short", address: 5, args: &[Val::I32(7), Val::I32(5)], bounds: (4, 1), ends: "exhausted fuel", left: 0 },
+    Call { name: "through a table, with a trap", address: 5, args: &[Val::I32(7), Val::I32(0)], bounds: (10, 1), ends: "trap host trap 5", left: 5 },
+    Call { name: "through a table, of another type", address: 17, args: &[], bounds: (10, 1), ends: "trap indirect call type mismatch", left: 8 },
+    Call { name: "four results", address: 9, args: &[], bounds: (1, 1), ends: "values i32 1 i64 2 i32 3 i32 4", left: 0 },
+    Call { name: "no result", address: 11, args: &[], bounds: (1, 1), ends: "values", left: 0 },
+    Call { name: "no result, without fuel", address: 11, args: &[], bounds: (0, 1), ends: "exhausted fuel", left: 0 },
+    Call { name: "behind another tail call", address: 15, args: &[Val::I32(7), Val::I32(5)], bounds: (6, 1), ends: "values i32 4294967294", left: 0 },
+    Call { name: "inside of blocks", address: 16, args: &[Val::I32(7), Val::I32(5)], bounds: (9, 1), ends: "values i32 2", left: 0 },
+];
 
-// A store with the host function alone, and the host functions.
-fn new_store(alloc: Global) -> Option<(Store, HostTable)> {
-    let mut store = Store::new(alloc, 1, 1);
-    let mut hosts = HostTable::new(alloc);
-    let Ok(difference) = new_difference(alloc) else {
-        return None;
-    };
-    let Ok(object) = Box::new(alloc, difference) else {
-        return None;
-    };
-    let Ok(ty) = take_in(alloc, &mut hosts, object) else {
-        return None;
-    };
-    let Ok(_) = store.append_host(ty) else {
-        return None;
-    };
-    Some((store, hosts))
-}
+// Tail calls in functions for which a caller waits.
+#[rattlefmt::skip]
+static TAIL_CALLS_INSIDE: [Call; 9] = [
+    Call { name: "the caller adds to the result", address: 6, args: &[Val::I32(7), Val::I32(5)], bounds: (8, 2), ends: "values i32 102", left: 0 },
+    Call { name: "the caller adds to the result, one fuel short", address: 6, args: &[Val::I32(7), Val::I32(5)], bounds: (7, 2), ends: "exhausted fuel", left: 0 },
+    Call { name: "a trap", address: 6, args: &[Val::I32(7), Val::I32(0)], bounds: (10, 2), ends: "trap host trap 5", left: 3 },
+    Call { name: "past the depth", address: 6, args: &[Val::I32(7), Val::I32(5)], bounds: (10, 1), ends: "exhausted depth", left: 7 },
+    Call { name: "what it writes is read", address: 7, args: &[Val::I32(7), Val::I32(5)], bounds: (12, 2), ends: "values i32 7", left: 0 },
+    Call { name: "four results above an operand", address: 10, args: &[], bounds: (3, 2), ends: "values i32 50 i32 1 i64 2 i32 3 i32 4", left: 0 },
+    Call { name: "no result above an operand", address: 12, args: &[], bounds: (9, 2), ends: "values i32 12", left: 0 },
+    Call { name: "no result, between frames without operands", address: 18, args: &[], bounds: (4, 2), ends: "values", left: 0 },
+    Call { name: "two in a row, the second for a caller of the first", address: 13, args: &[Val::I32(7), Val::I32(2)], bounds: (13, 3), ends: "values i32 103", left: 0 },
+];
 
-// Links the module that calls it.
-fn link(alloc: Global, store: &mut Store, hosts: &mut HostTable) -> bool {
-    let Some(loaded) = loaded_module(alloc, CALLER) else {
+// Tail calls of the function that keeps a sum.
+#[rattlefmt::skip]
+static SUMS: [Call; 8] = [
+    Call { name: "a sum of 3", address: 8, args: &[Val::I32(3)], bounds: (2, 1), ends: "values i32 3", left: 0 },
+    Call { name: "and 4", address: 8, args: &[Val::I32(4)], bounds: (2, 1), ends: "values i32 7", left: 0 },
+    Call { name: "no memory", address: 8, args: &[Val::I32(0)], bounds: (10, 1), ends: "exhausted memory", left: 9 },
+    Call { name: "no memory, and a caller that waits", address: 20, args: &[], bounds: (10, 2), ends: "exhausted memory", left: 6 },
+    Call { name: "no memory, and a call before", address: 19, args: &[Val::I32(0)], bounds: (10, 2), ends: "exhausted memory", left: 7 },
+    Call { name: "no fuel", address: 8, args: &[Val::I32(5)], bounds: (1, 1), ends: "exhausted fuel", left: 0 },
+    Call { name: "no fuel and no memory", address: 8, args: &[Val::I32(0)], bounds: (1, 1), ends: "exhausted fuel", left: 0 },
+    Call { name: "and 1, twice", address: 19, args: &[Val::I32(1)], bounds: (9, 2), ends: "values i32 9", left: 0 },
+];
+
+// Links a module, which imports the first host functions.
+fn link(alloc: Global, hosted: &mut Hosted, text: &str) -> bool {
+    let Some(loaded) = loaded_module(alloc, text) else {
         return false;
     };
+    let Hosted { store, hosts } = hosted;
     if !have_hosts(store, hosts) {
         return false;
     }
+    let given = [
+        Extern::Func(0),
+        Extern::Func(1),
+        Extern::Func(2),
+        Extern::Func(3),
+    ];
     let mut meter = Meter::new(100, 10);
-    instantiate(alloc, store, hosts, &mut meter, &loaded, &[Extern::Func(0)]).is_ok()
+    instantiate(alloc, store, hosts, &mut meter, &loaded, &given).is_ok()
 }
 
-// The first call that does not go so.
-fn first_at_fault(alloc: Global) -> Option<&'static str> {
-    let Some((mut store, mut hosts)) = new_store(alloc) else {
+// The first call that does not go so in a store of the host functions and a module.
+fn first_at_fault(alloc: Global, text: &str, calls: &[Call]) -> Option<&'static str> {
+    let Ok(mut hosted) = new_hosted(alloc) else {
         return Some("no store");
     };
-    if !link(alloc, &mut store, &mut hosts) {
+    if !link(alloc, &mut hosted, text) {
         return Some("no link");
     }
     let mut first = None;
-    for row in &CALLS {
-        let call = (row.address, row.args.as_slice());
+    for row in calls {
+        let call = (row.address, row.args);
         let wanted = (row.ends, row.left);
-        let goes = calls_so(alloc, &mut store, &mut hosts, call, (row.fuel, 2), wanted);
+        let Hosted { store, hosts } = &mut hosted;
+        let goes = calls_so(alloc, store, hosts, call, row.bounds, wanted);
         if first.is_none() && !goes {
             first = Some(row.name);
         }
@@ -175,6 +148,24 @@ fn first_at_fault(alloc: Global) -> Option<&'static str> {
 
 #[test]
 fn calls_host_functions(rt: HostRuntime) {
-    let first = first_at_fault(rt.alloc());
+    let first = first_at_fault(rt.alloc(), CALLER, &CALLS);
+    assert!(rt; first.is_none(), "{first:?}");
+}
+
+#[test]
+fn tail_calls_host_functions(rt: HostRuntime) {
+    let first = first_at_fault(rt.alloc(), TAIL_CALLER, &TAIL_CALLS);
+    assert!(rt; first.is_none(), "{first:?}");
+}
+
+#[test]
+fn tail_calls_host_functions_for_a_caller(rt: HostRuntime) {
+    let first = first_at_fault(rt.alloc(), TAIL_CALLER, &TAIL_CALLS_INSIDE);
+    assert!(rt; first.is_none(), "{first:?}");
+}
+
+#[test]
+fn tail_calls_a_host_function_that_keeps_a_sum(rt: HostRuntime) {
+    let first = first_at_fault(rt.alloc(), TAIL_CALLER, &SUMS);
     assert!(rt; first.is_none(), "{first:?}");
 }

@@ -6,6 +6,8 @@ mod collections;
 #[cfg(test)]
 mod host_calls;
 #[cfg(test)]
+mod hosts;
+#[cfg(test)]
 mod memories;
 #[cfg(test)]
 mod metering;

@@ -205,6 +205,32 @@ static TABLES: [Case; 5] = [
     ] },
 ];
 
+// Tail calls, by index and through entries.
+#[rattlefmt::skip]
+static TAIL_CALLS: [Case; 4] = [
+    Case { name: "what was done before a trap behind a tail call stays", modules: &["(memory 1) (func i32.const 0 i32.const 5 i32.store8 return_call 1) (func i32.const 1 i32.const 6 i32.store8 unreachable)"], bytes: Some(&[5, 6]), calls: &[
+        Call { address: 0, args: &[], fuel: 8, ends: "trap unreachable", left: 0 },
+    ] },
+    Case { name: "what was done before a tail call without fuel stays", modules: &["(memory 1) (func i32.const 0 i32.const 5 i32.store8 return_call 1) (func i32.const 1 i32.const 6 i32.store8 unreachable)"], bytes: Some(&[5]), calls: &[
+        Call { address: 0, args: &[], fuel: 3, ends: "exhausted fuel", left: 0 },
+    ] },
+    Case { name: "a tail call through entries that are set", modules: &["(type (func (result i32))) (table 2 funcref) (elem (offset i32.const 0) func 0 1) (func (result i32) i32.const 10) (func (result i32) i32.const 11) (func (param i32) (result i32) local.get 0 return_call_indirect (type 0)) (func i32.const 0 ref.func 1 table.set) (func i32.const 1 ref.null func table.set)"], bytes: None, calls: &[
+        Call { address: 2, args: &[Val::I32(0)], fuel: 3, ends: "values i32 10", left: 0 },
+        Call { address: 2, args: &[Val::I32(1)], fuel: 3, ends: "values i32 11", left: 0 },
+        Call { address: 3, args: &[], fuel: 3, ends: "values", left: 0 },
+        Call { address: 2, args: &[Val::I32(0)], fuel: 3, ends: "values i32 11", left: 0 },
+        Call { address: 4, args: &[], fuel: 3, ends: "values", left: 0 },
+        Call { address: 2, args: &[Val::I32(1)], fuel: 2, ends: "trap uninitialized element", left: 0 },
+        Call { address: 2, args: &[Val::I32(2)], fuel: 2, ends: "trap undefined element", left: 0 },
+    ] },
+    Case { name: "an instance calls functions and through tables of its own", modules: &["(type (func (result i32))) (table 1 funcref) (elem (offset i32.const 0) func 0) (func (result i32) i32.const 10) (func (result i32) return_call 0) (func (result i32) i32.const 0 return_call_indirect (type 0))", "(type (func (result i32))) (table 1 funcref) (elem (offset i32.const 0) func 0) (func (result i32) i32.const 20) (func (result i32) return_call 0) (func (result i32) i32.const 0 return_call_indirect (type 0))"], bytes: None, calls: &[
+        Call { address: 1, args: &[], fuel: 2, ends: "values i32 10", left: 0 },
+        Call { address: 2, args: &[], fuel: 3, ends: "values i32 10", left: 0 },
+        Call { address: 4, args: &[], fuel: 2, ends: "values i32 20", left: 0 },
+        Call { address: 5, args: &[], fuel: 3, ends: "values i32 20", left: 0 },
+    ] },
+];
+
 // Whether a call ends so and leaves so much fuel.
 fn goes_so(alloc: Global, store: &mut Store, hosts: &mut HostTable, call: &Call) -> bool {
     let Call {
@@ -288,6 +314,14 @@ fn changes_segments_and_globals(rt: HostRuntime) {
 #[test]
 fn changes_tables_and_calls_through_them(rt: HostRuntime) {
     for case in &TABLES {
+        let first = first_at_fault(rt.alloc(), case);
+        assert!(rt; first.is_none(), "{} {first:?}", case.name);
+    }
+}
+
+#[test]
+fn tail_calls_by_index_and_through_entries(rt: HostRuntime) {
+    for case in &TAIL_CALLS {
         let first = first_at_fault(rt.alloc(), case);
         assert!(rt; first.is_none(), "{} {first:?}", case.name);
     }

@@ -70,6 +70,22 @@ static ROWS: [Row; 20] = [
         expected: Counts(2, 5, 1) },
 ];
 
+#[rattlefmt::skip]
+static TAIL_CALLS: [Row; 6] = [
+    Row { name: "a tail call above an operand", source: "(func (param i32)) (func i64.const 5 i32.const 7 return_call 0)",
+        expected: Code(" plain plain return_call(0) leave", 2) },
+    Row { name: "operands behind a tail call", source: "(func (param i32)) (func i32.const 7 return_call 0 i64.const 1 i64.const 2 drop drop)",
+        expected: Code(" plain return_call(0) plain plain plain plain leave", 1) },
+    Row { name: "a body behind a tail call", source: "(func i64.const 5 return_call 0 block br 0 end)",
+        expected: Code(" plain return_call(0) enter br(4,0,0) leave", 1) },
+    Row { name: "tail calls from an if", source: "(func (param i32) local.get 0 if local.get 0 return_call 0 else local.get 0 return_call 0 end)",
+        expected: Code(" plain if(5,0,0) plain return_call(0) jump(7,0,0) plain return_call(0) leave", 1) },
+    Row { name: "a tail call of an import", source: "(import \"m\" \"f\" (func (param i64) (result i32 i32))) (func (result i32 i32) i64.const 1 return_call 0)",
+        expected: Code(" plain return_call(0) leave", 2) },
+    Row { name: "a tail call through a table", source: "(type (func (param i32) (result i32))) (table 1 funcref) (table 1 funcref) (func (type 0) local.get 0 i32.const 0 return_call_indirect 1 (type 0))",
+        expected: Code(" plain plain return_call_indirect(0,1) leave", 2) },
+];
+
 // Why a row's module gives no flat code.
 #[derive(Clone, Copy, PartialEq, Eq)]
 struct Refused;
@@ -132,6 +148,13 @@ fn is_flattened(alloc: Global, row: &Row) -> Result<bool, Refused> {
 #[test]
 fn functions_are_flattened(rt: HostRuntime) {
     for row in &ROWS {
+        assert!(rt; is_flattened(rt.alloc(), row) == Ok(true), "{}", row.name);
+    }
+}
+
+#[test]
+fn tail_calls_are_flattened(rt: HostRuntime) {
+    for row in &TAIL_CALLS {
         assert!(rt; is_flattened(rt.alloc(), row) == Ok(true), "{}", row.name);
     }
 }

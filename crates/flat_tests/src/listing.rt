@@ -1,6 +1,7 @@
-//! Flat code as text: a word for each operation, and behind it the entries of those that have some, as (target,kept,height).
+//! Flat code as text: a word for each operation, and behind it the entries of those that have some, as (target,kept,height), and
+//! the indices of tail calls.
 
-use sidetable::{Entry, FlatCode, PackedOp, SideTables, TransferInstruction};
+use sidetable::{Entry, FlatCode, IndexPair, PackedOp, SideTables, TransferInstruction};
 use std::alloc::{AllocError, Global};
 use std::fmt::Write;
 
@@ -30,6 +31,14 @@ fn write_range(text: &mut String, tables: &SideTables, number: u32) -> Result<()
     write_entry(text, tables, range.default)
 }
 
+// The two indices of a number.
+fn write_pair(text: &mut String, tables: &SideTables, number: u32) -> Result<(), AllocError> {
+    match tables.pairs.get(number as usize) {
+        Some(IndexPair { first, second }) => write!(text, "({first},{second})"),
+        None => text.push_str("(none)"),
+    }
+}
+
 fn write_transfer(
     text: &mut String,
     tables: &SideTables,
@@ -44,6 +53,11 @@ fn write_transfer(
         TransferInstruction::BrTable => {
             text.push_str(" br_table")?;
             return write_range(text, tables, number);
+        }
+        TransferInstruction::ReturnCall => return write!(text, " return_call({number})"),
+        TransferInstruction::ReturnCallIndirect => {
+            text.push_str(" return_call_indirect")?;
+            return write_pair(text, tables, number);
         }
         TransferInstruction::Leave => return text.push_str(" leave"),
         _ => return text.push_str(" plain"),

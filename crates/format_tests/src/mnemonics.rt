@@ -236,6 +236,10 @@ fn print_control(out: &mut String, op: ControlOp) -> Printed {
         ControlOp::Return => out.push_str("return"),
         ControlOp::Call(x) => print_indexed(out, "call", x),
         ControlOp::CallIndirect { ty, table } => write!(out, "call_indirect {table} (type {ty})"),
+        ControlOp::ReturnCall(x) => print_indexed(out, "return_call", x),
+        ControlOp::ReturnCallIndirect { ty, table } => {
+            write!(out, "return_call_indirect {table} (type {ty})")
+        }
     }
 }
 

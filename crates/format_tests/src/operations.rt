@@ -32,6 +32,8 @@ pub const ROWS: &str = "\
 0f = return
 10 04 = call 4
 11 05 06 = call_indirect 6 (type 5)
+12 04 = return_call 4
+13 05 06 = return_call_indirect 6 (type 5)
 1a = drop
 1b = select
 1c 01 7e = select (result i64)
@@ -177,7 +179,7 @@ fn agrees(alloc: Global, row: &str) -> Result<bool, AllocError> {
 
 #[test]
 fn decodes_each_instruction(rt: HostRuntime) {
-    assert!(rt; ROWS.lines().count() == 129);
+    assert!(rt; ROWS.lines().count() == 131);
     for row in ROWS.lines() {
         assert!(rt; agrees(rt.alloc(), row) == Ok(true), "{row}");
     }

@@ -1,7 +1,7 @@
 -- Where operations that may cross frames stop or go on.
 use Rattle.std.proofs.Common.{◌≡◌, ℕ, suc, ◌+◌, ◌-◌, ◌^◌, ◌<◌, ◌≤◌, List, ◌∷◌, ◌++◌, length, take, set, replicate, ap, sym, subst, arith}
 use Rattle.store.specs.declared.instances.ModuleFunction.{ModuleFunction}
-use Rattle.interpreter.specs.Calling.{CallsModule, IsCrossed, Leaves, declared_locals, frame_waiting, position_opened, position_resumed}
+use Rattle.interpreter.specs.Calling.{AreReplaced, CallsModule, IsCrossed, Leaves, ReplacesModule, declared_locals, frame_waiting, position_opened, position_replaced, position_resumed}
 use Rattle.interpreter.specs.Crossing.{Crosses}
 use Rattle.interpreter.specs.Layout.{AreMoved}
 use Rattle.interpreter.specs.Looping.{loop_at}
@@ -22,6 +22,13 @@ module _ (bound : ℕ) (w : World) (cells : List ℕ) (callers : List Frame) (at
   crosses-in from f some c paid shallow room cells' filled size callers' callers_are result is why =
       subst (λ (fs : List Frame). Crosses bound (loop_at w cells callers at) result why cells' fs (position_opened at from.top f)) (sym callers_are)
       (crosses bound (loop_at w cells callers at) cells' (frame_waiting at ∷ callers) result (position_opened at from.top f) some is (c.opens paid shallow room cells' filled size) (omega (arith, paid, next)) why)
+
+  -- One took the place of the frame.
+  pub crosses-over : (from : Position) (f : ModuleFunction) → RunsSomeWhole bound (loop_at w cells callers at) → ReplacesModule bound w cells callers at from f → 1 ≤ at.fuel
+      → at.frame.base + f.flat.function.now.locals + f.flat.function.now.greatest < length cells → (cells' : List ℕ) → AreReplaced cells at.frame.base from f cells'
+      → (result : Crossing) → IsCrossed w.number result f.instance → (why : Stop) → Crosses bound (loop_at w cells callers at) result why cells' callers (position_replaced at f)
+  crosses-over from f some c paid room cells' replaced result is why =
+      crosses bound (loop_at w cells callers at) cells' callers result (position_replaced at f) some is (c.replaces paid room cells' replaced) (omega (arith, paid, next)) why
 
   -- A frame was left.
   module _ (fuel results : ℕ) (leaves : Leaves bound w cells callers at fuel results) where

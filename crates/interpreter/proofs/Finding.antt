@@ -13,10 +13,6 @@ use Rattle.store.specs.Contents.{Contents, HasContextTypes, callee_function, fun
 use Rattle.store.specs.declared.instances.Callee.TheVariants as callee
 use Rattle.store.specs.declared.instances.ModuleFunction.{ModuleFunction}
 
--- What is there twice is the same.
-pub some-same : {X : Type 0} (a b : X) → Some a ≡ Some b → a ≡ b
-some-same a b e = cc
-
 -- The flat code is that of the body, by its type.
 pub record HasFlatBody (s : Signatures) (f : ModuleFunction) : Type 0 where
   pub flat : (seen f.flat).flat ≡ flat_function s (length f.ty.now.results) (code_of f.func.now).body

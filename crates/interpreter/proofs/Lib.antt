@@ -3,6 +3,7 @@ pub mod Calling
 pub mod Cells
 pub mod Control
 pub mod Crossings
+pub mod Entering
 pub mod Finding
 pub mod Forms
 pub mod Instructions
@@ -16,6 +17,7 @@ pub mod Opening
 pub mod Operands
 pub mod Parting
 pub mod Placing
+pub mod Replacing
 pub mod ResultCells
 pub mod Resuming
 pub mod Returning

@@ -3,8 +3,9 @@ use Rattle.std.proofs.Common.{◌≡◌, ℕ, ◌+◌, ◌<◌, ◌≤◌, List,
 use Rattle.std.specs.Prelude.{Some}
 use Rattle.core_types.specs.declared.outcome.Trap.{Trap}
 use Rattle.core_types.specs.declared.types.ValType.{ValType}
-use Rattle.meaning.specs.execution.Configurations.{Activation, Configuration, Frame, Label, no_frame}
-use Rattle.meaning.specs.execution.Instructions.{Next, Goes, Grows, Opens, CallsHost, Traps, Branches, Returns, Over, NotReady, next, step_in_frame, step_in_label}
+use Rattle.meaning.specs.structure.Bodies.{Empty}
+use Rattle.meaning.specs.execution.Configurations.{Activation, Configuration, Frame, InFrame, Label, no_frame}
+use Rattle.meaning.specs.execution.Instructions.{Next, Goes, Grows, Opens, CallsHost, Traps, Branches, Returns, TailCalls, Over, NotReady, next, step_in_frame, step_in_label}
 use Rattle.meaning.specs.execution.Layers.{AroundFrame, AroundLabel, Layer, outermost, plug}
 use Rattle.meaning.specs.execution.Runs.{IsStep, NoHosts, State, Steps, calls, goes, grows, none, one_more, opens, price}
 use Rattle.meaning.specs.execution.Store.{Store}
@@ -16,7 +17,8 @@ use Rattle.soundness.specs.Stores.{StoreIsValid}
 use Rattle.soundness.proofs.Steps.{stays-good}
 use Rattle.soundness.proofs.Values.{values-length}
 use Rattle.sidetable.specs.FlatModules.{AreWithin}
-use Rattle.simulation.specs.Calls.{around}
+use Rattle.simulation.specs.Callees.{CostsAround}
+use Rattle.simulation.specs.Calls.{activation_of, around}
 use Rattle.simulation.specs.Runs.{Fails, Ghost, Lacks, Leads, StepsIn, config_of, frame_of}
 use Rattle.simulation.specs.Standing.{FrameCode}
 use Rattle.simulation.proofs.Frames.{steps-lifted}
@@ -50,6 +52,7 @@ module _ (store : Store) (n : ℕ) where
   dear-in-label frame label (Traps cost trap) lt = lt
   dear-in-label frame label (Branches to values) lt = absurd (omega (arith, lt))
   dear-in-label frame label (Returns values) lt = absurd (omega (arith, lt))
+  dear-in-label frame label (TailCalls lent function values) lt = absurd (omega (arith, lt))
   dear-in-label frame label (Over values) lt = absurd (omega (arith, lt))
   dear-in-label frame label NotReady lt = absurd (omega (arith, lt))
 
@@ -61,6 +64,7 @@ module _ (store : Store) (n : ℕ) where
   dear-in-frame outer own a (Traps cost trap) lt = lt
   dear-in-frame outer own a (Branches to values) lt = absurd (omega (arith, lt))
   dear-in-frame outer own a (Returns values) lt = absurd (omega (arith, lt))
+  dear-in-frame outer own a (TailCalls lent function values) lt = absurd (omega (arith, lt))
   dear-in-frame outer own a (Over values) lt = absurd (omega (arith, lt))
   dear-in-frame outer own a NotReady lt = absurd (omega (arith, lt))
 
@@ -69,6 +73,14 @@ module _ (store : Store) (n : ℕ) where
   dear-plugged [] frame c lt = lt
   dear-plugged (AroundLabel label ∷ layers) frame c lt = dear-plugged layers frame _ (dear-in-label frame label (next store frame c) lt)
   dear-plugged (AroundFrame a outer ∷ layers) frame c lt = dear-plugged layers outer _ (dear-in-frame outer frame a (next store frame c) lt)
+
+  -- The same of one that costs more in whatever frame it lies.
+  dear-around : (cs : List Caller) (arity : ℕ) (frame : Frame) (c : Configuration) → ((outer : Frame) (a : Activation) → n < price (next store outer (InFrame a frame c)))
+      → n < price (next store (outermost (layers_around cs arity) frame) (plug (layers_around cs arity) frame c))
+  dear-around [] arity frame c lt = lt no_frame (activation_of arity [] Empty)
+  dear-around (k ∷ cs) arity frame c lt =
+      let outer : Frame = record { instance = Some k.instance; locals = k.locals } in
+      dear-plugged (around k.labels (layers_around cs k.code.outermost.kept)) outer (InFrame (activation_of arity k.values k.rest) frame c) (lt outer (activation_of arity k.values k.rest))
 
 -- ---- types
 
@@ -188,6 +200,17 @@ module _ (bound : ℕ) (l : Loop) (w : Whole) (r : RunsWhole bound l w) where
             (subst (λ (s : Store). l.fuel < price (next s (frame_of h) (config_of h))) (lacks.leads.store ∙ r.runs.store) lacks.dear)),
       )
 
+  -- The same of a step that costs one unit of fuel in whatever frame it lies.
+  pub lacks-around : CostsAround w.ghost (cells_in l.machine) l.machine.place (height_in l.machine) → l.fuel ≡ 0 → (there : Reaches bound l w l) × (l.fuel < price (next (store_in l.world) no_frame (whole there.new)))
+  lacks-around costs empty =
+      let there = lifted-there l.fuel (record { new = costs.new; same = costs.same; store = costs.store; steps = costs.steps l.fuel; runs = costs.runs }) in
+      let h = costs.new in (
+        there,
+        subst (λ (f : Frame). l.fuel < price (next (store_in l.world) f (whole there.new))) (layers-out w.callers h.code.outermost.kept (frame_of h))
+            (dear-around (store_in l.world) l.fuel w.callers h.code.outermost.kept (frame_of h) (config_of h)
+            (λ outer a. subst (λ (s : Store). l.fuel < price (next s outer (InFrame a (frame_of h) (config_of h)))) (costs.store ∙ r.runs.store) (omega (arith, costs.price_is outer a, empty)))),
+      )
+
   -- The same of a trap.
   pub fails-whole : (left : ℕ) (trap : Trap) → Fails w.ghost l.fuel (cells_in l.machine) l.machine.place (height_in l.machine) left trap
       → (there : Reaches bound l w (record l { fuel = left + 1 })) × (next (store_in l.world) no_frame (whole there.new) ≡ Traps 1 trap)
@@ -237,6 +260,9 @@ module _ (bound : ℕ) where
   -- It lacks fuel, or traps.
   pub stops-lacking : (l : Loop) → ((g : Ghost) → RunsAt l.world l.machine g → Lacks g l.fuel (cells_in l.machine) l.machine.place (height_in l.machine) l.fuel) → StopsAt bound l stop.NoFuel l
   stops-lacking l lacks = record { from = λ w r. let (there, dear) = lacks-whole bound l w r (lacks w.ghost r.runs) in stops-unpaid stop.NoFuel refl l l w there dear; falls = tt }
+
+  pub stops-empty : (l : Loop) → ((g : Ghost) → RunsAt l.world l.machine g → CostsAround g (cells_in l.machine) l.machine.place (height_in l.machine)) → l.fuel ≡ 0 → StopsAt bound l stop.NoFuel l
+  stops-empty l costs empty = record { from = λ w r. let (there, dear) = lacks-around bound l w r (costs w.ghost r.runs) empty in stops-unpaid stop.NoFuel refl l l w there dear; falls = tt }
 
   pub stops-failing : (l : Loop) (left : ℕ) (trap : Trap) → ((g : Ghost) → RunsAt l.world l.machine g → Fails g l.fuel (cells_in l.machine) l.machine.place (height_in l.machine) left trap)
       → StopsAt bound l (stop.Traps trap) (record l { fuel = left })

@@ -1,21 +1,20 @@
 -- Calls: the frame that is opened, and the one that waits around it.
-use Rattle.std.proofs.Common.{◌≡◌, ℕ, suc, ◌+◌, ◌-◌, ◌<◌, ◌≤◌, List, ◌++◌, length, map, reverse, take, drop, set, replicate, Some, ap, sym, ◌∙◌, arith}
-use Rattle.std.proofs.lemmas.List.{drop-append-le, drop-set-add, drop-take, length-set, length-take-le, take-append-le, take-set-le, take-take, take_at}
+use Rattle.std.proofs.Common.{◌≡◌, ℕ, suc, ◌+◌, ◌-◌, ◌<◌, ◌≤◌, List, ◌++◌, length, map, reverse, take, drop, set, replicate, ap, sym, ◌∙◌, arith}
+use Rattle.std.proofs.lemmas.List.{drop_at, drop-append-le, drop-set-add, drop-take, length-set, length-take-le, take-append-le, take-set-le, take-take, take_at}
 use Rattle.core_types.specs.declared.op.PlainOp.{PlainOp}
 use Rattle.core_types.specs.declared.outcome.Val.{Val}
 use Rattle.core_types.specs.declared.types.FuncType.{FuncType}
 use Rattle.core_types.specs.declared.types.ValType.{ValType}
 use Rattle.meaning.specs.structure.Bodies.{Body, Then}
-use Rattle.meaning.specs.execution.Instructions.{call_function, lent_memory, step_instruction}
 use Rattle.meaning.specs.execution.Store.{Code, InCode}
 use Rattle.meaning.specs.soundness.Values.{ValuesHaveTypes}
 use Rattle.soundness.specs.Places.{context_at}
 use Rattle.soundness.specs.Stores.{ImplementationIsValid, body_place}
-use Rattle.sidetable.specs.Counts.{Signatures, counts, counts_of}
+use Rattle.sidetable.specs.Counts.{Signatures}
 use Rattle.cells.specs.Cells.{cell_of}
 use Rattle.simulation.specs.Entries.{callee}
 use Rattle.simulation.specs.Piles.{cells_of}
-use Rattle.simulation.specs.Runs.{Ghost, Holds, Runs, frame_of}
+use Rattle.simulation.specs.Runs.{Ghost, Holds, Runs}
 use Rattle.simulation.specs.Standing.{values_under}
 use Rattle.simulation.proofs.Entries.{call-enters}
 use Rattle.simulation.proofs.Typed.{all-length}
@@ -34,8 +33,8 @@ own-cells locals base cells operand scrap =
     take_at (take locals (drop base (set cells (base + locals) operand))) (drop (suc (base + locals)) (set cells (base + locals) operand)) locals (own-length locals base (set cells (base + locals) operand) (omega (arith, size, scrap)))
     ∙ ap (take locals) (drop-set-add base cells locals operand) ∙ take-set-le locals (drop base cells) locals operand (omega arith)
 
--- A call of a function of a module stands next. Its arguments are on top of the frame's cells, where this is the topmost operand, at this place.
-pub record StandsBeforeCall (op : PlainOp) (m : Machine) (h : Ghost) (top operand : ℕ) (t : FuncType) (instance : ℕ) (code : Code) : Type 0 where
+-- The arguments of a call of a function of a module lie on top of the frame's cells, where this is the topmost operand, at this place.
+pub record ArgumentsLie (op : PlainOp) (m : Machine) (h : Ghost) (top operand : ℕ) (t : FuncType) (instance : ℕ) (code : Code) : Type 0 where
   pub rest : Body
   pub rest_is : h.rest ≡ Then op rest
   -- the values up to the arguments
@@ -49,11 +48,8 @@ pub record StandsBeforeCall (op : PlainOp) (m : Machine) (h : Ghost) (top operan
   pub below : List ValType
   pub typed : ValuesHaveTypes h.store values (reverse t.params ++ below)
   pub enough : length t.params ≤ length values
-  pub counted : counts_of h.code.signatures op ≡ Some (counts (over + length t.params) (length t.results))
-  pub step : step_instruction h.store (frame_of h) op h.values rest
-      ≡ call_function 1 h.store (lent_memory h.store (frame_of h)) (Some (record { ty = t; implementation = InCode instance code })) values rest
 
-module _ (w : World) (m : Machine) (h : Ghost) (r : RunsAt w m h) (op : PlainOp) (top operand : ℕ) (t : FuncType) (instance : ℕ) (code : Code) (b : StandsBeforeCall op m h top operand t instance code) where
+module _ (w : World) (m : Machine) (h : Ghost) (r : RunsAt w m h) (op : PlainOp) (top operand : ℕ) (t : FuncType) (instance : ℕ) (code : Code) (b : ArgumentsLie op m h top operand t instance code) where
   abbrev n : ℕ
   n = length t.params
 
@@ -79,6 +75,41 @@ module _ (w : World) (m : Machine) (h : Ghost) (r : RunsAt w m h) (op : PlainOp)
   frame-size : length frame_cells ≡ length m.cells - suc m.base
   frame-size = let whole = frame-length m.locals m.base put (omega (arith, put-size, r.scrap)) in omega (arith, put-size, whole)
 
+  -- The arguments, from where the first one lies.
+  arguments-lie : (from : ℕ) → from + n ≡ top + 1 → take n (drop from put) ≡ take n (drop (b.height - n) frame_cells)
+  arguments-lie from from_is =
+      let j = b.height - n - m.locals in
+      let over : b.height - n ≡ m.locals + j = omega (arith, arguments-fit, b.top_is) in
+      let at : suc (m.base + m.locals) + j ≡ from = omega (arith, arguments-fit, from_is, b.top_is) in
+      ap (λ (i : ℕ). take n (drop i put)) (sym at)
+      ∙ ap (take n) (sym (drop-frame m.locals m.base put (omega (arith, put-size, r.scrap)) j))
+      ∙ ap (λ (i : ℕ). take n (drop i frame_cells)) (sym over)
+
+  -- The callee runs at its first place, in a frame that begins with the arguments, behind which the cells are cleared.
+  module _ (cells' : List ℕ) (base' : ℕ) (own : take (n + k) (drop base' cells') ≡ take n (drop (b.height - n) frame_cells) ++ replicate k 0) where
+    pub callee-runs : (s : Signatures) → (context_at h.store (body_place t instance code)).types ≡ s.types → (context_at h.store (body_place t instance code)).functions ≡ s.functions
+        → base' + (n + k) + (callee h s t instance code b.values).code.greatest < length cells'
+        → Runs (callee h s t instance code b.values) (put_back (n + k) base' cells' (base' + (n + k)) 0) 0 (n + k)
+    callee-runs s types functions room =
+        let set_size = length-set cells' (base' + (n + k)) 0 in
+        let whole_size = frame-length (n + k) base' (set cells' (base' + (n + k)) 0) (omega (arith, set_size, room)) in
+        call-enters (record h { values = b.values }) frame_cells b.height r.runs.typed.valid b.holds (omega (arith, frame-size, top-inside, b.top_is)) s t instance code b.valid b.below b.typed b.enough types functions (put_back (n + k) base' cells' (base' + (n + k)) 0)
+        (own-cells (n + k) base' cells' 0 (omega (arith, room)) ∙ own)
+        (omega (arith, whole_size, set_size, room))
+
+  -- In the place of the frame.
+  module _ (cells' : List ℕ) (filled : take (m.base + (n + k)) cells' ≡ take m.base m.cells ++ (take n (drop (top + 1 - n) put) ++ replicate k 0)) where
+    base-size : length (take m.base m.cells) ≡ m.base
+    base-size = length-take-le m.base m.cells (omega (arith, r.scrap))
+
+    pub placed-below : take m.base cells' ≡ take m.base m.cells
+    placed-below = sym (take-take m.base (m.base + (n + k)) cells' (omega arith)) ∙ ap (take m.base) filled ∙ take_at (take m.base m.cells) _ m.base base-size
+
+    pub placed-own : take (n + k) (drop m.base cells') ≡ take n (drop (b.height - n) frame_cells) ++ replicate k 0
+    placed-own =
+        sym (drop-take m.base (n + k) cells') ∙ ap (drop m.base) filled ∙ drop_at (take m.base m.cells) _ m.base base-size
+        ∙ ap (λ (z : List ℕ). z ++ replicate k 0) (arguments-lie (top + 1 - n) (omega (arith, arguments-fit)))
+
   -- With the cells behind the arguments cleared.
   module _ (cells' : List ℕ) (filled : take (top + 1 + k) cells' ≡ take (top + 1) put ++ replicate k 0) (size : length cells' ≡ length m.cells) (base' : ℕ) (base_is : base' + n ≡ top + 1) where
     first-size : length (take (top + 1) put) ≡ top + 1
@@ -94,35 +125,14 @@ module _ (w : World) (m : Machine) (h : Ghost) (r : RunsAt w m h) (op : PlainOp)
     outer-below =
         take-take m.base base' cells' (omega (arith, arguments-fit, base_is)) ∙ same-below m.base (omega (arith, arguments-fit)) ∙ take-set-le m.base m.cells top operand (omega (arith, arguments-fit))
 
-    -- The arguments lie where the callee's frame begins.
-    arguments-lie : take n (drop base' put) ≡ take n (drop (b.height - n) frame_cells)
-    arguments-lie =
-        let j = b.height - n - m.locals in
-        let over : b.height - n ≡ m.locals + j = omega (arith, arguments-fit, b.top_is) in
-        let at : suc (m.base + m.locals) + j ≡ base' = omega (arith, arguments-fit, base_is, b.top_is) in
-        ap (λ (i : ℕ). take n (drop i put)) (sym at)
-        ∙ ap (take n) (sym (drop-frame m.locals m.base put (omega (arith, put-size, r.scrap)) j))
-        ∙ ap (λ (i : ℕ). take n (drop i frame_cells)) (sym over)
-
-    callee-cells : top + 1 + k < length cells' → take (n + k) (put_back (n + k) base' cells' (base' + (n + k)) 0) ≡ take n (drop (b.height - n) frame_cells) ++ replicate k 0
-    callee-cells room =
+    pub callee-own : take (n + k) (drop base' cells') ≡ take n (drop (b.height - n) frame_cells) ++ replicate k 0
+    callee-own =
         let all : base' + (n + k) ≡ top + 1 + k = omega (arith, base_is) in
-        own-cells (n + k) base' cells' 0 (omega (arith, all, room))
-        ∙ sym (drop-take base' (n + k) cells')
+        sym (drop-take base' (n + k) cells')
         ∙ ap (λ (i : ℕ). drop base' (take i cells')) all
         ∙ ap (drop base') filled
         ∙ drop-append-le base' (take (top + 1) put) (replicate k 0) (omega (arith, first-size, base_is))
-        ∙ ap (λ (z : List ℕ). z ++ replicate k 0) (ap (λ (i : ℕ). drop base' (take i put)) (sym base_is) ∙ drop-take base' n put ∙ arguments-lie)
-
-    -- The callee runs at its first place.
-    pub callee-runs : (s : Signatures) → (context_at h.store (body_place t instance code)).types ≡ s.types → (context_at h.store (body_place t instance code)).functions ≡ s.functions
-        → top + 1 + k + (callee h s t instance code b.values).code.greatest < length cells'
-        → Runs (callee h s t instance code b.values) (put_back (n + k) base' cells' (base' + (n + k)) 0) 0 (n + k)
-    callee-runs s types functions room =
-        let set_size = length-set cells' (base' + (n + k)) 0 in
-        let whole_size = frame-length (n + k) base' (set cells' (base' + (n + k)) 0) (omega (arith, set_size, base_is, room)) in
-        call-enters (record h { values = b.values }) frame_cells b.height r.runs.typed.valid b.holds (omega (arith, frame-size, top-inside, b.top_is)) s t instance code b.valid b.below b.typed b.enough types functions (put_back (n + k) base' cells' (base' + (n + k)) 0) (callee-cells (omega (arith, room)))
-        (omega (arith, whole_size, set_size, base_is, room))
+        ∙ ap (λ (z : List ℕ). z ++ replicate k 0) (ap (λ (i : ℕ). drop base' (take i put)) (sym base_is) ∙ drop-take base' n put ∙ arguments-lie base' base_is)
 
     -- What the caller's frame holds then.
     pub caller-cells : without_scrap m.locals m.base (take base' cells') ≡ map cell_of h.locals ++ cells_of (drop n b.values ++ values_under h.labels)

@@ -56,6 +56,13 @@ module _ (w : World) (m : Machine) (h : Ghost) (r : RunsAt w m h) (n : ℕ) (eno
     to-is : m.base - 1 ≡ frame.base + frame.function.now.locals + held_values c
     to-is = omega (arith, base-is)
 
+    -- What it holds.
+    pub caller-held : take (frame.function.now.locals + held_values c) (without_scrap frame.function.now.locals frame.base put) ≡ map cell_of c.locals ++ cells_of (c.values ++ values_under c.labels)
+    caller-held =
+        frame-taken frame.function.now.locals frame.base put (omega (arith, base-is, r.low, inside w m h r, put-size)) (held_values c)
+        ∙ ap (without_scrap frame.function.now.locals frame.base) (ap (λ (q : ℕ). take q put) (sym base-is) ∙ take-set-le m.base m.cells m.top m.operand (omega (arith, r.low)))
+        ∙ stands.held
+
     module _ (cells' : List ℕ) (operand' : ℕ) (moved : AreMoved put m.top (m.base - 1) n cells' operand') where
       moved-there : AreMoved put m.top (frame.base + frame.function.now.locals + held_values c) n cells' operand'
       moved-there = subst (λ (q : ℕ). AreMoved put m.top q n cells' operand') to-is moved
@@ -78,15 +85,11 @@ module _ (w : World) (m : Machine) (h : Ghost) (r : RunsAt w m h) (n : ℕ) (eno
           let j = m.top - frame.base - n - frame.function.now.locals in
           let over : m.top - frame.base - n ≡ frame.function.now.locals + j = omega (arith, base-is, results-low) in
           let at : suc (frame.base + frame.function.now.locals) + j ≡ m.top + 1 - n = omega (arith, base-is, results-low) in
-          let first : take (frame.function.now.locals + held_values c) (without_scrap frame.function.now.locals frame.base put) ≡ map cell_of c.locals ++ cells_of (c.values ++ values_under c.labels) =
-          frame-taken frame.function.now.locals frame.base put scrap (held_values c)
-          ∙ ap (without_scrap frame.function.now.locals frame.base) (ap (λ (q : ℕ). take q put) (sym base-is) ∙ take-set-le m.base m.cells m.top m.operand (omega (arith, r.low)))
-          ∙ stands.held in
           let second : take n (drop (m.top - frame.base - n) (without_scrap frame.function.now.locals frame.base put)) ≡ cells_of (take n h.values) =
           ap (λ (i : ℕ). take n (drop i (without_scrap frame.function.now.locals frame.base put))) over
           ∙ ap (take n) (drop-frame frame.function.now.locals frame.base put scrap j) ∙ ap (λ (i : ℕ). take n (drop i put)) at ∙ results-lie in
           moved-frame frame.function.now.locals frame.base put scrap m.top (held_values c) n cells' operand' (omega (arith, base-is, results-low)) (omega (arith, inside w m h r, put-size)) moved-there (m.top - frame.base) above
-          ∙ ap (λ (z : List ℕ). z ++ take n (drop (m.top - frame.base - n) (without_scrap frame.function.now.locals frame.base put))) first
+          ∙ ap (λ (z : List ℕ). z ++ take n (drop (m.top - frame.base - n) (without_scrap frame.function.now.locals frame.base put))) caller-held
           ∙ ap (λ (z : List ℕ). (map cell_of c.locals ++ cells_of (c.values ++ values_under c.labels)) ++ z) second
           ∙ append_assoc (map cell_of c.locals) (cells_of (c.values ++ values_under c.labels)) (cells_of (take n h.values))
           ∙ ap (λ (z : List ℕ). map cell_of c.locals ++ z) (sym (cells-joined (take n h.values) (c.values ++ values_under c.labels)))

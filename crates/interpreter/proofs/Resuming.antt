@@ -20,14 +20,16 @@ use Rattle.simulation.specs.Piles.{cells_of}
 use Rattle.simulation.specs.Runs.{Ghost, config_of, frame_of}
 use Rattle.simulation.specs.Settling.{in_frame}
 use Rattle.simulation.specs.Standing.{StandsIn, values_under}
+use Rattle.simulation.proofs.Steps.{within}
 use Rattle.cells.specs.Cells.{cell_of}
+use Rattle.store.specs.Contents.{Contents}
 use Rattle.interpreter.specs.Callers.{Caller, CallerStands, CallersStand, layers_around}
 use Rattle.interpreter.specs.Calling.{position_resumed}
 use Rattle.interpreter.specs.Layout.{AreMoved, put_back}
 use Rattle.interpreter.specs.Looping.{loop_at, machine_at}
-use Rattle.interpreter.specs.Running.{Machine}
+use Rattle.interpreter.specs.Running.{Machine, RunsAt}
 use Rattle.interpreter.specs.Whole.{IsOver, IsSeenFrom, Loop, Reaches, RunsWhole, SwitchesTo, Whole, whole}
-use Rattle.interpreter.specs.Worlds.{World, store_in}
+use Rattle.interpreter.specs.Worlds.{IsInstance, World, store_in}
 use Rattle.interpreter.specs.declared.machine.Frame.{Frame}
 use Rattle.interpreter.specs.declared.machine.Position.{Position}
 use Rattle.interpreter.proofs.Cells.{frame-length}
@@ -44,7 +46,7 @@ pub record IsLeft (cost : ℕ) (h : Ghost) : Type 0 where
       ≡ Goes cost h.store (outermost layers outer) (plug layers outer (in_frame (take h.code.outermost.kept h.values ++ beneath) waiting behind))
 
 -- What runs in the innermost frame of a typed whole is typed there.
-frame-typed : (store : Store) (cs : List Caller) (arity : ℕ) (frame : Activated) (x : Configuration) (results : List ValType) → ConfigurationHasType store outside_place (plug (layers_around cs arity) frame x) results
+pub frame-typed : (store : Store) (cs : List Caller) (arity : ℕ) (frame : Activated) (x : Configuration) (results : List ValType) → ConfigurationHasType store outside_place (plug (layers_around cs arity) frame x) results
     → (given types : List ValType) × (arity ≡ length given) × ValuesHaveTypes store frame.locals types × ConfigurationHasType store (inside_frame frame.instance types given) x given
 frame-typed store [] arity frame x results (stack, given, types, arity_is, values, own, inside_typed, onward) = (given, types, arity_is, own, inside_typed)
 frame-typed store (c ∷ cs) arity frame x results typed =
@@ -53,6 +55,66 @@ frame-typed store (c ∷ cs) arity frame x results typed =
     let own : FrameHasPlace store (outermost around_c outer) outside_place = subst (λ (f : Activated). FrameHasPlace store f outside_place) (sym (layers-out (c ∷ cs) arity frame)) (refl, tt) in
     let (place, all, there, (stack, given, types, arity_is, values, own_locals, inside_typed, onward)) = inside-typed store around_c outer (InFrame (activation_of arity c.values c.rest) frame x) outside_place results own typed in
     (given, types, arity_is, own_locals, inside_typed)
+
+-- What runs where one that waits goes on, with these results.
+abbrev pub ghost_resumed : Caller → Store → (types given : List ValType) → List Val → Ghost
+ghost_resumed c store types given values = record {
+  code = c.code;
+  store = store;
+  instance = c.instance;
+  types = types;
+  results = given;
+  locals = c.locals;
+  values = values ++ c.values;
+  labels = c.labels;
+  rest = c.rest;
+}
+
+module _ (code : Contents) (size : ℕ) (frame : Frame) (c : Caller) (arity : ℕ) (below : List ℕ) (stands : CallerStands code size frame c arity below)
+    (store : Store) (valid : StoreIsValid store) (types given : List ValType) (own : ValuesHaveTypes store c.locals types)
+    (its_types : (context_at store (inside_frame (Some c.instance) types given)).types ≡ c.code.signatures.types) (its_functions : (context_at store (inside_frame (Some c.instance) types given)).functions ≡ c.code.signatures.functions)
+    (values : List Val) (many : length values ≡ arity) (typed : ConfigurationHasType store (inside_frame (Some c.instance) types given) (in_frame (values ++ c.values) c.labels c.rest) given) where
+  abbrev locals : ℕ
+  locals = frame.function.now.locals
+
+  stands-on : StandsIn c.code frame.place (values ++ c.values) c.labels c.rest
+  stands-on = subst (λ (p : ℕ). StandsIn c.code p (values ++ c.values) c.labels c.rest) (sym stands.place) (stands.stands values many)
+
+  -- Its operands are within the room of its frame.
+  pub caller-room : frame.base + locals + 1 + held_values c + length values ≤ size
+  caller-room =
+      let high = within c.code stands-on.entries _ _ _ _ _ stands-on.here in
+      omega (arith, high, length-append values c.values, stands.room)
+
+  pub caller-runs : (cells' : List ℕ) (top operand : ℕ) → length cells' ≡ size → top ≡ frame.base + locals + held_values c + length values
+      → take (locals + held_values c + length values) (put_back locals frame.base cells' top operand) ≡ map cell_of c.locals ++ cells_of ((values ++ c.values) ++ values_under c.labels)
+      → (other : World) → store_in other ≡ store → other.number ≡ frame.instance → IsInstance other
+      → RunsAt other (machine_at cells' (record { frame = frame; top = top; operand = operand; fuel = 0 })) (ghost_resumed c store types given values)
+  caller-runs cells' top operand same_size top_is held other store_is number instance =
+      let joined = length-append values c.values in
+      let room = caller-room in
+      let scrap : frame.base + locals < length cells' = omega (arith, room, same_size) in
+      let written = length-set cells' top operand in
+      let whole_size = frame-length locals frame.base (set cells' top operand) (omega (arith, written, scrap)) in
+      let height_is : locals + held_values c + length values ≡ top - frame.base = omega (arith, top_is) in record {
+        runs = record {
+          stands = stands-on;
+          holds = record {
+            held = subst (λ (q : ℕ). take q (put_back locals frame.base cells' top operand) ≡ map cell_of c.locals ++ cells_of ((values ++ c.values) ++ values_under c.labels)) height_is held;
+            top_is = omega (arith, top_is, stands.count, joined);
+            room = omega (arith, stands.room, whole_size, written, same_size, stands.count);
+          };
+          typed = record { valid = valid; own = own; typed = typed; types = its_types; functions = its_functions };
+        };
+        low = omega (arith, top_is);
+        scrap = scrap;
+        count = stands.count;
+        packed = stands.packed;
+        within = stands.within;
+        store = sym store_is;
+        number = sym stands.number ∙ sym number;
+        instance = instance;
+      }
 
 module _ (bound : ℕ) (w : World) (cells : List ℕ) (at : Position) (fuel cost : ℕ) (paid : cost ≤ fuel) (left_is : at.fuel ≡ fuel - cost) (h : Ghost) (left : IsLeft cost h) (n : ℕ) (n_is : n ≡ h.code.outermost.kept) (all_results : List ValType) where
   abbrev m : Machine
@@ -109,55 +171,14 @@ module _ (bound : ℕ) (w : World) (cells : List ℕ) (at : Position) (fuel cost
       resumed-in other seen =
           let (valid, all_typed) = steps-typed bound all_results (subst StoreIsValid r.runs.store r.runs.runs.typed.valid, r.typed) steps in
           let (given, types, arity_is, own, typed) = frame-typed (store_in w) cs c.code.outermost.kept outer then_runs all_results all_typed in
-          let taken = length-take-le n h.values many in
-          let joined = length-append (take n h.values) c.values in
-          let low = r.runs.low in
-          let in_cells = inside w m h r.runs in
-          let scrap : frame.base + frame.function.now.locals < length cells' = omega (arith, base, size, low, in_cells) in
-          let written = length-set cells' top' operand' in
-          let whole_size = frame-length frame.function.now.locals frame.base (set cells' top' operand') (omega (arith, written, scrap)) in
-          let top_is : frame.base + frame.function.now.locals + held_values c + n ≡ top' = omega (arith, base) in
-          let height_is : frame.function.now.locals + held_values c + n ≡ top' - frame.base = omega (arith, base) in
-          let holds : List ℕ = map cell_of c.locals ++ cells_of ((take n h.values ++ c.values) ++ values_under c.labels) in
-          let now : Ghost = record {
-            code = c.code;
-            store = h.store;
-            instance = c.instance;
-            types = types;
-            results = given;
-            locals = c.locals;
-            values = take n h.values ++ c.values;
-            labels = c.labels;
-            rest = c.rest;
-          } in
-          switched bound (before (frame ∷ others)) (loop_at w cells' others (position_resumed at frame n operand')) (whole_of (c ∷ cs)) (record { ghost = now; callers = cs; results = all_results }) other seen r refl steps
-          (record {
-            runs = record {
-              stands = subst (λ (p : ℕ). StandsIn c.code p (take n h.values ++ c.values) c.labels c.rest) (sym stands.place) (stands.stands (take n h.values) (taken ∙ n_is));
-              holds = record {
-                held = subst (λ (q : ℕ). take q (put_back frame.function.now.locals frame.base cells' top' operand') ≡ holds) height_is
-                    (subst (λ (q : ℕ). take (frame.function.now.locals + held_values c + n) (put_back frame.function.now.locals frame.base cells' q operand') ≡ holds) top_is
-                    (results-land w m h r.runs n many w.code frame c h.code.outermost.kept stands cells' operand' moved));
-                top_is = omega (arith, base, stands.count, taken, joined);
-                room = omega (arith, stands.room, whole_size, written, size, stands.count);
-              };
-              typed = record {
-                valid = r.runs.runs.typed.valid;
-                own = subst (λ (z : Store). ValuesHaveTypes z c.locals types) (sym r.runs.store) own;
-                typed = subst (λ (z : Store). ConfigurationHasType z (inside_frame (Some c.instance) types given) then_runs given) (sym r.runs.store) typed;
-                types = subst (λ (z : Store). (context_at z (inside_frame (Some c.instance) types given)).types ≡ c.code.signatures.types) (sym r.runs.store) stands.signatures.types;
-                functions = subst (λ (z : Store). (context_at z (inside_frame (Some c.instance) types given)).functions ≡ c.code.signatures.functions) (sym r.runs.store) stands.signatures.functions;
-              };
-            };
-            low = omega (arith, base);
-            scrap = scrap;
-            count = stands.count;
-            packed = stands.packed;
-            within = stands.within;
-            store = r.runs.store ∙ sym seen.store;
-            number = sym stands.number ∙ sym seen.seen_from;
-            instance = seen.instance;
-          })
+          let taken : length (take n h.values) ≡ n = length-take-le n h.values many in
+          let top_is : top' ≡ frame.base + frame.function.now.locals + held_values c + length (take n h.values) = omega (arith, base, taken) in
+          let held : take (frame.function.now.locals + held_values c + length (take n h.values)) (put_back frame.function.now.locals frame.base cells' top' operand') ≡ map cell_of c.locals ++ cells_of ((take n h.values ++ c.values) ++ values_under c.labels) =
+          subst (λ (k : ℕ). take (frame.function.now.locals + held_values c + k) (put_back frame.function.now.locals frame.base cells' top' operand') ≡ map cell_of c.locals ++ cells_of ((take n h.values ++ c.values) ++ values_under c.labels)) (sym taken)
+          (subst (λ (q : ℕ). take (frame.function.now.locals + held_values c + n) (put_back frame.function.now.locals frame.base cells' q operand') ≡ map cell_of c.locals ++ cells_of ((take n h.values ++ c.values) ++ values_under c.labels)) (omega (arith, base))
+          (results-land w m h r.runs n many w.code frame c h.code.outermost.kept stands cells' operand' moved)) in
+          switched bound (before (frame ∷ others)) (loop_at w cells' others (position_resumed at frame n operand')) (whole_of (c ∷ cs)) (record { ghost = ghost_resumed c (store_in w) types given (take n h.values); callers = cs; results = all_results }) other seen r refl steps
+          (caller-runs w.code (length cells) frame c h.code.outermost.kept (take at.frame.base cells) stands (store_in w) valid types given own stands.signatures.types stands.signatures.functions (take n h.values) (taken ∙ n_is) typed cells' top' operand' size top_is held other seen.store seen.seen_from seen.instance)
           (subst (λ (z : List ℕ). CallersStand w.code (length cells') others cs c.code.outermost.kept z) (sym (under-kept w m h r.runs n many w.code frame c h.code.outermost.kept stands cells' operand' moved))
           (subst (λ (q : ℕ). CallersStand w.code q others cs c.code.outermost.kept (take frame.base (take at.frame.base cells))) (sym size) r.callers.1))
           arity_is (let deep = r.deep in omega (arith, deep))

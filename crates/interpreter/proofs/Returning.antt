@@ -1,6 +1,7 @@
 -- A return and the end of the code, whatever runs.
 use Rattle.std.proofs.Common.{◌≡◌, ℕ, ◌+◌, ◌-◌, ◌<◌, ◌≤◌, List, [], ◌∷◌, length, reverse, Some, refl, ap, sym, subst, ◌∙◌, arith, length-append}
 use Rattle.std.proofs.lemmas.List.{length-reverse}
+use Rattle.std.proofs.lemmas.Option.{same_Some}
 use Rattle.core_types.specs.declared.op.ControlOp.TheVariants as control
 use Rattle.core_types.specs.declared.op.PlainOp.TheVariants as plain
 use Rattle.core_types.specs.declared.types.ValType.{ValType}
@@ -30,7 +31,6 @@ use Rattle.interpreter.specs.Worlds.{World}
 use Rattle.interpreter.specs.declared.machine.Frame.{Frame}
 use Rattle.interpreter.specs.declared.machine.Position.{Position}
 use Rattle.interpreter.specs.declared.machine.Stop.TheVariants as stop
-use Rattle.interpreter.proofs.Finding.{some-same}
 use Rattle.interpreter.proofs.Leaving.{CanLeave, leaves-so, left-back, left-over}
 use Rattle.interpreter.proofs.Lifting.{layers-out, lifted-there, stops-unpaid}
 use Rattle.interpreter.proofs.Resuming.{IsLeft}
@@ -41,7 +41,7 @@ enough-values h rest f is =
     let runs : RunsOn h.store (with_labels (place_of h) f.carried) (Then (plain.Control control.Return) rest) f.stack f.given = subst (λ (b : Body). RunsOn h.store (with_labels (place_of h) f.carried) b f.stack f.given) is f.runs in
     let (operands, results, between, (below, types, results_is, operands_are), frames, more) = runs in
     let (under_types, stack_is) = types-on-top f.stack operands results between frames below types operands_are in
-    let same : length types ≡ length h.results = ap (λ (ts : List ValType). length ts) (sym (some-same h.results types results_is)) in
+    let same : length types ≡ length h.results = ap (λ (ts : List ValType). length ts) (sym (same_Some h.results types results_is)) in
     let count = values-length h.store h.values f.stack f.values in
     let parts : length f.stack ≡ length types + length under_types = ap length stack_is ∙ length-append (reverse types) under_types ∙ ap (λ (n : ℕ). n + length under_types) (length-reverse types) in
     omega (arith, same, count, parts)

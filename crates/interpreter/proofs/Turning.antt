@@ -19,6 +19,7 @@ use Rattle.simulation.specs.Runs.{Ghost}
 use Rattle.interpreter.specs.Running.{Machine, RunsAt, cells_in, height_in}
 use Rattle.interpreter.specs.Turns.{Fits, LeadsOn, OperationsTurn, OtherFits, OtherLeads, TransferFits, TransferLeads}
 use Rattle.interpreter.specs.Worlds.{World}
+use Rattle.interpreter.specs.declared.machine.CallKind.TheVariants.{Nested, Tail}
 use Rattle.interpreter.proofs.Calling.{calls-there, calls-through-there}
 use Rattle.interpreter.proofs.Control.{branches-by-table-there, branches-if-there, branches-there, chooses-there, enters-there, jumps-there}
 use Rattle.interpreter.proofs.Forms.{IsAt}
@@ -38,9 +39,13 @@ module _ (w : World) (m : Machine) (g : Ghost) (r : RunsAt w m g) where
       let (needs, leads) = branches-by-table-there w m g r (branch_entries m.tables range) (entry_of_number m.tables range.default) b in
       ((needs.0, within.0, within.1, within.2, needs.1), leads)
   transfers transfer.Return n b within = (within, (b.more, b.there))
-  transfers transfer.Call n b within = calls-there w m g r n b
+  transfers transfer.Call n b within = calls-there w m g r Nested n b
   transfers transfer.CallIndirect n b within =
-      let (needs, leads) = calls-through-there w m g r (pair_of m.tables n).first (pair_of m.tables n).second b in
+      let (needs, leads) = calls-through-there w m g r Nested (pair_of m.tables n).first (pair_of m.tables n).second b in
+      ((needs.0, within, needs.1, needs.2, needs.3), leads)
+  transfers transfer.ReturnCall n b within = calls-there w m g r Tail n b
+  transfers transfer.ReturnCallIndirect n b within =
+      let (needs, leads) = calls-through-there w m g r Tail (pair_of m.tables n).first (pair_of m.tables n).second b in
       ((needs.0, within, needs.1, needs.2, needs.3), leads)
   transfers transfer.Leave n b within = absurd within
 

@@ -5,14 +5,14 @@ use Rattle.std.proofs.lemmas.Option.{slice_get_within}
 use Rattle.core_types.specs.declared.op.PlainOp.{PlainOp}
 use Rattle.meaning.specs.structure.Bodies.{Body, Then}
 use Rattle.meaning.specs.execution.Configurations.{Frame as Activated, depth, no_frame}
-use Rattle.meaning.specs.execution.Instructions.{Opens, lent_memory, next}
+use Rattle.meaning.specs.execution.Instructions.{Opens, call_function, lent_memory, next, step_instruction}
 use Rattle.meaning.specs.execution.Layers.{plug}
 use Rattle.meaning.specs.execution.Modules.{code_of}
 use Rattle.meaning.specs.execution.Runs.{none, one_more, opens}
 use Rattle.meaning.specs.execution.Store.{Store, instance_of}
 use Rattle.soundness.specs.Places.{context_at, instance_context}
 use Rattle.soundness.specs.Stores.{body_place}
-use Rattle.sidetable.specs.Counts.{Signatures}
+use Rattle.sidetable.specs.Counts.{Signatures, counts, counts_of}
 use Rattle.sidetable.specs.Flat.{FlatFunction}
 use Rattle.sidetable.specs.FlatModules.{AreWithin}
 use Rattle.simulation.specs.Entries.{callee}
@@ -21,7 +21,7 @@ use Rattle.simulation.specs.Settling.{in_frame}
 use Rattle.simulation.specs.Standing.{StandsIn}
 use Rattle.simulation.proofs.Calls.{frames-come-and-go}
 use Rattle.simulation.proofs.Frames.{callers-on}
-use Rattle.store.specs.Contents.{AreOfContext, code_store, module_instance_of, signatures_of_instance}
+use Rattle.store.specs.Contents.{AreOfContext, code_store, function_of, module_instance_of, signatures_of_instance}
 use Rattle.store.specs.declared.instances.ModuleFunction.{ModuleFunction}
 use Rattle.interpreter.specs.Callers.{Caller, CallerStands, CallersStand}
 use Rattle.interpreter.specs.Calling.{declared_locals, frame_waiting, position_opened}
@@ -33,13 +33,16 @@ use Rattle.interpreter.specs.Worlds.{World, store_in}
 use Rattle.interpreter.specs.declared.machine.Frame.{Frame}
 use Rattle.interpreter.specs.declared.machine.Position.{Position}
 use Rattle.interpreter.proofs.Cells.{frame-length}
+use Rattle.interpreter.proofs.Entering.{callee-there, declared, declared-is, entered-runs, fits, machine_entered}
 use Rattle.interpreter.proofs.Finding.{IsAtAddress}
 use Rattle.interpreter.proofs.Lifting.{layers-out}
-use Rattle.interpreter.proofs.Opening.{StandsBeforeCall, arguments-fit, callee-runs, caller-cells, outer-below, top-inside}
+use Rattle.interpreter.proofs.Opening.{ArgumentsLie, arguments-fit, callee-own, callee-runs, caller-cells, outer-below, top-inside}
 use Rattle.interpreter.proofs.Switching.{callers-count, switched, whole-depth}
 
 module _ (bound : ℕ) (w : World) (cells : List ℕ) (callers : List Frame) (at : Position) (u : Whole) (r : RunsWhole bound (loop_at w cells callers at) u)
-    (op : PlainOp) (top operand address : ℕ) (f : ModuleFunction) (found : IsAtAddress w.code address f) (b : StandsBeforeCall op (machine_at cells at) u.ghost top operand f.ty.now f.instance (code_of f.func.now)) where
+    (op : PlainOp) (top operand address : ℕ) (f : ModuleFunction) (found : IsAtAddress w.code address f) (b : ArgumentsLie op (machine_at cells at) u.ghost top operand f.ty.now f.instance (code_of f.func.now))
+    (counted : counts_of u.ghost.code.signatures op ≡ Some (counts (b.over + length f.ty.now.params) (length f.ty.now.results)))
+    (step : step_instruction u.ghost.store (frame_of u.ghost) op u.ghost.values b.rest ≡ call_function 1 u.ghost.store (lent_memory u.ghost.store (frame_of u.ghost)) (Some (function_of f.ty.now f.instance f.func.now)) b.values b.rest) where
   abbrev m : Machine
   m = machine_at cells at
 
@@ -80,7 +83,7 @@ module _ (bound : ℕ) (w : World) (cells : List ℕ) (callers : List Frame) (at
       subst (λ (z : Store). next z no_frame (whole u) ≡ Opens 1 z (whole called)) r.runs.store
       (subst (λ (z : Body). next h.store no_frame (plug (layers_of u) (frame_of h) (in_frame h.values h.labels z)) ≡ Opens 1 h.store (whole called)) (sym b.rest_is)
       (subst (λ (z : Activated). next h.store z (plug (layers_of u) (frame_of h) (in_frame h.values h.labels (Then op b.rest))) ≡ Opens 1 h.store (whole called)) (layers-out u.callers h.code.outermost.kept (frame_of h))
-      (frames-come-and-go.called_by h.store (layers_of u) (frame_of h) op (lent_memory h.store (frame_of h)) f.ty.now f.instance (code_of f.func.now) h.values b.values h.labels b.rest b.step b.enough)))
+      (frames-come-and-go.called_by h.store (layers_of u) (frame_of h) op (lent_memory h.store (frame_of h)) f.ty.now f.instance (code_of f.func.now) h.values b.values h.labels b.rest step b.enough)))
 
   pub depth-is : depth (whole u) ≡ suc (length callers)
   depth-is =
@@ -89,20 +92,17 @@ module _ (bound : ℕ) (w : World) (cells : List ℕ) (callers : List Frame) (at
 
   -- ---- what is there
 
-  pub fits : at.frame.base + at.frame.function.now.locals + f.flat.function.now.params ≤ top
-  fits = let fit = arguments-fit w m h r.runs op top operand f.ty.now f.instance (code_of f.func.now) b in omega (arith, fit, found.flat.params)
-
-  pub declared : f.flat.function.now.params ≤ f.flat.function.now.locals
-  declared = omega (arith, found.flat.params, found.flat.locals)
-
-  declared-is : declared_locals f ≡ k
-  declared-is = omega (arith, found.flat.params, found.flat.locals)
-
   abbrev base' : ℕ
   base' = top + 1 - f.flat.function.now.params
 
+  its-fit : at.frame.base + at.frame.function.now.locals + f.flat.function.now.params ≤ top
+  its-fit = fits w m h r.runs op top operand address f found b
+
+  its-declared : f.flat.function.now.params ≤ f.flat.function.now.locals
+  its-declared = declared w m h r.runs op top operand address f found b
+
   base-is : base' + n ≡ top + 1
-  base-is = omega (arith, fits, found.flat.params)
+  base-is = omega (arith, its-fit, found.flat.params)
 
   context : AreOfContext h.code.signatures (instance_context (code_store w.code) (instance_of (code_store w.code) (Some h.instance)))
   context = record {
@@ -110,18 +110,12 @@ module _ (bound : ℕ) (w : World) (cells : List ℕ) (callers : List Frame) (at
     functions = subst (λ (z : Store). (context_at z (place_of h)).functions ≡ h.code.signatures.functions) r.runs.store r.runs.runs.typed.functions;
   }
 
-  types : (context_at h.store (body_place f.ty.now f.instance (code_of f.func.now))).types ≡ s.types
-  types = subst (λ (z : Store). (context_at z (body_place f.ty.now f.instance (code_of f.func.now))).types ≡ s.types) (sym r.runs.store) found.types.types
-
-  functions : (context_at h.store (body_place f.ty.now f.instance (code_of f.func.now))).functions ≡ s.functions
-  functions = subst (λ (z : Store). (context_at z (body_place f.ty.now f.instance (code_of f.func.now))).functions ≡ s.functions) (sym r.runs.store) found.types.functions
-
   -- ---- with the cells behind the arguments cleared
 
   module _ (cells' : List ℕ) (filled : take (top + 1 + declared_locals f) cells' ≡ take (top + 1) (set cells top operand) ++ replicate (declared_locals f) 0) (size : length cells' ≡ length cells)
       (room : top + 1 + declared_locals f + f.flat.function.now.greatest < length cells) where
     filled-all : take (top + 1 + k) cells' ≡ take (top + 1) (set cells top operand) ++ replicate k 0
-    filled-all = subst (λ (q : ℕ). take (top + 1 + q) cells' ≡ take (top + 1) (set cells top operand) ++ replicate q 0) declared-is filled
+    filled-all = subst (λ (q : ℕ). take (top + 1 + q) cells' ≡ take (top + 1) (set cells top operand) ++ replicate q 0) (declared-is w m h r.runs op top operand address f found b) filled
 
     waits : CallerStands w.code (length cells') (frame_waiting at) waiting (length f.ty.now.results) (take base' cells')
     waits =
@@ -140,50 +134,20 @@ module _ (bound : ℕ) (w : World) (cells : List ℕ) (callers : List Frame) (at
           count = r.runs.count;
           signatures = context;
           held = caller-cells w m h r.runs op top operand f.ty.now f.instance (code_of f.func.now) b cells' filled-all size base' base-is;
-          high = omega (arith, taken_size, dropped_size, b.holds.top_is, b.top_is, r.runs.count, fits, found.flat.params, b.enough);
+          high = omega (arith, taken_size, dropped_size, b.holds.top_is, b.top_is, r.runs.count, its-fit, found.flat.params, b.enough);
           room = omega (arith, r.runs.runs.holds.room, whole_size, written, r.runs.count, r.runs.scrap, size);
           stands = λ results is.
               subst (λ (p : ℕ). StandsIn h.code p (results ++ drop n b.values) h.labels b.rest) next_place
-              (callers-on h.code at.frame.place h.values (drop n b.values) results h.labels op b.rest (b.over + n) (length f.ty.now.results) b.counted (omega (arith, many, b.enough)) (omega (arith, many, dropped_size)) is
+              (callers-on h.code at.frame.place h.values (drop n b.values) results h.labels op b.rest (b.over + n) (length f.ty.now.results) counted (omega (arith, many, b.enough)) (omega (arith, many, dropped_size)) is
               (subst (λ (z : Body). StandsIn h.code at.frame.place h.values h.labels z) b.rest_is r.runs.runs.stands));
         }
 
-    abbrev top' : ℕ
-    top' = top + 1 + declared_locals f
-
-    top-is : base' + (n + k) ≡ top'
-    top-is = omega (arith, base-is, declared-is)
-
-    greatest-is : f.flat.function.now.greatest ≡ called.ghost.code.greatest
-    greatest-is = ap (λ (z : FlatFunction). z.greatest) found.flat.flat
-
-    runs : Runs called.ghost (put_back f.flat.function.now.locals base' cells' top' 0) 0 (top' - base')
-    runs =
-        let height : n + k ≡ top' - base' = omega (arith, top-is) in
-        let first = callee-runs w m h r.runs op top operand f.ty.now f.instance (code_of f.func.now) b cells' filled-all size base' base-is s types functions (omega (arith, room, size, declared-is, greatest-is)) in
-        subst (λ (q : ℕ). Runs called.ghost (put_back f.flat.function.now.locals base' cells' top' 0) 0 q) height
-        (subst (λ (q : ℕ). Runs called.ghost (put_back f.flat.function.now.locals base' cells' q 0) 0 (n + k)) top-is
-        (subst (λ (q : ℕ). Runs called.ghost (put_back q base' cells' (base' + (n + k)) 0) 0 (n + k)) (sym found.flat.locals) first))
-
     opened-runs : (other : World) → IsSeenFrom f.instance w other → RunsAt other (machine_at cells' (position_opened at top f)) called.ghost
     opened-runs other seen =
-        let own = runs.holds.top_is in record {
-          runs = runs;
-          low = omega (arith, top-is, found.flat.locals);
-          scrap = omega (arith, top-is, found.flat.locals, room, size);
-          count = omega (arith, own, top-is, found.flat.locals);
-          packed = sym (ap (λ (z : FlatFunction). z.operations) found.flat.flat);
-          within = subst (λ (q : ℕ). AreWithin f.flat.tables.now f.flat.function.now.operations.items q) found.flat.results found.within;
-          store = r.runs.store ∙ sym seen.store;
-          number = sym seen.seen_from;
-          instance = seen.instance;
-        }
-
-    opened-there : f.instance < length w.code.instances
-    opened-there =
-        let within : f.instance < length (store_in w).instances = subst (λ (z : Store). f.instance < length z.instances) r.runs.store b.valid.0 in
-        let size = length-map w.code.instances module_instance_of in
-        omega (arith, within, size)
+        let own = callee-own w m h r.runs op top operand f.ty.now f.instance (code_of f.func.now) b cells' filled-all size base' base-is in
+        let top_is : base' + f.flat.function.now.locals ≡ top + 1 + declared_locals f = omega (arith, its-fit, its-declared) in
+        subst (λ (q : ℕ). RunsAt other (machine_entered f cells' base' q) called.ghost) top_is
+        (entered-runs w m h r.runs op top operand address f found b cells' base' own (omega (arith, room, size, top_is)) other seen)
 
     opened-in : 1 ≤ at.fuel → suc (length callers) < bound → (other : World) → IsSeenFrom f.instance w other
         → Reaches bound l u (record (loop_at w cells' (frame_waiting at ∷ callers) (position_opened at top f)) { world = other })
@@ -198,4 +162,4 @@ module _ (bound : ℕ) (w : World) (cells : List ℕ) (callers : List Frame) (at
         refl (omega (arith, shallow))
 
     pub opened : 1 ≤ at.fuel → suc (length callers) < bound → SwitchesTo bound l u (loop_at w cells' (frame_waiting at ∷ callers) (position_opened at top f))
-    opened some shallow = (opened-there, opened-in some shallow)
+    opened some shallow = (callee-there w m h r.runs op top operand address f found b, opened-in some shallow)

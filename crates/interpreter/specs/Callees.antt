@@ -1,13 +1,22 @@
 -- What calls find.
-use Rattle.std.specs.Prelude.{◌≡◌, ◌≢◌, ◌<◌, length, Option, Some, None, slice_get, Result, Ok, Err}
+use Rattle.std.specs.Prelude.{◌≡◌, ◌≢◌, ℕ, ◌<◌, List, length, Option, Some, None, slice_get, Result, Ok, Err}
+use Rattle.core_types.specs.declared.op.ControlOp.TheVariants.{Call, CallIndirect, ReturnCall, ReturnCallIndirect}
+use Rattle.core_types.specs.declared.op.PlainOp.{PlainOp}
+use Rattle.core_types.specs.declared.op.PlainOp.TheVariants.{Control}
 use Rattle.core_types.specs.declared.outcome.Trap.{Trap}
 use Rattle.core_types.specs.declared.outcome.Trap.TheVariants.{IndirectType, UndefinedElement, UninitializedElement}
 use Rattle.core_types.specs.declared.outcome.Val.{Val}
 use Rattle.core_types.specs.declared.outcome.Val.TheVariants.{FuncRef}
 use Rattle.core_types.specs.declared.types.FuncType.{FuncType}
 use Rattle.meaning.specs.execution.Store.{FunctionInstance}
+use Rattle.sidetable.specs.declared.operations.TransferInstruction.{TransferInstruction}
+use Rattle.sidetable.specs.declared.operations.TransferInstruction.TheVariants as transfer
+use Rattle.simulation.specs.Callees.{IsCalling, IsTailCalling}
+use Rattle.simulation.specs.Runs.{Ghost}
 use Rattle.store.specs.Contents.{Contents, IsCalleeAt, callee_function, functions_in}
 use Rattle.interpreter.specs.declared.callees.Found.{Found}
+use Rattle.interpreter.specs.declared.machine.CallKind.{CallKind}
+use Rattle.interpreter.specs.declared.machine.CallKind.TheVariants.{Nested, Tail}
 
 -- An entry of a table, if it is there, is null or refers to a function that is there.
 abbrev pub RefersToFunction : Contents → Option Val → Type 0
@@ -28,3 +37,30 @@ FindsEntry code wanted (Some (FuncRef (Some address))) (Err trap) =
     × (function : FunctionInstance) × (slice_get (functions_in code) address ≡ Some function)
     × (function.ty ≢ wanted)
 FindsEntry code wanted (Some other) result = ⊥
+
+-- ---- the two kinds of calls
+
+-- The instructions that call so, by an index and through a table.
+abbrev pub by_name : CallKind → (x : ℕ) → PlainOp
+by_name Nested x = Control (Call x)
+by_name Tail x = Control (ReturnCall x)
+
+abbrev pub through_table : CallKind → (type x : ℕ) → PlainOp
+through_table Nested type x = Control (CallIndirect type x)
+through_table Tail type x = Control (ReturnCallIndirect type x)
+
+abbrev pub transfer_by_name : CallKind → TransferInstruction
+transfer_by_name Nested = transfer.Call
+transfer_by_name Tail = transfer.ReturnCall
+
+abbrev pub transfer_through : CallKind → TransferInstruction
+transfer_through Nested = transfer.CallIndirect
+transfer_through Tail = transfer.ReturnCallIndirect
+
+-- The function at an address is called so.
+abbrev pub IsCalled : CallKind → PlainOp → (address : ℕ) → FunctionInstance → Ghost → List ℕ
+    → (at top height : ℕ) → Type 0
+IsCalled Nested op address function g cells at top height =
+    IsCalling op address function g cells at top height
+IsCalled Tail op address function g cells at top height =
+    IsTailCalling op address function g cells at top height

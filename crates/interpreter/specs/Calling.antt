@@ -1,5 +1,5 @@
 -- Calls, returns and ends: what they need, and where they go on.
-use Rattle.std.specs.Prelude.{◌≡◌, ℕ, suc, ◌+◌, ◌-◌, ◌<◌, ◌≤◌, List, [], ◌∷◌, ◌++◌, length, take, set, replicate}
+use Rattle.std.specs.Prelude.{◌≡◌, ℕ, suc, ◌+◌, ◌-◌, ◌<◌, ◌≤◌, List, [], ◌∷◌, ◌++◌, length, take, drop, set, replicate}
 use Rattle.sidetable.specs.declared.operations.Entry.{Entry}
 use Rattle.store.specs.declared.instances.Callee.{Callee}
 use Rattle.store.specs.declared.instances.Callee.TheVariants as callee
@@ -8,6 +8,8 @@ use Rattle.interpreter.specs.Layout.{AreMoved}
 use Rattle.interpreter.specs.Looping.{loop_at}
 use Rattle.interpreter.specs.Whole.{IsOver, Loop, RunsSomeWhole, RunsWhole, StopsAt, SwitchesTo, Whole}
 use Rattle.interpreter.specs.Worlds.{World}
+use Rattle.interpreter.specs.declared.machine.CallKind.{CallKind}
+use Rattle.interpreter.specs.declared.machine.CallKind.TheVariants.{Nested, Tail}
 use Rattle.interpreter.specs.declared.machine.Crossing.{Crossing}
 use Rattle.interpreter.specs.declared.machine.Crossing.TheVariants.{Enters, Goes, Stops, Switches}
 use Rattle.interpreter.specs.declared.machine.Frame.{Frame}
@@ -82,15 +84,60 @@ pub record CallsModule (bound : ℕ) (w : World) (cells : List ℕ) (callers : L
       → CrossesTo bound (loop_at w cells callers at)
       (loop_at w cells' (frame_waiting at ∷ callers) (position_opened at from.top f))
 
+-- The first place of a function whose frame takes the place of the one at a position.
+abbrev pub position_replaced : Position → ModuleFunction → Position
+position_replaced at f = record {
+  frame = record {
+    function = f.flat.function;
+    tables = f.flat.tables;
+    instance = f.instance;
+    base = at.frame.base;
+    place = 0;
+  };
+  top = at.frame.base + f.flat.function.now.locals;
+  operand = 0;
+  fuel = at.fuel - 1;
+}
+
+-- A frame's own cells begin with the arguments, which were on top of those before, and behind them lie cleared cells.
+abbrev pub AreReplaced : (cells : List ℕ) → (base : ℕ) → (from : Position) → ModuleFunction
+    → (cells' : List ℕ) → Type 0
+AreReplaced cells base from f cells' =
+    (take (base + f.flat.function.now.locals) cells' ≡
+    take base cells
+    ++ (take f.flat.function.now.params
+    (drop (from.top + 1 - f.flat.function.now.params) (set cells from.top from.operand))
+    ++ replicate (declared_locals f) 0))
+    × (length cells' ≡ length cells)
+
+-- A tail call at a position of a function of a module, whose arguments are on top at another one of the frame.
+pub record ReplacesModule (bound : ℕ) (w : World) (cells : List ℕ) (callers : List Frame)
+    (at from : Position) (f : ModuleFunction) : Type 0 where
+  pub room : from.top < length cells
+  pub arguments : at.frame.base + at.frame.function.now.locals + f.flat.function.now.params ≤ from.top
+  pub declared : f.flat.function.now.params ≤ f.flat.function.now.locals
+  pub no_room : 1 ≤ at.fuel
+      → StopsAt bound (loop_at w cells callers at) stop.NoRoom (loop_at w cells callers at)
+  pub replaces : 1 ≤ at.fuel
+      → at.frame.base + f.flat.function.now.locals + f.flat.function.now.greatest < length cells
+      → (cells' : List ℕ) → AreReplaced cells at.frame.base from f cells'
+      → CrossesTo bound (loop_at w cells callers at)
+      (loop_at w cells' callers (position_replaced at f))
+
+abbrev pub CallsInModule : CallKind → (bound : ℕ) → World → (cells : List ℕ)
+    → (callers : List Frame) → (at from : Position) → ModuleFunction → Type 0
+CallsInModule Nested bound w cells callers at from f = CallsModule bound w cells callers at from f
+CallsInModule Tail bound w cells callers at from f = ReplacesModule bound w cells callers at from f
+
 -- A call of what is at an address. The loop stops before one of a host function.
 abbrev pub Calls : (bound : ℕ) → World → (cells : List ℕ) → (callers : List Frame)
-    → (at from : Position) → (address : ℕ) → Callee → Type 0
-Calls bound w cells callers at from address (callee.InModule f) =
-    CallsModule bound w cells callers at from f
-Calls bound w cells callers at from address (callee.InHost f) =
+    → (at from : Position) → CallKind → (address : ℕ) → Callee → Type 0
+Calls bound w cells callers at from kind address (callee.InModule f) =
+    CallsInModule kind bound w cells callers at from f
+Calls bound w cells callers at from kind address (callee.InHost f) =
     (from.top < length cells)
     × (1 ≤ at.fuel
-    → StopsAt bound (loop_at w cells callers at) (stop.CallsHost address (from.top + 1))
+    → StopsAt bound (loop_at w cells callers at) (stop.CallsHost kind address (from.top + 1))
     (loop_at w cells callers at))
 
 -- ---- returns and ends

@@ -1,9 +1,7 @@
 -- What an operation needs, and what it leads to.
 use Rattle.std.specs.Prelude.{◌≡◌, ℕ, suc, ◌+◌, ◌-◌, ◌%◌, ◌^◌, ◌<◌, ◌≤◌, List, [], ◌∷◌, length, drop, set, get_or, slice_get, Option, Some, Result, Ok, Err}
-use Rattle.core_types.specs.declared.op.ControlOp.TheVariants.{Call}
 use Rattle.core_types.specs.declared.op.LoadOp.{LoadOp}
 use Rattle.core_types.specs.declared.op.LoadOp.TheVariants.{Bits8, Whole}
-use Rattle.core_types.specs.declared.op.PlainOp.TheVariants.{Control}
 use Rattle.core_types.specs.declared.op.Sign.TheVariants.{Unsigned}
 use Rattle.core_types.specs.declared.op.StoreOp.{StoreOp}
 use Rattle.core_types.specs.declared.op.StoreOp.TheVariants as into
@@ -30,14 +28,17 @@ use Rattle.sidetable.specs.declared.operations.PackedOp.{PackedOp}
 use Rattle.sidetable.specs.declared.operations.PackedOp.TheVariants as op
 use Rattle.sidetable.specs.declared.operations.TransferInstruction.{TransferInstruction}
 use Rattle.sidetable.specs.declared.operations.TransferInstruction.TheVariants as transfer
-use Rattle.simulation.specs.Callees.{CallsEntry, IsCalling}
+use Rattle.simulation.specs.Callees.{CallsEntry, CostsAround}
 use Rattle.simulation.specs.Runs.{Ghost}
 use Rattle.store.specs.Contents.{functions_in}
 use Rattle.store.specs.State.{StateContents, global_of, put_global, table_of}
 use Rattle.store.specs.declared.instances.Instance.{Instance}
+use Rattle.interpreter.specs.Callees.{IsCalled, by_name, through_table}
 use Rattle.interpreter.specs.Layout.{AreMoved}
 use Rattle.interpreter.specs.Running.{GoesFree, IsDear, Machine, Pays, RunsAt, Traps, cells_in, height_in}
 use Rattle.interpreter.specs.Worlds.{World}
+use Rattle.interpreter.specs.declared.machine.CallKind.{CallKind}
+use Rattle.interpreter.specs.declared.machine.CallKind.TheVariants.{Nested, Tail}
 
 -- ---- machines behind an operation
 
@@ -117,6 +118,14 @@ HasOperands m count = (m.base + m.locals + count ≤ m.top) × (m.top < length m
 abbrev pub HasKept : Machine → (top : ℕ) → Entry → Type 0
 HasKept m top e = m.base + m.locals + e.height + e.kept ≤ top
 
+-- The type and the table of a pair of indices are there, and so is the offset of an entry.
+abbrev pub FitsTable : World → Machine → (number : ℕ) → Type 0
+FitsTable w m n =
+    HasOperands m 1 × (n < length m.tables.pairs.items)
+    × ((pair_of m.tables n).first < length w.instance.loaded.value.types)
+    × ((pair_of m.tables n).second < length w.instance.addresses.tables.items)
+    × (table_address w.instance (pair_of m.tables n).second < length w.state.contents.tables)
+
 -- What a transfer names is there, and so are the operands that it takes and keeps.
 abbrev pub TransferFits : World → Machine → TransferInstruction → (number : ℕ) → Type 0
 TransferFits w m transfer.If n = HasOperands m 1 × (n < length m.tables.entries.items)
@@ -133,11 +142,9 @@ TransferFits w m transfer.BrTable n =
     × HasKept m (m.top - 1) (get_or (branch_entries m.tables (branch_range_of m.tables n))
     m.operand (entry_of_number m.tables (branch_range_of m.tables n).default))
 TransferFits w m transfer.Call n = n < length w.instance.addresses.functions.items
-TransferFits w m transfer.CallIndirect n =
-    HasOperands m 1 × (n < length m.tables.pairs.items)
-    × ((pair_of m.tables n).first < length w.instance.loaded.value.types)
-    × ((pair_of m.tables n).second < length w.instance.addresses.tables.items)
-    × (table_address w.instance (pair_of m.tables n).second < length w.state.contents.tables)
+TransferFits w m transfer.CallIndirect n = FitsTable w m n
+TransferFits w m transfer.ReturnCall n = n < length w.instance.addresses.functions.items
+TransferFits w m transfer.ReturnCallIndirect n = FitsTable w m n
 TransferFits w m transfer.Leave n = Unit {0}
 TransferFits w m kind n = IsTransferWithin m.tables kind n
 
@@ -223,18 +230,24 @@ Writes w m g instruction offset =
     × IsDear g m
 
 -- A call of the function under an index: it is there, and its arguments are on top.
-abbrev pub CallsByName : World → Machine → Ghost → (x : ℕ) → Type 0
-CallsByName w m g x =
+abbrev pub CallsByName : CallKind → World → Machine → Ghost → (x : ℕ) → Type 0
+CallsByName kind w m g x =
     (function : FunctionInstance)
     × (slice_get (functions_in w.code) (function_address w x) ≡ Some function)
-    × IsCalling (Control (Call x)) (function_address w x) function g (cells_in m) m.place
+    × IsCalled kind (by_name kind x) (function_address w x) function g (cells_in m) m.place
     (height_in m) (height_in m)
 
 -- A call of a function of a type through a table, by the entry at the offset that is the topmost operand.
-abbrev pub CallsThrough : World → Machine → Ghost → (type x : ℕ) → Type 0
-CallsThrough w m g type x =
+abbrev pub CallsThrough : CallKind → World → Machine → Ghost → (type x : ℕ) → Type 0
+CallsThrough kind w m g type x =
     (entry : Option Val) → entry_through w.instance w.state x m.operand ≡ entry
-    → CallsEntry g (cells_in m) m.place (height_in m) type x (type_of w.instance type) entry
+    → CallsEntry g (cells_in m) m.place (height_in m)
+    (λ address function. IsCalled kind (through_table kind type x) address function g (cells_in m)
+    m.place (height_in m) (height_in m - 1)) (type_of w.instance type) entry
+
+-- Whatever waits around the frame, the next step costs one unit of fuel.
+abbrev pub CostsOne : Ghost → Machine → Type 0
+CostsOne g m = CostsAround g (cells_in m) m.place (height_in m)
 
 -- This operation stands there.
 abbrev pub StandsThere : Machine → Ghost → FlatOp → Type 0
@@ -257,9 +270,12 @@ TransferLeads w m g transfer.BrTable n =
     (entry_of_number m.tables (branch_range_of m.tables n).default))
     × IsDear g m
 TransferLeads w m g transfer.Return n = StandsThere m g (Return (entry_of_number m.tables n))
-TransferLeads w m g transfer.Call n = CallsByName w m g n × IsDear g m
+TransferLeads w m g transfer.Call n = CallsByName Nested w m g n × CostsOne g m
 TransferLeads w m g transfer.CallIndirect n =
-    CallsThrough w m g (pair_of m.tables n).first (pair_of m.tables n).second × IsDear g m
+    CallsThrough Nested w m g (pair_of m.tables n).first (pair_of m.tables n).second × CostsOne g m
+TransferLeads w m g transfer.ReturnCall n = CallsByName Tail w m g n × CostsOne g m
+TransferLeads w m g transfer.ReturnCallIndirect n =
+    CallsThrough Tail w m g (pair_of m.tables n).first (pair_of m.tables n).second × CostsOne g m
 TransferLeads w m g transfer.Leave n =
     (drop m.place g.code.operations ≡ []) × (n ≡ g.code.outermost.kept)
 

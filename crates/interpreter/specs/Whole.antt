@@ -7,7 +7,7 @@ use Rattle.meaning.specs.structure.Bodies.{Empty}
 use Rattle.meaning.specs.execution.Configurations.{Configuration, Running, depth, no_frame}
 use Rattle.meaning.specs.execution.Instructions.{Opens, Traps, next}
 use Rattle.meaning.specs.execution.Layers.{Layer, plug}
-use Rattle.meaning.specs.execution.Runs.{NoHosts, State, Steps, price}
+use Rattle.meaning.specs.execution.Runs.{AsksForMemory, IsWithinBound, NoHosts, State, Steps, price}
 use Rattle.meaning.specs.execution.Store.{FunctionInstance, InHost, Store}
 use Rattle.meaning.specs.soundness.Values.{ValuesHaveTypes}
 use Rattle.soundness.specs.Configurations.{ConfigurationHasType}
@@ -15,13 +15,14 @@ use Rattle.soundness.specs.Places.{outermost}
 use Rattle.soundness.specs.Stores.{StoreIsValid}
 use Rattle.sidetable.specs.Flat.{Plain}
 use Rattle.sidetable.specs.Packing.{other_op}
-use Rattle.simulation.specs.Callees.{IsCalling}
 use Rattle.simulation.specs.Piles.{cells_of}
 use Rattle.simulation.specs.Runs.{Ghost, config_of, frame_of}
+use Rattle.interpreter.specs.Callees.{IsCalled}
 use Rattle.interpreter.specs.Callers.{Caller, CallersStand, layers_around}
 use Rattle.interpreter.specs.Running.{Machine, RunsAt, cells_in, height_in}
 use Rattle.interpreter.specs.Turns.{IsLeft, StandsThere}
 use Rattle.interpreter.specs.Worlds.{Sees, World, store_in}
+use Rattle.interpreter.specs.declared.machine.CallKind.{CallKind}
 use Rattle.interpreter.specs.declared.machine.Frame.{Frame}
 use Rattle.interpreter.specs.declared.machine.Stop.{Stop}
 use Rattle.interpreter.specs.declared.machine.Stop.TheVariants as stop
@@ -97,16 +98,23 @@ pub record OpensNext (store : Store) (fuel : ℕ) (w : Whole) : Type 0 where
   pub opens : next store no_frame (whole w) ≡ Opens 1 store then
   pub paid : 1 ≤ fuel
 
--- The next step calls the host function at an address, for which there is fuel. Its arguments are the topmost of the frame's cells
+-- The next step asks for memory, within the bound, and there is fuel for it.
+pub record AsksNext (bound : ℕ) (store : Store) (fuel : ℕ) (w : Whole) : Type 0 where
+  pub asks : AsksForMemory (next store no_frame (whole w))
+  pub within : IsWithinBound bound (depth (whole w)) (next store no_frame (whole w))
+  pub enough : price (next store no_frame (whole w)) ≤ fuel
+
+-- The next step calls the host function at an address so, for which there is fuel. Its arguments are the topmost of the frame's cells
 -- up to a height, and lie below a place: behind the locals the machine has one cell more.
-pub record CallsHostNext (fuel : ℕ) (m : Machine) (w : Whole) (address behind : ℕ) : Type 0 where
+pub record CallsHostNext (fuel : ℕ) (m : Machine) (w : Whole) (kind : CallKind)
+    (address behind : ℕ) : Type 0 where
   pub op : PlainOp
   pub function : FunctionInstance
   pub number : ℕ
   pub is_host : function.implementation ≡ InHost number
   pub height : ℕ
   pub lies : behind ≡ m.base + height + 1
-  pub calls : IsCalling op address function w.ghost (cells_in m) m.place (height_in m) height
+  pub calls : IsCalled kind op address function w.ghost (cells_in m) m.place (height_in m) height
   pub paid : 1 ≤ fuel
 
 -- What runs next, by the reason to stop.
@@ -115,10 +123,10 @@ StopsBy bound (stop.Traps trap) store fuel m w =
     (next store no_frame (whole w) ≡ Traps 1 trap) × (1 ≤ fuel)
 StopsBy bound stop.NoFuel store fuel m w = fuel < price (next store no_frame (whole w))
 StopsBy bound stop.NoDepth store fuel m w = OpensNext store fuel w × (bound ≤ depth (whole w))
-StopsBy bound stop.NoRoom store fuel m w = OpensNext store fuel w × (depth (whole w) < bound)
-StopsBy bound stop.NoMemory store fuel m w = OpensNext store fuel w × (depth (whole w) < bound)
-StopsBy bound (stop.CallsHost address behind) store fuel m w =
-    CallsHostNext fuel m w address behind
+StopsBy bound stop.NoRoom store fuel m w = AsksNext bound store fuel w
+StopsBy bound stop.NoMemory store fuel m w = AsksNext bound store fuel w
+StopsBy bound (stop.CallsHost kind address behind) store fuel m w =
+    CallsHostNext fuel m w kind address behind
 StopsBy bound (stop.LeavesOther kind n) store fuel m w =
     IsLeft kind × StandsThere m w.ghost (Plain (other_op m.tables kind n))
 StopsBy bound other store fuel m w = Unit {0}

@@ -1,15 +1,15 @@
 ghost use Rattle.std.specs.Prelude.{◌+◌, ◌<◌, ◌≤◌, ◌^◌, ℕ, length, suc};
-ghost use Rattle.interpreter.specs.Calling.{Calls, CallsModule, IsCrossed, Leaves};
+ghost use Rattle.interpreter.specs.Calling.{Calls, CallsModule, IsCrossed, Leaves, ReplacesModule};
+ghost use Rattle.interpreter.specs.Callees.{transfer_by_name, transfer_through};
 ghost use Rattle.interpreter.specs.Crossing.{Crosses};
 ghost use Rattle.interpreter.specs.Looping.{loop_at, machine_at, world_at};
 ghost use Rattle.interpreter.specs.Turns.{Fits, Turns};
 ghost use Rattle.interpreter.specs.Whole.{RunsSomeWhole};
 ghost use Rattle.sidetable.specs.declared.operations.PackedOp.TheVariants as op;
-ghost use Rattle.sidetable.specs.declared.operations.TransferInstruction.TheVariants as transfer;
 
 use crate::callees::{Found, find_through};
-use crate::landing::{clear, land};
-use crate::machine::{Crossing, Frame, Position, Stop, Surroundings};
+use crate::landing::{clear, land, move_down};
+use crate::machine::{CallKind, Crossing, Frame, Position, Stop, Surroundings};
 use crate::payment::pay;
 use core_types::Stack;
 use store::{Callee, ModuleFunction, State};
@@ -87,6 +87,55 @@ fn open<'a>(
     cross(around, function.instance)
 }
 
+// Puts a frame for a function of a module in the place of the one at a position. Its arguments are on top at `from`, in the same frame.
+#[inline(never)]
+fn replace<'a>(
+    around: Surroundings<'a>,
+    state: &State,
+    memory: &[u8],
+    cells: &mut [u64],
+    callers: &Stack<Frame<'a>>,
+    function: &ModuleFunction<'a>,
+    from: Position<'a>,
+    at: &mut Position<'a>,
+    why: &mut Stop,
+) -> Crossing
+    requires sound { RunsSomeWhole around.bound
+        (loop_at (world_at around state.now memory.now) cells.old callers.now at.old) }
+    requires replaces { ReplacesModule around.bound (world_at around state.now memory.now) cells.old
+        callers.now at.old from function.now }
+    requires paid { 1 ≤ at.old.fuel }
+    requires next { at.old.frame.place + 1 < 2 ^ 64 }
+    ensures { Crosses around.entry.bound
+        (loop_at (world_at around.entry state.now memory.now) cells.old callers.now at.old)
+        result why.new cells.new callers.now at.new }
+{
+    let flat = function.flat.function;
+    let (locals, params) = (flat.locals, flat.params);
+    let base = at.frame.base;
+    let room = cells.len() - base;
+    if locals > room || flat.greatest >= (room - locals) as u64 {
+        *why = Stop::NoRoom;
+        return Crossing::Stops;
+    }
+    cells[from.top] = from.operand;
+    move_down(cells, from.top + 1 - params, base, params);
+    clear(cells, base + params, locals - params);
+    *at = Position {
+        frame: Frame {
+            function: flat,
+            tables: function.flat.tables,
+            instance: function.instance,
+            base,
+            place: 0,
+        },
+        top: base + locals,
+        operand: 0,
+        fuel: at.fuel - 1,
+    };
+    cross(around, function.instance)
+}
+
 // Calls what was found, once there is fuel for it. Its arguments are on top at `from`, in the same frame.
 #[inline(always)]
 fn enter<'a>(
@@ -95,6 +144,7 @@ fn enter<'a>(
     memory: &[u8],
     cells: &mut [u64],
     callers: &mut Stack<Frame<'a>>,
+    kind: CallKind,
     found: Found<'a>,
     from: Position<'a>,
     at: &mut Position<'a>,
@@ -103,7 +153,7 @@ fn enter<'a>(
     requires sound { RunsSomeWhole around.bound
         (loop_at (world_at around state.now memory.now) cells.old callers.old at.old) }
     requires calls { Calls around.bound (world_at around state.now memory.now) cells.old
-        callers.old at.old from found.address found.callee }
+        callers.old at.old from kind found.address found.callee }
     requires paid { 1 ≤ at.old.fuel }
     requires next { at.old.frame.place + 1 < 2 ^ 64 }
     ensures { Crosses around.entry.bound
@@ -111,17 +161,27 @@ fn enter<'a>(
         result why.new cells.new callers.new at.new }
 {
     match found.callee {
-        Callee::InModule(function) => {
-            if callers.len() as u64 + 1 >= around.bound {
-                *why = Stop::NoDepth;
-                return Crossing::Stops;
+        Callee::InModule(function) => match kind {
+            CallKind::Nested => {
+                if callers.len() as u64 + 1 >= around.bound {
+                    *why = Stop::NoDepth;
+                    return Crossing::Stops;
+                }
+                open(
+                    around, state, memory, cells, callers, &function, from, at, why,
+                )
             }
-            open(
-                around, state, memory, cells, callers, &function, from, at, why,
-            )
-        }
+            CallKind::Tail => {
+                let mut to = *at;
+                let crossing = replace(
+                    around, state, memory, cells, callers, &function, from, &mut to, why,
+                );
+                *at = to;
+                crossing
+            }
+        },
         Callee::InHost(_) => {
-            *why = Stop::CallsHost(found.address, from.top + 1);
+            *why = Stop::CallsHost(kind, found.address, from.top + 1);
             Crossing::Stops
         }
     }
@@ -135,6 +195,7 @@ pub fn call<'a>(
     memory: &[u8],
     cells: &mut [u64],
     callers: &mut Stack<Frame<'a>>,
+    kind: CallKind,
     index: u32,
     at: &mut Position<'a>,
     why: &mut Stop,
@@ -142,9 +203,9 @@ pub fn call<'a>(
     requires sound { RunsSomeWhole around.bound
         (loop_at (world_at around state.now memory.now) cells.old callers.old at.old) }
     requires fits { Fits (world_at around state.now memory.now) (machine_at cells.old at.old)
-        (op.Transfer transfer.Call index) }
+        (op.Transfer (transfer_by_name kind) index) }
     requires turns { Turns (world_at around state.now memory.now) (machine_at cells.old at.old)
-        (op.Transfer transfer.Call index) }
+        (op.Transfer (transfer_by_name kind) index) }
     requires next { at.old.frame.place + 1 < 2 ^ 64 }
     ensures { Crosses around.entry.bound
         (loop_at (world_at around.entry state.now memory.now) cells.old callers.old at.old)
@@ -158,7 +219,9 @@ pub fn call<'a>(
     let callee = around.code.callee(address);
     let found = Found { address, callee };
     let from = *at;
-    enter(around, state, memory, cells, callers, found, from, at, why)
+    enter(
+        around, state, memory, cells, callers, kind, found, from, at, why,
+    )
 }
 
 /// Calls the function to which an entry of a table refers, whose offset is the topmost operand. The type that it has to be of, and
@@ -170,6 +233,7 @@ pub fn call_indirect<'a>(
     memory: &[u8],
     cells: &mut [u64],
     callers: &mut Stack<Frame<'a>>,
+    kind: CallKind,
     number: u32,
     at: &mut Position<'a>,
     why: &mut Stop,
@@ -177,9 +241,9 @@ pub fn call_indirect<'a>(
     requires sound { RunsSomeWhole around.bound
         (loop_at (world_at around state.now memory.now) cells.old callers.old at.old) }
     requires fits { Fits (world_at around state.now memory.now) (machine_at cells.old at.old)
-        (op.Transfer transfer.CallIndirect number) }
+        (op.Transfer (transfer_through kind) number) }
     requires turns { Turns (world_at around state.now memory.now) (machine_at cells.old at.old)
-        (op.Transfer transfer.CallIndirect number) }
+        (op.Transfer (transfer_through kind) number) }
     requires next { at.old.frame.place + 1 < 2 ^ 64 }
     ensures { Crosses around.entry.bound
         (loop_at (world_at around.entry state.now memory.now) cells.old callers.old at.old)
@@ -194,7 +258,9 @@ pub fn call_indirect<'a>(
             let mut from = *at;
             from.top -= 1;
             from.operand = cells[from.top];
-            enter(around, state, memory, cells, callers, found, from, at, why)
+            enter(
+                around, state, memory, cells, callers, kind, found, from, at, why,
+            )
         }
         Err(trap) => {
             at.fuel = left;

@@ -1,10 +1,10 @@
 ghost use Rattle.std.specs.Prelude.{◌≡◌, ◌+◌, ◌≤◌, ◌<◌, ◌++◌, length, take, drop, get_or, replicate};
 ghost use Rattle.interpreter.specs.Layout.{AreMoved};
 
-// Moves cells down.
+/// Moves cells down.
 #[cold]
 #[inline(never)]
-fn move_down(cells: &mut [u64], from: usize, to: usize, count: usize)
+pub fn move_down(cells: &mut [u64], from: usize, to: usize, count: usize)
     requires low { to ≤ from }
     requires within { from + count ≤ length cells.old }
     ensures moved { take (to + count) cells.new ≡ take to cells.old ++ take count

@@ -14,4 +14,4 @@ mod transfers;
 
 pub use interpreter_loop::run;
 pub use laws::{operands_fit, operations_turn};
-pub use machine::{Frame, Position, Stop, Surroundings};
+pub use machine::{CallKind, Frame, Position, Stop, Surroundings};

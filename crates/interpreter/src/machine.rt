@@ -34,6 +34,13 @@ pub struct Surroundings<'a> {
     pub bound: u64,
 }
 
+/// How a function is called: in a frame above that of the caller, or in its place.
+#[derive(Clone, Copy)]
+pub enum CallKind {
+    Nested,
+    Tail,
+}
+
 /// Why the loop stops.
 #[derive(Clone, Copy)]
 pub enum Stop {
@@ -45,14 +52,14 @@ pub enum Stop {
     NoFuel,
     /// The next step opens a frame more than may be open.
     NoDepth,
-    /// The next step opens a frame for which there are not enough cells.
+    /// The next step opens a frame, or puts one in the place of another, for which there are not enough cells.
     NoRoom,
     /// The next step opens a frame, for which there is no memory.
     NoMemory,
     /// Code of another instance is next.
     Switches,
-    /// The next step calls the host function at an address; its arguments lie below this place among the cells.
-    CallsHost(u32, usize),
+    /// The next step calls the host function at an address so; its arguments lie below this place among the cells.
+    CallsHost(CallKind, u32, usize),
     /// The next operation is an instruction that the loop leaves to others.
     LeavesOther(OtherInstruction, u32),
 }

@@ -11,7 +11,7 @@ ghost use Rattle.sidetable.specs.declared.operations.PackedOp.TheVariants as op;
 
 use crate::frames::{call, call_indirect, leave};
 use crate::landing::land;
-use crate::machine::{Crossing, Frame, Position, Stop, Surroundings};
+use crate::machine::{CallKind, Crossing, Frame, Position, Stop, Surroundings};
 use crate::payment::pay;
 use crate::reading::entry;
 use core_types::{Stack, Trap};
@@ -136,9 +136,57 @@ pub fn transfer<'a>(
             let results = entry(tables, n).kept as usize;
             leave(around, state, memory, cells, callers, results, at, why)
         }
-        TransferInstruction::Call => call(around, state, memory, cells, callers, n, at, why),
+        TransferInstruction::Call => {
+            call(
+                around,
+                state,
+                memory,
+                cells,
+                callers,
+                CallKind::Nested,
+                n,
+                at,
+                why,
+            )
+        }
         TransferInstruction::CallIndirect => {
-            call_indirect(around, state, memory, cells, callers, n, at, why)
+            call_indirect(
+                around,
+                state,
+                memory,
+                cells,
+                callers,
+                CallKind::Nested,
+                n,
+                at,
+                why,
+            )
+        }
+        TransferInstruction::ReturnCall => {
+            call(
+                around,
+                state,
+                memory,
+                cells,
+                callers,
+                CallKind::Tail,
+                n,
+                at,
+                why,
+            )
+        }
+        TransferInstruction::ReturnCallIndirect => {
+            call_indirect(
+                around,
+                state,
+                memory,
+                cells,
+                callers,
+                CallKind::Tail,
+                n,
+                at,
+                why,
+            )
         }
         TransferInstruction::Leave => {
             leave(around, state, memory, cells, callers, n as usize, at, why)

@@ -42,15 +42,15 @@ pub fn loaded_module(alloc: Global, text: &str) -> Option<Rc<LoadedModule>> {
 pub fn link(
     alloc: Global,
     store: &mut Store,
+    hosts: &mut HostTable,
     loaded: &Rc<LoadedModule>,
     given: &[Extern],
     fuel: u64,
 ) -> (Result<u32, LinkEnd>, u64) {
-    let mut hosts = HostTable::new(alloc);
-    if !have_hosts(store, &hosts) {
+    if !have_hosts(store, hosts) {
         return (Err(LinkEnd::Refused(LinkRefusal::OutOfMemory)), fuel);
     }
     let mut meter = Meter::new(fuel, DEPTH);
-    let answer = instantiate(alloc, store, &mut hosts, &mut meter, loaded, given);
+    let answer = instantiate(alloc, store, hosts, &mut meter, loaded, given);
     (answer, meter.left())
 }

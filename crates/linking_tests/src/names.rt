@@ -2,6 +2,7 @@
 
 use crate::modules::{ENTRIES, PAGES, link, loaded_module};
 use core_types::Extern;
+use hostfunc::HostTable;
 use linker::{NameRefusal, Names};
 use std::alloc::Global;
 use store::Store;
@@ -14,10 +15,11 @@ const TEXT: &str =
 fn store_of_two(alloc: Global) -> Option<Store> {
     let loaded = loaded_module(alloc, TEXT)?;
     let mut store = Store::new(alloc, PAGES, ENTRIES);
-    let Ok(_) = link(alloc, &mut store, &loaded, &[], 0).0 else {
+    let mut hosts = HostTable::new(alloc);
+    let Ok(_) = link(alloc, &mut store, &mut hosts, &loaded, &[], 0).0 else {
         return None;
     };
-    let Ok(_) = link(alloc, &mut store, &loaded, &[], 0).0 else {
+    let Ok(_) = link(alloc, &mut store, &mut hosts, &loaded, &[], 0).0 else {
         return None;
     };
     Some(store)

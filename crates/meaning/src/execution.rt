@@ -1,7 +1,7 @@
 //! Laws and worked rows of runs.
 
 ghost use Rattle.std.specs.Prelude.{◌≡◌, ◌≤◌, ◌∷◌, [], List, ℕ, ◌⊎◌, Some, None, replicate};
-ghost use Rattle.core_types.specs.declared.op.ControlOp.TheVariants.{Call, Unreachable};
+ghost use Rattle.core_types.specs.declared.op.ControlOp.TheVariants.{Call, ReturnCall, Unreachable};
 ghost use Rattle.core_types.specs.declared.op.MemoryOp.TheVariants.{Grow};
 ghost use Rattle.core_types.specs.declared.op.Op.TheVariants.{Plain};
 ghost use Rattle.core_types.specs.declared.op.PlainOp.{PlainOp};
@@ -11,7 +11,7 @@ ghost use Rattle.core_types.specs.declared.types.ValType.TheVariants as ty;
 ghost use Rattle.core_types.specs.declared.outcome.Val.{Val};
 ghost use Rattle.core_types.specs.declared.outcome.Val.TheVariants.{I32};
 ghost use Rattle.core_types.specs.declared.outcome.Trap.TheVariants.{Host, IndirectType, MemoryBounds, TableBounds, UndefinedElement, UninitializedElement};
-ghost use Rattle.meaning.specs.execution.Rows.{Asks, Calls, CallsEntry, CountsCalls, TrapsAtOneAndTwo, adder, alone, at, caller, calls_twice, copies_and_sets, counting, endless, fills, fills_entries, grows_and_reads, grows_table, inits_entry, instance_of_two, last_of_three, nothing, null, one_and_two, seven_or_eight, store_with_entries, store_with_host, store_with_pages, trapping, with_bytes_and_global, with_entries};
+ghost use Rattle.meaning.specs.execution.Rows.{Asks, AsksInFrame, Calls, CallsEntry, CallsEntryLast, CountsCalls, TrapsAtOneAndTwo, adder, alone, at, caller, calls_last_inside, calls_twice, copies_and_sets, counting, counting_last, down, endless, fills, fills_entries, grows_and_reads, grows_table, inits_entry, instance_of_two, last_of_three, nothing, null, one_and_two, seven_or_eight, store_with_entries, store_with_host, store_with_pages, trapping, with_bytes_and_global, with_entries, with_ten};
 ghost use Rattle.meaning.specs.execution.Configurations.{Configuration, Frame, Invoking, depth, no_frame};
 ghost use Rattle.meaning.specs.execution.Effects.{Done, effect, instruction_cost};
 ghost use Rattle.meaning.specs.execution.Instructions.{Next, next};
@@ -90,13 +90,33 @@ pub fn tables_change_in_runs()
         ∷ null ∷ []) ([]) 0) }
 {}
 
+/// Worked rows of runs with tail calls, all with room for one frame: a function that calls itself last, with fuel and without; one whose
+/// last call is inside of blocks and above operands; a last call through an entry, and its traps in their order, whatever the depth; and
+/// one of a host function, which is lent the memory of the instance that calls it.
+pub fn tail_calls_replace_their_frame()
+    ensures down { Calls 1 down (I32 1 ∷ []) 9 (WithValues (I32 9 ∷ [])) 0 }
+    ensures no_fuel { Calls 1 down (I32 1 ∷ []) 5 OutOfFuel 0 }
+    ensures inside { Run NoHosts 1 no_frame (with_ten calls_last_inside 9) (Invoking ([]) 0)
+        (WithValues (I32 10 ∷ [])) (with_ten calls_last_inside 3) }
+    ensures entry { CallsEntryLast 0 3 (WithValues (I32 10 ∷ [])) 0 }
+    ensures other_type { CallsEntryLast 1 3 (WithTrap IndirectType) 1 }
+    ensures null_entry { CallsEntryLast 2 3 (WithTrap UninitializedElement) 1 }
+    ensures past { CallsEntryLast 3 3 (WithTrap UndefinedElement) 1 }
+    ensures host { Run (CountsCalls (Some 6)) 1 no_frame (counting_last 0 10) (Invoking ([]) 0)
+        (WithValues (I32 1 ∷ [])) (counting_last 1 8) }
+{}
+
 /// Worked rows of steps that ask for memory: the entry from outside, a call of code and of a host function, and a growth that is
-/// done. A growth that answers -1, a constant and a trap ask for none.
+/// done, and a tail call of code and of a host function. A growth that answers -1, a constant and a trap ask for none.
 pub fn some_steps_ask_for_memory()
     ensures entry { AsksForMemory (next (instance_of_two nothing nothing) no_frame (Invoking ([]) 0)) }
     ensures call { Asks (instance_of_two caller nothing) ([]) (alone (Control (Call 1))) }
     ensures host { Asks (store_with_host calls_twice ([]) (ty.I32 ∷ [])) ([]) (alone (Control (Call
         1))) }
+    ensures tail_call { AsksInFrame (instance_of_two caller nothing) (alone (Control (ReturnCall
+        1))) }
+    ensures tail_call_of_host { AsksInFrame (store_with_host calls_twice ([]) (ty.I32 ∷ []))
+        (alone (Control (ReturnCall 1))) }
     ensures memory { Asks (store_with_pages 1) (I32 1 ∷ []) (alone (Memory Grow)) }
     ensures memory_refused { Asks (store_with_pages 0) (I32 1 ∷ []) (alone (Memory Grow)) → ⊥ }
     ensures table { Asks store_with_entries (I32 2 ∷ null ∷ []) (alone (Table (table.Grow 0))) }

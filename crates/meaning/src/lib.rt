@@ -15,6 +15,7 @@ pub use embedding::{fresh_embeddings_are_empty, host_functions_are_defined_in_or
 pub use execution::{
     adding_one_and_two_costs_three, control_keeps_its_order, hosts_answer_calls,
     memories_change_in_runs, runs_agree, steps_lead_to_runs, tables_change_in_runs,
+    tail_calls_replace_their_frame,
 };
 pub use numerics::{
     counts_are_of_digits_and_bits, integers_stand_for_signed_numbers, logic_goes_bit_by_bit,

@@ -11,7 +11,7 @@ struct Run {
 }
 
 #[rattlefmt::skip]
-static RUN: [Run; 32] = [
+static RUN: [Run; 35] = [
     Run {
         name: "i32.eqz",
         sections: "0105016000017F 03020100 07050101660000 0A070105004100450B",
@@ -123,6 +123,21 @@ static RUN: [Run; 32] = [
         out: "i32 8\nfuel left 96\n",
     },
     Run {
+        name: "return_call",
+        sections: "0105016000017F 0303020000 07050101660000 0A0B02040012010B040041070B",
+        out: "i32 7\nfuel left 98\n",
+    },
+    Run {
+        name: "return_call_indirect",
+        sections: "0105016000017F 0303020000 040401700001 07050101660000 090701 0041000B0101 0A0E0207004100 1300000B040041070B",
+        out: "i32 7\nfuel left 95\n",
+    },
+    Run {
+        name: "return_call of a host function of the stored module",
+        sections: "01080260017F00600000 0216010873706563746573740970 72696E745F6933320000 03020101 07050101660001 0A080106004107 12000B",
+        out: "fuel left 98\n",
+    },
+    Run {
         name: "ref.null",
         sections: "0105016000017F 03020100 07050101660000 0A09010700D0701A41070B",
         out: "i32 7\nfuel left 97\n",
@@ -198,11 +213,12 @@ struct Refused {
 const F: &str = "call module.wasm f";
 
 #[rattlefmt::skip]
-static REFUSED: [Refused; 11] = [
+static REFUSED: [Refused; 12] = [
     Refused { name: "table.get of no table", words: F, sections: "0105016000017F 03020100 07050101660000 0A0B010900410025001A41070B", line: "refused 4 Invalid\n", status: 5 },
     Refused { name: "table.size of no table", words: F, sections: "0105016000017F 03020100 07050101660000 0A07010500FC10000B", line: "refused 4 Invalid\n", status: 5 },
     Refused { name: "elem.drop of no segment", words: F, sections: "0105016000017F 03020100 07050101660000 0A09010700FC0D0041070B", line: "refused 4 Invalid\n", status: 5 },
     Refused { name: "call_indirect through no table", words: F, sections: "0105016000017F 03020100 07050101660000 0A0901070041001100000B", line: "refused 4 Invalid\n", status: 5 },
+    Refused { name: "return_call of a function with other results", words: F, sections: "0108026000017F600000 0303020001 07050101660000 0A0902040012010B02000B", line: "refused 4 Invalid\n", status: 5 },
     Refused { name: "an import", words: F, sections: "0105016000017F 020701016101620000 03020100 07050101660000 0A0601040041070B", line: "refused 6 UnknownImport\n", status: 5 },
     Refused { name: "a memory of 1025 pages", words: F, sections: "0105016000017F 03020100 05040100 8108 07050101660000 0A0601040041070B", line: "refused 3 Limit\n", status: 5 },
     Refused { name: "an immutable global as a mutable one", words: F, sections: "0105016000017F 0218010873706563746573740A676C6F62616C5F693332037F01 03020100 07050101660000 0A0601040041070B", line: "refused 7 IncompatibleImport\n", status: 5 },

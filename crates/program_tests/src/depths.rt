@@ -1,4 +1,4 @@
-//! Calls that open frames up to the depth bound, and calls that trap.
+//! Calls that open frames up to the depth bound, calls that open none, and calls that trap.
 
 use crate::files::agrees;
 use crate::runs::{Ending, Row};
@@ -35,6 +35,28 @@ static PAST: [Row; 4] = [
 #[test]
 fn opens_no_frame_past_the_depth(rt: HostRuntime) {
     for row in &PAST {
+        assert!(rt; agrees(rt.alloc(), row) == Ok(true), "{}", row.words);
+    }
+}
+
+// Each call costs six steps, and the last one three.
+#[rattlefmt::skip]
+static LAST: [Row; 4] = [
+    Row {
+        words: "call down.wasm down 100000 --depth 1 --fuel 1000000",
+        ending: Ending::Out("i32 9\nfuel left 399997\n", 0),
+    },
+    Row {
+        words: "call down.wasm down 100000 --depth 1 --fuel 600002",
+        ending: Ending::Out("exhausted: fuel\nfuel left 0\n", 6),
+    },
+    Row { words: "call down.wasm down 0 --depth 1 --fuel 3", ending: Ending::Out("i32 9\nfuel left 0\n", 0) },
+    Row { words: "call down.wasm down 1 --depth 1 --fuel 8", ending: Ending::Out("exhausted: fuel\nfuel left 0\n", 6) },
+];
+
+#[test]
+fn tail_calls_open_no_frame(rt: HostRuntime) {
+    for row in &LAST {
         assert!(rt; agrees(rt.alloc(), row) == Ok(true), "{}", row.words);
     }
 }

@@ -12,7 +12,7 @@ struct File {
 }
 
 #[rattlefmt::skip]
-static FILES: [File; 15] = [
+static FILES: [File; 16] = [
     // {"commands":[]}
     File { path: "empty.json", bytes: Some("7B22636F6D6D616E6473223A5B5D7D") },
     // (func (export "add") (param i32 i32) (result i32) local.get 0 local.get 1 i32.add)
@@ -64,6 +64,14 @@ static FILES: [File; 15] = [
     File {
         path: "calling_itself.wasm",
         bytes: Some("0061736D01000000 0105016000017F 03020100 07050101660000 0A0601040010000B"),
+    },
+    // (func (export "down") (param i32) (result i32)
+    //   local.get 0 if local.get 0 i32.const 1 i32.sub return_call 0 end i32.const 9)
+    File {
+        path: "down.wasm",
+        bytes: Some(
+            "0061736D01000000 0106016001 7F017F 03020100 070801 04646F776E0000 0A120110 00 2000 0440 2000 4101 6B 1200 0B 4109 0B",
+        ),
     },
     // (func (export "f") (result i32) unreachable)
     File {

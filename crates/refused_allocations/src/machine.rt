@@ -199,6 +199,13 @@ impl Machine {
         Seen::Number(times)
     }
 
+    // Calls a function with a larger frame last, after an operand: that frame takes the place of the first one.
+    fn call_wide(&mut self, number: u32, left: &mut Vec<Left>) -> Seen {
+        self.may_exhaust(1, left);
+        self.spend(3);
+        Seen::Number(number)
+    }
+
     // Calls a function. A frame is opened before anything is spent.
     fn call(
         &mut self,
@@ -221,7 +228,8 @@ impl Machine {
             }
             Function::Through => self.call_entry(left),
             Function::Deep => self.call_deep(argument, left),
-            Function::Counts => self.call_host(0, left),
+            Function::Wide => self.call_wide(argument, left),
+            Function::Counts | Function::CountsLast => self.call_host(0, left),
             Function::Calls => self.call_host(1, left),
             Function::GrowMemory => self.grow_memory(argument, left),
             Function::GrowTable => self.grow_table(argument, left),

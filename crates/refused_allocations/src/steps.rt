@@ -20,10 +20,10 @@ impl Kind {
     pub fn text(self) -> &'static str {
         match self {
             Kind::Maker => {
-                "(type (func (result i32))) (memory 1 5) (table 2 8 funcref) (global (mut i32) i32.const 7) (func (result i32) i32.const 0 i32.load8_u) (func (result i32) i32.const 0 call_indirect (type 0)) (func global.get 0 i32.const 1 i32.add global.set 0) (func (param i32) (result i32) local.get 0 i32.eqz if (result i32) i32.const 0 else local.get 0 i32.const 1 i32.sub call 3 i32.const 1 i32.add end) (export \"memory\" (memory 0)) (export \"table\" (table 0)) (export \"g\" (global 0)) (export \"read\" (func 0)) (export \"through\" (func 1)) (export \"bump\" (func 2)) (export \"deep\" (func 3))"
+                "(type (func (result i32))) (memory 1 5) (table 2 8 funcref) (global (mut i32) i32.const 7) (func (result i32) i32.const 0 i32.load8_u) (func (result i32) i32.const 0 call_indirect (type 0)) (func global.get 0 i32.const 1 i32.add global.set 0) (func (param i32) (result i32) local.get 0 i32.eqz if (result i32) i32.const 0 else local.get 0 i32.const 1 i32.sub call 3 i32.const 1 i32.add end) (func (param i32) (result i32) local.get 0 return_call 5) (func (param i32) (result i32) (local i64 i64 i64 i64 i64 i64 i64 i64) local.get 0) (export \"memory\" (memory 0)) (export \"table\" (table 0)) (export \"g\" (global 0)) (export \"read\" (func 0)) (export \"through\" (func 1)) (export \"bump\" (func 2)) (export \"deep\" (func 3)) (export \"wide\" (func 4))"
             }
             Kind::User => {
-                "(import \"a\" \"memory\" (memory 1 5)) (import \"a\" \"table\" (table 2 8 funcref)) (import \"host\" \"count\" (func (result i32))) (func (result i32) call 0) (func (param i32) (result i32) local.get 0 memory.grow) (func (param i32) (result i32) ref.null func local.get 0 table.grow 0) (func i32.const 1 memory.grow drop) (elem (offset i32.const 0) func 1) (data (offset i32.const 0) \"x\") (start 4) (export \"counts\" (func 1)) (export \"grow_memory\" (func 2)) (export \"grow_table\" (func 3))"
+                "(import \"a\" \"memory\" (memory 1 5)) (import \"a\" \"table\" (table 2 8 funcref)) (import \"host\" \"count\" (func (result i32))) (func (result i32) call 0) (func (param i32) (result i32) local.get 0 memory.grow) (func (param i32) (result i32) ref.null func local.get 0 table.grow 0) (func i32.const 1 memory.grow drop) (func (result i32) return_call 0) (elem (offset i32.const 0) func 1) (data (offset i32.const 0) \"x\") (start 4) (export \"counts\" (func 1)) (export \"grow_memory\" (func 2)) (export \"grow_table\" (func 3)) (export \"counts_last\" (func 5))"
             }
             Kind::Caller => {
                 "(import \"b\" \"counts\" (func (result i32))) (import \"a\" \"table\" (table 2 8 funcref)) (func (result i32) call 0) (export \"calls\" (func 1))"
@@ -62,8 +62,12 @@ pub enum Function {
     Through,
     /// Calls itself as often as it is told.
     Deep,
+    /// Calls a function with a larger frame last.
+    Wide,
     /// Calls the host.
     Counts,
+    /// Calls the host last.
+    CountsLast,
     /// Calls that function of another instance.
     Calls,
     GrowMemory,
@@ -77,7 +81,9 @@ impl Function {
             Function::Read => "read",
             Function::Through => "through",
             Function::Deep => "deep",
+            Function::Wide => "wide",
             Function::Counts => "counts",
+            Function::CountsLast => "counts_last",
             Function::Calls => "calls",
             Function::GrowMemory => "grow_memory",
             Function::GrowTable => "grow_table",
@@ -87,8 +93,9 @@ impl Function {
     /// The kind of the modules that export it.
     pub fn exporter(self) -> Kind {
         match self {
-            Function::Read | Function::Through | Function::Deep => Kind::Maker,
-            Function::Counts | Function::GrowMemory | Function::GrowTable => Kind::User,
+            Function::Read | Function::Through | Function::Deep | Function::Wide => Kind::Maker,
+            Function::Counts | Function::CountsLast | Function::GrowMemory | Function::GrowTable =>
+                Kind::User,
             Function::Calls => Kind::Caller,
         }
     }
@@ -112,7 +119,7 @@ use Step::{Call, GetGlobal, Link, Load, Register, Script, SetFuel};
 
 /// The list: each step with what it is called.
 #[rattlefmt::skip]
-pub static STEPS: [(&str, Step); 25] = [
+pub static STEPS: [(&str, Step); 27] = [
     ("Load of a maker", Load(Kind::Maker)),
     ("Load of a user", Load(Kind::User)),
     ("Load of a caller", Load(Kind::Caller)),
@@ -125,11 +132,13 @@ pub static STEPS: [(&str, Step); 25] = [
     ("Call that reads the memory", Call(0, Function::Read, None)),
     ("Call through the table", Call(0, Function::Through, None)),
     ("Call of the host", Call(1, Function::Counts, None)),
+    ("Call of the host, last", Call(1, Function::CountsLast, None)),
     ("Call over instances", Call(2, Function::Calls, None)),
     ("Call that grows the memory", Call(1, Function::GrowMemory, Some(2))),
     ("Call that grows the memory too far", Call(1, Function::GrowMemory, Some(2))),
     ("Call that grows the table", Call(1, Function::GrowTable, Some(3))),
     ("Call that calls itself", Call(0, Function::Deep, Some(50))),
+    ("Call of a larger frame, last", Call(0, Function::Wide, Some(9))),
     ("GetGlobal", GetGlobal(0)),
     ("run_script", Script),
     ("Load behind the script", Load(Kind::Empty)),

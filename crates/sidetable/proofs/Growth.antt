@@ -93,6 +93,8 @@ module _ (t u : SideTables) (g : Grows t u) where
   transfer-kept transfer.Return n within = rw (entry-kept n within) refl
   transfer-kept transfer.Call n within = refl
   transfer-kept transfer.CallIndirect n within = rw (pair-kept n within) refl
+  transfer-kept transfer.ReturnCall n within = refl
+  transfer-kept transfer.ReturnCallIndirect n within = rw (pair-kept n within) refl
   transfer-kept transfer.Leave n within = absurd within
 
   transfer-within : (op : TransferInstruction) (n : ℕ) → IsTransferWithin t op n → IsTransferWithin u op n
@@ -109,6 +111,8 @@ module _ (t u : SideTables) (g : Grows t u) where
   transfer-within transfer.Return n within = entry-within n within
   transfer-within transfer.Call n within = within
   transfer-within transfer.CallIndirect n within = continued-within t.pairs.items u.pairs.items n g.pairs within
+  transfer-within transfer.ReturnCall n within = within
+  transfer-within transfer.ReturnCallIndirect n within = continued-within t.pairs.items u.pairs.items n g.pairs within
   transfer-within transfer.Leave n within = absurd within
 
   other-kept : (op : OtherInstruction) (n : ℕ) → IsOtherWithin t op n → other_op u op n ≡ other_op t op n

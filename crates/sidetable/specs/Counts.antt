@@ -3,7 +3,7 @@ use Rattle.sidetable.specs.declared.counts.Counts.{Counts}
 use Rattle.std.specs.Prelude.{ℕ, suc, ◌+◌, ◌-◌, List, length, Option, Some, None, slice_get}
 use Rattle.core_types.specs.declared.op.BlockType.{BlockType}
 use Rattle.core_types.specs.declared.op.ControlOp.{ControlOp}
-use Rattle.core_types.specs.declared.op.ControlOp.TheVariants.{Unreachable, Nop, Br, BrIf, Return, Call, CallIndirect}
+use Rattle.core_types.specs.declared.op.ControlOp.TheVariants.{Unreachable, Nop, Br, BrIf, Return, Call, CallIndirect, ReturnCall, ReturnCallIndirect}
 use Rattle.core_types.specs.declared.op.ReferenceOp.{ReferenceOp}
 use Rattle.core_types.specs.declared.op.ReferenceOp.TheVariants as reference
 use Rattle.core_types.specs.declared.op.ParametricOp.{ParametricOp}
@@ -89,6 +89,8 @@ control_counts s (BrIf label) = Some (counts 1 0)
 control_counts s Return = None
 control_counts s (Call x) = Some (counts_of_type (slice_get s.functions x))
 control_counts s (CallIndirect ty x) = Some (with_i32_counts (counts_of_type (slice_get s.types ty)))
+control_counts s (ReturnCall x) = None
+control_counts s (ReturnCallIndirect ty x) = None
 
 abbrev pub counts_of : Signatures → PlainOp → Option Counts
 counts_of s (Control op) = control_counts s op

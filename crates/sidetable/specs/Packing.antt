@@ -149,6 +149,9 @@ transfer_op t transfer.Return n = Return (entry_of_number t n)
 transfer_op t transfer.Call n = Plain (plain.Control (control.Call n))
 transfer_op t transfer.CallIndirect n =
     Plain (plain.Control (control.CallIndirect (pair_of t n).first (pair_of t n).second))
+transfer_op t transfer.ReturnCall n = Plain (plain.Control (control.ReturnCall n))
+transfer_op t transfer.ReturnCallIndirect n =
+    Plain (plain.Control (control.ReturnCallIndirect (pair_of t n).first (pair_of t n).second))
 -- stands for no operation, and is none within
 transfer_op t transfer.Leave n = Plain (plain.Control control.Nop)
 
@@ -218,6 +221,8 @@ IsTransferWithin t transfer.BrTable n =
 IsTransferWithin t transfer.Return n = n < length t.entries.items
 IsTransferWithin t transfer.Call n = Unit {0}
 IsTransferWithin t transfer.CallIndirect n = n < length t.pairs.items
+IsTransferWithin t transfer.ReturnCall n = Unit {0}
+IsTransferWithin t transfer.ReturnCallIndirect n = n < length t.pairs.items
 IsTransferWithin t transfer.Leave n = ⊥
 
 abbrev pub IsOtherWithin : SideTables → OtherInstruction → (number : ℕ) → Type 0

@@ -138,7 +138,11 @@ fn control(s: &ModuleTypes<'_>, op: ControlOp) -> Option<Counts>
     ensures { result ≡ control_counts (signatures_of s.now) op }
 {
     match op {
-        ControlOp::Unreachable | ControlOp::Br(_) | ControlOp::Return => None,
+        ControlOp::Unreachable
+        | ControlOp::Br(_)
+        | ControlOp::Return
+        | ControlOp::ReturnCall(_)
+        | ControlOp::ReturnCallIndirect { .. } => None,
         ControlOp::Nop => Some(Counts { takes: 0, gives: 0 }),
         ControlOp::BrIf(_) => Some(Counts { takes: 1, gives: 0 }),
         ControlOp::Call(index) => Some(of_function(s, index)),

@@ -40,6 +40,15 @@ fn control(
                 tables.push_pair(ty, table)?,
             )
         }
+        ControlOp::ReturnCall(function) => {
+            PackedOp::Transfer(TransferInstruction::ReturnCall, function)
+        }
+        ControlOp::ReturnCallIndirect { ty, table } => {
+            PackedOp::Transfer(
+                TransferInstruction::ReturnCallIndirect,
+                tables.push_pair(ty, table)?,
+            )
+        }
     };
     Ok(packed)
 }

@@ -119,6 +119,8 @@ pub enum TransferInstruction {
     Return,
     Call,
     CallIndirect,
+    ReturnCall,
+    ReturnCallIndirect,
     /// Behind the last operation: the frame is left with so many results.
     Leave,
 }

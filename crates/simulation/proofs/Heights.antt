@@ -3,7 +3,7 @@ use Rattle.std.proofs.Common.{◌≡◌, ℕ, suc, ◌+◌, ◌-◌, ◌≤◌, 
 use Rattle.std.proofs.lemmas.List.{length-map}
 use Rattle.std.specs.Prelude.{Option, Some, None, slice_get}
 use Rattle.core_types.specs.declared.op.ControlOp.{ControlOp}
-use Rattle.core_types.specs.declared.op.ControlOp.TheVariants.{Unreachable, Nop, Br, BrIf, Return, Call, CallIndirect}
+use Rattle.core_types.specs.declared.op.ControlOp.TheVariants.{Unreachable, Nop, Br, BrIf, Return, Call, CallIndirect, ReturnCall, ReturnCallIndirect}
 use Rattle.core_types.specs.declared.op.ReferenceOp.{ReferenceOp}
 use Rattle.core_types.specs.declared.op.ReferenceOp.TheVariants as reference
 use Rattle.core_types.specs.declared.op.ParametricOp.{ParametricOp}
@@ -104,6 +104,8 @@ module _ (operands results : List OperandType) where
           let there : slice_get s.types y ≡ Some f = rw types at is in
           let first : length operands ≡ suc (length f.params) = ap length type.0 ∙ simp (length-map, length-append) (omega arith) in
           rw there (exactly (suc (length f.params)) (length f.results) first (ap length type.1 ∙ simp length-map))
+      control-counted (ReturnCall x) rule = tt
+      control-counted (ReturnCallIndirect y x) rule = tt
 
       pub counted : (op : PlainOp) → Rule context op operands results → Counted (counts_of s op) operands results
       counted (Control op) rule = control-counted op rule

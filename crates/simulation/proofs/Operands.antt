@@ -92,11 +92,9 @@ module _ (op : PlainOp) (g : Ghost) (cells : List ℕ) (at top : ℕ) (p : AtPla
     pub enough : length ts ≤ top
     pub inside : top ≤ length cells
 
-  pub operands-here : (s : FuncType) (ts : List ValType) → reverse s.params ≡ ts → (operands results between : List OperandType) → HasFuncType s operands results
-      → (f : Inner (here op g cells at top p)) → Frames operands results (known (reverse f.stack)) between → Operands ts
-  operands-here s ts params operands results between type f frames =
-      let (below, stack_is, between_is) = operands-on-top f.stack s operands results between type frames in
-      let typed : ValuesHaveTypes g.store p.values (ts ++ below) = subst (λ (us : List ValType). ValuesHaveTypes g.store p.values us) (stack_is ∙ ap (λ (us : List ValType). us ++ below) params) f.values in
+  -- Values of these types, the top first, on others.
+  pub operands-typed : (ts below : List ValType) → ValuesHaveTypes g.store p.values (ts ++ below) → Operands ts
+  operands-typed ts below typed =
       let zero_off : top - 0 ≡ top = omega arith in
       let inside = top-within _ cells at top p.runs in
       let high = pile-high _ cells at top p.runs in
@@ -112,3 +110,9 @@ module _ (op : PlainOp) (g : Ghost) (cells : List ℕ) (at top : ℕ) (p : AtPla
         enough = enough;
         inside = inside;
       }
+
+  pub operands-here : (s : FuncType) (ts : List ValType) → reverse s.params ≡ ts → (operands results between : List OperandType) → HasFuncType s operands results
+      → (f : Inner (here op g cells at top p)) → Frames operands results (known (reverse f.stack)) between → Operands ts
+  operands-here s ts params operands results between type f frames =
+      let (below, stack_is, between_is) = operands-on-top f.stack s operands results between type frames in
+      operands-typed ts below (subst (λ (us : List ValType). ValuesHaveTypes g.store p.values us) (stack_is ∙ ap (λ (us : List ValType). us ++ below) params) f.values)

@@ -56,7 +56,7 @@ module _ (units : ℕ) where
   label-costs store frame label (Traps cost trap) costs = costs
   label-costs store frame label other costs = absurd costs
 
-  labels-cost : (store : Store) (frame : Frame) (labels : List Label) (x : Configuration) → Costs units (next store frame x) → Costs units (next store frame (inside_labels labels x))
+  pub labels-cost : (store : Store) (frame : Frame) (labels : List Label) (x : Configuration) → Costs units (next store frame x) → Costs units (next store frame (inside_labels labels x))
   labels-cost store frame [] x costs = costs
   labels-cost store frame (label ∷ labels) x costs = labels-cost store frame labels (InLabel label x) (label-costs store frame label (next store frame x) costs)
 

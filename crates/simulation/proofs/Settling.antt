@@ -78,6 +78,8 @@ module _ (outermost : Entry) (entries : List Entry) (at : ℕ) (rest : Body) whe
   of-control control.Return = (rest, refl, refl)
   of-control (control.Call x) = (_, rest, refl, refl)
   of-control (control.CallIndirect y x) = (_, rest, refl, refl)
+  of-control (control.ReturnCall x) = (_, rest, refl, refl)
+  of-control (control.ReturnCallIndirect y x) = (_, rest, refl, refl)
 
   of-op : (op : PlainOp) → BeginsWith outermost entries at (flat_op outermost entries op) (Then op rest)
   of-op (plain.Control op) = of-control op

@@ -1,6 +1,6 @@
 -- What calls find, by an index or through a table, and what calls of host functions lead to.
 use Rattle.std.specs.Prelude.{◌≡◌, ℕ, suc, ◌+◌, ◌-◌, ◌≤◌, List, [], ◌∷◌, ◌++◌, length, map, reverse, take, drop, get_or, Option, Some, None, slice_get, true, false}
-use Rattle.core_types.specs.declared.op.ControlOp.TheVariants.{Call, CallIndirect}
+use Rattle.core_types.specs.declared.op.ControlOp.TheVariants.{Call, CallIndirect, ReturnCall, ReturnCallIndirect}
 use Rattle.core_types.specs.declared.op.PlainOp.{PlainOp}
 use Rattle.core_types.specs.declared.op.PlainOp.TheVariants.{Control}
 use Rattle.core_types.specs.declared.outcome.Trap.TheVariants.{IndirectType, UndefinedElement, UninitializedElement}
@@ -10,9 +10,10 @@ use Rattle.core_types.specs.declared.types.FuncType.{FuncType}
 use Rattle.core_types.specs.declared.types.ValType.{ValType}
 use Rattle.core_types.specs.declared.types.ValType.TheVariants.{I32}
 use Rattle.meaning.specs.structure.Bodies.{Body, Then}
-use Rattle.meaning.specs.execution.Configurations.{answered}
+use Rattle.meaning.specs.execution.Configurations.{Activation, Frame, InFrame, Running, answered}
 use Rattle.meaning.specs.execution.Hosts.{with_lent_bytes}
-use Rattle.meaning.specs.execution.Instructions.{CallsHost, call_function, lent_memory, next, step_instruction}
+use Rattle.meaning.specs.execution.Instructions.{CallsHost, TailCalls, call_function, lent_memory, next, step_instruction}
+use Rattle.meaning.specs.execution.Runs.{price}
 use Rattle.meaning.specs.execution.Store.{FunctionInstance, InHost, Store, instance_of}
 use Rattle.meaning.specs.execution.Tables.{TableInstance}
 use Rattle.meaning.specs.soundness.Values.{ValuesHaveTypes}
@@ -23,7 +24,6 @@ use Rattle.sidetable.specs.Counts.{counts, counts_of}
 use Rattle.sidetable.specs.Flat.{Plain}
 use Rattle.cells.specs.Cells.{IsCellOf, cell_of, values_of}
 use Rattle.simulation.specs.Instructions.{IsTrapped}
-use Rattle.simulation.specs.Operations.{IsDear}
 use Rattle.simulation.specs.Outcomes.{HasOperands, operand_cells}
 use Rattle.simulation.specs.Runs.{Ghost, Holds, IsBefore, IsSameFrame, Runs, StepsIn, config_of, frame_of, place_of}
 use Rattle.simulation.specs.Settling.{in_frame}
@@ -31,8 +31,8 @@ use Rattle.simulation.specs.Tables.{HasTable}
 
 -- ---- a call
 
--- Before a call, once labels were left: its arguments lie below a height, other operands above it.
-pub record IsCalling (op : PlainOp) (address : ℕ) (function : FunctionInstance) (g : Ghost)
+-- Before a call, once labels were left: the function is there, and its arguments lie below a height, other operands above it.
+pub record ReachesCall (op : PlainOp) (address : ℕ) (function : FunctionInstance) (g : Ghost)
     (cells : List ℕ) (at top height : ℕ) : Type 0 where
   pub new : Ghost
   pub same : IsSameFrame g new
@@ -53,54 +53,118 @@ pub record IsCalling (op : PlainOp) (address : ℕ) (function : FunctionInstance
   pub typed : ValuesHaveTypes new.store values (reverse function.ty.params ++ below)
   pub enough : length function.ty.params ≤ length values
   pub operands : HasOperands new cells height function.ty.params
-  pub counted : counts_of new.code.signatures op ≡
-      Some (counts (over + length function.ty.params) (length function.ty.results))
+
+-- The call opens a frame above this one, or its results take the place of its arguments.
+pub record IsCalling (op : PlainOp) (address : ℕ) (function : FunctionInstance) (g : Ghost)
+    (cells : List ℕ) (at top height : ℕ) : Type 0 where
+  pub reached : ReachesCall op address function g cells at top height
+  pub counted : counts_of reached.new.code.signatures op ≡
+      Some (counts (reached.over + length function.ty.params) (length function.ty.results))
   -- with results of the function's type it goes on behind the instruction
-  pub goes_on : (results : List Val) → ValuesHaveTypes new.store results function.ty.results
-      → ConfigurationHasType new.store (place_of new)
-      (in_frame (reverse results ++ drop (length function.ty.params) values) new.labels rest)
-      new.results
+  pub goes_on : (results : List Val)
+      → ValuesHaveTypes reached.new.store results function.ty.results
+      → ConfigurationHasType reached.new.store (place_of reached.new)
+      (in_frame (reverse results ++ drop (length function.ty.params) reached.values)
+      reached.new.labels reached.rest) reached.new.results
   -- what it does is the call
-  pub step : step_instruction new.store (frame_of new) op new.values rest ≡
-      call_function 1 new.store (lent_memory new.store (frame_of new)) (Some function) values rest
+  pub step : step_instruction reached.new.store (frame_of reached.new) op reached.new.values
+      reached.rest
+      ≡ call_function 1 reached.new.store (lent_memory reached.new.store (frame_of reached.new))
+      (Some function) reached.values reached.rest
+
+-- A tail call: the function gives the results of this frame.
+pub record IsTailCalling (op : PlainOp) (address : ℕ) (function : FunctionInstance) (g : Ghost)
+    (cells : List ℕ) (at top height : ℕ) : Type 0 where
+  pub reached : ReachesCall op address function g cells at top height
+  pub results : function.ty.results ≡ reached.new.results
+  pub step : step_instruction reached.new.store (frame_of reached.new) op reached.new.values
+      reached.rest
+      ≡ TailCalls (lent_memory reached.new.store (frame_of reached.new)) function reached.values
 
 -- ---- what is called
 
--- call: the function under an index is there.
+-- Whatever waits around the frame, the next step costs one unit of fuel, once labels were left.
+pub record CostsAround (g : Ghost) (cells : List ℕ) (at top : ℕ) : Type 0 where
+  pub new : Ghost
+  pub same : IsSameFrame g new
+  pub store : new.store ≡ g.store
+  pub steps : (fuel : ℕ) → StepsIn g.store (frame_of g) (config_of g) fuel g.store (frame_of new)
+      (config_of new) fuel
+  pub runs : Runs new cells at top
+  pub price_is : (outer : Frame) (activation : Activation)
+      → price (next new.store outer (InFrame activation (frame_of new) (config_of new))) ≡ 1
+
+-- The function under an index is there.
+abbrev pub FindsFunction : Ghost → (x : ℕ) → (Called : (address : ℕ) → FunctionInstance → Type 0)
+    → Type 0
+FindsFunction g x Called =
+    (address : ℕ) × (function : FunctionInstance)
+    × (slice_get (instance_of g.store (Some g.instance)).functions x ≡ Some address)
+    × Called address function
+
+-- call, and return_call.
 abbrev pub CallsByName : Type 0
 CallsByName =
     (g : Ghost) (cells : List ℕ) (at top x : ℕ)
     → IsBefore (Plain (Control (Call x))) g cells at top
-    → (address : ℕ) × (function : FunctionInstance)
-    × (slice_get (instance_of g.store (Some g.instance)).functions x ≡ Some address)
-    × IsCalling (Control (Call x)) address function g cells at top top
-    × IsDear g cells at top
+    → FindsFunction g x
+    (λ address function. IsCalling (Control (Call x)) address function g cells at top top)
+    × CostsAround g cells at top
+
+abbrev pub TailCallsByName : Type 0
+TailCallsByName =
+    (g : Ghost) (cells : List ℕ) (at top x : ℕ)
+    → IsBefore (Plain (Control (ReturnCall x))) g cells at top
+    → FindsFunction g x
+    (λ address function. IsTailCalling (Control (ReturnCall x)) address function g cells at top top)
+    × CostsAround g cells at top
 
 -- By an entry of a table: a trap, or a call of the function that it refers to.
-abbrev pub CallsEntry : Ghost → List ℕ → (at top type x : ℕ) → FuncType → Option Val → Type 0
-CallsEntry g cells at top type x wanted None = IsTrapped g cells at top UndefinedElement
-CallsEntry g cells at top type x wanted (Some (FuncRef None)) =
+abbrev pub CallsEntry : Ghost → List ℕ → (at top : ℕ)
+    → (Called : (address : ℕ) → FunctionInstance → Type 0) → FuncType → Option Val
+    → Type 0
+CallsEntry g cells at top Called wanted None = IsTrapped g cells at top UndefinedElement
+CallsEntry g cells at top Called wanted (Some (FuncRef None)) =
     IsTrapped g cells at top UninitializedElement
-CallsEntry g cells at top type x wanted (Some (FuncRef (Some address))) =
+CallsEntry g cells at top Called wanted (Some (FuncRef (Some address))) =
     (function : FunctionInstance) × (slice_get g.store.functions address ≡ Some function)
     × (is_same_function_type function.ty wanted ≡ false → IsTrapped g cells at top IndirectType)
-    × (is_same_function_type function.ty wanted ≡ true → (function.ty ≡ wanted)
-    × IsCalling (Control (CallIndirect type x)) address function g cells at top (top - 1))
-CallsEntry g cells at top type x wanted (Some v) = ⊥
+    × (is_same_function_type function.ty wanted ≡ true
+    → (function.ty ≡ wanted) × Called address function)
+CallsEntry g cells at top Called wanted (Some v) = ⊥
 
--- call_indirect: the topmost cell is the offset of the entry, above the arguments.
-abbrev pub CallsThroughTables : Type 0
-CallsThroughTables =
-    (g : Ghost) (cells : List ℕ) (at top type x : ℕ)
-    → IsBefore (Plain (Control (CallIndirect type x))) g cells at top
-    → (address : ℕ) × (t : TableInstance) × HasTable g x address t
+-- The table, and the type that the function has to be of, are there. The topmost cell is the offset of the entry, above the
+-- arguments.
+abbrev pub FindsTable : Ghost → List ℕ → (at top type x : ℕ)
+    → (Called : (address : ℕ) → FunctionInstance → Type 0)
+    → Type 0
+FindsTable g cells at top type x Called =
+    (address : ℕ) × (t : TableInstance) × HasTable g x address t
     × (wanted : FuncType)
     × (slice_get (instance_of g.store (Some g.instance)).types type ≡ Some wanted)
     × HasOperands g cells top (wanted.params ++ I32 ∷ [])
     × (1 ≤ top) × IsCellOf I32 (get_or cells (top - 1) 0)
     × ((entry : Option Val) → slice_get t.entries (get_or cells (top - 1) 0) ≡ entry
-    → CallsEntry g cells at top type x wanted entry)
-    × IsDear g cells at top
+    → CallsEntry g cells at top Called wanted entry)
+
+-- call_indirect, and return_call_indirect.
+abbrev pub CallsThroughTables : Type 0
+CallsThroughTables =
+    (g : Ghost) (cells : List ℕ) (at top type x : ℕ)
+    → IsBefore (Plain (Control (CallIndirect type x))) g cells at top
+    → FindsTable g cells at top type x
+    (λ address function. IsCalling (Control (CallIndirect type x)) address function g cells at top
+    (top - 1))
+    × CostsAround g cells at top
+
+abbrev pub TailCallsThroughTables : Type 0
+TailCallsThroughTables =
+    (g : Ghost) (cells : List ℕ) (at top type x : ℕ)
+    → IsBefore (Plain (Control (ReturnCallIndirect type x))) g cells at top
+    → FindsTable g cells at top type x
+    (λ address function. IsTailCalling (Control (ReturnCallIndirect type x)) address function g
+    cells at top (top - 1))
+    × CostsAround g cells at top
 
 -- ---- host functions
 
@@ -108,10 +172,10 @@ CallsThroughTables =
 abbrev pub behind_call : {op : PlainOp} → {address : ℕ} → {function : FunctionInstance}
     → {g : Ghost} → {cells : List ℕ} → {at top height : ℕ}
     → IsCalling op address function g cells at top height → Store → (results : List Val) → Ghost
-behind_call {function = function} c store results = record c.new {
+behind_call {function = function} c store results = record c.reached.new {
   store = store;
-  values = reverse results ++ drop (length function.ty.params) c.values;
-  rest = c.rest;
+  values = reverse results ++ drop (length function.ty.params) c.reached.values;
+  rest = c.reached.rest;
 }
 
 -- The call of a host function: its arguments are cells, and so are its results in their place.
@@ -119,18 +183,18 @@ pub record IsHostCall (op : PlainOp) (address : ℕ) (function : FunctionInstanc
     (cells : List ℕ) (at top height number : ℕ)
     (c : IsCalling op address function g cells at top height) : Type 0 where
   -- the cells are read at its parameters' types
-  pub calls : next c.new.store (frame_of c.new) (config_of c.new) ≡
-      CallsHost 1 number (lent_memory c.new.store (frame_of c.new))
+  pub calls : next c.reached.new.store (frame_of c.reached.new) (config_of c.reached.new) ≡
+      CallsHost 1 number (lent_memory c.reached.new.store (frame_of c.reached.new))
       (values_of function.ty.params (operand_cells cells height (length function.ty.params)))
-      (in_frame (drop (length function.ty.params) c.values) c.new.labels c.rest)
+      (in_frame (drop (length function.ty.params) c.reached.values) c.reached.new.labels c.reached.rest)
   pub answer : (store' : Store) (results : List Val)
       → answered results
-      (in_frame (drop (length function.ty.params) c.values) c.new.labels c.rest) ≡
+      (in_frame (drop (length function.ty.params) c.reached.values) c.reached.new.labels c.reached.rest) ≡
       config_of (behind_call c store' results)
   -- it goes on at the next place, in a store that follows
   pub goes_on : (store' : Store) (results : List Val) → StoreIsValid store'
-      → Follows c.new.store store' → store'.instances ≡ c.new.store.instances
-      → ValuesHaveTypes c.new.store results function.ty.results
+      → Follows c.reached.new.store store' → store'.instances ≡ c.reached.new.store.instances
+      → ValuesHaveTypes c.reached.new.store results function.ty.results
       → (cells' : List ℕ) (next_at next_top : ℕ)
       → take next_top cells' ≡
       take (height - length function.ty.params) cells ++ map cell_of results
@@ -146,6 +210,19 @@ CallsReachHosts =
     → (c : IsCalling op address function g cells at top height)
     → function.implementation ≡ InHost number
     → IsHostCall op address function g cells at top height number c
+
+-- A tail call of one takes its arguments from the cells, too, whatever waits around the frame. Its results take the frame's place.
+abbrev pub TailCallsReachHosts : Type 0
+TailCallsReachHosts =
+    (op : PlainOp) (address : ℕ) (function : FunctionInstance) (g : Ghost) (cells : List ℕ)
+    (at top height number : ℕ)
+    → (c : IsTailCalling op address function g cells at top height)
+    → function.implementation ≡ InHost number → (outer : Frame) (activation : Activation)
+    → next c.reached.new.store outer
+    (InFrame activation (frame_of c.reached.new) (config_of c.reached.new))
+    ≡ CallsHost 1 number (lent_memory c.reached.new.store (frame_of c.reached.new))
+    (values_of function.ty.params (operand_cells cells height (length function.ty.params)))
+    (Running activation.values activation.rest)
 
 -- Other bytes where a host function is lent some leave functions and instances as they are.
 abbrev pub ChangesLentBytes : Type 0

@@ -8,7 +8,7 @@ use Rattle.core_types.specs.declared.types.FuncType.{FuncType}
 use Rattle.core_types.specs.declared.types.ValType.{ValType}
 use Rattle.meaning.specs.structure.Bodies.{Body, Empty, Then}
 use Rattle.meaning.specs.execution.Configurations.{Activation, Frame, Label}
-use Rattle.meaning.specs.execution.Instructions.{Goes, Opens, call_function, frame_of, function_at, next, step_instruction}
+use Rattle.meaning.specs.execution.Instructions.{Goes, Grows, Opens, TailCalls, call_function, frame_of, function_at, next, step_instruction}
 use Rattle.meaning.specs.execution.Layers.{AroundFrame, AroundLabel, Layer, outermost, plug}
 use Rattle.meaning.specs.execution.Store.{Code, FunctionInstance, InCode, Store, instance_of}
 use Rattle.meaning.specs.soundness.Values.{ValuesHaveTypes}
@@ -32,33 +32,6 @@ activation_of arity values rest = record { arity = arity; values = values; rest 
 abbrev pub opened_in : (arity : ℕ) → List Val → Body → Frame → List Label → List Layer → List Layer
 opened_in arity values rest frame labels layers =
     AroundFrame (activation_of arity values rest) frame ∷ around labels layers
-
--- Before a call of the function under an index, once labels were left: the function is there and valid, and its arguments lie
--- on top.
-pub record CallsFunction (x : ℕ) (g : Ghost) (cells : List ℕ) (at top : ℕ) : Type 0 where
-  pub new : Ghost
-  pub same : IsSameFrame g new
-  pub store : new.store ≡ g.store
-  pub steps : (fuel : ℕ) → StepsIn g.store (frame_around g) (config_of g) fuel g.store
-      (frame_around new) (config_of new) fuel
-  pub runs : Runs new cells at top
-  pub rest : Body
-  pub rest_is : new.rest ≡ Then (plain.Control (control.Call x)) rest
-  pub address : ℕ
-  pub function : FunctionInstance
-  pub named : slice_get (instance_of new.store (Some new.instance)).functions x ≡ Some address
-  pub there : slice_get new.store.functions address ≡ Some function
-  pub valid : ImplementationIsValid new.store function.ty function.implementation
-  pub below : List ValType
-  pub typed : ValuesHaveTypes new.store new.values (reverse function.ty.params ++ below)
-  pub enough : length function.ty.params ≤ length new.values
-
--- Before a call the function is there, and without a unit of fuel it lacks fuel.
-abbrev pub CallsFindFunctions : Type 0
-CallsFindFunctions =
-    (g : Ghost) (cells : List ℕ) (at top : ℕ) (x : ℕ)
-    → IsBefore (Plain (plain.Control (control.Call x))) g cells at top
-    → CallsFunction x g cells at top × IsDear g cells at top
 
 -- What calls and returns do to the whole.
 pub record FramesComeAndGo : Type 0 where
@@ -104,3 +77,17 @@ pub record FramesComeAndGo : Type 0 where
       (plug (opened_in arity under behind outer waiting layers) own (in_frame values [] Empty))
       ≡ Goes 0 store (outermost layers outer)
       (plug layers outer (in_frame (values ++ under) waiting behind))
+  -- a tail call of a function in code puts a frame around its body in the place of its own
+  pub replaced : (store : Store) (layers : List Layer) (outer own : Frame) (arity : ℕ)
+      (under values others : List Val) (behind : Body) (op : PlainOp) (lent : Option ℕ)
+      (t : FuncType) (instance : ℕ) (code : Code) (labels waiting : List Label) (rest : Body)
+      → step_instruction store own op values rest
+      ≡ TailCalls lent (record { ty = t; implementation = InCode instance code }) others
+      → length t.params ≤ length others
+      → next store (outermost layers outer)
+      (plug (opened_in arity under behind outer waiting layers) own
+      (in_frame values labels (Then op rest)))
+      ≡ Grows 1 store (outermost layers outer)
+      (plug (opened_in (length t.results) under behind outer waiting layers)
+      (frame_of t instance code others)
+      (in_frame [] (function_label (length t.results) ∷ []) code.body))

@@ -1,8 +1,8 @@
 //! Laws of flat code over cells.
 
 ghost use Rattle.simulation.specs.Bulk.{CopiesMemory, DropsData, FillsMemory, GrowsMemory, InitializesMemory};
-ghost use Rattle.simulation.specs.Callees.{CallsByName, CallsReachHosts, CallsThroughTables, ChangesLentBytes};
-ghost use Rattle.simulation.specs.Calls.{CallsFindFunctions, FramesComeAndGo};
+ghost use Rattle.simulation.specs.Callees.{CallsByName, CallsReachHosts, CallsThroughTables, ChangesLentBytes, TailCallsByName, TailCallsReachHosts, TailCallsThroughTables};
+ghost use Rattle.simulation.specs.Calls.{FramesComeAndGo};
 ghost use Rattle.simulation.specs.Entries.{CalleesAreEntered, CodeEnds};
 ghost use Rattle.simulation.specs.Memories.{LoadsNumber, MeasuresMemory, StoresNumber};
 ghost use Rattle.simulation.specs.Numbers.{ComputesFromOne, ComputesFromTwo, PutsI32, PutsI64};
@@ -120,21 +120,21 @@ pub fn bulk_instructions_are_steps()
     ensures drops_data { DropsData }
 {}
 
-/// Law: before a call the function is there and valid, and its arguments lie on top.
-pub fn calls_find_functions()
-    ensures { CallsFindFunctions }
-{}
-
-/// Law: so it is for calls by an index or through a table, of host functions, too; through a table a call fails where it finds no
-/// function of the wanted type.
+/// Law: before a call, by an index or through a table, the function is there and valid, of host functions, too, and its arguments are on
+/// top; through a table a call fails where it finds no function of the wanted type. So it is for tail calls, whose function gives the
+/// results of the frame.
 pub fn callees_are_found()
     ensures by_name { CallsByName }
     ensures through_tables { CallsThroughTables }
+    ensures by_name_last { TailCallsByName }
+    ensures through_tables_last { TailCallsThroughTables }
 {}
 
-/// Law: a call of a host function takes its arguments from the cells, and with its results the code goes on behind it.
+/// Law: a call of a host function takes its arguments from the cells, and with its results the code goes on behind it; a tail call takes
+/// them so, too.
 pub fn hosts_are_called()
     ensures calls_reach_hosts { CallsReachHosts }
+    ensures tail_calls_reach_hosts { TailCallsReachHosts }
     ensures changes_lent_bytes { ChangesLentBytes }
 {}
 

@@ -5,7 +5,7 @@ use Rattle.core_types.specs.declared.outcome.Val.{Val}
 use Rattle.core_types.specs.declared.types.GlobalType.{GlobalType}
 use Rattle.core_types.specs.declared.types.ValType.{ValType}
 use Rattle.meaning.specs.execution.Configurations.{Configuration, Frame, no_frame}
-use Rattle.meaning.specs.execution.Instructions.{Next, Goes, Grows, Opens, CallsHost, Traps, Branches, Returns, Over, NotReady, next}
+use Rattle.meaning.specs.execution.Instructions.{Next, Goes, Grows, Opens, CallsHost, Traps, Branches, Returns, TailCalls, Over, NotReady, next}
 use Rattle.meaning.specs.execution.Runs.{Answer, Ending, IsEnd, IsReady, IsStep, NoHosts, Run, State, Steps, none, one_more, goes, grows, opens, calls, values_left, trapped, host_trapped, no_fuel, no_depth, no_memory, end, step}
 use Rattle.meaning.specs.execution.Store.{DataInstance, FunctionInstance, GlobalInstance, ModuleInstance, Store}
 use Rattle.meaning.specs.execution.Tables.{ElementInstance}
@@ -71,6 +71,7 @@ module _ (frame : Frame) (place : Place) (out : IsOutside frame place) where
   good-goes-on store results (Traps cost trap) fine = inr tt
   good-goes-on store results (Branches label values) (types, named, on_top) = let none : slice_get [] label ≡ Some types = rw out.labels at named in absurd cc
   good-goes-on store results (Returns values) (types, named, on_top) = let none : None ≡ Some types = rw out.results at named in absurd cc
+  good-goes-on store results (TailCalls lent f values) (address, is, named, on_top) = let none : None ≡ Some f.ty.results = rw out.results at named in absurd cc
   good-goes-on store results (Over values) fine = inl tt
   good-goes-on store results NotReady fine = absurd fine
 

@@ -4,7 +4,7 @@ use Rattle.std.proofs.lemmas.List.{append-nil, length-append, length-reverse, ma
 use Rattle.std.proofs.lemmas.Option.{slice_get_cases}
 use Rattle.core_types.specs.declared.op.BlockType.{BlockType}
 use Rattle.core_types.specs.declared.op.ControlOp.{ControlOp}
-use Rattle.core_types.specs.declared.op.ControlOp.TheVariants.{Unreachable, Nop, Br, BrIf, Return, Call, CallIndirect}
+use Rattle.core_types.specs.declared.op.ControlOp.TheVariants.{Unreachable, Nop, Br, BrIf, Return, Call, CallIndirect, ReturnCall, ReturnCallIndirect}
 use Rattle.core_types.specs.declared.op.PlainOp.{PlainOp}
 use Rattle.core_types.specs.declared.op.PlainOp.TheVariants.{Control, BrTable, Reference, Parametric, SelectTyped, Variable, Table, Memory, Numeric, I32Const, I64Const}
 use Rattle.core_types.specs.declared.outcome.Trap.TheVariants.{IndirectType}
@@ -20,8 +20,8 @@ use Rattle.core_types.specs.declared.types.ValType.{ValType}
 use Rattle.core_types.specs.declared.types.ValType.TheVariants as ty
 use Rattle.meaning.specs.structure.Bodies.{Body, Empty, Then, Nested, IfElse, Kind, BlockKind, LoopKind, IfKind}
 use Rattle.meaning.specs.execution.Configurations.{Frame, InLabel, Running, continue_with}
-use Rattle.meaning.specs.execution.Effects.{Done, instruction_cost, memory_or_data_effect, numeric_effect, parametric_effect, reference_effect, select_operand, table_or_elements_effect, variable_effect}
-use Rattle.meaning.specs.execution.Instructions.{Goes, NotReady, Traps, call_entry, call_function, call_of_type, choose_body, continuation_of, enter_label, label_of, step_instruction, step_sequence}
+use Rattle.meaning.specs.execution.Effects.{Done, instruction_cost, memory_or_data_effect, numeric_effect, parametric_effect, reference_effect, select_operand, table_at, table_or_elements_effect, variable_effect}
+use Rattle.meaning.specs.execution.Instructions.{Next, Goes, NotReady, TailCalls, Traps, call_entry, call_function, call_of_type, call_through, choose_body, continuation_of, enter_label, label_of, lent_memory, step_instruction, step_sequence}
 use Rattle.meaning.specs.execution.Store.{FunctionInstance, Store, instance_of}
 use Rattle.meaning.specs.soundness.Values.{ValueHasType, ValuesHaveTypes}
 use Rattle.meaning.specs.validation.Context.{with_label}
@@ -45,23 +45,26 @@ use Rattle.soundness.proofs.Values.{All-at, values-length, values-parts}
 use Rattle.soundness.proofs.Variables.{variable-works}
 
 module _ (store : Store) (valid : StoreIsValid store) (place : Place) (frame : Frame) (own : FrameHasPlace store frame place) (results : List ValType) where
-  -- ---- indirect calls
+  -- ---- calls of functions of a table
 
-  module _ (f : FuncType) (values : List Val) (below : List ValType) (typed : ValuesHaveTypes store values (reverse f.params ++ below))
-      (rest : Body) (runs : RunsOn store place rest (reverse f.results ++ below) results) (lent : Option ℕ) where
-    of-type : (address : ℕ) → address < length store.functions → IsGood store place results (call_of_type store lent f (slice_get store.functions address) values rest)
+  -- What is done with a function of the store that has this type.
+  abbrev Calls : FuncType → (call : FunctionInstance → Next) → Type 0
+  Calls f call = (address : ℕ) (g : FunctionInstance) → g.ty ≡ f → slice_get store.functions address ≡ Some g → IsGood store place results (call g)
+
+  module _ (f : FuncType) (call : FunctionInstance → Next) (calls : Calls f call) where
+    of-type : (address : ℕ) → address < length store.functions → IsGood store place results (call_of_type call f (slice_get store.functions address))
     of-type address inside = by (slice_get store.functions address) refl
       where
         tested : (g : FunctionInstance) → slice_get store.functions address ≡ Some g → (b : Bool) → is_same_function_type g.ty f ≡ b
-            → IsGood store place results (if b then call_function instruction_cost store lent (Some g) values rest else Traps instruction_cost IndirectType)
-        tested g is true same = function-called store valid place f values below typed rest results runs instruction_cost lent address g (same-function-type g.ty f same) is
+            → IsGood store place results (if b then call g else Traps instruction_cost IndirectType)
+        tested g is true same = calls address g (same-function-type g.ty f same) is
         tested g is false same = tt
 
-        by : (o : Option FunctionInstance) → slice_get store.functions address ≡ o → IsGood store place results (call_of_type store lent f o values rest)
+        by : (o : Option FunctionInstance) → slice_get store.functions address ≡ o → IsGood store place results (call_of_type call f o)
         by None is = elim (slice_get_cases store.functions address).1 [ inl w ↦ absurd cc | inr w ↦ let wrong : ⊥ = omega (arith, inside, w.0) in absurd wrong ]
         by (Some g) is = tested g is (is_same_function_type g.ty f) refl
 
-    of-entry : (entry : Option Val) → ((v : Val) → entry ≡ Some v → ValueHasType store v ty.FuncRef) → IsGood store place results (call_entry store lent f entry values rest)
+    of-entry : (entry : Option Val) → ((v : Val) → entry ≡ Some v → ValueHasType store v ty.FuncRef) → IsGood store place results (call_entry store call f entry)
     of-entry None fits = tt
     of-entry (Some (FuncRef None)) fits = tt
     of-entry (Some (FuncRef (Some address))) fits = of-type address (fits (FuncRef (Some address)) refl).1
@@ -71,15 +74,21 @@ module _ (store : Store) (valid : StoreIsValid store) (place : Place) (frame : F
 
   calls-through : (type x : ℕ) (f : FuncType) → slice_get (context_at store place).types type ≡ Some f → IsTable (context_at store place) x ref.FuncRef
       → (values : List Val) (below : List ValType) → ValuesHaveTypes store values (reverse (f.params ++ ty.I32 ∷ []) ++ below)
-      → (rest : Body) → RunsOn store place rest (reverse f.results ++ below) results → IsGood store place results (step_instruction store frame (Control (CallIndirect type x)) values rest)
-  calls-through type x f is (table_type, there, element) values below typed rest runs =
+      → (call : List Val → FunctionInstance → Next) → ((under : List Val) → ValuesHaveTypes store under (reverse f.params ++ below) → Calls f (call under))
+      → IsGood store place results (call_through store call (slice_get (instance_of store frame.instance).types type) (table_at store frame x) values)
+  calls-through type x f is (table_type, there, element) values below typed call calls =
       let (address, table, at, held, same) = types-found _ _ store.tables (instance_of store place.instance).tables x table_type (instance-valid store valid place.instance).tables there in
       let of_functions : table.ty.element ≡ ref.FuncRef = ap (λ (u : TableType). u.element) same ∙ element in
       let table_valid = All-at (TableIsValid store) store.tables address table held valid.tables in
       let (i, others, top, fits, left) = i32-on-top store values (reverse f.params ++ below) (rw (reverse-append f.params (ty.I32 ∷ [])) at typed) in
       rw (top, own.0, is, at, held)
-      (of-entry f others below left rest runs (slice_get (instance_of store place.instance).memories 0) (slice_get table.entries i)
+      (of-entry f (call others) (calls others left) (slice_get table.entries i)
       (λ v entry. subst (λ (u : RefType). ValueHasType store v (reference_type u)) of_functions (All-at (λ (w : Val). ValueHasType store w (reference_type table.ty.element)) table.entries i v entry table_valid.entries)))
+
+  -- A tail call of a function whose results are the frame's.
+  tail-called : (f : FuncType) → place.results ≡ Some f.results → (lent : Option ℕ) (values : List Val) (below : List ValType) → ValuesHaveTypes store values (reverse f.params ++ below)
+      → Calls f (λ g. TailCalls lent g values)
+  tail-called f is lent values below typed address g same held = (address, held, rw same is, (below, rw same typed))
 
   -- ---- blocks
 
@@ -148,7 +157,16 @@ module _ (store : Store) (valid : StoreIsValid store) (place : Place) (frame : F
         (function-called store valid place f values below (rw stack_is at typed) rest results (rw between_is at runs) instruction_cost (slice_get (instance_of store place.instance).memories 0) address g same held)
     controls (CallIndirect y x) (f, is, table, type) =
         let (below, stack_is, between_is) = operands-on-top stack (function_type (f.params ++ ty.I32 ∷ []) f.results) operands given between type frames in
-        calls-through y x f is table values below (rw stack_is at typed) rest (rw between_is at runs)
+        calls-through y x f is table values below (rw stack_is at typed) (λ under g. call_function instruction_cost store (lent_memory store frame) (Some g) under rest)
+        (λ under left. function-called store valid place f under below left rest results (rw between_is at runs) instruction_cost (lent_memory store frame))
+    controls (ReturnCall x) (f, below, there, same_results, operands_are) =
+        let (under, stack_is) = types-on-top stack operands given between frames below f.params operands_are in
+        let (address, g, at, held, same) = types-found _ _ store.functions (instance_of store place.instance).functions x f (instance-valid store valid place.instance).functions there in
+        rw (own.0, at, held) (tail-called f same_results (slice_get (instance_of store place.instance).memories 0) values under (rw stack_is at typed) address g same held)
+    controls (ReturnCallIndirect y x) (f, below, is, table, same_results, operands_are) =
+        let (under, stack_is) = types-on-top stack operands given between frames below (f.params ++ ty.I32 ∷ []) operands_are in
+        calls-through y x f is table values under (rw stack_is at typed) (λ others g. TailCalls (lent_memory store frame) g others)
+        (λ others left. tail-called f same_results (lent_memory store frame) others under left)
 
     pub instructions : (op : PlainOp) → Rule (context_at store place) op operands given → IsGood store place results (step_instruction store frame op values rest)
     instructions (Control op) rule = controls op rule

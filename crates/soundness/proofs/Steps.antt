@@ -1,12 +1,12 @@
 -- What is next for a typed configuration is good: labels, frames and calls from outside.
-use Rattle.std.proofs.Common.{◌≡◌, ℕ, zero, suc, ◌≤◌, List, [], ◌++◌, length, take, reverse, Option, None, refl, subst, sym, arith}
+use Rattle.std.proofs.Common.{◌≡◌, ℕ, zero, suc, ◌≤◌, List, [], ◌++◌, length, take, reverse, Option, Some, None, refl, subst, sym, arith}
 use Rattle.std.proofs.lemmas.List.{append-nil, length-append, length-reverse}
 use Rattle.core_types.specs.declared.outcome.Val.{Val}
 use Rattle.core_types.specs.declared.types.ValType.{ValType}
 use Rattle.meaning.specs.structure.Bodies.{Empty}
 use Rattle.meaning.specs.execution.Configurations.{Activation, Configuration, Frame, InFrame, InLabel, Invoking, Label, Running, answered, continue_with}
 use Rattle.meaning.specs.execution.Effects.{instruction_cost}
-use Rattle.meaning.specs.execution.Instructions.{Next, Goes, Grows, Opens, CallsHost, Traps, Branches, Returns, Over, NotReady, branch_to_label, next, step_in_frame, step_in_label}
+use Rattle.meaning.specs.execution.Instructions.{Next, Goes, Grows, Opens, CallsHost, Traps, Branches, Returns, TailCalls, Over, NotReady, branch_to_label, call_function, in_place, next, step_in_frame, step_in_label}
 use Rattle.meaning.specs.execution.Store.{Store}
 use Rattle.meaning.specs.soundness.Values.{ValuesHaveTypes}
 use Rattle.meaning.proofs.lemmas.Layers.{if-at-most}
@@ -19,7 +19,7 @@ use Rattle.soundness.proofs.Extension.{RunsOn-extended, functions-more}
 use Rattle.soundness.proofs.Sequences.{sequences}
 use Rattle.soundness.proofs.Values.{values-extended, values-joined, values-length, values-parts}
 
--- The values of the types on top, as a branch or a return keeps them.
+-- The values of the types on top, as a branch, a return or a tail call keeps them.
 module _ (store : Store) (kept : List Val) (types under : List ValType) (typed : ValuesHaveTypes store kept (reverse types ++ under)) where
   kept-typed : ValuesHaveTypes store (take (length types) kept) (reverse types)
   kept-typed = (rw (length-reverse types) at (values-parts store kept (reverse types) under typed)).0
@@ -75,11 +75,17 @@ module _ (store : Store) (valid : StoreIsValid store) (place : Place) (frame : F
         branched kept under (subst (λ (z : List ValType). ValuesHaveTypes store kept (reverse z ++ under)) (sym same) kept_values)
     labelled (Branches (suc further) kept) good = good
     labelled (Returns kept) good = good
+    labelled (TailCalls lent f kept) good = good
     labelled (Over values) values_typed =
         (Follows-same store, valid, own, (reverse given ++ stack, values-joined store values label.values (reverse given) stack values_typed typed, onward))
     labelled NotReady good = absurd good
 
   -- ---- frames
+
+  -- Where a call is good, so is one in place of a frame.
+  placed : (n : Next) → IsGood store place results n → IsGood store place results (in_place frame n)
+  placed (Opens cost new inside) (same, inner) = (rw same (Follows-same store), rw same valid, rw same own, inner)
+  placed other good = good
 
   module _ (activation : Activation) (inner_frame : Frame) (stack given locals : List ValType) (arity : activation.arity ≡ length given) (typed : ValuesHaveTypes store activation.values stack)
       (onward : RunsOn store place activation.rest (reverse given ++ stack) results) where
@@ -128,6 +134,14 @@ module _ (store : Store) (valid : StoreIsValid store) (place : Place) (frame : F
           own,
           (reverse given ++ stack, values-joined store (take (length given) kept) activation.values (reverse given) stack (kept-typed store kept given under values_typed) typed, onward),
         )
+    in-frame own_locals (TailCalls lent f kept) (address, is, named, (under, kept_values)) =
+        let same : given ≡ f.ty.results = cc in
+        let arguments = take (length f.ty.params) kept ++ activation.values in
+        let arguments_typed : ValuesHaveTypes store arguments (reverse f.ty.params ++ stack) =
+        values-joined store (take (length f.ty.params) kept) activation.values (reverse f.ty.params) stack (kept-typed store kept f.ty.params under kept_values) typed in
+        rw (if-at-most (length f.ty.params) (length kept) (in_place frame (call_function instruction_cost store lent (Some f) arguments activation.rest)) NotReady (kept-enough store kept f.ty.params under kept_values))
+        (placed (call_function instruction_cost store lent (Some f) arguments activation.rest)
+        (function-called store valid place f.ty arguments stack arguments_typed activation.rest results (subst (λ (z : List ValType). RunsOn store place activation.rest (reverse z ++ stack) results) same onward) instruction_cost lent address f refl is))
     in-frame own_locals (Over values) values_typed =
         (Follows-same store, valid, own, (reverse given ++ stack, values-joined store values activation.values (reverse given) stack values_typed typed, onward))
     in-frame own_locals NotReady good = absurd good

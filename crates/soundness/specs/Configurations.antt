@@ -6,7 +6,7 @@ use Rattle.core_types.specs.declared.types.FuncType.{FuncType}
 use Rattle.core_types.specs.declared.types.ValType.{ValType}
 use Rattle.meaning.specs.structure.Bodies.{Body}
 use Rattle.meaning.specs.execution.Configurations.{Configuration, Frame, InFrame, InLabel, Invoking, Running, answered, continue_with}
-use Rattle.meaning.specs.execution.Instructions.{Next, Goes, Grows, Opens, CallsHost, Traps, Branches, Returns, Over, NotReady, next}
+use Rattle.meaning.specs.execution.Instructions.{Next, Goes, Grows, Opens, CallsHost, Traps, Branches, Returns, TailCalls, Over, NotReady, next}
 use Rattle.meaning.specs.execution.Store.{FunctionInstance, InHost, Store}
 use Rattle.meaning.specs.soundness.Values.{ValuesHaveTypes}
 use Rattle.soundness.specs.Places.{Place, RunsOn, inside_frame, inside_label}
@@ -54,13 +54,14 @@ pub record HostCallIsGood (store : Store) (place : Place) (number : ℕ) (argume
   pub goes_on : (values : List Val) → ValuesHaveTypes store values t.results
       → ConfigurationHasType store place (answered values waiting) results
 
--- The values that a branch or a return is over: those of the types on top.
+-- The values that a branch, a return or a tail call is over: those of the types on top.
 abbrev pub HasOnTop : Store → List Val → (types : List ValType) → Type 0
 HasOnTop store values types =
     (stack : List ValType) × ValuesHaveTypes store values (reverse types ++ stack)
 
 -- What a configuration with these results must do next: step to one that has them, over a store that is valid and extended;
--- call a host function; trap; branch or return with what the label or the frame takes; or be over, with the results.
+-- call a host function; trap; branch or return with what the label or the frame takes; call a function of the store, whose results
+-- are the frame's, in place of the frame, with its arguments; or be over, with the results.
 abbrev pub IsGood : Store → Place → (results : List ValType) → Next → Type 0
 IsGood old place results (Goes cost store frame configuration) =
     Follows old store × StoreIsValid store × FrameHasPlace store frame place ×
@@ -77,6 +78,9 @@ IsGood old place results (Branches label values) =
     (types : List ValType) × (slice_get place.labels label ≡ Some types) × HasOnTop old values types
 IsGood old place results (Returns values) =
     (types : List ValType) × (place.results ≡ Some types) × HasOnTop old values types
+IsGood old place results (TailCalls lent function values) =
+    (address : ℕ) × (slice_get old.functions address ≡ Some function)
+    × (place.results ≡ Some function.ty.results) × HasOnTop old values function.ty.params
 IsGood old place results (Over values) = ValuesHaveTypes old values (reverse results)
 IsGood old place results NotReady = ⊥
 

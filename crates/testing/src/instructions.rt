@@ -54,6 +54,8 @@ br_table 0E labels
 return 0F
 call 10 index
 call_indirect 11 indirect
+return_call 12 index
+return_call_indirect 13 indirect
 drop 1A
 select 1B selection
 local.get 20 index

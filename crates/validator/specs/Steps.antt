@@ -1,9 +1,12 @@
 -- What one step does to the stacks.
-use Rattle.std.specs.Prelude.{◌≡◌, List, [], ◌∷◌, ◌++◌, Option, Result, IfErr, OnOk, length, map}
+use Rattle.std.specs.Prelude.{◌≡◌, ◌⊎◌, ℕ, List, [], ◌∷◌, ◌++◌, Option, Result, IfErr, OnOk, length, map}
 use Rattle.core_types.specs.declared.op.BlockType.{BlockType}
+use Rattle.core_types.specs.declared.op.ControlOp.{ControlOp}
+use Rattle.core_types.specs.declared.op.ControlOp.TheVariants.{Call, CallIndirect, ReturnCall, ReturnCallIndirect}
 use Rattle.core_types.specs.declared.op.Op.{Op}
 use Rattle.core_types.specs.declared.op.Op.TheVariants.{Plain}
 use Rattle.core_types.specs.declared.op.PlainOp.{PlainOp}
+use Rattle.core_types.specs.declared.op.PlainOp.TheVariants.{Control}
 use Rattle.core_types.specs.declared.types.FuncType.{FuncType}
 use Rattle.core_types.specs.declared.types.OperandType.{OperandType}
 use Rattle.meaning.specs.validation.Context.{Context}
@@ -95,3 +98,16 @@ abbrev pub StepsByFound : Stacks → Stacks → Option InstructionType → Resul
 StepsByFound old new found result =
     (lent : BodyContext) (o : PlainOp) → HasTypeOf lent o found
     → Steps lent old new (Plain o) result
+
+-- Both call the same function, or through the same table and type, and the second one does so as a tail call.
+abbrev pub IsTailCallOf : ControlOp → ControlOp → Type 0
+IsTailCallOf call tail =
+    ((x : ℕ) × (call ≡ Call x) × (tail ≡ ReturnCall x))
+    ⊎ ((type x : ℕ) × (call ≡ CallIndirect type x) × (tail ≡ ReturnCallIndirect type x))
+
+-- The answer of a step over the tail call of any call whose type was looked up.
+abbrev pub StepsByTailCall : BodyContext → Stacks → Stacks → Option InstructionType
+    → Result (Unit {0}) Fault → Type 0
+StepsByTailCall lent old new found result =
+    (call tail : ControlOp) → IsTailCallOf call tail → HasTypeOf lent (Control call) found
+    → Steps lent old new (Plain (Control tail)) result

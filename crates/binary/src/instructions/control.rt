@@ -30,6 +30,12 @@ pub fn read_control(
             let table = reader.u32()?;
             Ok(ControlOp::CallIndirect { ty, table })
         }
+        0x12 => Ok(ControlOp::ReturnCall(reader.u32()?)),
+        0x13 => {
+            let ty = reader.u32()?;
+            let table = reader.u32()?;
+            Ok(ControlOp::ReturnCallIndirect { ty, table })
+        }
         _ => Err(DecodeError::Unsupported(offset)),
     }
 }

@@ -4,7 +4,7 @@ use Rattle.std.proofs.lemmas.List.Elements.{All-weaker}
 use Rattle.core_types.specs.declared.op.BlockType.{BlockType}
 use Rattle.core_types.specs.declared.op.BlockType.TheVariants as block
 use Rattle.core_types.specs.declared.op.ControlOp.{ControlOp}
-use Rattle.core_types.specs.declared.op.ControlOp.TheVariants.{Unreachable, Nop, Br, BrIf, Return, Call, CallIndirect}
+use Rattle.core_types.specs.declared.op.ControlOp.TheVariants.{Unreachable, Nop, Br, BrIf, Return, Call, CallIndirect, ReturnCall, ReturnCallIndirect}
 use Rattle.core_types.specs.declared.op.MemoryOp.{MemoryOp}
 use Rattle.core_types.specs.declared.op.MemoryOp.TheVariants as memory
 use Rattle.core_types.specs.declared.op.PlainOp.{PlainOp}
@@ -45,6 +45,8 @@ module _ {a b : Context} (more : Carries a b) (operands results : List OperandTy
   control_extension Return (below, types, is, taken) = (below, types, more.results types is, taken)
   control_extension (Call x) (f, is, type) = (f, more.functions x f is, type)
   control_extension (CallIndirect y x) (f, is, there, type) = (f, more.types y f is, more.tables x FuncRef there, type)
+  control_extension (ReturnCall x) (f, below, is, same, taken) = (f, below, more.functions x f is, more.results f.results same, taken)
+  control_extension (ReturnCallIndirect y x) (f, below, is, there, same, taken) = (f, below, more.types y f is, more.tables x FuncRef there, more.results f.results same, taken)
 
   reference_extension : (op : ReferenceOp) → reference_rule a op operands results → reference_rule b op operands results
   reference_extension (reference.Null t) rule = rule

@@ -1,14 +1,14 @@
 -- What a configuration does inside of labels and frames is what the whole does.
 use Rattle.std.proofs.Common.{◌≡◌, ℕ, zero, ◌+◌, ◌<◌, ◌≤◌, List, [], ◌∷◌, ◌++◌, length, take, refl, ap, sym, ◌∙◌, add-suc, add-zero, suc-add, zero-add, arith}
 use Rattle.std.proofs.lemmas.Bool.{le-leb, leb-true}
-use Rattle.std.specs.Prelude.{Bool, Option, true, false, if◌then◌else◌, nat_le}
+use Rattle.std.specs.Prelude.{Bool, Option, Some, true, false, if◌then◌else◌, nat_le}
 use Rattle.core_types.specs.declared.outcome.Trap.{Trap}
 use Rattle.core_types.specs.declared.outcome.Val.{Val}
 use Rattle.meaning.specs.execution.Configurations.{Activation, Configuration, Frame, InFrame, InLabel, Label, Running, answered, continue_with, depth}
 use Rattle.meaning.specs.execution.Effects.{instruction_cost}
-use Rattle.meaning.specs.execution.Instructions.{Branches, CallsHost, Goes, Grows, NotReady, Opens, Returns, Traps, next, step_in_frame, step_in_label}
+use Rattle.meaning.specs.execution.Instructions.{Branches, CallsHost, Goes, Grows, NotReady, Opens, Returns, TailCalls, Traps, call_function, in_place, next, step_in_frame, step_in_label}
 use Rattle.meaning.specs.execution.Layers.{AroundFrame, AroundLabel, Layer, count_frames, outermost, plug}
-use Rattle.meaning.specs.execution.Store.{Store}
+use Rattle.meaning.specs.execution.Store.{FunctionInstance, Store}
 
 module _ {A : Type 0} (a b : ℕ) (x y : A) where
   pub if-at-most : a ≤ b → (if nat_le a b then x else y) ≡ x
@@ -120,3 +120,15 @@ module _ (store : Store) (frame : Frame) (kept : List Val) where
 
     pub return-lacks : length kept < activation.arity → next store outer (InFrame activation frame (in_labels labels x)) ≡ NotReady
     return-lacks lt = ap (step_in_frame store outer activation frame) (return-passes labels x e) ∙ if-more activation.arity (length kept) (Goes instruction_cost store outer (Running (take activation.arity kept ++ activation.values) activation.rest)) NotReady lt
+
+-- ---- tail calls
+
+module _ (store : Store) (frame : Frame) (lent : Option ℕ) (function : FunctionInstance) (kept : List Val) where
+  pub tail-call-passes : (labels : List Label) (x : Configuration) → next store frame x ≡ TailCalls lent function kept → next store frame (in_labels labels x) ≡ TailCalls lent function kept
+  tail-call-passes [] x e = e
+  tail-call-passes (label ∷ labels) x e = tail-call-passes labels (InLabel label x) (ap (step_in_label store frame label) e)
+
+  -- A tail call lands at its frame.
+  pub tail-call-lands : (labels : List Label) (activation : Activation) (outer : Frame) (x : Configuration) → next store frame x ≡ TailCalls lent function kept → length function.ty.params ≤ length kept
+      → next store outer (InFrame activation frame (in_labels labels x)) ≡ in_place outer (call_function instruction_cost store lent (Some function) (take (length function.ty.params) kept ++ activation.values) activation.rest)
+  tail-call-lands labels activation outer x e le = ap (step_in_frame store outer activation frame) (tail-call-passes labels x e) ∙ if-at-most (length function.ty.params) (length kept) _ NotReady le

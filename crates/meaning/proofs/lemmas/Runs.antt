@@ -4,7 +4,7 @@ use Rattle.std.specs.Prelude.{Option}
 use Rattle.core_types.specs.declared.outcome.Trap.TheVariants.{Host}
 use Rattle.core_types.specs.declared.outcome.Val.{Val}
 use Rattle.meaning.specs.execution.Configurations.{Configuration, Frame, answered, depth}
-use Rattle.meaning.specs.execution.Instructions.{Next, Goes, Grows, Opens, CallsHost, Traps, Branches, Returns, Over, NotReady, next}
+use Rattle.meaning.specs.execution.Instructions.{Next, Goes, Grows, Opens, CallsHost, Traps, Branches, Returns, TailCalls, Over, NotReady, next}
 use Rattle.meaning.specs.execution.Runs.{Answer, AsksForMemory, Results, HostTrap, Ending, WithValues, WithTrap, OutOfFuel, OutOfDepth, OutOfMemory, State, IsStep, goes, grows, opens, calls, IsEnd, values_left, trapped, host_trapped, no_fuel, no_depth, no_memory, Run, end, step, Steps, none, one_more, price}
 use Rattle.meaning.specs.execution.Store.{Store}
 
@@ -68,6 +68,7 @@ module _ {H : Type 0} (HostStep : List H → ℕ → Option ℕ → List Val →
         NoFuel cost ending last ⊎ ((cost ≤ at.fuel) × (ending ≡ WithTrap trap) × (last ≡ record at { fuel = at.fuel - cost }))
     EndsAt (Branches label values) ending last = ⊥
     EndsAt (Returns values) ending last = ⊥
+    EndsAt (TailCalls lent function values) ending last = ⊥
     EndsAt (Over values) ending last = (ending ≡ WithValues (reverse values)) × (last ≡ at)
     EndsAt NotReady ending last = ⊥
 
@@ -86,6 +87,7 @@ module _ {H : Type 0} (HostStep : List H → ℕ → Option ℕ → List Val →
     StepsAt (Traps cost trap) new configuration' = ⊥
     StepsAt (Branches label values) new configuration' = ⊥
     StepsAt (Returns values) new configuration' = ⊥
+    StepsAt (TailCalls lent function values) new configuration' = ⊥
     StepsAt (Over values) new configuration' = ⊥
     StepsAt NotReady new configuration' = ⊥
 
@@ -97,6 +99,7 @@ module _ {H : Type 0} (HostStep : List H → ℕ → Option ℕ → List Val →
     without-fuel (Traps cost trap) lt e l = inl (lt, e, l)
     without-fuel (Branches label values) lt e l = absurd (omega (arith, lt))
     without-fuel (Returns values) lt e l = absurd (omega (arith, lt))
+    without-fuel (TailCalls lent function values) lt e l = absurd (omega (arith, lt))
     without-fuel (Over values) lt e l = absurd (omega (arith, lt))
     without-fuel NotReady lt e l = absurd (omega (arith, lt))
 
@@ -146,6 +149,7 @@ module _ {H : Type 0} (HostStep : List H → ℕ → Option ℕ → List Val →
     ends-agree (Traps cost trap) (inr (le, e, s)) (inr (le', f, t)) = (e ∙ sym f, s ∙ sym t)
     ends-agree (Branches label values) a b = absurd a
     ends-agree (Returns values) a b = absurd a
+    ends-agree (TailCalls lent function values) a b = absurd a
     ends-agree (Over values) (e, s) (f, t) = (e ∙ sym f, s ∙ sym t)
     ends-agree NotReady a b = absurd a
 
@@ -160,6 +164,7 @@ module _ {H : Type 0} (HostStep : List H → ℕ → Option ℕ → List Val →
     steps-agree (Traps cost trap) a b = absurd a
     steps-agree (Branches label values) a b = absurd a
     steps-agree (Returns values) a b = absurd a
+    steps-agree (TailCalls lent function values) a b = absurd a
     steps-agree (Over values) a b = absurd a
     steps-agree NotReady a b = absurd a
 
@@ -174,6 +179,7 @@ module _ {H : Type 0} (HostStep : List H → ℕ → Option ℕ → List Val →
     no-end (Traps cost trap) s t c e a b = a
     no-end (Branches label values) s t c e a b = a
     no-end (Returns values) s t c e a b = a
+    no-end (TailCalls lent function values) s t c e a b = a
     no-end (Over values) s t c e a b = a
     no-end NotReady s t c e a b = a
 

@@ -6,7 +6,7 @@ use Rattle.core_types.specs.declared.op.BranchTable.{BranchTable}
 use Rattle.core_types.specs.declared.op.Comparison.{Comparison}
 use Rattle.core_types.specs.declared.op.Comparison.TheVariants.{Eq, Ne, LtS, LtU, GtS, GtU, LeS, LeU, GeS, GeU}
 use Rattle.core_types.specs.declared.op.ControlOp.{ControlOp}
-use Rattle.core_types.specs.declared.op.ControlOp.TheVariants.{Unreachable, Nop, Br, BrIf, Return, Call, CallIndirect}
+use Rattle.core_types.specs.declared.op.ControlOp.TheVariants.{Unreachable, Nop, Br, BrIf, Return, Call, CallIndirect, ReturnCall, ReturnCallIndirect}
 use Rattle.core_types.specs.declared.op.Conversion.TheVariants.{I32WrapI64, I64ExtendI32S, I64ExtendI32U, I64Extend32S}
 use Rattle.core_types.specs.declared.op.LoadOp.{LoadOp}
 use Rattle.core_types.specs.declared.op.LoadOp.TheVariants as load
@@ -68,6 +68,8 @@ SpellsControl bytes (BrIf label) = SpellsTagged 0x0D SpellsIndex bytes label
 SpellsControl bytes Return = bytes ≡ 0x0F ∷ []
 SpellsControl bytes (Call x) = SpellsTagged 0x10 SpellsIndex bytes x
 SpellsControl bytes (CallIndirect ty x) = SpellsTagged 0x11 SpellsTwoIndices bytes (ty, x)
+SpellsControl bytes (ReturnCall x) = SpellsTagged 0x12 SpellsIndex bytes x
+SpellsControl bytes (ReturnCallIndirect ty x) = SpellsTagged 0x13 SpellsTwoIndices bytes (ty, x)
 
 abbrev pub SpellsBranchTable : List ℕ → BranchTable → Type 0
 SpellsBranchTable bytes t =

@@ -4,7 +4,7 @@ use Rattle.std.specs.Prelude.{ℕ, zero, suc, List, [], ◌∷◌, ◌++◌, len
 use Rattle.core_types.specs.declared.types.FuncType.{FuncType}
 use Rattle.core_types.specs.declared.op.BlockType.{BlockType}
 use Rattle.core_types.specs.declared.op.BranchTable.{BranchTable}
-use Rattle.core_types.specs.declared.op.ControlOp.TheVariants.{Br, BrIf, Return, Call, CallIndirect}
+use Rattle.core_types.specs.declared.op.ControlOp.TheVariants.{Br, BrIf, Return, Call, CallIndirect, ReturnCall, ReturnCallIndirect}
 use Rattle.core_types.specs.declared.op.PlainOp.{PlainOp}
 use Rattle.core_types.specs.declared.op.PlainOp.TheVariants.{BrTable, Control}
 use Rattle.core_types.specs.declared.outcome.Val.{Val}
@@ -23,7 +23,7 @@ use Rattle.meaning.specs.validation.Types.{are_same_types, block_type, is_same_f
 pub data Next : Type 0 where
   -- a step that asks for no memory
   Goes : (cost : ℕ) (store : Store) (frame : Frame) (configuration : Configuration) → Next
-  -- a step for which a table or a memory grows
+  -- a step for which a table or a memory grows, or a frame takes the place of another
   Grows : (cost : ℕ) (store : Store) (frame : Frame) (configuration : Configuration) → Next
   -- a step that opens a frame
   Opens : (cost : ℕ) (store : Store) (configuration : Configuration) → Next
@@ -37,6 +37,8 @@ pub data Next : Type 0 where
   Branches : (label : ℕ) (values : List Val) → Next
   -- a return with the values over which it is
   Returns : (values : List Val) → Next
+  -- a tail call of this function, which would be lent the memory at an address, if there is one, with the values over which it is
+  TailCalls : (lent : Option ℕ) (function : FunctionInstance) (values : List Val) → Next
   -- values alone are left
   Over : (values : List Val) → Next
   -- no case applies
@@ -118,32 +120,35 @@ lent_memory store frame = slice_get (instance_of store frame.instance).memories 
 abbrev pub function_at : Store → Frame → ℕ → Option FunctionInstance
 function_at store frame x = item_at store.functions (instance_of store frame.instance).functions x
 
--- A call of a function that has to be of this type (call_indirect).
-abbrev pub call_of_type : Store → (lent : Option ℕ) → FuncType → Option FunctionInstance → List Val
-    → Body → Next
-call_of_type store lent t None values rest = NotReady
-call_of_type store lent t (Some f) values rest =
-    if is_same_function_type f.ty t
-    then call_function instruction_cost store lent (Some f) values rest
-    else Traps instruction_cost IndirectType
+-- What is done with a function that has to be of this type (call_indirect).
+abbrev pub call_of_type : (call : FunctionInstance → Next) → FuncType → Option FunctionInstance
+    → Next
+call_of_type call t None = NotReady
+call_of_type call t (Some f) =
+    if is_same_function_type f.ty t then call f else Traps instruction_cost IndirectType
 
--- A call of the function that an entry of a table refers to: there has to be an entry, it has to be no null, and the function
--- has to be of this type, in this order (call_indirect).
-abbrev pub call_entry : Store → (lent : Option ℕ) → FuncType → (entry : Option Val) → List Val
-    → Body → Next
-call_entry store lent t None values rest = Traps instruction_cost UndefinedElement
-call_entry store lent t (Some (FuncRef None)) values rest =
-    Traps instruction_cost UninitializedElement
-call_entry store lent t (Some (FuncRef (Some address))) values rest =
-    call_of_type store lent t (slice_get store.functions address) values rest
-call_entry store lent t (Some v) values rest = NotReady
+-- What is done with the function that an entry of a table refers to: there has to be an entry, it has to be no null, and the
+-- function has to be of this type, in this order (call_indirect).
+abbrev pub call_entry : Store → (call : FunctionInstance → Next) → FuncType → (entry : Option Val)
+    → Next
+call_entry store call t None = Traps instruction_cost UndefinedElement
+call_entry store call t (Some (FuncRef None)) = Traps instruction_cost UninitializedElement
+call_entry store call t (Some (FuncRef (Some address))) =
+    call_of_type call t (slice_get store.functions address)
+call_entry store call t (Some v) = NotReady
 
--- call_indirect: the i32 on top is the offset of the entry.
-abbrev pub call_through : Store → (lent : Option ℕ) → Option FuncType → Option (ℕ × TableInstance)
-    → List Val → Body → Next
-call_through store lent (Some t) (Some (address, table)) (I32 i ∷ values) rest =
-    call_entry store lent t (slice_get table.entries i) values rest
-call_through store lent t found values rest = NotReady
+-- What is done with a function and the values under the i32 on top, which is the offset of the entry (call_indirect).
+abbrev pub call_through : Store → (call : List Val → FunctionInstance → Next) → Option FuncType
+    → Option (ℕ × TableInstance) → List Val
+    → Next
+call_through store call (Some t) (Some (address, table)) (I32 i ∷ values) =
+    call_entry store (call values) t (slice_get table.entries i)
+call_through store call t found values = NotReady
+
+-- A tail call of a function, if there is one (the extension for tail calls, return_call).
+abbrev pub tail_call : (lent : Option ℕ) → Option FunctionInstance → List Val → Next
+tail_call lent None values = NotReady
+tail_call lent (Some f) values = TailCalls lent f values
 
 -- ---- control
 
@@ -170,9 +175,14 @@ step_instruction store frame (Control (Call x)) values rest =
     call_function instruction_cost store (lent_memory store frame) (function_at store frame x)
     values rest
 step_instruction store frame (Control (CallIndirect type x)) values rest =
-    call_through store (lent_memory store frame)
+    call_through store
+    (λ under f. call_function instruction_cost store (lent_memory store frame) (Some f) under rest)
     (slice_get (instance_of store frame.instance).types type) (table_at store frame x) values
-    rest
+step_instruction store frame (Control (ReturnCall x)) values rest =
+    tail_call (lent_memory store frame) (function_at store frame x) values
+step_instruction store frame (Control (ReturnCallIndirect type x)) values rest =
+    call_through store (λ under f. TailCalls (lent_memory store frame) f under)
+    (slice_get (instance_of store frame.instance).types type) (table_at store frame x) values
 step_instruction store frame op values rest =
     continue_after frame (effect store frame op values) rest
 
@@ -248,6 +258,7 @@ step_in_label store frame label (Traps cost trap) = Traps cost trap
 step_in_label store frame label (Branches zero kept) = branch_to_label store frame label kept
 step_in_label store frame label (Branches (suc further) kept) = Branches further kept
 step_in_label store frame label (Returns kept) = Returns kept
+step_in_label store frame label (TailCalls lent f kept) = TailCalls lent f kept
 step_in_label store frame label (Over results) =
     Goes 0 store frame (Running (results ++ label.values) label.rest)
 step_in_label store frame label NotReady = NotReady
@@ -258,6 +269,22 @@ return_from_frame store outer activation kept =
     if nat_le activation.arity (length kept)
     then Goes instruction_cost store outer
     (Running (take activation.arity kept ++ activation.values) activation.rest)
+    else NotReady
+
+-- A step that opens a frame where one was left: it asks for memory, and no frame more is open.
+abbrev pub in_place : Frame → Next → Next
+in_place outer (Opens cost store configuration) = Grows cost store outer configuration
+in_place outer other = other
+
+-- A tail call keeps the topmost of its values, which are the arguments. They take the place of the frame, and the function is called
+-- with them there, in one step (the extension for tail calls, return_call).
+abbrev pub call_in_place : Store → Frame → Activation → (lent : Option ℕ) → FunctionInstance
+    → List Val
+    → Next
+call_in_place store outer activation lent f kept =
+    if nat_le (length f.ty.params) (length kept)
+    then in_place outer (call_function instruction_cost store lent (Some f)
+    (take (length f.ty.params) kept ++ activation.values) activation.rest)
     else NotReady
 
 -- A frame around what its inside does in it. Around values alone it becomes the values (Returning from a function).
@@ -274,6 +301,8 @@ step_in_frame store outer activation own (Traps cost trap) = Traps cost trap
 step_in_frame store outer activation own (Branches label kept) = NotReady
 step_in_frame store outer activation own (Returns kept) =
     return_from_frame store outer activation kept
+step_in_frame store outer activation own (TailCalls lent f kept) =
+    call_in_place store outer activation lent f kept
 step_in_frame store outer activation own (Over results) =
     Goes 0 store outer (Running (results ++ activation.values) activation.rest)
 step_in_frame store outer activation own NotReady = NotReady

@@ -3,7 +3,7 @@ use Rattle.std.specs.Prelude.{◌≡◌, ℕ, suc, List, [], ◌∷◌, length, 
 use Rattle.core_types.specs.declared.types.ValType.{ValType}
 use Rattle.core_types.specs.declared.types.ValType.TheVariants as ty
 use Rattle.core_types.specs.declared.op.BlockType.TheVariants as block
-use Rattle.core_types.specs.declared.op.ControlOp.TheVariants.{Br, Call, CallIndirect}
+use Rattle.core_types.specs.declared.op.ControlOp.TheVariants.{Br, Call, CallIndirect, ReturnCall, ReturnCallIndirect}
 use Rattle.core_types.specs.declared.op.PlainOp.{PlainOp}
 use Rattle.core_types.specs.declared.op.PlainOp.TheVariants.{Control, I32Const, Memory, Numeric, Reference, Table, Variable}
 use Rattle.core_types.specs.declared.op.VariableOp.TheVariants.{GlobalGet, GlobalSet, LocalGet}
@@ -16,12 +16,12 @@ use Rattle.core_types.specs.declared.op.Sign.TheVariants.{Unsigned}
 use Rattle.core_types.specs.declared.types.Mutability.TheVariants.{Var}
 use Rattle.core_types.specs.declared.op.NumericOp.TheVariants.{Binary}
 use Rattle.core_types.specs.declared.op.Width.TheVariants.{W32}
-use Rattle.core_types.specs.declared.op.BinaryOp.TheVariants.{Add}
+use Rattle.core_types.specs.declared.op.BinaryOp.TheVariants.{Add, Sub}
 use Rattle.core_types.specs.declared.outcome.Val.{Val}
 use Rattle.core_types.specs.declared.outcome.Val.TheVariants.{I32, FuncRef}
-use Rattle.meaning.specs.structure.Bodies.{Body, Empty, Then, Nested, IfElse, BlockKind, LoopKind}
+use Rattle.meaning.specs.structure.Bodies.{Body, Empty, Then, Nested, IfElse, BlockKind, IfKind, LoopKind}
 use Rattle.meaning.specs.validation.Types.{function_type}
-use Rattle.meaning.specs.execution.Configurations.{Invoking, Running, no_frame}
+use Rattle.meaning.specs.execution.Configurations.{InFrame, Invoking, Running, no_frame}
 use Rattle.meaning.specs.execution.Instructions.{next}
 use Rattle.meaning.specs.execution.Runs.{Answer, AsksForMemory, Results, HostTrap, Ending, NoHosts, Run, State}
 use Rattle.meaning.specs.execution.Store.{FunctionInstance, InCode, InHost, Store}
@@ -319,3 +319,60 @@ store_with_entries = store_with_table nothing (null ∷ null ∷ []) []
 -- One instruction alone.
 abbrev pub alone : PlainOp → Body
 alone op = Then op Empty
+
+-- ---- tail calls
+
+-- It calls itself with one less until it is called with 0, and then answers 9.
+abbrev pub down : FunctionInstance
+down =
+    function (ty.I32 ∷ []) (ty.I32 ∷ [])
+    (Then (local 0) (Nested IfKind block.Empty
+    (Then (local 0)
+    (Then (I32Const 1) (Then (Numeric (Binary W32 Sub)) (Then (Control (ReturnCall 0)) Empty))))
+    (Then (I32Const 9) Empty)))
+
+-- It calls the second function last, inside of two blocks and above operands.
+abbrev pub calls_last_inside : FunctionInstance
+calls_last_inside =
+    function [] (ty.I32 ∷ [])
+    (Then (I32Const 7)
+    (Nested BlockKind block.Empty (Then (I32Const 8)
+    (Nested BlockKind block.Empty (Then (Control (ReturnCall 1)) Empty) Empty)) Empty))
+
+-- It calls the function of an entry last, which has to answer an i32.
+abbrev pub calls_entry_last : FunctionInstance
+calls_entry_last =
+    function (ty.I32 ∷ []) (ty.I32 ∷ [])
+    (Then (local 0) (Then (Control (ReturnCallIndirect 0 0)) Empty))
+
+-- The state of it and the function that answers 10.
+abbrev pub with_ten : FunctionInstance → (fuel : ℕ) → State ⊥
+with_ten f fuel = record { store = instance_of_two f ten; hosts = []; fuel = fuel }
+
+-- A call of it, with room for one frame, for an entry of the table that `CallsEntry` has.
+abbrev pub CallsEntryLast : (offset fuel : ℕ) → Ending → (left : ℕ) → Type 0
+CallsEntryLast offset fuel ending left =
+    Run NoHosts 1 no_frame (with_entries calls_entry_last (at 1 ∷ at 2 ∷ null ∷ []) [] fuel)
+    (Invoking (I32 offset ∷ []) 0) ending
+    (with_entries calls_entry_last (at 1 ∷ at 2 ∷ null ∷ []) [] left)
+
+-- It calls the host function last, above an operand.
+abbrev pub calls_host_last : FunctionInstance
+calls_host_last =
+    function [] (ty.I32 ∷ []) (Then (I32Const 7) (Then (Control (ReturnCall 1)) Empty))
+
+-- The state with this function, the host function that counts, and its count.
+abbrev pub counting_last : (count fuel : ℕ) → State ℕ
+counting_last count fuel =
+    record {
+      store = store_with_host calls_host_last [] (ty.I32 ∷ []);
+      hosts = count ∷ [];
+      fuel = fuel;
+    }
+
+-- In a frame of the first instance the next step of this body asks for memory.
+abbrev pub AsksInFrame : Store → Body → Type 0
+AsksInFrame store rest =
+    AsksForMemory (next store no_frame
+    (InFrame (record { arity = 0; values = []; rest = Empty })
+    (record { instance = Some 0; locals = [] }) (Running [] rest)))

@@ -6,7 +6,7 @@ use Rattle.core_types.specs.declared.outcome.Trap.{Trap}
 use Rattle.core_types.specs.declared.outcome.Trap.TheVariants.{Host}
 use Rattle.meaning.specs.execution.Configurations.{Configuration, Frame, answered, depth}
 use Rattle.meaning.specs.execution.Store.{Store}
-use Rattle.meaning.specs.execution.Instructions.{Next, Goes, Grows, Opens, CallsHost, Traps, Branches, Returns, Over, NotReady, next}
+use Rattle.meaning.specs.execution.Instructions.{Next, Goes, Grows, Opens, CallsHost, Traps, Branches, Returns, TailCalls, Over, NotReady, next}
 
 -- What the next step costs.
 abbrev pub price : Next → ℕ
@@ -17,6 +17,7 @@ price (CallsHost cost number lent arguments configuration) = cost
 price (Traps cost trap) = cost
 price (Branches label values) = 0
 price (Returns values) = 0
+price (TailCalls lent function values) = 0
 price (Over values) = 0
 price NotReady = 0
 
@@ -29,6 +30,7 @@ IsReady (CallsHost cost number lent arguments configuration) = Unit {0}
 IsReady (Traps cost trap) = Unit {0}
 IsReady (Branches label values) = ⊥
 IsReady (Returns values) = ⊥
+IsReady (TailCalls lent function values) = ⊥
 IsReady (Over values) = ⊥
 IsReady NotReady = ⊥
 
@@ -37,7 +39,8 @@ abbrev pub IsWithinBound : (bound frames : ℕ) → Next → Type 0
 IsWithinBound bound frames (Opens cost store configuration) = frames < bound
 IsWithinBound bound frames other = Unit {0}
 
--- The step asks for memory: it opens a frame, as the entry from outside does, grows a table or a memory, or calls a host function.
+-- The step asks for memory: it opens a frame, as the entry from outside does, or puts one in the place of another, grows a table or
+-- a memory, or calls a host function.
 abbrev pub AsksForMemory : Next → Type 0
 AsksForMemory (Goes cost store frame configuration) = ⊥
 AsksForMemory (Grows cost store frame configuration) = Unit {0}
@@ -46,6 +49,7 @@ AsksForMemory (CallsHost cost number lent arguments configuration) = Unit {0}
 AsksForMemory (Traps cost trap) = ⊥
 AsksForMemory (Branches label values) = ⊥
 AsksForMemory (Returns values) = ⊥
+AsksForMemory (TailCalls lent function values) = ⊥
 AsksForMemory (Over values) = ⊥
 AsksForMemory NotReady = ⊥
 

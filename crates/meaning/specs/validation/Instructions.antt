@@ -2,7 +2,7 @@
 use Rattle.std.specs.Prelude.{◌≡◌, ℕ, ◌^◌, ◌≤◌, ◌<◌, ◌⊎◌, List, [], ◌∷◌, ◌++◌, map, All, Some, slice_get}
 use Rattle.core_types.specs.declared.op.BranchTable.{BranchTable}
 use Rattle.core_types.specs.declared.op.ControlOp.{ControlOp}
-use Rattle.core_types.specs.declared.op.ControlOp.TheVariants.{Unreachable, Nop, Br, BrIf, Return, Call, CallIndirect}
+use Rattle.core_types.specs.declared.op.ControlOp.TheVariants.{Unreachable, Nop, Br, BrIf, Return, Call, CallIndirect, ReturnCall, ReturnCallIndirect}
 use Rattle.core_types.specs.declared.op.Conversion.TheVariants.{I32WrapI64, I64ExtendI32S, I64ExtendI32U, I64Extend32S}
 use Rattle.core_types.specs.declared.op.LoadOp.{LoadOp}
 use Rattle.core_types.specs.declared.op.LoadOp.TheVariants as load
@@ -229,6 +229,7 @@ memory_rule context (memory.DataDrop segment) operands results =
 abbrev pub IsLabel : Context → ℕ → List ValType → Type 0
 IsLabel context label types = slice_get context.labels label ≡ Some types
 
+-- After unreachable, a branch, a return or a tail call any operands may lie, and nothing is said of those below what they take.
 abbrev pub control_rule : Context → ControlOp → List OperandType → List OperandType → Type 0
 control_rule context Unreachable operands results = Unit {0}
 control_rule context Nop operands results = HasFuncType (function_type [] []) operands results
@@ -247,6 +248,13 @@ control_rule context (Call x) operands results =
 control_rule context (CallIndirect ty x) operands results =
     (f : FuncType) × (slice_get context.types ty ≡ Some f) × IsTable context x ref.FuncRef
     × HasFuncType (function_type (f.params ++ I32 ∷ []) f.results) operands results
+control_rule context (ReturnCall x) operands results =
+    (f : FuncType) × (below : List OperandType) × (slice_get context.functions x ≡ Some f)
+    × (context.results ≡ Some f.results) × (operands ≡ below ++ known f.params)
+control_rule context (ReturnCallIndirect ty x) operands results =
+    (f : FuncType) × (below : List OperandType) × (slice_get context.types ty ≡ Some f)
+    × IsTable context x ref.FuncRef × (context.results ≡ Some f.results)
+    × (operands ≡ below ++ known (f.params ++ I32 ∷ []))
 
 -- The operands fit the types that the label carries.
 abbrev pub FitsLabel : Context → List OperandType → ℕ → Type 0

@@ -10,7 +10,9 @@ use crate::context::BodyContext;
 use crate::control_frames::{Stacks, set_unreachable};
 use crate::errors::Fault;
 use crate::instructions::control::branches::{step_br, step_br_if};
-use crate::instructions::control::calls::{step_return, type_of_call, type_of_call_indirect};
+use crate::instructions::control::calls::{
+    step_return, step_tail_call, type_of_call, type_of_call_indirect,
+};
 use crate::instructions::{apply, apply_some};
 use crate::types::takes_gives;
 use core_types::ControlOp;
@@ -35,6 +37,12 @@ pub fn step_control(
         ControlOp::Call(index) => apply_some(stacks, &type_of_call(context, index)),
         ControlOp::CallIndirect { ty, table } => {
             apply_some(stacks, &type_of_call_indirect(context, ty, table))
+        }
+        ControlOp::ReturnCall(index) => {
+            step_tail_call(context, stacks, &type_of_call(context, index))
+        }
+        ControlOp::ReturnCallIndirect { ty, table } => {
+            step_tail_call(context, stacks, &type_of_call_indirect(context, ty, table))
         }
     }
 }

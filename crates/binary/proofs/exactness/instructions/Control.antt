@@ -1,7 +1,7 @@
 -- Control instructions without a body are read as they are spelled.
 use Rattle.std.proofs.Common.{List, [], refl, ℕ}
 use Rattle.core_types.specs.declared.op.ControlOp.{ControlOp}
-use Rattle.core_types.specs.declared.op.ControlOp.TheVariants.{Br, BrIf, Call, CallIndirect, Nop, Return, Unreachable}
+use Rattle.core_types.specs.declared.op.ControlOp.TheVariants.{Br, BrIf, Call, CallIndirect, Nop, Return, ReturnCall, ReturnCallIndirect, Unreachable}
 use Rattle.core_types.specs.declared.op.Op.TheVariants.{Plain}
 use Rattle.core_types.specs.declared.op.PlainOp.TheVariants.{Control}
 use Rattle.meaning.specs.binary.Instructions.{SpellsControl}
@@ -20,7 +20,10 @@ control_sound =
     (case_sound (tag_sound 0x0D BrIf index_reader (λ text a s. s))
     (case_sound (bare_sound (λ front f. f))
     (case_sound (tag_sound 0x10 Call index_reader (λ text a s. s))
-    (case_sound (tag_sound 0x11 (λ x. CallIndirect x.0 x.1) two_indices_reader (λ text a s. s)) no_case_sound))))))
+    (case_sound (tag_sound 0x11 (λ x. CallIndirect x.0 x.1) two_indices_reader (λ text a s. s))
+    (case_sound (tag_sound 0x12 ReturnCall index_reader (λ text a s. s))
+    (case_sound (tag_sound 0x13 (λ x. ReturnCallIndirect x.0 x.1) two_indices_reader (λ text a s. s))
+    no_case_sound))))))))
 
 pub control_complete : (text rest : List ℕ) (op : ControlOp) → SpellsControl text op
     → IsFront SpellsByte operation_at text rest (Plain (Control op))
@@ -36,3 +39,7 @@ control_complete text rest (Call x) (inside, parts, spelt) =
     at_byte 0x10 inside parts (rw (index_reader.complete inside rest x spelt) refl)
 control_complete text rest (CallIndirect ty x) (inside, parts, spelt) =
     at_byte 0x11 inside parts (rw (two_indices_reader.complete inside rest (ty, x) spelt) refl)
+control_complete text rest (ReturnCall x) (inside, parts, spelt) =
+    at_byte 0x12 inside parts (rw (index_reader.complete inside rest x spelt) refl)
+control_complete text rest (ReturnCallIndirect ty x) (inside, parts, spelt) =
+    at_byte 0x13 inside parts (rw (two_indices_reader.complete inside rest (ty, x) spelt) refl)

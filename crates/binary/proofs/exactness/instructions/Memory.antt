@@ -104,7 +104,7 @@ unfolding group_at
 memory_reached code bytes low high =
     group_reached code bytes low (inl (omega arith))
     ∙ rw (
-      lt-leb code 0x11 (omega arith),
+      lt-leb code 0x13 (omega arith),
       lt-leb code 0x1B (omega arith),
       lt-leb code 0x24 (omega arith),
       lt-leb code 0x27 (omega arith),

@@ -136,7 +136,7 @@ unfolding group_at
 at_code text rest op code low high parts reads =
     at_byte code [] parts (group_reached code rest (omega arith) (inr (omega arith, omega arith))
     ∙ rw (
-      lt-leb code 0x11 (omega arith),
+      lt-leb code 0x13 (omega arith),
       lt-leb code 0x1B (omega arith),
       lt-leb code 0x24 (omega arith),
       lt-leb code 0x27 (omega arith),

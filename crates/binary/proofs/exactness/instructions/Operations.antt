@@ -66,7 +66,7 @@ types_reader = vector_reader SpellsValType val_type_at val_type_reader
 group_sound : SoundCases SpellsByte SpellsPlain group_at
 unfolding group_at
 group_sound =
-    up_to_sound 0x11 (mapped_case_sound Control control_sound (λ text op s. s))
+    up_to_sound 0x13 (mapped_case_sound Control control_sound (λ text op s. s))
     (up_to_sound 0x1B (mapped_case_sound Parametric parametric_sound (λ text op s. s))
     (up_to_sound 0x24 (mapped_case_sound Variable variable_sound (λ text op s. s))
     (up_to_sound 0x27 (mapped_case_sound Table table_sound (λ text op s. s))

@@ -39,21 +39,21 @@ returns-in-Over g c = record {
 }
 
 pub call_host-requires-clause-waits : goal.call_host-requires-clause-waits
-call_host-requires-clause-waits g c = let (w, is) = c.requires.rests in (waiting (HostStep (λ vtable. (g.dyn-1.0.entry vtable).1)) c.args.bound (at_rest c.args.code.now c.args.state.now c.args.call.now) c.args.hosts.now.objects.items c.args.types.now (at_rest c.args.code.now c.loop-call.state c.loop-call.call) (at_rest c.args.code.now c.go_on.new.state c.go_on.new.call) c.loop-call.hosts.objects.items c.loop-call.invariant.came w is c.in-CallsHost.address c.in-CallsHost.behind (rw c.in-CallsHost.is at c.go_on.ensures.concludes), waits-so (HostStep (λ vtable. (g.dyn-1.0.entry vtable).1)) c.args.bound (at_rest c.args.code.now c.args.state.now c.args.call.now) c.args.hosts.now.objects.items c.args.types.now (at_rest c.args.code.now c.loop-call.state c.loop-call.call) (at_rest c.args.code.now c.go_on.new.state c.go_on.new.call) c.loop-call.hosts.objects.items c.loop-call.invariant.came w is c.in-CallsHost.address c.in-CallsHost.behind (rw c.in-CallsHost.is at c.go_on.ensures.concludes))
+call_host-requires-clause-waits g c = let (w, is) = c.requires.rests in (waiting (HostStep (λ vtable. (g.dyn-1.0.entry vtable).1)) c.args.bound (at_rest c.args.code.now c.args.state.now c.args.call.now) c.args.hosts.now.objects.items c.args.types.now (at_rest c.args.code.now c.loop-call.state c.loop-call.call) (at_rest c.args.code.now c.go_on.new.state c.go_on.new.call) c.loop-call.hosts.objects.items c.loop-call.invariant.came w is c.in-CallsHost.kind c.in-CallsHost.address c.in-CallsHost.behind (rw c.in-CallsHost.is at c.go_on.ensures.concludes), waits-so (HostStep (λ vtable. (g.dyn-1.0.entry vtable).1)) c.args.bound (at_rest c.args.code.now c.args.state.now c.args.call.now) c.args.hosts.now.objects.items c.args.types.now (at_rest c.args.code.now c.loop-call.state c.loop-call.call) (at_rest c.args.code.now c.go_on.new.state c.go_on.new.call) c.loop-call.hosts.objects.items c.loop-call.invariant.came w is c.in-CallsHost.kind c.in-CallsHost.address c.in-CallsHost.behind (rw c.in-CallsHost.is at c.go_on.ensures.concludes))
 
 pub returns-in-Err : goal.returns-in-Err
-returns-in-Err g c = record { run = λ w is. ended-so (HostStep (λ vtable. (g.dyn-1.0.entry vtable).1)) c.args.bound (at_rest c.args.code.now c.args.state.now c.args.call.now) c.args.hosts.now.objects.items c.args.types.now (at_rest c.args.code.now c.loop-call.state c.loop-call.call) (at_rest c.args.code.now c.go_on.new.state c.go_on.new.call) c.loop-call.hosts.objects.items c.loop-call.invariant.came w is c.in-CallsHost.address c.in-CallsHost.behind (rw c.in-CallsHost.is at c.go_on.ensures.concludes) (at_rest c.args.code.now c.call_host.new.state c.call_host.new.call) c.call_host.new.hosts.objects.items _ (c.in-Err.ensures.ended (waiting (HostStep (λ vtable. (g.dyn-1.0.entry vtable).1)) c.args.bound (at_rest c.args.code.now c.args.state.now c.args.call.now) c.args.hosts.now.objects.items c.args.types.now (at_rest c.args.code.now c.loop-call.state c.loop-call.call) (at_rest c.args.code.now c.go_on.new.state c.go_on.new.call) c.loop-call.hosts.objects.items c.loop-call.invariant.came w is c.in-CallsHost.address c.in-CallsHost.behind (rw c.in-CallsHost.is at c.go_on.ensures.concludes)) (waits-so (HostStep (λ vtable. (g.dyn-1.0.entry vtable).1)) c.args.bound (at_rest c.args.code.now c.args.state.now c.args.call.now) c.args.hosts.now.objects.items c.args.types.now (at_rest c.args.code.now c.loop-call.state c.loop-call.call) (at_rest c.args.code.now c.go_on.new.state c.go_on.new.call) c.loop-call.hosts.objects.items c.loop-call.invariant.came w is c.in-CallsHost.address c.in-CallsHost.behind (rw c.in-CallsHost.is at c.go_on.ensures.concludes))) }
+returns-in-Err g c = record { run = λ w is. ended-so (HostStep (λ vtable. (g.dyn-1.0.entry vtable).1)) c.args.bound (at_rest c.args.code.now c.args.state.now c.args.call.now) c.args.hosts.now.objects.items c.args.types.now (at_rest c.args.code.now c.loop-call.state c.loop-call.call) (at_rest c.args.code.now c.go_on.new.state c.go_on.new.call) c.loop-call.hosts.objects.items c.loop-call.invariant.came w is c.in-CallsHost.kind c.in-CallsHost.address c.in-CallsHost.behind (rw c.in-CallsHost.is at c.go_on.ensures.concludes) (at_rest c.args.code.now c.call_host.new.state c.call_host.new.call) c.call_host.new.hosts.objects.items _ (c.in-Err.ensures.ended (waiting (HostStep (λ vtable. (g.dyn-1.0.entry vtable).1)) c.args.bound (at_rest c.args.code.now c.args.state.now c.args.call.now) c.args.hosts.now.objects.items c.args.types.now (at_rest c.args.code.now c.loop-call.state c.loop-call.call) (at_rest c.args.code.now c.go_on.new.state c.go_on.new.call) c.loop-call.hosts.objects.items c.loop-call.invariant.came w is c.in-CallsHost.kind c.in-CallsHost.address c.in-CallsHost.behind (rw c.in-CallsHost.is at c.go_on.ensures.concludes)) (waits-so (HostStep (λ vtable. (g.dyn-1.0.entry vtable).1)) c.args.bound (at_rest c.args.code.now c.args.state.now c.args.call.now) c.args.hosts.now.objects.items c.args.types.now (at_rest c.args.code.now c.loop-call.state c.loop-call.call) (at_rest c.args.code.now c.go_on.new.state c.go_on.new.call) c.loop-call.hosts.objects.items c.loop-call.invariant.came w is c.in-CallsHost.kind c.in-CallsHost.address c.in-CallsHost.behind (rw c.in-CallsHost.is at c.go_on.ensures.concludes))) }
 
 pub loop-call-smaller : goal.loop-call-smaller
 loop-call-smaller g c =
     let (w, is) = c.requires.rests in
-    let less = came-fuel (HostStep (λ vtable. (g.dyn-1.0.entry vtable).1)) c.args.bound (at_rest c.args.code.now c.args.state.now c.args.call.now) c.args.hosts.now.objects.items c.args.types.now (at_rest c.args.code.now c.loop-call.state c.loop-call.call) (at_rest c.args.code.now c.go_on.new.state c.go_on.new.call) c.loop-call.hosts.objects.items c.loop-call.invariant.came c.in-CallsHost.address c.in-CallsHost.behind (rw c.in-CallsHost.is at c.go_on.ensures.concludes) w is in
+    let less = came-fuel (HostStep (λ vtable. (g.dyn-1.0.entry vtable).1)) c.args.bound (at_rest c.args.code.now c.args.state.now c.args.call.now) c.args.hosts.now.objects.items c.args.types.now (at_rest c.args.code.now c.loop-call.state c.loop-call.call) (at_rest c.args.code.now c.go_on.new.state c.go_on.new.call) c.loop-call.hosts.objects.items c.loop-call.invariant.came c.in-CallsHost.kind c.in-CallsHost.address c.in-CallsHost.behind (rw c.in-CallsHost.is at c.go_on.ensures.concludes) w is in
     let one = c.in_default.ensures.left in
     omega (arith, less, one)
 
 pub loop-call-preserved : goal.loop-call-preserved
 loop-call-preserved g c = record {
-  came = came-answered (HostStep (λ vtable. (g.dyn-1.0.entry vtable).1)) c.args.bound (at_rest c.args.code.now c.args.state.now c.args.call.now) c.args.hosts.now.objects.items c.args.types.now (at_rest c.args.code.now c.loop-call.state c.loop-call.call) (at_rest c.args.code.now c.go_on.new.state c.go_on.new.call) (at_rest c.args.code.now c.call_host.new.state c.call_host.new.call) c.loop-call.hosts.objects.items c.call_host.new.hosts.objects.items c.loop-call.invariant.came c.in-CallsHost.address c.in-CallsHost.behind (rw c.in-CallsHost.is at c.go_on.ensures.concludes) c.in_default.ensures.answered;
+  came = came-answered (HostStep (λ vtable. (g.dyn-1.0.entry vtable).1)) c.args.bound (at_rest c.args.code.now c.args.state.now c.args.call.now) c.args.hosts.now.objects.items c.args.types.now (at_rest c.args.code.now c.loop-call.state c.loop-call.call) (at_rest c.args.code.now c.go_on.new.state c.go_on.new.call) (at_rest c.args.code.now c.call_host.new.state c.call_host.new.call) c.loop-call.hosts.objects.items c.call_host.new.hosts.objects.items c.loop-call.invariant.came c.in-CallsHost.kind c.in-CallsHost.address c.in-CallsHost.behind (rw c.in-CallsHost.is at c.go_on.ensures.concludes) c.in_default.ensures.answered;
   hosts = c.in_default.ensures.hosts;
   room = c.loop-call.invariant.room;
 }

@@ -2,14 +2,15 @@ ghost use Rattle.core_types.specs.declared.op.ControlOp.TheVariants as control;
 ghost use Rattle.core_types.specs.declared.op.Op.TheVariants as flat;
 ghost use Rattle.core_types.specs.declared.op.PlainOp.TheVariants as plain;
 ghost use Rattle.validator.specs.InstructionTypes.{HasTypeOf};
-ghost use Rattle.validator.specs.Steps.{Steps};
+ghost use Rattle.validator.specs.Steps.{Steps, StepsByTailCall};
 
 use crate::context::{BodyContext, function_type, item, table_element};
 use crate::control_frames::{Stacks, set_unreachable};
 use crate::errors::Fault;
+use crate::instructions::pop_operands;
 use crate::operands::pop_types;
 use crate::types::{InstructionType, takes_gives, takes_i32_gives};
-use core_types::RefType;
+use core_types::{RefType, are_same_types};
 
 // The type of `call`.
 pub fn type_of_call<'a>(context: &BodyContext<'a>, index: u32) -> Option<InstructionType<'a>>
@@ -42,6 +43,27 @@ pub fn step_return(context: &BodyContext<'_>, stacks: &mut Stacks<'_>) -> Result
     ensures { Steps context.now stacks.old stacks.new (flat.Plain (plain.Control control.Return)) result }
 {
     if !pop_types(&mut stacks.operands, &stacks.innermost, context.results) {
+        return Err(Fault::Invalid);
+    }
+    set_unreachable(stacks);
+    Ok(())
+}
+
+// A tail call, from the type that the call has: its results have to be those of the function that the code is in.
+pub fn step_tail_call(
+    context: &BodyContext<'_>,
+    stacks: &mut Stacks<'_>,
+    call: &Option<InstructionType<'_>>,
+) -> Result<(), Fault>
+    ensures { StepsByTailCall context.now stacks.old stacks.new call.now result }
+{
+    let Some(ty) = call else {
+        return Err(Fault::Invalid);
+    };
+    if !are_same_types(ty.results, context.results) {
+        return Err(Fault::Invalid);
+    }
+    if !pop_operands(stacks, ty) {
         return Err(Fault::Invalid);
     }
     set_unreachable(stacks);

@@ -1,5 +1,5 @@
-use Rattle.std.proofs.Common.{[], refl}
-use Rattle.core_types.specs.declared.op.ControlOp.TheVariants.{Call, CallIndirect, Nop, Unreachable}
+use Rattle.std.proofs.Common.{[], inl, inr, refl}
+use Rattle.core_types.specs.declared.op.ControlOp.TheVariants.{Call, CallIndirect, Nop, ReturnCall, ReturnCallIndirect, Unreachable}
 use Rattle.core_types.specs.declared.op.PlainOp.TheVariants.{Control}
 use Rattle.meaning.specs.validation.Types.{function_type}
 use Rattle.validator.proofs.OperandStack.{Takes-nothing}
@@ -22,3 +22,15 @@ returns-in-Call c = rw c.in-Call.is (c.apply_some.ensures c.args.context.now (Co
 
 pub returns-in-CallIndirect : goal.returns-in-CallIndirect
 returns-in-CallIndirect c = rw c.in-CallIndirect.is (c.apply_some-in-CallIndirect.ensures c.args.context.now (Control (CallIndirect c.in-CallIndirect.ty c.in-CallIndirect.table)) c.type_of_call_indirect.ensures)
+
+pub returns-in-ReturnCall : goal.returns-in-ReturnCall
+returns-in-ReturnCall c =
+    let x = c.in-ReturnCall.index in
+    rw c.in-ReturnCall.is (c.step_tail_call.ensures (Call x) (ReturnCall x) (inl (x, refl, refl)) c.type_of_call-in-ReturnCall.ensures)
+
+pub returns-in-ReturnCallIndirect : goal.returns-in-ReturnCallIndirect
+returns-in-ReturnCallIndirect c =
+    let type = c.in-ReturnCallIndirect.ty in
+    let x = c.in-ReturnCallIndirect.table in
+    rw c.in-ReturnCallIndirect.is
+    (c.step_tail_call-in-ReturnCallIndirect.ensures (CallIndirect type x) (ReturnCallIndirect type x) (inr (type, x, refl, refl)) c.type_of_call_indirect-in-ReturnCallIndirect.ensures)

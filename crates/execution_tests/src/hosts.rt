@@ -1,0 +1,221 @@
+//! Host functions, and stores with them.
+
+ghost use Rattle.std.specs.Prelude.{◌≡◌, ◌+◌, ◌<◌, ◌-◌, ◌^◌, ◌∷◌, [], length, IfOk, IfErr, OnOk};
+ghost use Rattle.std.proofs.Props.{props};
+ghost use Rattle.core_types.specs.declared.outcome.Val.TheVariants.{I32 as I32Value};
+ghost use Rattle.core_types.specs.declared.types.ValType.TheVariants.{I32, I64};
+ghost use Rattle.hostfunc.specs.declared.host_function.HostFault.TheVariants.{Memory as MemoryFault};
+ghost use Rattle.store.specs.Contents.{store_of};
+
+use core_types::{FuncType, Items, Val, ValType};
+use hostfunc::{HostFault, HostFn, HostTable, has_funcref, object_type};
+use std::alloc::{AllocError, Global};
+use store::Store;
+
+// The type with these parameters and results.
+fn function_type(
+    alloc: Global,
+    params: &[ValType],
+    results: &[ValType],
+) -> Result<FuncType, AllocError>
+    ensures { IfOk result (λ ty. ty.results ≡ results.now) }
+{
+    let params = Vec::from_slice(alloc, params)?;
+    let results = Vec::from_slice(alloc, results)?;
+    Ok(FuncType {
+        params: Items::from_vec(params),
+        results: Items::from_vec(results),
+    })
+}
+
+// One i32 as results.
+fn one_result(alloc: Global, number: u32) -> Result<Vec<Val>, HostFault>
+    ensures ok { IfOk result (λ values. values.items ≡ I32Value number ∷ []) }
+    ensures err { IfErr result (λ fault. fault ≡ MemoryFault) }
+{
+    let mut values = Vec::new(alloc);
+    match values.push(Val::I32(number)) {
+        Ok(()) => Ok(values),
+        Err(_) => Err(HostFault::Memory),
+    }
+}
+
+// Writes the byte 7 at 0, if there is anything.
+fn mark(memory: &mut [u8]) {
+    if !memory.is_empty() {
+        memory[0] = 7;
+    }
+}
+
+// Answers the difference of two i32 and writes the byte 7 at 0; traps with the code 5 where the second is 0.
+#[derive(Drop)]
+struct Difference {
+    alloc: Global,
+    ty: FuncType,
+    ghost gives_number: { ty.results ≡ I32 ∷ [] } by { Prim.hlevel props },
+}
+
+fn new_difference(alloc: Global) -> Result<Difference, AllocError> {
+    let ty = function_type(alloc, &[ValType::I32, ValType::I32], &[ValType::I32])?;
+    Ok(Difference { alloc, ty })
+}
+
+impl HostFn for Difference {
+    ghost declared = { λ h. h.ty };
+
+    ghost Answers = { λ h arguments bytes answer then h'. h'.ty ≡ h.ty };
+
+    fn ty(&self) -> &FuncType {
+        &self.ty
+    }
+
+    fn call(&mut self, args: &[Val], memory: &mut [u8]) -> Result<Vec<Val>, HostFault> {
+        match args {
+            [Val::I32(_), Val::I32(0)] => Err(HostFault::Trap(5)),
+            [Val::I32(a), Val::I32(b)] => {
+                let values = one_result(self.alloc, a.wrapping_sub(*b))?;
+                mark(memory);
+                Ok(values)
+            }
+            _ => Err(HostFault::Trap(0)),
+        }
+    }
+}
+
+// Answers the sum of the i32 of all calls; says that there is no memory where one is 0.
+#[derive(Drop)]
+struct Sum {
+    alloc: Global,
+    sum: u32,
+    ty: FuncType,
+    ghost gives_number: { ty.results ≡ I32 ∷ [] } by { Prim.hlevel props },
+}
+
+fn new_sum(alloc: Global) -> Result<Sum, AllocError> {
+    let ty = function_type(alloc, &[ValType::I32], &[ValType::I32])?;
+    Ok(Sum { alloc, sum: 0, ty })
+}
+
+impl HostFn for Sum {
+    ghost declared = { λ h. h.ty };
+
+    ghost Answers = { λ h arguments bytes answer then h'. h'.ty ≡ h.ty };
+
+    fn ty(&self) -> &FuncType {
+        &self.ty
+    }
+
+    fn call(&mut self, args: &[Val], _memory: &mut [u8]) -> Result<Vec<Val>, HostFault> {
+        match args {
+            [Val::I32(0)] => Err(HostFault::Memory),
+            [Val::I32(number)] => {
+                let sum = self.sum.wrapping_add(*number);
+                let values = one_result(self.alloc, sum)?;
+                self.sum = sum;
+                Ok(values)
+            }
+            _ => Err(HostFault::Trap(0)),
+        }
+    }
+}
+
+// Answers 1 to 4, of which the second is an i64.
+#[derive(Drop)]
+struct Four {
+    alloc: Global,
+    ty: FuncType,
+    ghost gives_four: { ty.results ≡ I32 ∷ I64 ∷ I32 ∷ I32 ∷ [] } by { Prim.hlevel props },
+}
+
+fn new_four(alloc: Global) -> Result<Four, AllocError> {
+    let results = [ValType::I32, ValType::I64, ValType::I32, ValType::I32];
+    let ty = function_type(alloc, &[], &results)?;
+    Ok(Four { alloc, ty })
+}
+
+impl HostFn for Four {
+    ghost declared = { λ h. h.ty };
+
+    ghost Answers = { λ h arguments bytes answer then h'. h'.ty ≡ h.ty };
+
+    fn ty(&self) -> &FuncType {
+        &self.ty
+    }
+
+    fn call(&mut self, _args: &[Val], _memory: &mut [u8]) -> Result<Vec<Val>, HostFault> {
+        let numbers = [Val::I32(1), Val::I64(2), Val::I32(3), Val::I32(4)];
+        match Vec::from_slice(self.alloc, &numbers) {
+            Ok(values) => Ok(values),
+            Err(_) => Err(HostFault::Memory),
+        }
+    }
+}
+
+// Writes the byte 7 at 0, and answers nothing.
+#[derive(Drop)]
+struct Marker {
+    alloc: Global,
+    ty: FuncType,
+    ghost gives_nothing: { ty.results ≡ [] } by { Prim.hlevel props },
+}
+
+fn new_marker(alloc: Global) -> Result<Marker, AllocError> {
+    let ty = function_type(alloc, &[], &[])?;
+    Ok(Marker { alloc, ty })
+}
+
+impl HostFn for Marker {
+    ghost declared = { λ h. h.ty };
+
+    ghost Answers = { λ h arguments bytes answer then h'. h'.ty ≡ h.ty };
+
+    fn ty(&self) -> &FuncType {
+        &self.ty
+    }
+
+    fn call(&mut self, _args: &[Val], memory: &mut [u8]) -> Result<Vec<Val>, HostFault> {
+        mark(memory);
+        Ok(Vec::new(self.alloc))
+    }
+}
+
+/// A store, and the objects of its host functions.
+#[derive(Drop)]
+pub struct Hosted {
+    pub store: Store,
+    pub hosts: HostTable,
+}
+
+// Takes in an object that gives no funcref, behind as many host functions.
+fn take_in(hosted: &mut Hosted, alloc: Global, object: Box<dyn HostFn>) -> Result<(), AllocError>
+    requires objects { length hosted.old.hosts.objects.items < 9 }
+    requires functions { length (store_of hosted.old.store).functions < 9 }
+    requires hosts { length hosted.old.store.code.hosts < 9 }
+    ensures objects { OnOk result (length hosted.new.hosts.objects.items ≡
+        length hosted.old.hosts.objects.items + 1) }
+    ensures functions { OnOk result (length (store_of hosted.new.store).functions ≡
+        length (store_of hosted.old.store).functions + 1) }
+    ensures hosts { OnOk result (length hosted.new.store.code.hosts ≡
+        length hosted.old.store.code.hosts + 1) }
+{
+    let ty = object_type(&object).copy(alloc)?;
+    if has_funcref(object_type(&object).results.as_slice()) {
+        return Err(AllocError);
+    }
+    hosted.hosts.push(object)?;
+    hosted.store.append_host(ty)?;
+    Ok(())
+}
+
+/// A store with four host functions alone: a difference, a sum, four results, and none.
+pub fn new_hosted(alloc: Global) -> Result<Hosted, AllocError> {
+    let mut hosted = Hosted {
+        store: Store::new(alloc, 1, 2),
+        hosts: HostTable::new(alloc),
+    };
+    take_in(&mut hosted, alloc, Box::new(alloc, new_difference(alloc)?)?)?;
+    take_in(&mut hosted, alloc, Box::new(alloc, new_sum(alloc)?)?)?;
+    take_in(&mut hosted, alloc, Box::new(alloc, new_four(alloc)?)?)?;
+    take_in(&mut hosted, alloc, Box::new(alloc, new_marker(alloc)?)?)?;
+    Ok(hosted)
+}
