@@ -11,7 +11,7 @@ struct Run {
 }
 
 #[rattlefmt::skip]
-static RUN: [Run; 35] = [
+static RUN: [Run; 32] = [
     Run {
         name: "i32.eqz",
         sections: "0105016000017F 03020100 07050101660000 0A070105004100450B",
@@ -123,21 +123,6 @@ static RUN: [Run; 35] = [
         out: "i32 8\nfuel left 96\n",
     },
     Run {
-        name: "return_call",
-        sections: "0105016000017F 0303020000 07050101660000 0A0B02040012010B040041070B",
-        out: "i32 7\nfuel left 98\n",
-    },
-    Run {
-        name: "return_call_indirect",
-        sections: "0105016000017F 0303020000 040401700001 07050101660000 090701 0041000B0101 0A0E0207004100 1300000B040041070B",
-        out: "i32 7\nfuel left 95\n",
-    },
-    Run {
-        name: "return_call of a host function of the stored module",
-        sections: "01080260017F00600000 0216010873706563746573740970 72696E745F6933320000 03020101 07050101660001 0A080106004107 12000B",
-        out: "fuel left 98\n",
-    },
-    Run {
         name: "ref.null",
         sections: "0105016000017F 03020100 07050101660000 0A09010700D0701A41070B",
         out: "i32 7\nfuel left 97\n",
@@ -197,6 +182,32 @@ fn is_run(alloc: Global, run: &Run) -> Result<bool, AllocError> {
 #[test]
 fn runs_each_group_of_instructions(rt: HostRuntime) {
     for run in &RUN {
+        assert!(rt; is_run(rt.alloc(), run) == Ok(true), "{}", run.name);
+    }
+}
+
+#[rattlefmt::skip]
+static TAIL_CALLS: [Run; 3] = [
+    Run {
+        name: "return_call",
+        sections: "0105016000017F 0303020000 07050101660000 0A0B02040012010B040041070B",
+        out: "i32 7\nfuel left 98\n",
+    },
+    Run {
+        name: "return_call_indirect",
+        sections: "0105016000017F 0303020000 040401700001 07050101660000 090701 0041000B0101 0A0E0207004100 1300000B040041070B",
+        out: "i32 7\nfuel left 95\n",
+    },
+    Run {
+        name: "return_call of a host function of the stored module",
+        sections: "01080260017F00600000 0216010873706563746573740970 72696E745F6933320000 03020101 07050101660001 0A080106004107 12000B",
+        out: "fuel left 98\n",
+    },
+];
+
+#[test]
+fn runs_tail_calls(rt: HostRuntime) {
+    for run in &TAIL_CALLS {
         assert!(rt; is_run(rt.alloc(), run) == Ok(true), "{}", run.name);
     }
 }

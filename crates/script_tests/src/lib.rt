@@ -5,3 +5,5 @@
 mod reading;
 #[cfg(test)]
 mod running;
+#[cfg(test)]
+mod tail_calls;

@@ -5,9 +5,9 @@ use scripts::{Report, ScriptFault, read_script, run_script};
 use std::alloc::Global;
 use testing::assemble;
 
-// What comes of a run.
+/// What comes of a run.
 #[derive(Clone, Copy)]
-enum End {
+pub enum End {
     // So many passed, failed and were skipped, and the lines of those that failed.
     Counts(u64, u64, u64, &'static [u64]),
     Missing(u64),
@@ -15,12 +15,12 @@ enum End {
 
 use End::{Counts, Missing};
 
-// Commands of a script, and files: their names and the texts of their modules.
-struct Row {
-    name: &'static str,
-    commands: &'static str,
-    files: &'static [(&'static str, &'static str)],
-    end: End,
+/// Commands of a script, and files: their names and the texts of their modules.
+pub struct Row {
+    pub name: &'static str,
+    pub commands: &'static str,
+    pub files: &'static [(&'static str, &'static str)],
+    pub end: End,
 }
 
 const ADD: &str =
@@ -30,7 +30,7 @@ const ADD: &str =
 const ADD_AND_CALL: &str =
     "(type (func (param i32 i32) (result i32))) (type (func (param i32) (result i32))) (type (func (result i32))) (table 1 funcref) (global i32 i32.const 666) (func (type 0) local.get 0 local.get 1 i32.add) (func (type 1) local.get 0 call_indirect (type 2)) (export \"add\" (func 0)) (export \"call\" (func 1)) (export \"g\" (global 0))";
 
-const ONE: &str = "(func (result i32) i32.const 1) (export \"f\" (func 0))";
+pub const ONE: &str = "(func (result i32) i32.const 1) (export \"f\" (func 0))";
 
 const TWO: &str = "(func (result i32) i32.const 2) (export \"f\" (func 0))";
 
@@ -43,16 +43,6 @@ const MISSING: &str = "(import \"M\" \"missing\" (func))";
 const ENDLESS: &str =
     "(func loop br 0 end) (func call 1) (export \"loop\" (func 0)) (export \"deep\" (func 1))";
 
-// Two functions that call each other last, one that calls an entry of a table last, and one that calls only itself.
-const EVEN_AND_ODD: &str =
-    "(type (func (param i32) (result i32))) (table 2 funcref) (func (param i32) (result i32) local.get 0 i32.eqz if (result i32) i32.const 1 else local.get 0 i32.const 1 i32.sub return_call 1 end) (func (param i32) (result i32) local.get 0 i32.eqz if (result i32) i32.const 0 else local.get 0 i32.const 1 i32.sub return_call 0 end) (func (param i32 i32) (result i32) local.get 0 local.get 1 return_call_indirect (type 0)) (func return_call 3) (elem (offset i32.const 0) func 0) (export \"even\" (func 0)) (export \"odd\" (func 1)) (export \"through\" (func 2)) (export \"last\" (func 3))";
-
-const CALLS_F_LAST: &str =
-    "(import \"M\" \"f\" (func (result i32))) (func (result i32) return_call 0) (export \"g\" (func 1))";
-
-// The function that is called last has another result than the one that calls it.
-const OTHER_RESULT: &str = "(func (result i64) return_call 1) (func (result i32) i32.const 1)";
-
 const TRAPS_AT_START: &str = "(func unreachable) (start 0)";
 
 const INVALID: &str = "(func (result i32) i64.const 1)";
@@ -64,7 +54,7 @@ const REFERENCES: &str =
     "(func (param externref) (result externref) local.get 0) (func (result funcref) ref.null func) (export \"same\" (func 0)) (export \"null\" (func 1))";
 
 #[rattlefmt::skip]
-static ROWS: [Row; 24] = [
+static ROWS: [Row; 22] = [
     Row { name: "nothing", commands: "", files: &[], end: Counts(0, 0, 0, &[]) },
     Row { name: "a module in text", commands: "{\"type\":\"module\",\"line\":1,\"filename\":\"a.wat\",\"module_type\":\"text\"}", files: &[], end: Counts(0, 0, 1, &[]) },
     Row { name: "an action without an instance", commands: "{\"type\":\"action\",\"line\":2,\"action\":{\"type\":\"invoke\",\"field\":\"add\",\"args\":[]}}", files: &[], end: Counts(0, 1, 0, &[2]) },
@@ -84,8 +74,6 @@ static ROWS: [Row; 24] = [
     Row { name: "a global", commands: "{\"type\":\"module\",\"line\":1,\"filename\":\"a\"},{\"type\":\"assert_return\",\"line\":2,\"action\":{\"type\":\"get\",\"field\":\"g\"},\"expected\":[{\"type\":\"i32\",\"value\":\"666\"}]},{\"type\":\"action\",\"line\":3,\"action\":{\"type\":\"get\",\"field\":\"add\"}}", files: &[("a", ADD_AND_CALL)], end: Counts(2, 1, 0, &[3]) },
     Row { name: "results in their order", commands: "{\"type\":\"module\",\"line\":1,\"filename\":\"s\"},{\"type\":\"assert_return\",\"line\":2,\"action\":{\"type\":\"invoke\",\"field\":\"swap\",\"args\":[{\"type\":\"i32\",\"value\":\"1\"},{\"type\":\"i64\",\"value\":\"2\"}]},\"expected\":[{\"type\":\"i64\",\"value\":\"2\"},{\"type\":\"i32\",\"value\":\"1\"}]},{\"type\":\"assert_return\",\"line\":3,\"action\":{\"type\":\"invoke\",\"field\":\"swap\",\"args\":[{\"type\":\"i32\",\"value\":\"1\"},{\"type\":\"i64\",\"value\":\"2\"}]},\"expected\":[{\"type\":\"i64\",\"value\":\"2\"}]}", files: &[("s", RETURNS_BOTH)], end: Counts(2, 1, 0, &[3]) },
     Row { name: "references", commands: "{\"type\":\"module\",\"line\":1,\"filename\":\"r\"},{\"type\":\"assert_return\",\"line\":2,\"action\":{\"type\":\"invoke\",\"field\":\"same\",\"args\":[{\"type\":\"externref\",\"value\":\"5\"}]},\"expected\":[{\"type\":\"externref\",\"value\":\"5\"}]},{\"type\":\"assert_return\",\"line\":3,\"action\":{\"type\":\"invoke\",\"field\":\"same\",\"args\":[{\"type\":\"externref\",\"value\":\"5\"}]},\"expected\":[{\"type\":\"externref\",\"value\":\"null\"}]},{\"type\":\"assert_return\",\"line\":4,\"action\":{\"type\":\"invoke\",\"field\":\"null\",\"args\":[]},\"expected\":[{\"type\":\"funcref\",\"value\":\"null\"}]}", files: &[("r", REFERENCES)], end: Counts(3, 1, 0, &[3]) },
-    Row { name: "tail calls", commands: "{\"type\":\"module\",\"line\":1,\"filename\":\"a\"},{\"type\":\"assert_return\",\"line\":2,\"action\":{\"type\":\"invoke\",\"field\":\"even\",\"args\":[{\"type\":\"i32\",\"value\":\"140\"}]},\"expected\":[{\"type\":\"i32\",\"value\":\"1\"}]},{\"type\":\"assert_return\",\"line\":3,\"action\":{\"type\":\"invoke\",\"field\":\"odd\",\"args\":[{\"type\":\"i32\",\"value\":\"140\"}]},\"expected\":[{\"type\":\"i32\",\"value\":\"0\"}]},{\"type\":\"assert_return\",\"line\":4,\"action\":{\"type\":\"invoke\",\"field\":\"through\",\"args\":[{\"type\":\"i32\",\"value\":\"7\"},{\"type\":\"i32\",\"value\":\"0\"}]},\"expected\":[{\"type\":\"i32\",\"value\":\"0\"}]},{\"type\":\"assert_trap\",\"line\":5,\"action\":{\"type\":\"invoke\",\"field\":\"through\",\"args\":[{\"type\":\"i32\",\"value\":\"7\"},{\"type\":\"i32\",\"value\":\"1\"}]},\"text\":\"uninitialized element 1\"},{\"type\":\"assert_trap\",\"line\":6,\"action\":{\"type\":\"invoke\",\"field\":\"through\",\"args\":[{\"type\":\"i32\",\"value\":\"7\"},{\"type\":\"i32\",\"value\":\"2\"}]},\"text\":\"undefined element\"},{\"type\":\"assert_exhaustion\",\"line\":7,\"action\":{\"type\":\"invoke\",\"field\":\"even\",\"args\":[{\"type\":\"i32\",\"value\":\"143\"}]}},{\"type\":\"assert_exhaustion\",\"line\":8,\"action\":{\"type\":\"invoke\",\"field\":\"last\",\"args\":[]}}", files: &[("a", EVEN_AND_ODD)], end: Counts(8, 0, 0, &[]) },
-    Row { name: "a tail call of a registered function, and one with another result", commands: "{\"type\":\"module\",\"line\":1,\"filename\":\"1\"},{\"type\":\"register\",\"line\":2,\"as\":\"M\"},{\"type\":\"module\",\"line\":3,\"filename\":\"g\"},{\"type\":\"assert_return\",\"line\":4,\"action\":{\"type\":\"invoke\",\"field\":\"g\",\"args\":[]},\"expected\":[{\"type\":\"i32\",\"value\":\"1\"}]},{\"type\":\"assert_return\",\"line\":5,\"action\":{\"type\":\"invoke\",\"field\":\"g\",\"args\":[]},\"expected\":[{\"type\":\"i32\",\"value\":\"2\"}]},{\"type\":\"assert_exhaustion\",\"line\":6,\"action\":{\"type\":\"invoke\",\"field\":\"g\",\"args\":[]}},{\"type\":\"assert_invalid\",\"line\":7,\"filename\":\"x\"}", files: &[("1", ONE), ("g", CALLS_F_LAST), ("x", OTHER_RESULT)], end: Counts(5, 2, 0, &[5, 6]) },
     Row { name: "values that are left out", commands: "{\"type\":\"module\",\"line\":1,\"filename\":\"a\"},{\"type\":\"assert_return\",\"line\":2,\"action\":{\"type\":\"invoke\",\"field\":\"add\",\"args\":[{\"type\":\"f32\",\"value\":\"1\"}]},\"expected\":[]},{\"type\":\"assert_return\",\"line\":3,\"action\":{\"type\":\"invoke\",\"field\":\"add\",\"args\":[]},\"expected\":[{\"type\":\"f64\",\"value\":\"nan:canonical\"}]}", files: &[("a", ADD)], end: Counts(1, 0, 2, &[]) },
     Row { name: "two files of one name", commands: "{\"type\":\"module\",\"line\":1,\"filename\":\"a\"},{\"type\":\"assert_return\",\"line\":2,\"action\":{\"type\":\"invoke\",\"field\":\"f\",\"args\":[]},\"expected\":[{\"type\":\"i32\",\"value\":\"1\"}]}", files: &[("a", ONE), ("a", TWO)], end: Counts(2, 0, 0, &[]) },
     Row { name: "a wrong number of arguments", commands: "{\"type\":\"module\",\"line\":1,\"filename\":\"a\"},{\"type\":\"assert_trap\",\"line\":2,\"action\":{\"type\":\"invoke\",\"field\":\"add\",\"args\":[]},\"text\":\"\"}", files: &[("a", ADD)], end: Counts(1, 1, 0, &[2]) },
@@ -137,8 +125,8 @@ fn is_end(run: Result<Report, ScriptFault>, end: End) -> bool {
     }
 }
 
-// Whether a script ends as its row says.
-fn is_run(alloc: Global, row: &Row) -> bool {
+/// Whether a script ends as its row says.
+pub fn is_run(alloc: Global, row: &Row) -> bool {
     let (Some(text), Some(handed), Some(config)) = (
         script_bytes(alloc, row.commands),
         files(alloc, row.files),
