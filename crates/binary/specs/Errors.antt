@@ -1,6 +1,8 @@
 -- What an error says.
 use Rattle.std.specs.Prelude.{ℕ, List, Result, Ok, Err}
 use Rattle.core_types.specs.declared.module.Module.{Module}
+use Rattle.meaning.specs.embedding.Commands as refusal
+use Rattle.meaning.specs.embedding.Refusals.{number_of}
 use Rattle.meaning.specs.binary.Limits.{IsWithinLimits}
 use Rattle.meaning.specs.binary.Modules.{SpellsModule}
 use Rattle.binary.specs.declared.errors.DecodeError.{DecodeError}
@@ -21,8 +23,9 @@ IfRefused (Err error) fact = OnRefused error fact
 abbrev pub IsNoModule : List ℕ → Type 0
 IsNoModule bytes = (m : Module) → SpellsModule bytes m → IsWithinLimits bytes m → ⊥
 
-abbrev pub number_of : DecodeError → ℕ
-number_of (Malformed offset) = 1
-number_of (Unsupported offset) = 2
-number_of Limit = 3
-number_of OutOfMemory = 13
+-- The number of the refusal.
+abbrev pub decode_number : DecodeError → ℕ
+decode_number (Malformed offset) = number_of refusal.Malformed
+decode_number (Unsupported offset) = number_of refusal.Unsupported
+decode_number Limit = number_of refusal.Limit
+decode_number OutOfMemory = number_of refusal.OutOfMemory

@@ -22,11 +22,11 @@ pub enum DecodeError {
 
 impl DecodeError {
     ghost use Rattle.std.specs.Prelude.{◌≡◌};
-    ghost use Rattle.binary.specs.Errors.{number_of};
+    ghost use Rattle.binary.specs.Errors.{decode_number};
 
     /// The number of the refusal: 1, 2 or 3, and 13 for out of memory.
     pub fn number(&self) -> u8
-        ensures { result ≡ number_of self.now }
+        ensures { result ≡ decode_number self.now }
     {
         match self {
             DecodeError::Malformed(_) => 1,

@@ -1,1 +1,2 @@
 pub mod LocalRuns
+pub mod Outcome

@@ -1,9 +1,10 @@
 ghost use Rattle.std.specs.Prelude.{◌≡◌, ◌==◌, List, length};
 
+use std::fmt;
 use std::marker::Model;
 
 /// A list, which contracts see as such, over a `Vec`.
-#[derive(Debug, Drop)]
+#[derive(Drop)]
 pub struct Items<T> {
     items: Vec<T>,
 }
@@ -49,6 +50,13 @@ impl<T> Items<T> {
         ensures { result ≡ (length self.now == 0) }
     {
         self.items.is_empty()
+    }
+}
+
+impl<T: fmt::Debug> fmt::Debug for Items<T> {
+    fn fmt<W: fmt::Write>(&self, f: &mut fmt::Formatter<W>) -> fmt::Result {
+        let items = self.as_slice();
+        write!(f, "{items:?}")
     }
 }
 

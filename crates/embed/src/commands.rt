@@ -1,8 +1,8 @@
 ghost use Rattle.std.specs.Prelude.{◌≡◌};
-ghost use Rattle.meaning.specs.embedding.Commands.{Ended};
-ghost use Rattle.exec.specs.Endings.{ending_of};
-ghost use Rattle.embed.specs.Replies.{reply_of};
+ghost use Rattle.embed.specs.Replies.{call_reply, link_reply, load_reply, register_reply, reply_of, values_reply};
 
+use crate::link_outcome::LinkOutcome;
+use crate::numbers::ModuleNumber;
 use crate::refusals::Refusal;
 use core_types::{Exhaustion, Trap, Val};
 use exec::Outcome;
@@ -66,14 +66,61 @@ pub enum Reply {
     Refused(Refusal),
 }
 
-impl From<Outcome> for Reply {
-    ghost from_gives = { λ outcome reply. reply_of reply ≡ Ended (ending_of outcome) };
+impl From<Result<ModuleNumber, Refusal>> for Reply {
+    ghost from_gives = { λ answer reply. reply_of reply ≡ load_reply answer };
 
-    fn from(outcome: Outcome) -> Reply {
-        match outcome {
-            Outcome::Values(values) => Reply::Values(values.into_vec()),
-            Outcome::Trap(trap) => Reply::Trap(trap),
-            Outcome::Exhausted(what) => Reply::Exhausted(what),
+    fn from(answer: Result<ModuleNumber, Refusal>) -> Reply {
+        match answer {
+            Ok(number) => Reply::Loaded(number.0),
+            Err(refusal) => Reply::Refused(refusal),
+        }
+    }
+}
+
+impl From<Result<LinkOutcome, Refusal>> for Reply {
+    ghost from_gives = { λ answer reply. reply_of reply ≡ link_reply answer };
+
+    fn from(answer: Result<LinkOutcome, Refusal>) -> Reply {
+        match answer {
+            Ok(LinkOutcome::Linked(number)) => Reply::Linked(number.0),
+            Ok(LinkOutcome::Trap(trap)) => Reply::Trap(trap),
+            Ok(LinkOutcome::Exhausted(what)) => Reply::Exhausted(what),
+            Err(refusal) => Reply::Refused(refusal),
+        }
+    }
+}
+
+impl From<Result<(), Refusal>> for Reply {
+    ghost from_gives = { λ answer reply. reply_of reply ≡ register_reply answer };
+
+    fn from(answer: Result<(), Refusal>) -> Reply {
+        match answer {
+            Ok(()) => Reply::Done,
+            Err(refusal) => Reply::Refused(refusal),
+        }
+    }
+}
+
+impl From<Result<Outcome, Refusal>> for Reply {
+    ghost from_gives = { λ answer reply. reply_of reply ≡ call_reply answer };
+
+    fn from(answer: Result<Outcome, Refusal>) -> Reply {
+        match answer {
+            Ok(Outcome::Values(values)) => Reply::Values(values.into_vec()),
+            Ok(Outcome::Trap(trap)) => Reply::Trap(trap),
+            Ok(Outcome::Exhausted(what)) => Reply::Exhausted(what),
+            Err(refusal) => Reply::Refused(refusal),
+        }
+    }
+}
+
+impl From<Result<Vec<Val>, Refusal>> for Reply {
+    ghost from_gives = { λ answer reply. reply_of reply ≡ values_reply answer };
+
+    fn from(answer: Result<Vec<Val>, Refusal>) -> Reply {
+        match answer {
+            Ok(values) => Reply::Values(values),
+            Err(refusal) => Reply::Refused(refusal),
         }
     }
 }

@@ -1,4 +1,7 @@
+ghost use Rattle.std.specs.Prelude.{◌≡◌, IfOk, string_bytes};
+
 use hostfunc::HostFn;
+use std::alloc::{AllocError, Global};
 
 /// A host function, and the names by which modules import it: that of a module, and one in it.
 #[derive(Drop)]
@@ -6,4 +9,22 @@ pub struct HostDef {
     pub module: String,
     pub name: String,
     pub func: Box<dyn HostFn>,
+}
+
+impl HostDef {
+    /// A host function under these names. Fails where there is no memory for them.
+    pub fn new(
+        alloc: Global,
+        module: &str,
+        name: &str,
+        func: Box<dyn HostFn>,
+    ) -> Result<HostDef, AllocError>
+        ensures module_name { IfOk result (λ made. string_bytes made.«module» ≡ «module».now) }
+        ensures name { IfOk result (λ made. string_bytes made.name ≡ name.now) }
+        ensures func { IfOk result (λ made. made.func ≡ func) }
+    {
+        let module = String::from_str(alloc, module)?;
+        let name = String::from_str(alloc, name)?;
+        Ok(HostDef { module, name, func })
+    }
 }

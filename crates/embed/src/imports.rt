@@ -9,7 +9,8 @@ use linker::Names;
 use std::alloc::Global;
 use store::Store;
 
-/// What the names of imports stand for, in their order. Refused with `UnknownImport` where those of one stand for nothing.
+/// What the names of imports stand for, in their order. Refused with `UnknownImport` and the index
+/// of the first one whose names stand for nothing.
 pub fn resolve_imports(
     alloc: Global,
     names: &Names,
@@ -18,15 +19,15 @@ pub fn resolve_imports(
 ) -> Result<Vec<Extern>, Refusal>
     ensures found { IfOk result (λ externs. resolved (store_of store.now) names.now imports.now
         ≡ Some externs.items) }
-    ensures refused { IfErr result (λ refusal. IsUnresolved
-        (resolved (store_of store.now) names.now imports.now) refusal) }
+    ensures refused { IfErr result (λ refusal. IsUnresolved (store_of store.now) names.now
+        imports.now refusal) }
 {
     let mut externs = Vec::new(alloc);
     for k in 0..imports.len() {
         let wanted = &imports[k];
         match names.resolve(store, wanted.module_name.as_str(), wanted.name.as_str()) {
             Some(found) => externs.push(found)?,
-            None => return Err(Refusal::UnknownImport),
+            None => return Err(Refusal::UnknownImport(k)),
         }
     }
     Ok(externs)

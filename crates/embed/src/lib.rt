@@ -5,17 +5,32 @@ mod commands;
 mod config;
 mod definitions;
 mod embedding;
+mod exports;
+mod host_calls;
 mod host_definitions;
 mod imports;
 mod laws;
+mod link_outcome;
 mod modules;
 mod new_fault;
+mod numbers;
 mod refusals;
 
 pub use commands::{Command, Reply};
 pub use config::Config;
+pub use core_types::{
+    Exhaustion, ExternType, FuncType, GlobalType, Limits, TableType, Trap, Val, ValType,
+};
 pub use embedding::Embedding;
+pub use exec::Outcome;
+pub use exports::ExportType;
+pub use host_calls::{bytes_at, func_type, no_results, one_result};
 pub use host_definitions::HostDef;
+pub use hostfunc::{HostFault, HostFn};
 pub use laws::headline;
+pub use link_outcome::LinkOutcome;
 pub use new_fault::NewFault;
+pub use numbers::{InstanceNumber, ModuleNumber};
 pub use refusals::Refusal;
+pub use std::rc::Rc;
+pub use validator::Place;

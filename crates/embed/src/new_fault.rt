@@ -1,6 +1,7 @@
 ghost use Rattle.std.specs.Prelude.{◌≡◌};
 ghost use Rattle.embed.specs.declared.new_fault.NewFault.TheVariants.{OutOfMemory as OutOfMemoryFault};
-ghost use Rattle.embed.specs.Definitions.{name_fault};
+ghost use Rattle.meaning.specs.embedding.Refusals.{fault_number};
+ghost use Rattle.embed.specs.Definitions.{fault_in, name_fault};
 
 use linker::NameRefusal;
 use std::alloc::{AllocError, AllocFailed};
@@ -22,7 +23,9 @@ pub enum NewFault {
 
 impl NewFault {
     /// The number of the fault.
-    pub fn number(&self) -> u8 {
+    pub fn number(&self) -> u8
+        ensures { result ≡ fault_number (fault_in self.now) }
+    {
         match self {
             NewFault::HostFuncRef => 14,
             NewFault::NameTaken => 12,

@@ -1,55 +1,73 @@
 ghost use Rattle.std.specs.Prelude.{◌≡◌};
 ghost use Rattle.embed.specs.declared.refusals.Refusal.TheVariants.{OutOfMemory as OutOfMemoryCause};
+ghost use Rattle.meaning.specs.embedding.Refusals.{number_of};
+ghost use Rattle.embed.specs.Replies.{refusal_of};
 ghost use Rattle.embed.specs.Causes.{decode_refusal, validate_refusal, link_refusal, name_refusal};
 
 use binary::DecodeError;
 use instantiate::LinkRefusal;
 use linker::NameRefusal;
 use std::alloc::{AllocError, AllocFailed};
-use validator::ValidateError;
+use thiserror::Error;
+use validator::{Place, ValidateError};
 
-/// Why a command is refused. Nothing has changed.
-#[derive(Clone, Copy, PartialEq, Eq)]
+/// Why a command is refused, and where, if there is a place. Nothing has changed.
+#[derive(Clone, Copy, PartialEq, Eq, Debug, Error)]
 pub enum Refusal {
-    /// The bytes spell no module.
-    Malformed,
-    /// The bytes use what is left out.
-    Unsupported,
+    /// The bytes spell no module: reading failed at this byte of them.
+    #[error("malformed module at byte {0}")]
+    Malformed(usize),
+    /// The bytes use what is left out, from this byte of them on.
+    #[error("unsupported feature at byte {0}")]
+    Unsupported(usize),
     /// A limit is passed.
+    #[error("a limit is passed")]
     Limit,
-    /// No typing accepts the module.
-    Invalid,
+    /// No typing accepts the module, in this place.
+    #[error("invalid module in {0}")]
+    Invalid(Place),
     /// There is no module of the number.
+    #[error("there is no module of the number")]
     UnknownModule,
-    /// The names of an import stand for nothing.
-    UnknownImport,
-    /// What the names of an import stand for does not match.
-    IncompatibleImport,
+    /// The names of the import of this index stand for nothing.
+    #[error("import {0} is unknown")]
+    UnknownImport(usize),
+    /// What the names of the import of this index stand for does not match.
+    #[error("import {0} is of another type")]
+    IncompatibleImport(usize),
     /// There is no instance of the number.
+    #[error("there is no instance of the number")]
     UnknownInstance,
     /// Nothing is exported under the name.
+    #[error("nothing is exported under the name")]
     UnknownExport,
     /// What is exported is no function, or no global.
+    #[error("the export is of another kind")]
     WrongKind,
     /// The arguments are too many or too few, or one has not its type.
+    #[error("the arguments are not those of the function")]
     BadArguments,
     /// A host function has the name.
+    #[error("a host function has the name")]
     NameTaken,
     /// There was no memory.
+    #[error("out of memory")]
     OutOfMemory,
 }
 
 impl Refusal {
-    /// The number of the refusal.
-    pub fn number(self) -> u8 {
+    /// The number of the refusal, which does not tell where.
+    pub fn number(self) -> u8
+        ensures { result ≡ number_of (refusal_of self) }
+    {
         match self {
-            Refusal::Malformed => 1,
-            Refusal::Unsupported => 2,
+            Refusal::Malformed(_) => 1,
+            Refusal::Unsupported(_) => 2,
             Refusal::Limit => 3,
-            Refusal::Invalid => 4,
+            Refusal::Invalid(_) => 4,
             Refusal::UnknownModule => 5,
-            Refusal::UnknownImport => 6,
-            Refusal::IncompatibleImport => 7,
+            Refusal::UnknownImport(_) => 6,
+            Refusal::IncompatibleImport(_) => 7,
             Refusal::UnknownInstance => 8,
             Refusal::UnknownExport => 9,
             Refusal::WrongKind => 10,
@@ -59,16 +77,16 @@ impl Refusal {
         }
     }
 
-    /// The name of the refusal.
+    /// The name of the refusal, which does not tell where.
     pub fn name(self) -> &'static str {
         match self {
-            Refusal::Malformed => "Malformed",
-            Refusal::Unsupported => "Unsupported",
+            Refusal::Malformed(_) => "Malformed",
+            Refusal::Unsupported(_) => "Unsupported",
             Refusal::Limit => "Limit",
-            Refusal::Invalid => "Invalid",
+            Refusal::Invalid(_) => "Invalid",
             Refusal::UnknownModule => "UnknownModule",
-            Refusal::UnknownImport => "UnknownImport",
-            Refusal::IncompatibleImport => "IncompatibleImport",
+            Refusal::UnknownImport(_) => "UnknownImport",
+            Refusal::IncompatibleImport(_) => "IncompatibleImport",
             Refusal::UnknownInstance => "UnknownInstance",
             Refusal::UnknownExport => "UnknownExport",
             Refusal::WrongKind => "WrongKind",
@@ -100,8 +118,8 @@ impl From<DecodeError> for Refusal {
 
     fn from(error: DecodeError) -> Refusal {
         match error {
-            DecodeError::Malformed(_) => Refusal::Malformed,
-            DecodeError::Unsupported(_) => Refusal::Unsupported,
+            DecodeError::Malformed(offset) => Refusal::Malformed(offset),
+            DecodeError::Unsupported(offset) => Refusal::Unsupported(offset),
             DecodeError::Limit => Refusal::Limit,
             DecodeError::OutOfMemory => Refusal::OutOfMemory,
         }
@@ -113,7 +131,7 @@ impl From<ValidateError> for Refusal {
 
     fn from(error: ValidateError) -> Refusal {
         match error {
-            ValidateError::Invalid(_) => Refusal::Invalid,
+            ValidateError::Invalid(place) => Refusal::Invalid(place),
             ValidateError::OutOfMemory => Refusal::OutOfMemory,
         }
     }
@@ -125,8 +143,8 @@ impl From<LinkRefusal> for Refusal {
     fn from(cause: LinkRefusal) -> Refusal {
         match cause {
             LinkRefusal::Limit => Refusal::Limit,
-            LinkRefusal::UnknownImport => Refusal::UnknownImport,
-            LinkRefusal::IncompatibleImport => Refusal::IncompatibleImport,
+            LinkRefusal::UnknownImport(index) => Refusal::UnknownImport(index),
+            LinkRefusal::IncompatibleImport(index) => Refusal::IncompatibleImport(index),
             LinkRefusal::OutOfMemory => Refusal::OutOfMemory,
         }
     }

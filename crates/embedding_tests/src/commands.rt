@@ -1,8 +1,8 @@
 //! Commands that follow one another, and their replies.
 
-use crate::engines::{Asked, answer};
+use crate::engines::{Asked, want_memory};
 use core_types::{Exhaustion, Trap, Val};
-use embed::{Command, Config, Embedding, Refusal, Reply};
+use embed::{Config, Embedding, InstanceNumber, LinkOutcome, ModuleNumber, Place, Refusal, Reply};
 use std::alloc::Global;
 use testing::assemble;
 
@@ -98,10 +98,10 @@ static ROWS: [Row; 16] = [
         LoadBytes(&EMPTY, Number(0)), Link(0, Number(0)), Call(0, "add", &[], Refused(Refusal::UnknownExport)),
     ] },
     Row { name: "seven bytes", steps: &[
-        LoadBytes(&[0x00, 0x61, 0x73, 0x6D, 0x01, 0x00, 0x00], Refused(Refusal::Malformed)), LoadBytes(&EMPTY, Number(0)),
+        LoadBytes(&[0x00, 0x61, 0x73, 0x6D, 0x01, 0x00, 0x00], Refused(Refusal::Malformed(7))), LoadBytes(&EMPTY, Number(0)),
     ] },
     Row { name: "an invalid module", steps: &[
-        Load("(func (result i32) i64.const 1)", Refused(Refusal::Invalid)), LoadBytes(&EMPTY, Number(0)),
+        Load("(func (result i32) i64.const 1)", Refused(Refusal::Invalid(Place::Func(0)))), LoadBytes(&EMPTY, Number(0)),
     ] },
     Row { name: "a start function that traps", steps: &[
         SetFuel(10), Load("(func unreachable) (start 0)", Number(0)), Link(0, Trapped(Trap::Unreachable)), Left(9),
@@ -110,11 +110,11 @@ static ROWS: [Row; 16] = [
     Row { name: "a missing import before one of a wrong type", steps: &[
         Load(ONE, Number(0)), Link(0, Number(0)), Register(0, "m", Done),
         Load("(import \"m\" \"missing\" (func (result i32))) (import \"m\" \"f\" (func (result i64)))", Number(1)),
-        Link(1, Refused(Refusal::UnknownImport)),
+        Link(1, Refused(Refusal::UnknownImport(0))),
     ] },
     Row { name: "an import of a wrong type", steps: &[
         Load(ONE, Number(0)), Link(0, Number(0)), Register(0, "m", Done),
-        Load("(import \"m\" \"f\" (func (result i64)))", Number(1)), Link(1, Refused(Refusal::IncompatibleImport)),
+        Load("(import \"m\" \"f\" (func (result i64)))", Number(1)), Link(1, Refused(Refusal::IncompatibleImport(0))),
     ] },
     Row { name: "more pages than a memory may have", steps: &[
         Load("(memory 1025)", Number(0)), Link(0, Refused(Refusal::Limit)), Load("(memory 1024)", Number(1)), Link(1, Number(0)),
@@ -169,43 +169,68 @@ fn is_answer(reply: &Reply, answer: Answer) -> bool {
     }
 }
 
-// Whether a command gets this answer.
-fn gets(at: &mut Embedding, wanting: Option<Asked>, command: &Command, wanted: Answer) -> bool {
-    is_answer(&answer(at, wanting, command), wanted)
-}
-
-// Whether a module is loaded with this answer.
-fn loads(
-    alloc: Global,
-    at: &mut Embedding,
-    wanting: Option<Asked>,
-    bytes: &[u8],
-    wanted: Answer,
-) -> bool {
-    match Vec::from_slice(alloc, bytes) {
-        Ok(copied) => gets(at, wanting, &Command::Load(copied), wanted),
-        Err(_) => false,
+// The command that a step is, and its answer, if it is one.
+fn command_in(step: Step) -> Option<(Asked, Answer)> {
+    match step {
+        LoadBytes(_, wanted) | Load(_, wanted) => Some((Asked::Load, wanted)),
+        Link(_, wanted) => Some((Asked::Link, wanted)),
+        Register(_, _, wanted) => Some((Asked::Register, wanted)),
+        Call(_, _, _, wanted) => Some((Asked::Call, wanted)),
+        GetGlobal(_, _, wanted) => Some((Asked::GetGlobal, wanted)),
+        SetFuel(_) => Some((Asked::SetFuel, Done)),
+        LinkTimes(..) | LinkOthers(..) | Left(_) => None,
     }
 }
 
-// Whether the module of a text is loaded with this answer.
-fn loads_text(
-    alloc: Global,
-    at: &mut Embedding,
-    wanting: Option<Asked>,
-    text: &str,
-    wanted: Answer,
-) -> bool {
+// What is answered where the module of a text is loaded.
+fn load_text(alloc: Global, at: &mut Embedding, text: &str) -> Reply {
     match assemble(alloc, text) {
-        Ok(bytes) => gets(at, wanting, &Command::Load(bytes), wanted),
-        Err(_) => false,
+        Ok(bytes) => Reply::from(at.load(bytes.as_slice())),
+        Err(_) => Reply::Refused(Refusal::OutOfMemory),
+    }
+}
+
+// What is answered where a global is read.
+fn read(alloc: Global, at: &Embedding, number: u64, name: &str) -> Reply {
+    match at.get_global(InstanceNumber(number), name) {
+        Ok(value) => match Vec::from_slice(alloc, &[value]) {
+            Ok(values) => Reply::Values(values),
+            Err(_) => Reply::Refused(Refusal::OutOfMemory),
+        },
+        Err(refusal) => Reply::Refused(refusal),
+    }
+}
+
+// What the method of its command answers to a step.
+fn ask(alloc: Global, at: &mut Embedding, step: Step) -> Reply {
+    match step {
+        LoadBytes(bytes, _) => Reply::from(at.load(bytes)),
+        Load(text, _) => load_text(alloc, at, text),
+        Link(number, _) => Reply::from(at.link(ModuleNumber(number))),
+        Register(number, name, _) => Reply::from(at.register(InstanceNumber(number), name)),
+        Call(number, name, args, _) => Reply::from(at.call(InstanceNumber(number), name, args)),
+        GetGlobal(number, name, _) => read(alloc, at, number, name),
+        SetFuel(fuel) => {
+            at.set_fuel(fuel);
+            Reply::Done
+        }
+        LinkTimes(..) | LinkOthers(..) | Left(_) => Reply::Done,
+    }
+}
+
+// Whether a step gets the answer of its command, where one command, if it is given, always wants memory.
+fn gets(alloc: Global, at: &mut Embedding, wanting: Option<Asked>, step: Step) -> bool {
+    match command_in(step) {
+        Some((asked, wanted)) if wanting == Some(asked) => is_answer(&want_memory(asked), wanted),
+        Some((_, wanted)) => is_answer(&ask(alloc, at, step), wanted),
+        None => true,
     }
 }
 
 // Links a module so many times.
 fn link_times(at: &mut Embedding, number: u64, times: u64) {
     for _ in 0..times {
-        let _ = at.apply(&Command::Link(number));
+        let _ = at.link(ModuleNumber(number));
     }
 }
 
@@ -214,9 +239,9 @@ fn links_text(alloc: Global, at: &mut Embedding, text: &str) -> bool {
     let Ok(bytes) = assemble(alloc, text) else {
         return false;
     };
-    match at.apply(&Command::Load(bytes)) {
-        Reply::Loaded(number) => matches!(at.apply(&Command::Link(number)), Reply::Linked(_)),
-        _ => false,
+    match at.load(bytes.as_slice()) {
+        Ok(number) => matches!(at.link(number), Ok(LinkOutcome::Linked(_))),
+        Err(_) => false,
     }
 }
 
@@ -239,72 +264,16 @@ fn links_others(alloc: Global, at: &mut Embedding, first: u64, last: u64) -> boo
     all
 }
 
-// Whether an instance is registered with this answer.
-fn registers(
-    alloc: Global,
-    at: &mut Embedding,
-    wanting: Option<Asked>,
-    number: u64,
-    name: &str,
-    wanted: Answer,
-) -> bool {
-    match String::from_str(alloc, name) {
-        Ok(copied) => gets(at, wanting, &Command::Register(number, copied), wanted),
-        Err(_) => false,
-    }
-}
-
-// Whether a call gets this answer.
-fn calls(
-    alloc: Global,
-    at: &mut Embedding,
-    wanting: Option<Asked>,
-    (number, name): (u64, &str),
-    args: &[Val],
-    wanted: Answer,
-) -> bool {
-    match (String::from_str(alloc, name), Vec::from_slice(alloc, args)) {
-        (Ok(copied), Ok(values)) => gets(
-            at,
-            wanting,
-            &Command::Call(number, copied, values),
-            wanted,
-        ),
-        _ => false,
-    }
-}
-
-// Whether a global is read with this answer.
-fn reads(
-    alloc: Global,
-    at: &mut Embedding,
-    wanting: Option<Asked>,
-    number: u64,
-    name: &str,
-    wanted: Answer,
-) -> bool {
-    match String::from_str(alloc, name) {
-        Ok(copied) => gets(at, wanting, &Command::GetGlobal(number, copied), wanted),
-        Err(_) => false,
-    }
-}
-
 // Whether a step is as it says.
 fn is_so(alloc: Global, at: &mut Embedding, wanting: Option<Asked>, step: Step) -> bool {
     match step {
-        LoadBytes(bytes, wanted) => loads(alloc, at, wanting, bytes, wanted),
-        Load(text, wanted) => loads_text(alloc, at, wanting, text, wanted),
-        Link(number, wanted) => gets(at, wanting, &Command::Link(number), wanted),
         LinkTimes(number, times) => {
             link_times(at, number, times);
             true
         }
         LinkOthers(first, last) => links_others(alloc, at, first, last),
-        Register(number, name, wanted) => registers(alloc, at, wanting, number, name, wanted),
-        Call(number, name, args, wanted) => calls(alloc, at, wanting, (number, name), args, wanted),
-        GetGlobal(number, name, wanted) => reads(alloc, at, wanting, number, name, wanted),
-        SetFuel(fuel) => gets(at, wanting, &Command::SetFuel(fuel), Done),
         Left(fuel) => at.fuel_left() == fuel,
+        command => gets(alloc, at, wanting, command),
     }
 }
 
@@ -348,15 +317,16 @@ fn commands_get_their_answers(rt: HostRuntime) {
     }
 }
 
-// Whether the first bytes of the module that adds are loaded where they are a module: without sections, with its type alone, and whole.
+// Whether the first bytes of the module that adds are loaded where they are a module (without sections, with its type alone, and
+// whole), and are malformed at one of them or at their end elsewhere.
 fn loads_first(alloc: Global, count: usize) -> bool {
-    let wanted = match count {
-        8 | 17 | 41 => Number(0),
-        _ => Refused(Refusal::Malformed),
+    let Some(mut at) = fresh_embedding(alloc) else {
+        return false;
     };
-    match fresh_embedding(alloc) {
-        Some(mut at) => loads(alloc, &mut at, None, &ADD[..count.min(ADD.len())], wanted),
-        None => false,
+    match at.load(&ADD[..count.min(ADD.len())]) {
+        Ok(number) => matches!(count, 8 | 17 | 41) && number == ModuleNumber(0),
+        Err(Refusal::Malformed(offset)) => !matches!(count, 8 | 17 | 41) && offset <= count,
+        Err(_) => false,
     }
 }
 

@@ -4,7 +4,7 @@ use crate::commands::{Answer, Step, all_are_so};
 use Answer::{Done, Number, Refused, Trapped, Values};
 use Step::{Call, GetGlobal, Left, Link, Load, Register, SetFuel};
 use core_types::{Trap, Val};
-use embed::Refusal;
+use embed::{Place, Refusal};
 
 // Steps that follow one another in a fresh embedding.
 struct Row {
@@ -41,10 +41,10 @@ static ROWS: [Row; 14] = [
         Load("(global i32 i32.const 100 i32.const 10 i32.const 3 i32.sub i32.const 2 i32.mul i32.sub) (export \"g\" (global 0))", Number(0)),
         Link(0, Number(0)), GetGlobal(0, "g", Values(&[Val::I32(86)])),
     ] },
-    Row { name: "a quotient is not constant", steps: &[Load("(global i32 i32.const 1 i32.const 1 i32.div_u)", Refused(Refusal::Invalid))] },
-    Row { name: "an operator with one operand", steps: &[Load("(global i32 i32.const 1 i32.add)", Refused(Refusal::Invalid))] },
-    Row { name: "two values", steps: &[Load("(global i32 i32.const 1 i32.const 1)", Refused(Refusal::Invalid))] },
-    Row { name: "a sum of the other width", steps: &[Load("(global i32 i64.const 1 i64.const 1 i64.add)", Refused(Refusal::Invalid))] },
+    Row { name: "a quotient is not constant", steps: &[Load("(global i32 i32.const 1 i32.const 1 i32.div_u)", Refused(Refusal::Invalid(Place::Section(6))))] },
+    Row { name: "an operator with one operand", steps: &[Load("(global i32 i32.const 1 i32.add)", Refused(Refusal::Invalid(Place::Section(6))))] },
+    Row { name: "two values", steps: &[Load("(global i32 i32.const 1 i32.const 1)", Refused(Refusal::Invalid(Place::Section(6))))] },
+    Row { name: "a sum of the other width", steps: &[Load("(global i32 i64.const 1 i64.const 1 i64.add)", Refused(Refusal::Invalid(Place::Section(6))))] },
     Row { name: "nothing is copied to the end of a memory", steps: &[
         SetFuel(2), Load("(memory 1) (data (offset i32.const 60000 i32.const 5536 i32.add) \"\")", Number(0)), Link(0, Number(0)), Left(0),
     ] },
@@ -58,10 +58,10 @@ static ROWS: [Row; 14] = [
         Call(1, "call", &[Val::I32(2)], Values(&[Val::I32(42)])), Call(1, "call", &[Val::I32(1)], Trapped(Trap::UninitializedElement)),
     ] },
     Row { name: "an offset of a global of the module's own", steps: &[
-        Load("(global i32 i32.const 1) (memory 1) (data (offset global.get 0 i32.const 1 i32.add) \"x\")", Refused(Refusal::Invalid)),
+        Load("(global i32 i32.const 1) (memory 1) (data (offset global.get 0 i32.const 1 i32.add) \"x\")", Refused(Refusal::Invalid(Place::Section(11)))),
     ] },
     Row { name: "an offset of a variable global", steps: &[
-        Load("(import \"m\" \"g\" (global (mut i32))) (memory 1) (data (offset global.get 0 i32.const 1 i32.add) \"x\")", Refused(Refusal::Invalid)),
+        Load("(import \"m\" \"g\" (global (mut i32))) (memory 1) (data (offset global.get 0 i32.const 1 i32.add) \"x\")", Refused(Refusal::Invalid(Place::Section(11)))),
     ] },
 ];
 

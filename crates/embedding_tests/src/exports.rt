@@ -1,7 +1,7 @@
 //! The types of what an instance exports.
 
 use core_types::{ExternType, Mutability, ValType};
-use embed::{Command, Config, Embedding};
+use embed::{Command, Config, Embedding, ExportType, InstanceNumber};
 use std::alloc::{AllocError, Global};
 use testing::assemble;
 
@@ -13,6 +13,8 @@ const TEXT: &str =
 #[derive(Clone, Copy)]
 enum Type {
     Nothing,
+    // A function without parameters and results.
+    Action,
     // The first parameter, and the first result.
     Function(ValType, ValType),
     // The minimum and the maximum.
@@ -38,10 +40,21 @@ static ROWS: [Row; 6] = [
     Row { instance: 1, name: "function", ty: Type::Nothing },
 ];
 
+// What the instance exports, in order.
+#[rattlefmt::skip]
+static EXPORTS: [(&str, Type); 5] = [
+    ("function", Type::Function(ValType::I32, ValType::I64)),
+    ("grow", Type::Action),
+    ("table", Type::Table(3, 9)),
+    ("memory", Type::Memory(3, 5)),
+    ("global", Type::Global(ValType::I64, true)),
+];
+
 // Whether a type is this one.
-fn is_type(found: &Option<ExternType>, wanted: Type) -> bool {
+fn is_type(found: Option<&ExternType>, wanted: Type) -> bool {
     match (found, wanted) {
         (None, Type::Nothing) => true,
+        (Some(ExternType::Func(ty)), Type::Action) => ty.params.is_empty() && ty.results.is_empty(),
         (Some(ExternType::Func(ty)), Type::Function(param, result_type)) => {
             ty.params.as_slice() == [param].as_slice()
                 && ty.results.as_slice() == [result_type].as_slice()
@@ -73,14 +86,14 @@ fn grown(alloc: Global) -> Option<Embedding> {
 // Whether an answer is the type of a row.
 fn is_right(answer: Result<Option<ExternType>, AllocError>, row: &Row) -> bool {
     match answer {
-        Ok(found) => is_type(&found, row.ty),
+        Ok(found) => is_type(found.as_ref(), row.ty),
         Err(_) => false,
     }
 }
 
 // Whether an export has its type.
 fn is_so(at: &Embedding, row: &Row) -> bool {
-    is_right(at.export_type(row.instance, row.name), row)
+    is_right(at.export_type(InstanceNumber(row.instance), row.name), row)
 }
 
 // Whether all exports have their types.
@@ -105,4 +118,27 @@ fn call_always_out_of_memory(rt: HostRuntime) {
     for row in &ROWS {
         assert!(rt; !is_right(Err(AllocError), row), "{}", row.name);
     }
+}
+
+// Whether these are the exports of the instance.
+fn are_exports(found: &[ExportType]) -> bool {
+    found.len() == EXPORTS.len()
+        && found.iter().zip(&EXPORTS).all(|(export, (name, ty))| export.name.as_str() == *name
+            && is_type(Some(&export.ty), *ty))
+}
+
+// Whether the instance has its exports, and one that is not there has none.
+fn has_exports(alloc: Global) -> bool {
+    let Some(at) = grown(alloc) else {
+        return false;
+    };
+    match (at.exports(InstanceNumber(0)), at.exports(InstanceNumber(1))) {
+        (Ok(found), Ok(nothing)) => are_exports(&found) && nothing.is_empty(),
+        _ => false,
+    }
+}
+
+#[test]
+fn exports_are_in_order(rt: HostRuntime) {
+    assert!(rt; has_exports(rt.alloc()));
 }

@@ -231,7 +231,7 @@ static ROWS: [Row; 18] = [
         Link(0, Number(1)), Register(0, "other", Done),
     ] },
     Row { name: "a host function of another type", hosts: &[("c", Kind::Traps)], refused: None, steps: &[
-        Load(CALLS_TWICE, Number(0)), Link(0, Refused(Refusal::IncompatibleImport)),
+        Load(CALLS_TWICE, Number(0)), Link(0, Refused(Refusal::IncompatibleImport(0))),
     ] },
     Row { name: "one pair twice, the second with a funcref", hosts: &[("c", Kind::Counts), ("c", Kind::GivesFunction)], refused: Some(14), steps: &[] },
     Row { name: "one pair twice", hosts: &[("c", Kind::Counts), ("c", Kind::Counts)], refused: Some(12), steps: &[] },

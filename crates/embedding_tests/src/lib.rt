@@ -8,8 +8,6 @@ mod constant_expressions;
 #[cfg(test)]
 mod engines;
 #[cfg(test)]
-mod example;
-#[cfg(test)]
 mod exports;
 #[cfg(test)]
 mod hosts;
@@ -18,6 +16,8 @@ pub mod kinds;
 mod lasting;
 #[cfg(test)]
 mod lists;
+#[cfg(test)]
+mod places;
 #[cfg(test)]
 mod setups;
 #[cfg(test)]

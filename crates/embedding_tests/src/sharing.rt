@@ -48,8 +48,8 @@ static ROWS: [Row; 5] = [
     Row { name: "the present size of a memory", steps: &[
         Load(GROWS, Number(0)), Link(0, Number(0)), Register(0, "m", Done), Call(0, "grow", &[], Values(&[Val::I32(1)])),
         Load("(import \"m\" \"memory\" (memory 2 5))", Number(1)), Link(1, Number(1)),
-        Load("(import \"m\" \"memory\" (memory 3 5))", Number(2)), Link(2, Refused(Refusal::IncompatibleImport)),
-        Load("(import \"m\" \"memory\" (memory 1 4))", Number(3)), Link(3, Refused(Refusal::IncompatibleImport)),
+        Load("(import \"m\" \"memory\" (memory 3 5))", Number(2)), Link(2, Refused(Refusal::IncompatibleImport(0))),
+        Load("(import \"m\" \"memory\" (memory 1 4))", Number(3)), Link(3, Refused(Refusal::IncompatibleImport(0))),
     ] },
     Row { name: "fuel for one of two data segments", steps: &[
         Load(BYTES, Number(0)), Link(0, Number(0)), Register(0, "o", Done), Load(TWO_BYTES, Number(1)), SetFuel(2),
@@ -65,8 +65,8 @@ static ROWS: [Row; 5] = [
         Load(GLOBALS, Number(0)), Link(0, Number(0)), Register(0, "m", Done), Load(SETS, Number(1)), Link(1, Number(1)),
         GetGlobal(0, "variable", Values(&[Val::I32(6)])), Call(1, "set", &[], Values(&[])),
         GetGlobal(0, "variable", Values(&[Val::I32(7)])), GetGlobal(0, "constant", Values(&[Val::I32(5)])),
-        Load("(import \"m\" \"constant\" (global (mut i32)))", Number(2)), Link(2, Refused(Refusal::IncompatibleImport)),
-        Load("(import \"m\" \"variable\" (global i32))", Number(3)), Link(3, Refused(Refusal::IncompatibleImport)),
+        Load("(import \"m\" \"constant\" (global (mut i32)))", Number(2)), Link(2, Refused(Refusal::IncompatibleImport(0))),
+        Load("(import \"m\" \"variable\" (global i32))", Number(3)), Link(3, Refused(Refusal::IncompatibleImport(0))),
     ] },
 ];
 

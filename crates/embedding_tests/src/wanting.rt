@@ -5,7 +5,7 @@ use crate::engines::Asked;
 use Answer::{Done, Lacks, Number, Refused, Values};
 use Step::{Call, GetGlobal, Left, Link, Load, LoadBytes, Register, SetFuel};
 use core_types::{Exhaustion, Val};
-use embed::Refusal;
+use embed::{Place, Refusal};
 use std::alloc::Global;
 
 // Steps that follow one another in a fresh embedding, and the commands of which each fails them if it always wants memory.
@@ -52,12 +52,12 @@ static ROWS: [Row; 9] = [
     Row { name: "the present size of a memory", wanting: &[Asked::Load, Asked::Link, Asked::Register, Asked::Call], steps: &[
         Load(GROWS, Number(0)), Link(0, Number(0)), Register(0, "m", Done), Call(0, "g", &[Val::I32(1)], Values(&[Val::I32(1)])),
         Load("(import \"m\" \"memory\" (memory 2 5))", Number(1)), Link(1, Number(1)),
-        Load("(import \"m\" \"memory\" (memory 3 5))", Number(2)), Link(2, Refused(Refusal::IncompatibleImport)),
-        Load("(import \"m\" \"memory\" (memory 1 4))", Number(3)), Link(3, Refused(Refusal::IncompatibleImport)),
+        Load("(import \"m\" \"memory\" (memory 3 5))", Number(2)), Link(2, Refused(Refusal::IncompatibleImport(0))),
+        Load("(import \"m\" \"memory\" (memory 1 4))", Number(3)), Link(3, Refused(Refusal::IncompatibleImport(0))),
     ] },
     Row { name: "operands after unreachable", wanting: &[Asked::Load], steps: &[
         Load("(func unreachable i32.add drop)", Number(0)),
-        Load("(func unreachable i64.const 0 i32.add drop)", Refused(Refusal::Invalid)),
+        Load("(func unreachable i64.const 0 i32.add drop)", Refused(Refusal::Invalid(Place::Func(0)))),
     ] },
     Row { name: "a memory grows", wanting: &[Asked::Load, Asked::Link, Asked::Call], steps: &[
         Load(GROWS, Number(0)), Link(0, Number(0)), SetFuel(10_000),

@@ -1,10 +1,12 @@
 ghost use Rattle.std.specs.Prelude.{◌≡◌, ℕ, List, IfOk, Err, map};
+ghost use Rattle.hostfunc.specs.declared.host_function.HostFault.TheVariants.{Memory as MemoryFault};
 ghost use Rattle.core_types.specs.declared.outcome.Val.{Val as Value};
 ghost use Rattle.core_types.specs.declared.types.FuncType.{FuncType as Signature};
 ghost use Rattle.meaning.specs.execution.Runs.{Answer, HostTrap, Results};
 ghost use Rattle.meaning.specs.execution.Values.{type_of};
 
 use core_types::{FuncType, Val};
+use std::alloc::{AllocError, AllocFailed};
 
 /// Why a host function gives no results.
 #[derive(Clone, Copy)]
@@ -13,6 +15,22 @@ pub enum HostFault {
     Trap(u32),
     /// There was no memory, and nothing has changed.
     Memory,
+}
+
+impl From<AllocError> for HostFault {
+    ghost from_gives = { λ _ fault. fault ≡ MemoryFault };
+
+    fn from(_error: AllocError) -> HostFault {
+        HostFault::Memory
+    }
+}
+
+impl<T: Drop> From<AllocFailed<T>> for HostFault {
+    ghost from_gives = { λ _ fault. fault ≡ MemoryFault };
+
+    fn from(_error: AllocFailed<T>) -> HostFault {
+        HostFault::Memory
+    }
 }
 
 /// A function of the host: an object with a state of its own (Execution, Instructions, Host Functions).

@@ -1,9 +1,10 @@
 -- What a link answers and leaves.
-use Rattle.std.specs.Prelude.{◌≡◌, ℕ, ◌<◌, List, [], length, take, Option, Some, None, Result, Ok, Err}
+use Rattle.std.specs.Prelude.{◌≡◌, ℕ, ◌<◌, List, [], length, take, Option, Some, None, Result, Ok, Err, slice_get}
+use Rattle.core_types.specs.declared.module.Import.{Import}
 use Rattle.core_types.specs.declared.module.Module.{Module}
 use Rattle.core_types.specs.declared.outcome.Extern.{Extern}
 use Rattle.core_types.specs.declared.outcome.Val.{Val}
-use Rattle.meaning.specs.execution.Modules.{AreGiven, HasNoValues, Instantiation, IsAllowed, IsWithinLimits, new_instance, new_objects, with_module}
+use Rattle.meaning.specs.execution.Modules.{AreGiven, HasNoValues, Instantiation, IsAllowed, IsGiven, IsWithinLimits, import_type, new_instance, new_objects, with_module}
 use Rattle.meaning.specs.execution.Runs.{Answer, State, WithValues}
 use Rattle.meaning.specs.execution.Store.{ObjectLists, Store}
 use Rattle.soundness.specs.Links.{InstanceStays}
@@ -14,11 +15,21 @@ use Rattle.instantiate.specs.declared.link_end.LinkEnd.TheVariants.{Refused, End
 use Rattle.instantiate.specs.declared.link_end.LinkRefusal.{LinkRefusal}
 use Rattle.instantiate.specs.declared.link_end.LinkRefusal.TheVariants.{Limit, UnknownImport, IncompatibleImport, OutOfMemory}
 
--- Why a link is refused. Memory may run out whatever the module asks for.
+-- The import of this index is given something else than it asks for.
+pub record IsMismatch (store : Store) (m : Module) (externs : List Extern) (index : ℕ) : Type 0
+  where
+    pub wanted : Import
+    pub given : Extern
+    pub wanted_is : slice_get m.imports index ≡ Some wanted
+    pub given_is : slice_get externs index ≡ Some given
+    pub differs : IsGiven store given (import_type m wanted.desc) → ⊥
+
+-- Why a link is refused: of imports for which there is nothing the first is told. Memory may run out whatever the module asks for.
 abbrev pub IsCause : LinkRefusal → Store → Module → List Extern → Type 0
-IsCause UnknownImport store m externs = length externs < length m.imports
-IsCause IncompatibleImport store m externs =
-    (length externs < length m.imports → ⊥) × (AreGiven store m m.imports externs → ⊥)
+IsCause (UnknownImport index) store m externs =
+    (length externs < length m.imports) × (index ≡ length externs)
+IsCause (IncompatibleImport index) store m externs =
+    (length externs < length m.imports → ⊥) × IsMismatch store m externs index
 IsCause Limit store m externs = AreGiven store m m.imports externs × (IsWithinLimits store m → ⊥)
 IsCause OutOfMemory store m externs = Unit {0}
 

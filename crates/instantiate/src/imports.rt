@@ -1,8 +1,9 @@
-ghost use Rattle.std.specs.Prelude.{◌↔◌, ◌≤◌, length, IsTrue};
+ghost use Rattle.std.specs.Prelude.{◌↔◌, ◌≤◌, length, IfNone, IfSome, IsTrue};
 ghost use Rattle.core_types.specs.declared.module.ImportDesc.TheVariants.{Func as FuncImport};
 ghost use Rattle.core_types.specs.declared.outcome.Extern.TheVariants.{Func as FuncValue};
 ghost use Rattle.meaning.specs.execution.Modules.{AreGiven, IsGiven, import_type};
 ghost use Rattle.store.specs.Contents.{store_of};
+ghost use Rattle.instantiate.specs.Links.{IsMismatch};
 
 use core_types::{Extern, ExternType, ImportDesc, Module};
 use matching::matches;
@@ -53,17 +54,19 @@ fn is_given(store: &Store, value: Extern, wanted: &Module, desc: ImportDesc) -> 
     }
 }
 
-/// Whether each import of a module is given what it asks for, as far as the list goes (Execution, Modules, Instantiation).
-pub fn are_given(store: &Store, wanted: &Module, externs: &[Extern]) -> bool
+/// The first import of a module that is given something else than it asks for, by its index (Execution, Modules, Instantiation).
+pub fn first_mismatch(store: &Store, wanted: &Module, externs: &[Extern]) -> Option<usize>
     requires { length wanted.now.imports ≤ length externs.now }
-    ensures { IsTrue result ↔ AreGiven (store_of store.now) wanted.now wanted.now.imports
-        externs.now }
+    ensures none { IfNone result (AreGiven (store_of store.now) wanted.now wanted.now.imports
+        externs.now) }
+    ensures some { IfSome result (λ index. IsMismatch (store_of store.now) wanted.now externs.now
+        index) }
 {
     let imports = wanted.imports.as_slice();
     for k in 0..imports.len() {
         if !is_given(store, externs[k], wanted, imports[k].desc) {
-            return false;
+            return Some(k);
         }
     }
-    true
+    None
 }

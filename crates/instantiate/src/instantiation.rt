@@ -14,7 +14,7 @@ ghost use Rattle.instantiate.specs.Tasks.{HasInstance, RanTasks, link_state};
 use crate::addresses::new_addresses;
 use crate::constants::ConstantOperands;
 use crate::copies::Linked;
-use crate::imports::are_given;
+use crate::imports::first_mismatch;
 use crate::limits::is_within_limits;
 use crate::link_end::{LinkEnd, LinkRefusal, TaskEnd};
 use crate::objects::{ObjectFault, new_objects};
@@ -34,10 +34,10 @@ fn refusal_of(store: &Store, wanted: &Module, externs: &[Extern]) -> Option<Link
     ensures { IsCauseOrAllowed result (store_of store.now) wanted.now externs.now }
 {
     if externs.len() < wanted.imports.len() {
-        return Some(LinkRefusal::UnknownImport);
+        return Some(LinkRefusal::UnknownImport(externs.len()));
     }
-    if !are_given(store, wanted, externs) {
-        return Some(LinkRefusal::IncompatibleImport);
+    if let Some(index) = first_mismatch(store, wanted, externs) {
+        return Some(LinkRefusal::IncompatibleImport(index));
     }
     if !is_within_limits(store, wanted) {
         return Some(LinkRefusal::Limit);
@@ -204,8 +204,8 @@ fn link(
 /// active data segments likewise, and its start function is called, all within the fuel that is left. What is given past the imports
 /// is not looked at. A module may be linked any number of times, and nothing of it is copied.
 ///
-/// It is refused, and nothing has changed: with `UnknownImport` where less is given than is imported, then with
-/// `IncompatibleImport` where something does not match, then with `Limit` where a table or a memory would be larger than the
+/// It is refused, and nothing has changed: with `UnknownImport` where less is given than is imported, and the index of the first import
+/// for which there is nothing; then with `IncompatibleImport` and the index of the first import that does not match, then with `Limit` where a table or a memory would be larger than the
 /// embedding allows, or an address larger than 32 bits; with `OutOfMemory` where there is no memory. A trap or an exhaustion ends
 /// the link where it stands, and what was done stays, a valid instance among it. The caller owes for each host function of the store
 /// an object of its type, and a meter without an open frame; at the end no frame is open.

@@ -10,10 +10,10 @@ use std::alloc::{AllocError, AllocFailed};
 pub enum LinkRefusal {
     /// A limit of the embedding is passed.
     Limit,
-    /// There is nothing for an import.
-    UnknownImport,
-    /// What is given for an import does not match.
-    IncompatibleImport,
+    /// There is nothing for the import of this index.
+    UnknownImport(usize),
+    /// What is given for the import of this index does not match.
+    IncompatibleImport(usize),
     /// There was no memory.
     OutOfMemory,
 }

@@ -88,6 +88,7 @@ fn open<'a>(
 }
 
 // Puts a frame for a function of a module in the place of the one at a position. Its arguments are on top at `from`, in the same frame.
+#[cold]
 #[inline(never)]
 fn replace<'a>(
     around: Surroundings<'a>,

@@ -97,7 +97,7 @@ static ROWS: [Row; 14] = [
     ] },
     Row { name: "an immutable global where a mutable one is wanted", steps: &[
         Link("(global i32 i32.const 5)", &[], 0, Linked(0), 0),
-        Link("(import \"m\" \"global\" (global (mut i32)))", &[Extern::Global(0)], 5, Refused(LinkRefusal::IncompatibleImport), 5),
+        Link("(import \"m\" \"global\" (global (mut i32)))", &[Extern::Global(0)], 5, Refused(LinkRefusal::IncompatibleImport(0)), 5),
         Link("(import \"m\" \"global\" (global i32)) (global i32 global.get 0) (func (result i32) global.get 1)", &[Extern::Global(0)], 5, Linked(1), 5),
         Call(0, &[], 1, Value(5), 0),
     ] },
@@ -127,8 +127,8 @@ static ROWS: [Row; 14] = [
         Link(GROWS, &[], 0, Linked(0), 0),
         Call(0, &[], 2000, Value(1), 974),
         Link("(import \"m\" \"memory\" (memory 2 5))", &[Extern::Memory(0)], 0, Linked(1), 0),
-        Link("(import \"m\" \"memory\" (memory 3 5))", &[Extern::Memory(0)], 0, Refused(LinkRefusal::IncompatibleImport), 0),
-        Link("(import \"m\" \"memory\" (memory 1 4))", &[Extern::Memory(0)], 0, Refused(LinkRefusal::IncompatibleImport), 0),
+        Link("(import \"m\" \"memory\" (memory 3 5))", &[Extern::Memory(0)], 0, Refused(LinkRefusal::IncompatibleImport(0)), 0),
+        Link("(import \"m\" \"memory\" (memory 1 4))", &[Extern::Memory(0)], 0, Refused(LinkRefusal::IncompatibleImport(0)), 0),
     ] },
     Row { name: "an equal type under another index", steps: &[
         Link(TEN, &[], 0, Linked(0), 0),
@@ -137,7 +137,7 @@ static ROWS: [Row; 14] = [
     ] },
     Row { name: "less is given than is imported", steps: &[
         Link("(memory 1)", &[], 0, Linked(0), 0),
-        Link("(import \"m\" \"memory\" (memory 1)) (import \"m\" \"global\" (global i32)) (import \"m\" \"table\" (table 1 funcref))", &[Extern::Memory(0), Extern::Memory(0)], 5, Refused(LinkRefusal::UnknownImport), 5),
+        Link("(import \"m\" \"memory\" (memory 1)) (import \"m\" \"global\" (global i32)) (import \"m\" \"table\" (table 1 funcref))", &[Extern::Memory(0), Extern::Memory(0)], 5, Refused(LinkRefusal::UnknownImport(2)), 5),
     ] },
     Row { name: "more is given than is imported", steps: &[
         Link("(memory 1)", &[], 0, Linked(0), 0),
@@ -159,7 +159,7 @@ static ROWS: [Row; 14] = [
         Link("(func (result i32) i32.const 41)", &[], 0, Linked(0), 0),
         Link(FUNCTION_IMPORT, &[Extern::Func(0)], 0, Linked(1), 0),
         Call(1, &[], 4, Value(42), 0),
-        Link("(import \"m\" \"function\" (func (result i64)))", &[Extern::Func(0)], 0, Refused(LinkRefusal::IncompatibleImport), 0),
+        Link("(import \"m\" \"function\" (func (result i64)))", &[Extern::Func(0)], 0, Refused(LinkRefusal::IncompatibleImport(0)), 0),
     ] },
 ];
 

@@ -3,3 +3,4 @@ pub mod Names
 pub mod Commands
 pub mod Machine
 pub mod Creation
+pub mod Refusals

@@ -1,3 +1,2 @@
 pub mod Statuses
 pub mod Prints
-pub mod Endings

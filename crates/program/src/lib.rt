@@ -12,7 +12,6 @@ mod script_files;
 mod spectest;
 
 pub use args::{ArgsFault, read_args};
-pub use calls::Outcome;
 pub use faults::Fault;
 pub use inputs::{Files, ReadFault, System};
 pub use print::{print_end, print_fault, print_report};

@@ -2,35 +2,12 @@
 
 ghost use Rattle.program.specs.Statuses.{IsStatus};
 
-use crate::calls::Outcome;
 use crate::faults::Fault;
 use crate::program::CallEnd;
-use core_types::{Exhaustion, Trap, Val};
-use embed::Refusal;
+use core_types::Val;
+use embed::{Outcome, Refusal};
 use scripts::{Report, ScriptFault};
 use std::io::{self, Write};
-
-fn trap_text(trap: Trap) -> &'static str {
-    match trap {
-        Trap::Unreachable => "unreachable",
-        Trap::DivideByZero => "integer divide by zero",
-        Trap::IntegerOverflow => "integer overflow",
-        Trap::MemoryBounds => "out of bounds memory access",
-        Trap::TableBounds => "out of bounds table access",
-        Trap::UndefinedElement => "undefined element",
-        Trap::UninitializedElement => "uninitialized element",
-        Trap::IndirectType => "indirect call type mismatch",
-        Trap::Host(_) => "host trap",
-    }
-}
-
-fn exhaustion_text(exhaustion: Exhaustion) -> &'static str {
-    match exhaustion {
-        Exhaustion::Fuel => "fuel",
-        Exhaustion::Depth => "depth",
-        Exhaustion::Memory => "memory",
-    }
-}
 
 fn print_reference<W: Write>(out: &mut W, ty: &str, reference: Option<u32>) -> io::Result<()> {
     match reference {
@@ -58,10 +35,8 @@ fn print_values<W: Write>(out: &mut W, values: &[Val]) -> io::Result<()> {
 fn print_outcome<W: Write>(out: &mut W, outcome: &Outcome) -> io::Result<()> {
     match outcome {
         Outcome::Values(values) => print_values(out, values.as_slice()),
-        Outcome::Trap(trap) => writeln!(out, "trap: {}", trap_text(*trap)),
-        Outcome::Exhausted(exhaustion) => {
-            writeln!(out, "exhausted: {}", exhaustion_text(*exhaustion))
-        }
+        Outcome::Trap(trap) => writeln!(out, "trap: {trap}"),
+        Outcome::Exhausted(exhaustion) => writeln!(out, "exhausted: {exhaustion}"),
     }
 }
 
@@ -135,13 +110,13 @@ fn refusal_status(refusal: Refusal) -> u8
     ensures { IsStatus result }
 {
     match refusal {
-        Refusal::Malformed => 5,
-        Refusal::Unsupported => 5,
+        Refusal::Malformed(_) => 5,
+        Refusal::Unsupported(_) => 5,
         Refusal::Limit => 5,
-        Refusal::Invalid => 5,
+        Refusal::Invalid(_) => 5,
         Refusal::UnknownModule => 5,
-        Refusal::UnknownImport => 5,
-        Refusal::IncompatibleImport => 5,
+        Refusal::UnknownImport(_) => 5,
+        Refusal::IncompatibleImport(_) => 5,
         Refusal::UnknownInstance => 5,
         Refusal::UnknownExport => 2,
         Refusal::WrongKind => 2,

@@ -3,7 +3,7 @@
 ghost use Rattle.std.specs.Prelude.{◌<◌, ◌^◌, length};
 ghost use Rattle.program.specs.Statuses.{IsStatus};
 
-use crate::calls::{Outcome, add_spectest, call, check, new_embedding};
+use crate::calls::{add_spectest, call, new_embedding};
 use crate::faults::Fault;
 use crate::inputs::{Files, ReadFault};
 use crate::print::{print_end, print_fault, print_report, print_valid};
@@ -11,8 +11,8 @@ use crate::script_files::read_named;
 use command_line::{
     CallOrder, DEFAULT_DEPTH, DEFAULT_FUEL, Order, ScriptOrder, WordsFault, read_words,
 };
-use embed::{HostDef, Refusal};
-use scripts::{Report, read_script, run_script_lent};
+use embed::{HostDef, Outcome, Refusal};
+use scripts::{Report, read_script, run_script};
 use std::alloc::Global;
 use std::io::{self, Write};
 
@@ -56,8 +56,8 @@ fn run_script_in_file<'a, F: Files>(
     let script = read_script(alloc, bytes.as_slice())?;
     let named = read_named(alloc, files, order.file, script.filenames())?;
     let mut embedding = new_embedding(alloc, order.fuel, order.depth, hosts)?;
-    add_spectest(alloc, &mut embedding)?;
-    Ok(run_script_lent(alloc, &script, named.as_slice(), &mut embedding)?)
+    add_spectest(&mut embedding)?;
+    Ok(run_script(alloc, &script, named.as_slice(), &mut embedding)?)
 }
 
 // Calls the function that the order names, of the module in its file, within its fuel. The module may import the stored one.
@@ -71,8 +71,8 @@ fn call_in_file<'a, F: Files>(
 {
     let bytes = read_file(files, order.file)?;
     let mut embedding = new_embedding(alloc, order.fuel, order.depth, hosts)?;
-    add_spectest(alloc, &mut embedding)?;
-    let outcome = call(alloc, order, &mut embedding, bytes)?;
+    add_spectest(&mut embedding)?;
+    let outcome = call(alloc, order, &mut embedding, bytes.as_slice())?;
     Ok(CallEnd {
         outcome,
         fuel_left: embedding.fuel_left(),
@@ -90,7 +90,8 @@ fn check_file<'a, F: Files>(
 {
     let bytes = read_file(files, path)?;
     let mut embedding = new_embedding(alloc, DEFAULT_FUEL, DEFAULT_DEPTH, hosts)?;
-    check(&mut embedding, bytes)
+    embedding.load(bytes.as_slice())?;
+    Ok(())
 }
 
 // Reads the words and does what they ask for.

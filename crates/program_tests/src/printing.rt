@@ -1,8 +1,8 @@
 //! The lines of each outcome and each refusal.
 
-use core_types::{Exhaustion, Trap, Val};
-use embed::Refusal;
-use program::{CallEnd, Fault, Outcome, print_end, print_fault};
+use core_types::{Exhaustion, Items, Trap, Val};
+use embed::{Outcome, Place, Refusal};
+use program::{CallEnd, Fault, print_end, print_fault};
 use std::alloc::{AllocError, Global};
 
 // An outcome, its values as a table has them.
@@ -70,7 +70,9 @@ static OUTCOMES: [Row; 14] = [
 
 fn outcome_of(alloc: Global, ending: Ending) -> Result<Outcome, AllocError> {
     match ending {
-        Ending::Values(values) => Ok(Outcome::Values(Vec::from_slice(alloc, values)?)),
+        Ending::Values(values) => Ok(Outcome::Values(Items::from_vec(Vec::from_slice(
+            alloc, values,
+        )?))),
         Ending::Trap(trap) => Ok(Outcome::Trap(trap)),
         Ending::Exhausted(exhaustion) => Ok(Outcome::Exhausted(exhaustion)),
     }
@@ -102,13 +104,13 @@ struct RefusalRow {
 
 #[rattlefmt::skip]
 static REFUSALS: [RefusalRow; 13] = [
-    RefusalRow { refusal: Refusal::Malformed, line: "refused 1 Malformed\n", status: 5 },
-    RefusalRow { refusal: Refusal::Unsupported, line: "refused 2 Unsupported\n", status: 5 },
+    RefusalRow { refusal: Refusal::Malformed(7), line: "refused 1 Malformed\n", status: 5 },
+    RefusalRow { refusal: Refusal::Unsupported(39), line: "refused 2 Unsupported\n", status: 5 },
     RefusalRow { refusal: Refusal::Limit, line: "refused 3 Limit\n", status: 5 },
-    RefusalRow { refusal: Refusal::Invalid, line: "refused 4 Invalid\n", status: 5 },
+    RefusalRow { refusal: Refusal::Invalid(Place::Func(0)), line: "refused 4 Invalid\n", status: 5 },
     RefusalRow { refusal: Refusal::UnknownModule, line: "refused 5 UnknownModule\n", status: 5 },
-    RefusalRow { refusal: Refusal::UnknownImport, line: "refused 6 UnknownImport\n", status: 5 },
-    RefusalRow { refusal: Refusal::IncompatibleImport, line: "refused 7 IncompatibleImport\n", status: 5 },
+    RefusalRow { refusal: Refusal::UnknownImport(0), line: "refused 6 UnknownImport\n", status: 5 },
+    RefusalRow { refusal: Refusal::IncompatibleImport(1), line: "refused 7 IncompatibleImport\n", status: 5 },
     RefusalRow { refusal: Refusal::UnknownInstance, line: "refused 8 UnknownInstance\n", status: 5 },
     RefusalRow { refusal: Refusal::UnknownExport, line: "refused 9 UnknownExport\n", status: 2 },
     RefusalRow { refusal: Refusal::WrongKind, line: "refused 10 WrongKind\n", status: 2 },

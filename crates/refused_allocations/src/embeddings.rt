@@ -7,7 +7,7 @@ use crate::seen::{EXHAUSTED, REFUSED, Seen, seen_in};
 use crate::texts::{GROWTH, ITSELF, ITSELF_AND_TRAP, OBJECTS, WHOLE};
 use crate::verdicts::{Answer, Verdict};
 use core_types::{ExternType, Trap, Val};
-use embed::{Command, Config, Embedding, HostDef, NewFault, Reply};
+use embed::{Command, Config, Embedding, HostDef, InstanceNumber, NewFault, Reply};
 use hostfunc::HostFn;
 use std::alloc::{AllocError, Global};
 use testing::assemble;
@@ -41,8 +41,8 @@ fn call_of(alloc: Global, instance: u64, name: &str, args: &[Val]) -> Option<Com
 fn embedding_with(alloc: Global, text: &str) -> Option<Embedding> {
     let load = load_of(alloc, text)?;
     let mut at = fresh_embedding(alloc)?;
-    let loaded = seen_in(&at.apply_lent(&load));
-    let linked = seen_in(&at.apply_lent(&Command::Link(0)));
+    let loaded = seen_in(&at.apply(&load));
+    let linked = seen_in(&at.apply(&Command::Link(0)));
     (loaded == Seen::Loaded(0) && linked == Seen::Linked(0)).then_some(at)
 }
 
@@ -56,7 +56,7 @@ pub struct Asking {
 
 impl Attempt for Asking {
     fn attempt(&mut self) -> Answer {
-        let seen = seen_in(&self.at.apply_lent(&self.command));
+        let seen = seen_in(&self.at.apply(&self.command));
         if seen == self.wanted {
             return Answer::Ample;
         }
@@ -108,7 +108,7 @@ pub fn prepare_export_type(alloc: Global) -> Option<TypeOfExport> {
 
 impl Attempt for TypeOfExport {
     fn attempt(&mut self) -> Answer {
-        match self.at.export_type(0, "f") {
+        match self.at.export_type(InstanceNumber(0), "f") {
             Ok(Some(ExternType::Func(ty))) if ty.params.len() == 2 && ty.results.len() == 1 => {
                 Answer::Ample
             }
@@ -118,13 +118,26 @@ impl Attempt for TypeOfExport {
     }
 }
 
-// The definition of a host function.
-fn definition(alloc: Global, name: &str, func: Box<dyn HostFn>) -> Result<HostDef, AllocError> {
-    Ok(HostDef {
-        module: String::from_str(alloc, "host")?,
-        name: String::from_str(alloc, name)?,
-        func,
-    })
+/// The exports of an instance are asked for.
+#[derive(Drop)]
+pub struct Exports {
+    at: Embedding,
+}
+
+/// The exports of an instance are asked for.
+pub fn prepare_exports(alloc: Global) -> Option<Exports> {
+    let at = embedding_with(alloc, OBJECTS)?;
+    Some(Exports { at })
+}
+
+impl Attempt for Exports {
+    fn attempt(&mut self) -> Answer {
+        match self.at.exports(InstanceNumber(0)) {
+            Ok(found) if found.len() == 2 && found[1].name.as_str() == "g" => Answer::Ample,
+            Ok(_) => Answer::Wrong,
+            Err(_) => Answer::Wanting,
+        }
+    }
 }
 
 // Whether an embedding is made with these host functions.
@@ -148,9 +161,9 @@ fn create_twice(alloc: Global, before: usize) -> Result<Verdict, AllocError> {
     for _ in 0..2 {
         let mut hosts = Vec::new(alloc);
         let first = Box::new(alloc, Counter::new(alloc)?)?;
-        hosts.push(definition(alloc, "first", first)?)?;
+        hosts.push(HostDef::new(alloc, "host", "first", first)?)?;
         let second = Box::new(alloc, Counter::new(alloc)?)?;
-        hosts.push(definition(alloc, "second", second)?)?;
+        hosts.push(HostDef::new(alloc, "host", "second", second)?)?;
         lists.push(hosts)?;
     }
     let (Some(first), Some(second)) = (lists.pop(), lists.pop()) else {
@@ -184,12 +197,12 @@ struct Dialogue {
 impl Dialogue {
     // What is answered to a command; where it wants memory, what is answered then. It changes nothing that is of use where it does.
     fn ask(&mut self, place: &'static str, command: &Command) -> Seen {
-        let seen = seen_in(&self.at.apply_lent(command));
+        let seen = seen_in(&self.at.apply(command));
         if !seen.wants_memory() {
             return seen;
         }
         self.place = Some(place);
-        seen_in(&self.at.apply_lent(command))
+        seen_in(&self.at.apply(command))
     }
 
     // What all came to, if it is right.
@@ -237,14 +250,14 @@ fn address_after(seen: Seen) -> Option<u32> {
 fn link_after_failure(alloc: Global, before: usize) -> Option<Verdict> {
     let mut at = embedding_with(alloc, ITSELF)?;
     let load = load_of(alloc, ITSELF_AND_TRAP)?;
-    if seen_in(&at.apply_lent(&load)) != Seen::Loaded(1) {
+    if seen_in(&at.apply(&load)) != Seen::Loaded(1) {
         return None;
     }
     let call = call_of(alloc, 1, "itself", &[])?;
     if let Err(verdict) = pad(alloc, before) {
         return Some(verdict);
     }
-    let seen = seen_in(&at.apply_lent(&Command::Link(1)));
+    let seen = seen_in(&at.apply(&Command::Link(1)));
     let Some(address) = address_after(seen) else {
         return Some(Verdict::Wrong("the link that fails"));
     };
@@ -263,7 +276,7 @@ pub fn judge_start(alloc: Global, before: usize) -> Verdict {
 
 // Whether a command gets this answer, and leaves so much fuel.
 fn gets(at: &mut Embedding, command: &Command, wanted: Seen, left: u64) -> bool {
-    seen_in(&at.apply_lent(command)) == wanted && at.fuel_left() == left
+    seen_in(&at.apply(command)) == wanted && at.fuel_left() == left
 }
 
 // A memory of one page is grown by one; where there was no memory, its size is asked for and it is grown again.
@@ -277,7 +290,7 @@ fn grow(alloc: Global, before: usize) -> Option<Verdict> {
     if let Err(verdict) = pad(alloc, before) {
         return Some(verdict);
     }
-    let seen = seen_in(&at.apply_lent(&by_one));
+    let seen = seen_in(&at.apply(&by_one));
     let left = at.fuel_left();
     if seen == Seen::Number(1) && left == 8_974 {
         return Some(Verdict::Ample);
@@ -322,9 +335,9 @@ fn apply_both(alloc: Global, before: usize) -> Option<Verdict> {
         return Some(verdict);
     }
     let both = Some((Seen::Done, Seen::Loaded(0)));
-    if at.apply_all_lent(&commands, &mut replies).is_err() {
+    if at.apply_all(&commands, &mut replies).is_err() {
         let is_unchanged = replies.is_empty() && at.fuel_left() == FUEL;
-        let is_done = at.apply_all_lent(&commands, &mut replies).is_ok();
+        let is_done = at.apply_all(&commands, &mut replies).is_ok();
         return Some(if is_unchanged && is_done && seen_in_both(&replies) == both {
             Verdict::Wanting("the room for replies")
         } else {
@@ -338,7 +351,7 @@ fn apply_both(alloc: Global, before: usize) -> Option<Verdict> {
     if seen == both {
         return Some(Verdict::Ample);
     }
-    let is_loaded = seen_in(&at.apply_lent(&commands[1])) == Seen::Loaded(0);
+    let is_loaded = seen_in(&at.apply(&commands[1])) == Seen::Loaded(0);
     Some(if seen == Some((Seen::Done, REFUSED)) && is_loaded {
         Verdict::Wanting("Load")
     } else {

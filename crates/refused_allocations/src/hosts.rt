@@ -6,9 +6,11 @@ ghost use Rattle.core_types.specs.declared.outcome.Val.TheVariants.{I32 as Numbe
 ghost use Rattle.core_types.specs.declared.types.ValType.TheVariants.{I32};
 ghost use Rattle.meaning.specs.execution.Runs.{Results};
 
+use crate::attempts::Attempt;
 use crate::padding::pad;
 use crate::verdicts::{Answer, Verdict};
 use core_types::{FuncType, Items, Val, ValType};
+use embed::{HostDef, func_type, one_result};
 use hostfunc::{HostFault, HostFn, HostTable, has_funcref, object_type};
 use std::alloc::{AllocError, Global};
 
@@ -91,4 +93,43 @@ fn take_in_twice(alloc: Global, before: usize) -> Result<Verdict, AllocError> {
 /// Takes a host function in, and another one where there was no memory. So many allocations come before.
 pub fn judge_push(alloc: Global, before: usize) -> Verdict {
     take_in_twice(alloc, before).unwrap_or(Verdict::Unready(0))
+}
+
+/// The parts of a host function are made.
+#[derive(Drop)]
+pub struct Parts {
+    alloc: Global,
+}
+
+impl Parts {
+    /// All that it needs.
+    pub fn prepare(alloc: Global) -> Option<Parts> {
+        Some(Parts { alloc })
+    }
+
+    // Whether a type, a definition and a result are as they were asked for.
+    fn are_made(&self) -> Result<bool, AllocError> {
+        let ty = func_type(self.alloc, &[ValType::I32, ValType::I64], &[ValType::I64])?;
+        let counter = Box::new(self.alloc, Counter::new(self.alloc)?)?;
+        let made = HostDef::new(self.alloc, "host", "count", counter)?;
+        let Ok(results) = one_result(self.alloc, Val::I32(5)) else {
+            return Err(AllocError);
+        };
+        Ok(
+            ty.params.len() == 2
+                && ty.results.len() == 1
+                && made.name.as_str() == "count"
+                && results.as_slice() == [Val::I32(5)].as_slice(),
+        )
+    }
+}
+
+impl Attempt for Parts {
+    fn attempt(&mut self) -> Answer {
+        match self.are_made() {
+            Ok(true) => Answer::Ample,
+            Ok(false) => Answer::Wrong,
+            Err(_) => Answer::Wanting,
+        }
+    }
 }

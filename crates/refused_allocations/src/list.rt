@@ -10,7 +10,7 @@ use crate::verdicts::Verdict;
 use core_types::Val;
 use embed::{Command, Embedding, HostDef};
 use hostfunc::HostFn;
-use scripts::{Script, read_script, run_script_lent};
+use scripts::{Script, read_script, run_script};
 use std::alloc::{AllocError, Global};
 use std::mem;
 use testing::assemble;
@@ -135,9 +135,9 @@ fn new_stock(alloc: Global) -> Option<Stock> {
 // What an embedding answers to a command, or to the script.
 fn perform(alloc: Global, at: &mut Embedding, stock: &Stock, command: &Option<Command>) -> Seen {
     if let Some(command) = command {
-        return seen_in(&at.apply_lent(command));
+        return seen_in(&at.apply(command));
     }
-    match run_script_lent(alloc, &stock.script, &stock.files, at) {
+    match run_script(alloc, &stock.script, &stock.files, at) {
         Ok(report) => Seen::Counted(report.passed, report.failed),
         Err(fault) if fault.number() == 13 => REFUSED,
         Err(_) => Seen::Others,
@@ -166,11 +166,7 @@ fn give_list_to_fresh(alloc: Global, before: usize) -> Result<Verdict, AllocErro
     let mut judge = Judge::new(alloc)?;
     let func = Box::new(alloc, Counter::new(alloc)?)?;
     let mut hosts = Vec::new(alloc);
-    hosts.push(HostDef {
-        module: String::from_str(alloc, "host")?,
-        name: String::from_str(alloc, "count")?,
-        func,
-    })?;
+    hosts.push(HostDef::new(alloc, "host", "count", func)?)?;
     if hosts.len() > 1 {
         return Ok(Verdict::Unready(0));
     }

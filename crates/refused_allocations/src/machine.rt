@@ -93,12 +93,15 @@ impl Machine {
         Seen::Loaded(self.modules.append(kind))
     }
 
-    // Whether all that a module imports is there.
-    fn has_imports(&self, kind: Kind) -> bool {
+    // The first import of a module that stands for nothing, if there is one.
+    fn unknown_import(&self, kind: Kind) -> Option<usize> {
         match kind {
-            Kind::Maker | Kind::Empty => true,
-            Kind::User | Kind::Passer => self.a == Some(Kind::Maker),
-            Kind::Caller => self.a == Some(Kind::Maker) && self.b == Some(Kind::User),
+            Kind::Maker | Kind::Empty => None,
+            Kind::User | Kind::Passer if self.a == Some(Kind::Maker) => None,
+            Kind::User | Kind::Passer => Some(0),
+            Kind::Caller if self.b != Some(Kind::User) => Some(0),
+            Kind::Caller if self.a != Some(Kind::Maker) => Some(1),
+            Kind::Caller => None,
         }
     }
 
@@ -121,8 +124,8 @@ impl Machine {
             return Seen::Refused(Refusal::UnknownModule);
         };
         self.may_refuse(left);
-        if !self.has_imports(kind) {
-            return Seen::Refused(Refusal::UnknownImport);
+        if let Some(index) = self.unknown_import(kind) {
+            return Seen::Refused(Refusal::UnknownImport(index));
         }
         if kind == Kind::User {
             self.start_user(left);
@@ -256,7 +259,7 @@ impl Machine {
         self.may_refuse(left);
         self.modules.append(Kind::Passer);
         self.may_refuse(left);
-        if !self.has_imports(Kind::Passer) {
+        if self.unknown_import(Kind::Passer).is_some() {
             return Seen::Counted(0, 3);
         }
         self.instances.append(Kind::Passer);

@@ -4,9 +4,9 @@ use crate::attempts::judge;
 use crate::calls::{Calling, Rounds};
 use crate::embeddings::{
     judge_all, judge_created, judge_growth, judge_link, judge_start, prepare_export_type,
-    prepare_global, prepare_load, prepare_register,
+    prepare_exports, prepare_global, prepare_load, prepare_register,
 };
-use crate::hosts::judge_push;
+use crate::hosts::{Parts, judge_push};
 use crate::linking::{Defining, Describing, Instantiating, Registering};
 use crate::list::judge_list;
 use crate::modules::{Decoding, Flattening, Loading, Validating};
@@ -42,13 +42,15 @@ pub enum Scenario {
     GrowthInCall,
     ApplyAll,
     ExportType,
+    Exports,
+    HostParts,
     ReadScript,
     RunScript,
     List,
 }
 
 /// All scenarios.
-pub static SCENARIOS: [Scenario; 27] = [
+pub static SCENARIOS: [Scenario; 29] = [
     Scenario::Decode,
     Scenario::Validate,
     Scenario::Flatten,
@@ -73,6 +75,8 @@ pub static SCENARIOS: [Scenario; 27] = [
     Scenario::GrowthInCall,
     Scenario::ApplyAll,
     Scenario::ExportType,
+    Scenario::Exports,
+    Scenario::HostParts,
     Scenario::ReadScript,
     Scenario::RunScript,
     Scenario::List,
@@ -106,6 +110,8 @@ impl Scenario {
             Scenario::GrowthInCall => "growth-in-call",
             Scenario::ApplyAll => "apply-all",
             Scenario::ExportType => "export-type",
+            Scenario::Exports => "exports",
+            Scenario::HostParts => "host-parts",
             Scenario::ReadScript => "read-script",
             Scenario::RunScript => "run-script",
             Scenario::List => "list",
@@ -155,6 +161,8 @@ pub fn run_scenario(alloc: Global, scenario: Scenario, before: usize) -> Verdict
         Scenario::GrowthInCall => judge_growth(alloc, before),
         Scenario::ApplyAll => judge_all(alloc, before),
         Scenario::ExportType => judge(prepare_export_type(alloc), alloc, before, "export_type"),
+        Scenario::Exports => judge(prepare_exports(alloc), alloc, before, "exports"),
+        Scenario::HostParts => judge(Parts::prepare(alloc), alloc, before, "host parts"),
         Scenario::ReadScript => judge(Reading::prepare(alloc), alloc, before, "read_script"),
         Scenario::RunScript => judge(Running::prepare(alloc), alloc, before, "run_script"),
         Scenario::List => judge_list(alloc, before),

@@ -5,7 +5,7 @@ use crate::embeddings::fresh_embedding;
 use crate::texts::COUNTER;
 use crate::verdicts::Answer;
 use embed::Embedding;
-use scripts::{Report, Script, ScriptFault, read_script, run_script_lent};
+use scripts::{Report, Script, ScriptFault, read_script, run_script};
 use std::alloc::Global;
 use testing::assemble;
 
@@ -81,7 +81,7 @@ impl Running {
 
 impl Attempt for Running {
     fn attempt(&mut self) -> Answer {
-        match run_script_lent(self.alloc, &self.script, &self.files, &mut self.embedding) {
+        match run_script(self.alloc, &self.script, &self.files, &mut self.embedding) {
             Ok(report) if is_right(&report) => Answer::Ample,
             Err(ScriptFault::OutOfMemory) => Answer::Wanting,
             _ => Answer::Wrong,

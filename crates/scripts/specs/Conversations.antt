@@ -7,6 +7,8 @@ use Rattle.meaning.specs.execution.Runs.{Answer}
 use Rattle.meaning.specs.execution.Store.{Store}
 use Rattle.meaning.specs.scripts.Dialogues.{Dialogue, Asks, IsForMemory}
 use Rattle.soundness.specs.Embedding.{AppliesWell}
+use Rattle.embed.specs.Replies.{reply_of}
+use Rattle.embed.specs.declared.commands.Reply.{Reply as GivenReply}
 use Rattle.scripts.specs.declared.faults.ScriptFault.{ScriptFault}
 use Rattle.scripts.specs.declared.faults.ScriptFault.TheVariants.{OutOfMemory}
 
@@ -41,3 +43,8 @@ module _ {H : Type 0} (HostStep : List H → ℕ → Option ℕ → List Val →
       (next : _ → Dialogue) → Converses (part next) old (next (see found)) new
   Holds see part old (Err fault) new =
       (fault ≡ OutOfMemory) × ((next : _ → Dialogue) → BreaksOff (part next) old new)
+
+-- A reply is taken, unless it says that there was no memory.
+abbrev pub TakesReply : GivenReply → Result GivenReply ScriptFault → Type 0
+TakesReply reply (Ok taken) = (taken ≡ reply) × (IsForMemory (reply_of reply) → ⊥)
+TakesReply reply (Err fault) = (fault ≡ OutOfMemory) × IsForMemory (reply_of reply)

@@ -3,6 +3,8 @@ use Rattle.std.specs.Prelude.{◌≡◌, ℕ, List, Result, Ok, Err, Some, None,
 use Rattle.std.specs.declared.alloc.Global.{Global}
 use Rattle.serde_json.specs.Data.{Data}
 use Rattle.serde_json.specs.Read.{read}
+use Rattle.meaning.specs.embedding.Commands as refusal
+use Rattle.meaning.specs.embedding.Refusals.{number_of}
 use Rattle.meaning.specs.scripts.Commands as script
 use Rattle.scripts.specs.Reading.{script_of}
 use Rattle.scripts.specs.Views.{command_view}
@@ -15,7 +17,7 @@ abbrev pub fault_number : ScriptFault → ℕ
 fault_number NotJson = 15
 fault_number (BadCommand index) = 16
 fault_number (MissingFile index) = 17
-fault_number OutOfMemory = 13
+fault_number OutOfMemory = number_of refusal.OutOfMemory
 
 -- The commands are read, or the first at fault is named.
 abbrev pub ReadsCommands : Result (List script.ScriptCommand) ℕ

@@ -1,11 +1,14 @@
-ghost use Rattle.std.specs.Prelude.{◌≡◌, IsTrue, ◌↔◌};
+ghost use Rattle.std.specs.Prelude.{◌≡◌, ◌↔◌, [], ◌∷◌, IfErr, IfOk, IsTrue};
 ghost use Rattle.embed.specs.Contents.{embedding_of};
-ghost use Rattle.embed.specs.Replies.{command_of, reply_of};
-ghost use Rattle.meaning.specs.embedding.Commands.{Call, GetGlobal, Load, Register};
+ghost use Rattle.embed.specs.Replies.{reply_of};
+ghost use Rattle.meaning.specs.embedding.Commands.{Call, Ended, GetGlobal, Link, Load, Register};
+ghost use Rattle.meaning.specs.execution.Runs.{WithValues};
 ghost use Rattle.meaning.specs.scripts.Dialogues.{Asks, IsForMemory};
 ghost use Rattle.meaning.specs.scripts.Runner.{act as acts, ask as asks_for, ask_of, load_and_link as loads_and_links};
+ghost use Rattle.scripts.specs.Conversations.{TakesReply};
 ghost use Rattle.scripts.specs.FileMaps.{files_kept};
 ghost use Rattle.scripts.specs.Runs.{HoldsPart, instances_view};
+ghost use Rattle.scripts.specs.declared.faults.ScriptFault.TheVariants.{OutOfMemory as NoMemory};
 ghost use Rattle.scripts.specs.Views.{action_view, task_view};
 
 use crate::faults::ScriptFault;
@@ -13,7 +16,7 @@ use crate::file_maps::contents;
 use crate::instances::Instances;
 use crate::script::{Action, Task};
 use core_types::{Exhaustion, Val};
-use embed::{Command, Embedding, Refusal, Reply};
+use embed::{Embedding, InstanceNumber, ModuleNumber, Refusal, Reply};
 use hostfunc::HostFn;
 use indexmap::IndexMap;
 use std::alloc::Global;
@@ -28,13 +31,10 @@ fn lacks_memory(reply: &Reply) -> bool
     )
 }
 
-// What an embedding answers to a command, if it does not lack memory.
-pub fn ask(embedding: &mut Embedding, command: &Command) -> Result<Reply, ScriptFault>
-    ensures { HoldsPart ⟦<dyn HostFn as HostFn>⟧ reply_of (Asks (command_of command.now))
-        (embedding_of embedding.old)
-        result (embedding_of embedding.new) }
+// A reply, unless it says that there was no memory.
+fn take_reply(reply: Reply) -> Result<Reply, ScriptFault>
+    ensures { TakesReply reply result }
 {
-    let reply = embedding.apply_lent(command);
     if lacks_memory(&reply) {
         return Err(ScriptFault::OutOfMemory);
     }
@@ -42,34 +42,37 @@ pub fn ask(embedding: &mut Embedding, command: &Command) -> Result<Reply, Script
 }
 
 // Loads a module.
-fn load(alloc: Global, embedding: &mut Embedding, bytes: &[u8]) -> Result<Reply, ScriptFault>
+fn load(embedding: &mut Embedding, bytes: &[u8]) -> Result<Reply, ScriptFault>
     ensures { HoldsPart ⟦<dyn HostFn as HostFn>⟧ reply_of (Asks (Load bytes.now))
         (embedding_of embedding.old) result
         (embedding_of embedding.new) }
 {
-    let copied = Vec::from_slice(alloc, bytes)?;
-    ask(embedding, &Command::Load(copied))
+    take_reply(Reply::from(embedding.load(bytes)))
+}
+
+// Links a module.
+fn link(embedding: &mut Embedding, number: u64) -> Result<Reply, ScriptFault>
+    ensures { HoldsPart ⟦<dyn HostFn as HostFn>⟧ reply_of (Asks (Link number))
+        (embedding_of embedding.old) result
+        (embedding_of embedding.new) }
+{
+    take_reply(Reply::from(embedding.link(ModuleNumber(number))))
 }
 
 // Loads a module, and links it where it could be loaded.
-fn load_and_link(
-    alloc: Global,
-    embedding: &mut Embedding,
-    bytes: &[u8],
-) -> Result<Reply, ScriptFault>
+fn load_and_link(embedding: &mut Embedding, bytes: &[u8]) -> Result<Reply, ScriptFault>
     ensures { HoldsPart ⟦<dyn HostFn as HostFn>⟧ reply_of (loads_and_links bytes.now)
         (embedding_of embedding.old) result
         (embedding_of embedding.new) }
 {
-    match load(alloc, embedding, bytes)? {
-        Reply::Loaded(number) => ask(embedding, &Command::Link(number)),
+    match load(embedding, bytes)? {
+        Reply::Loaded(number) => link(embedding, number),
         reply => Ok(reply),
     }
 }
 
 // Calls a function of an instance, if there is one.
 fn call(
-    alloc: Global,
     embedding: &mut Embedding,
     instance: Option<u64>,
     field: &str,
@@ -80,38 +83,47 @@ fn call(
         (embedding_of embedding.old) result (embedding_of embedding.new) }
 {
     match instance {
-        Some(number) => {
-            let name = String::from_str(alloc, field)?;
-            let values = Vec::from_slice(alloc, args)?;
-            ask(embedding, &Command::Call(number, name, values))
-        }
+        Some(number) => take_reply(Reply::from(embedding.call(
+            InstanceNumber(number),
+            field,
+            args,
+        ))),
         None => Ok(Reply::Refused(Refusal::UnknownInstance)),
     }
+}
+
+// The reply with a value alone.
+fn reply_with(alloc: Global, value: Val) -> Result<Reply, ScriptFault>
+    ensures ok { IfOk result (λ reply. reply_of reply ≡ Ended (WithValues (value ∷ []))) }
+    ensures err { IfErr result (λ fault. fault ≡ NoMemory) }
+{
+    let mut values = Vec::new(alloc);
+    values.push(value)?;
+    Ok(Reply::Values(values))
 }
 
 // Reads a global of an instance, if there is one.
 fn get(
     alloc: Global,
-    embedding: &mut Embedding,
+    embedding: &Embedding,
     instance: Option<u64>,
     field: &str,
 ) -> Result<Reply, ScriptFault>
     ensures { HoldsPart ⟦<dyn HostFn as HostFn>⟧ reply_of
         (ask_of instance (λ number. GetGlobal number field.now))
-        (embedding_of embedding.old) result (embedding_of embedding.new) }
+        (embedding_of embedding.now) result (embedding_of embedding.now) }
 {
     match instance {
-        Some(number) => {
-            let name = String::from_str(alloc, field)?;
-            ask(embedding, &Command::GetGlobal(number, name))
-        }
+        Some(number) => match embedding.get_global(InstanceNumber(number), field) {
+            Ok(value) => reply_with(alloc, value),
+            Err(refusal) => take_reply(Reply::Refused(refusal)),
+        },
         None => Ok(Reply::Refused(Refusal::UnknownInstance)),
     }
 }
 
 // Registers an instance, if there is one, under a name.
 fn register(
-    alloc: Global,
     embedding: &mut Embedding,
     instance: Option<u64>,
     name: &str,
@@ -121,10 +133,7 @@ fn register(
         (embedding_of embedding.old) result (embedding_of embedding.new) }
 {
     match instance {
-        Some(number) => {
-            let copied = String::from_str(alloc, name)?;
-            ask(embedding, &Command::Register(number, copied))
-        }
+        Some(number) => take_reply(Reply::from(embedding.register(InstanceNumber(number), name))),
         None => Ok(Reply::Refused(Refusal::UnknownInstance)),
     }
 }
@@ -146,7 +155,6 @@ fn act(
             field,
             args,
         } => call(
-            alloc,
             embedding,
             instances.meant(instance),
             field.as_str(),
@@ -172,24 +180,22 @@ pub fn ask_for_task(
 {
     match task {
         Task::Module { filename, .. } => {
-            load_and_link(alloc, embedding, contents(files, filename.as_str()))
+            load_and_link(embedding, contents(files, filename.as_str()))
         }
         Task::Register { name, instance } => {
-            register(alloc, embedding, instances.meant(instance), name.as_str())
+            register(embedding, instances.meant(instance), name.as_str())
         }
         Task::Perform(action) => act(alloc, embedding, instances, action),
         Task::AssertReturn(action, _) => act(alloc, embedding, instances, action),
         Task::AssertTrap(action, _) => act(alloc, embedding, instances, action),
         Task::AssertExhaustion(action) => act(alloc, embedding, instances, action),
-        Task::AssertInvalid(filename) => load(alloc, embedding, contents(files, filename.as_str())),
-        Task::AssertMalformed(filename) => {
-            load(alloc, embedding, contents(files, filename.as_str()))
-        }
+        Task::AssertInvalid(filename) => load(embedding, contents(files, filename.as_str())),
+        Task::AssertMalformed(filename) => { load(embedding, contents(files, filename.as_str())) }
         Task::AssertUnlinkable(filename) => {
-            load_and_link(alloc, embedding, contents(files, filename.as_str()))
+            load_and_link(embedding, contents(files, filename.as_str()))
         }
         Task::AssertUninstantiable(filename, _) => {
-            load_and_link(alloc, embedding, contents(files, filename.as_str()))
+            load_and_link(embedding, contents(files, filename.as_str()))
         }
     }
 }

@@ -23,5 +23,5 @@ mod values;
 pub use faults::ScriptFault;
 pub use reading::read_script;
 pub use report::Report;
-pub use running::{run_script, run_script_lent};
+pub use running::run_script;
 pub use script::Script;

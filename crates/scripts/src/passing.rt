@@ -1,28 +1,11 @@
 ghost use Rattle.std.specs.Prelude.{◌≡◌};
 ghost use Rattle.embed.specs.Replies.{reply_of};
-ghost use Rattle.meaning.specs.scripts.Runner.{is_malformed as is_no_module, is_unlinkable as has_no_imports, linked_instance, passes as passes_with, returns as returns_values, runs_out as is_exhausted, same_value, same_values, trap_text as text_of, traps as traps_for};
+ghost use Rattle.meaning.specs.scripts.Runner.{is_malformed as is_no_module, is_unlinkable as has_no_imports, linked_instance, passes as passes_with, returns as returns_values, runs_out as is_exhausted, same_value, same_values, traps as traps_for};
 ghost use Rattle.scripts.specs.Views.{task_view};
 
 use crate::script::Task;
-use core_types::{Exhaustion, Trap, Val};
+use core_types::{Exhaustion, Val};
 use embed::{Refusal, Reply};
-
-// The text of a trap.
-fn trap_text(trap: Trap) -> &'static str
-    ensures { result.now ≡ text_of trap }
-{
-    match trap {
-        Trap::Unreachable => "unreachable",
-        Trap::DivideByZero => "integer divide by zero",
-        Trap::IntegerOverflow => "integer overflow",
-        Trap::MemoryBounds => "out of bounds memory access",
-        Trap::TableBounds => "out of bounds table access",
-        Trap::UndefinedElement => "undefined element",
-        Trap::UninitializedElement => "uninitialized element",
-        Trap::IndirectType => "indirect call type mismatch",
-        Trap::Host(_) => "host trap",
-    }
-}
 
 // The instance that was linked, if one was.
 pub fn linked(reply: &Reply) -> Option<u64>
@@ -77,7 +60,7 @@ fn traps(text: &str, reply: &Reply) -> bool
     ensures { result ≡ traps_for text.now (reply_of reply.now) }
 {
     match reply {
-        Reply::Trap(trap) => text.as_bytes().starts_with(trap_text(*trap).as_bytes()),
+        Reply::Trap(trap) => text.as_bytes().starts_with(trap.text().as_bytes()),
         _ => false,
     }
 }
@@ -98,7 +81,7 @@ fn is_malformed(reply: &Reply) -> bool
 {
     matches!(
         reply,
-        Reply::Refused(Refusal::Malformed | Refusal::Unsupported | Refusal::Limit)
+        Reply::Refused(Refusal::Malformed(_) | Refusal::Unsupported(_) | Refusal::Limit)
     )
 }
 
@@ -108,7 +91,7 @@ fn is_unlinkable(reply: &Reply) -> bool
 {
     matches!(
         reply,
-        Reply::Refused(Refusal::UnknownImport | Refusal::IncompatibleImport)
+        Reply::Refused(Refusal::UnknownImport(_) | Refusal::IncompatibleImport(_))
     )
 }
 
@@ -123,7 +106,7 @@ pub fn passes(task: &Task, reply: &Reply) -> bool
         Task::AssertReturn(_, expected) => returns(expected, reply),
         Task::AssertTrap(_, text) => traps(text.as_str(), reply),
         Task::AssertExhaustion(_) => runs_out(reply),
-        Task::AssertInvalid(_) => matches!(reply, Reply::Refused(Refusal::Invalid)),
+        Task::AssertInvalid(_) => matches!(reply, Reply::Refused(Refusal::Invalid(_))),
         Task::AssertMalformed(_) => is_malformed(reply),
         Task::AssertUnlinkable(_) => is_unlinkable(reply),
         Task::AssertUninstantiable(_, text) => traps(text.as_str(), reply),

@@ -1,12 +1,12 @@
 ghost use Rattle.std.specs.Prelude.{◌≡◌, ◌+◌, ◌<◌, ◌^◌, OnOk};
 
-use crate::asking::{ask, ask_for_task};
+use crate::asking::ask_for_task;
 use crate::faults::ScriptFault;
 use crate::instances::Instances;
 use crate::passing::passes;
 use crate::report::Report;
 use crate::script::{ScriptCommand, Task};
-use embed::{Command, Embedding};
+use embed::Embedding;
 use hostfunc::HostFn;
 use indexmap::IndexMap;
 use std::alloc::Global;
@@ -59,7 +59,7 @@ impl Place {
         ensures counts { OnOk result (counted (place_view self.new).report
             ≡ counted (place_view self.old).report + 1) }
     {
-        ask(embedding, &Command::SetFuel(fuel))?;
+        embedding.set_fuel(fuel);
         let reply = ask_for_task(alloc, files, &self.instances, task, embedding)?;
         self.instances.settle(alloc, task, &reply)?;
         self.report.count(line, passes(task, &reply))?;

@@ -49,20 +49,6 @@ pub fn run_script(
     files: &[(String, Vec<u8>)],
     embedding: &mut Embedding,
 ) -> Result<Report, ScriptFault>
-    ensures { Runs ⟦<dyn HostFn as HostFn>⟧ script.now (files_in (files_view files.now))
-        (embedding_of embedding.old) result (embedding_of embedding.new) }
-{
-    run_script_lent(alloc, script, files, embedding)
-}
-
-/// The same as `run_script`, for a function of another library that was given the embedding or its host functions, as `apply_lent`
-/// of the embedding is.
-pub fn run_script_lent(
-    alloc: Global,
-    script: &Script,
-    files: &[(String, Vec<u8>)],
-    embedding: &mut Embedding,
-) -> Result<Report, ScriptFault>
     requires nothing { Unit {0} }
     ensures { Runs ⟦<dyn HostFn as HostFn>⟧ script.now (files_in (files_view files.now))
         (embedding_of embedding.old) result (embedding_of embedding.new) }

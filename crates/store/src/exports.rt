@@ -1,7 +1,7 @@
 ghost use Rattle.std.specs.Prelude.{◌≡◌, Some, option_map, bytes_eq};
 ghost use Rattle.std.specs.List.{find};
 ghost use Rattle.core_types.specs.declared.module.Export.{Export as Exported};
-ghost use Rattle.meaning.specs.embedding.Names.{export_of};
+ghost use Rattle.meaning.specs.embedding.Names.{export_of, extern_of as value_of};
 ghost use Rattle.meaning.specs.execution.Store.{instance_of};
 ghost use Rattle.store.specs.Contents.{code_store};
 
@@ -20,18 +20,34 @@ fn export_under(exports: &[Export], name: &str) -> Option<ExportDesc>
 }
 
 impl Code {
-    /// What an instance exports under a name, if there is such an instance and such an export (Execution, Runtime Structure, Export
-    /// Instances). Takes no memory.
-    pub fn export(&self, instance: u32, name: &str) -> Option<Extern>
-        ensures { result ≡ export_of (instance_of (code_store self.now) (Some instance)) name.now }
+    /// What an instance exports, in the order of its module; nothing where there is no such instance.
+    pub fn exports(&self, instance: u32) -> &[Export]
+        ensures { result.now ≡ (instance_of (code_store self.now) (Some instance)).exports }
     {
-        let found = self.instance(instance)?;
-        let exports = found.loaded.as_ref().module().exports.as_slice();
-        match export_under(exports, name)? {
+        match self.instance(instance) {
+            Some(found) => found.loaded.as_ref().module().exports.as_slice(),
+            None => &[],
+        }
+    }
+
+    /// What an index of an instance names, by its address in the store, if it names something (Execution, Runtime Structure, Export
+    /// Instances).
+    pub fn extern_of(&self, instance: u32, desc: ExportDesc) -> Option<Extern>
+        ensures { result ≡ value_of (instance_of (code_store self.now) (Some instance)) desc }
+    {
+        match desc {
             ExportDesc::Func(x) => Some(Extern::Func(self.function_address(instance, x)?)),
             ExportDesc::Table(x) => Some(Extern::Table(self.table_address(instance, x)?)),
             ExportDesc::Memory(x) => Some(Extern::Memory(self.memory_address(instance, x)?)),
             ExportDesc::Global(x) => Some(Extern::Global(self.global_address(instance, x)?)),
         }
+    }
+
+    /// What an instance exports under a name, if there is such an instance and such an export (Execution, Runtime Structure, Export
+    /// Instances). Takes no memory.
+    pub fn export(&self, instance: u32, name: &str) -> Option<Extern>
+        ensures { result ≡ export_of (instance_of (code_store self.now) (Some instance)) name.now }
+    {
+        self.extern_of(instance, export_under(self.exports(instance), name)?)
     }
 }

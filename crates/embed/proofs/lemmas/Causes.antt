@@ -14,12 +14,12 @@ no_decoded : (bytes : List ℕ) → IsNoModule bytes → (m : Module) → IsDeco
 no_decoded bytes none m d = none m d.spelt d.small
 
 pub decode-refuses : (bytes : List ℕ) (error : DecodeError) → OnRefused error (IsNoModule bytes) → RefusesBytes bytes (decode_refusal error)
-decode-refuses bytes (decode.Malformed offset) none = malformed (no_decoded bytes none) refl
-decode-refuses bytes (decode.Unsupported offset) none = unsupported (no_decoded bytes none) refl
+decode-refuses bytes (decode.Malformed offset) none = malformed offset (no_decoded bytes none) refl
+decode-refuses bytes (decode.Unsupported offset) none = unsupported offset (no_decoded bytes none) refl
 decode-refuses bytes decode.Limit none = limit (no_decoded bytes none) refl
 decode-refuses bytes decode.OutOfMemory none = no_memory refl
 
 pub validate-refuses : (bytes : List ℕ) (m : Module) (error : ValidateError) → IsDecoded bytes m → (error ≡ validate.OutOfMemory) ⊎ (IsValid m → ⊥) → RefusesBytes bytes (validate_refusal error)
 validate-refuses bytes m validate.OutOfMemory decoded cause = no_memory refl
 validate-refuses bytes m (validate.Invalid place) decoded (inl is) = absurd cc
-validate-refuses bytes m (validate.Invalid place) decoded (inr not_valid) = invalid m decoded not_valid refl
+validate-refuses bytes m (validate.Invalid place) decoded (inr not_valid) = invalid place m decoded not_valid refl

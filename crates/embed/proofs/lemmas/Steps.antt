@@ -1,7 +1,7 @@
 -- Steps of the embedding machine, by what the layers below do.
-use Rattle.std.proofs.Common.{◌≡◌, ℕ, List, [], ◌∷◌, ◌++◌, length, arith, refl, sym, subst, ap, ◌∙◌}
-use Rattle.std.proofs.lemmas.Option.{slice_get-map}
-use Rattle.std.specs.Prelude.{Option, Some, Result, Ok, option_map, reverse, slice_get}
+use Rattle.std.proofs.Common.{◌≡◌, ℕ, zero, suc, List, [], ◌∷◌, ◌++◌, length, arith, refl, sym, subst, ap, ◌∙◌}
+use Rattle.std.proofs.lemmas.Option.{same_Some, slice_get-map}
+use Rattle.std.specs.Prelude.{Option, Some, Result, Ok, Err, option_map, reverse, slice_get}
 use Rattle.std.proofs.lemmas.List.{map-append, length-map}
 use Rattle.std.proofs.Math.Seq.{take-length}
 use Rattle.std.specs.declared.rc.Rc.{Rc}
@@ -15,14 +15,14 @@ use Rattle.meaning.specs.embedding.Machine.{CallsAt, Embedding, GetsAt, IsDecode
 use Rattle.meaning.specs.embedding.Machine as of
 use Rattle.meaning.specs.embedding.Names.{resolve_name}
 use Rattle.meaning.specs.execution.Configurations.{Invoking, no_frame}
-use Rattle.meaning.specs.execution.Modules.{Instantiation}
+use Rattle.meaning.specs.execution.Modules.{AreGiven, Instantiation, IsGiven, import_type}
 use Rattle.meaning.specs.execution.Runs.{Answer, Ending, Run, State, WithValues}
 use Rattle.meaning.specs.execution.Store.{GlobalInstance, Store}
 use Rattle.meaning.specs.soundness.Values.{TakesArguments}
 use Rattle.meaning.specs.validation.Modules.{IsValid}
 use Rattle.exec.specs.Endings.{ending_of}
 use Rattle.exec.specs.declared.outcome.Outcome.{Outcome}
-use Rattle.instantiate.specs.Links.{IsCause, IsEnded, IsLinked, IsRefused, given_to}
+use Rattle.instantiate.specs.Links.{IsCause, IsEnded, IsLinked, IsMismatch, IsRefused, given_to}
 use Rattle.instantiate.specs.declared.link_end.LinkRefusal.{LinkRefusal}
 use Rattle.instantiate.specs.declared.link_end.LinkRefusal.TheVariants as reason
 use Rattle.embed.specs.Causes.{RefusesBytes, link_refusal}
@@ -30,6 +30,17 @@ use Rattle.embed.specs.Causes as cause
 use Rattle.embed.specs.Contents.{modules_in}
 use Rattle.embed.specs.Replies.{refusal_of}
 use Rattle.embed.specs.declared.refusals.Refusal.{Refusal}
+
+-- Where one import is given something else than it asks for, not each is given what it asks for.
+not-given : (store : Store) (m : Module) (imports : List Import) (externs : List Extern) (index : ℕ) → IsMismatch store (record m { imports = imports }) externs index → AreGiven store m imports externs → ⊥
+not-given store m [] externs index differs given = absurd (let wrong = differs.wanted_is in cc)
+not-given store m (i ∷ imports) [] index differs given = given
+not-given store m (i ∷ imports) (e ∷ externs) zero differs given =
+    let wanted : i ≡ differs.wanted = same_Some i differs.wanted differs.wanted_is in
+    let is : e ≡ differs.given = same_Some e differs.given differs.given_is in
+    differs.differs (subst (λ (x : Extern). IsGiven store x (import_type m differs.wanted.desc)) is (subst (λ (j : Import). IsGiven store e (import_type m j.desc)) wanted given.0))
+not-given store m (i ∷ imports) (e ∷ externs) (suc index) differs given =
+    not-given store m imports externs index (record { wanted = differs.wanted; given = differs.given; wanted_is = differs.wanted_is; given_is = differs.given_is; differs = differs.differs }) given.1
 
 module _ {H : Type 0} where
   -- The embedding with these modules.
@@ -48,15 +59,20 @@ module _ {H : Type 0} where
       loaded decoded valid (ap machine.Loaded (sym count)) (ap (with_modules old) more)
 
   pub load-refused : (old : Embedding H) (bytes : List ℕ) (refusal : Refusal) → RefusesBytes bytes refusal → Loads old bytes (machine.Refused (refusal_of refusal)) old
-  load-refused old bytes refusal (cause.malformed none is) = rw is (no_module none of.malformed (refl, refl))
-  load-refused old bytes refusal (cause.unsupported none is) = rw is (no_module none of.unsupported (refl, refl))
+  load-refused old bytes refusal (cause.malformed offset none is) = rw is (no_module none of.malformed (refl, refl))
+  load-refused old bytes refusal (cause.unsupported offset none is) = rw is (no_module none of.unsupported (refl, refl))
   load-refused old bytes refusal (cause.limit none is) = rw is (no_module none of.limit (refl, refl))
-  load-refused old bytes refusal (cause.invalid m decoded invalid is) = rw is (not_valid decoded invalid (refl, refl))
+  load-refused old bytes refusal (cause.invalid place m decoded invalid is) = rw is (not_valid decoded invalid (refl, refl))
   load-refused old bytes refusal (cause.no_memory is) = rw is (of.no_memory (refl, refl))
 
-  pub get-value : (old : Embedding H) (found : Result ℕ machine.Refusal) (address : ℕ) (g : GlobalInstance) (values : List Val) → Ok address ≡ found
-      → slice_get old.state.store.globals address ≡ Some g → values ≡ g.value ∷ [] → GetsAt old found (machine.Ended (WithValues values)) old
-  get-value old found address g values is there has = rw (← is) (got there (ap (λ (vs : List Val). machine.Ended (WithValues vs)) has) refl)
+  pub get-value : (old : Embedding H) (found : Result ℕ machine.Refusal) (address : ℕ) (g : GlobalInstance) (v : Val) → Ok address ≡ found
+      → slice_get old.state.store.globals address ≡ Some g → v ≡ g.value → GetsAt old found (machine.Ended (WithValues (v ∷ []))) old
+  get-value old found address g v is there has = rw (← is) (got there (ap (λ (u : Val). machine.Ended (WithValues (u ∷ []))) has) refl)
+
+  -- A value that was read may still not be answered for want of memory.
+  pub get-refused : (old : Embedding H) (found : Result ℕ machine.Refusal) (ending : Ending) → GetsAt old found (machine.Ended ending) old → GetsAt old found (machine.Refused machine.OutOfMemory) old
+  get-refused old (Ok address) ending gets = of.no_memory (refl, refl)
+  get-refused old (Err refusal) ending gets = absurd (let wrong = gets.0 in cc)
 
 module _ {H : Type 0} (HostStep : List H → ℕ → Option ℕ → List Val → Store → Answer → Store → List H → Type 0) where
   pub call-ended : (old : Embedding H) (state : State H) (bound address : ℕ) (arguments : List Val) (ending : Ending) (reply : machine.Reply) (found : Result ℕ machine.Refusal)
@@ -87,9 +103,9 @@ module _ {H : Type 0} (HostStep : List H → ℕ → Option ℕ → List Val →
       link-ended o reply end reply_is = ended resolved end.allowed (instantiated (ending_of o) end.run) end.no_values reply_is refl
 
     cause-refuses : (why : LinkRefusal) → IsCause why old.state.store m externs → Links HostStep old m (machine.Refused (refusal_of (link_refusal why))) old
-    cause-refuses reason.UnknownImport fewer =
-        absurd (let same = map_all-length (λ (i : Import). resolve_name old.state.store old.names i.module_name i.name) m.imports externs resolved in omega (arith, same, fewer))
-    cause-refuses reason.IncompatibleImport why = incompatible resolved why.1 (refl, refl)
+    cause-refuses (reason.UnknownImport index) why =
+        absurd (let same = map_all-length (λ (i : Import). resolve_name old.state.store old.names i.module_name i.name) m.imports externs resolved in omega (arith, same, why.0))
+    cause-refuses (reason.IncompatibleImport index) why = incompatible resolved (not-given old.state.store m m.imports externs index why.1) (refl, refl)
     cause-refuses reason.Limit why = too_large resolved why.0 why.1 (refl, refl)
     cause-refuses reason.OutOfMemory why = of.no_memory (refl, refl)
 

@@ -1,5 +1,6 @@
 -- The embedding machine, which is this project's own: what a command to an embedding answers and leaves.
-use Rattle.std.specs.Prelude.{◌≡◌, ℕ, List, [], ◌∷◌, ◌++◌, length, reverse, Option, Some, None, Result, Ok, Err, slice_get}
+use Rattle.std.specs.Prelude.{◌≡◌, ℕ, List, [], ◌∷◌, ◌++◌, filter_map, length, reverse, Option, Some, None, Result, Ok, Err, option_and_then, option_map, slice_get}
+use Rattle.core_types.specs.declared.module.Export.{Export}
 use Rattle.core_types.specs.declared.module.Import.{Import}
 use Rattle.core_types.specs.declared.module.Module.{Module}
 use Rattle.core_types.specs.declared.outcome.Extern.{Extern}
@@ -12,12 +13,12 @@ use Rattle.meaning.specs.validation.Modules.{IsValid}
 use Rattle.meaning.specs.execution.Configurations.{Invoking, no_frame}
 use Rattle.meaning.specs.execution.Modules.{AreGiven, HasNoValues, Instantiation, IsAllowed, IsWithinLimits, map_all}
 use Rattle.meaning.specs.execution.Runs.{Answer, Ending, Run, State, WithValues}
-use Rattle.meaning.specs.execution.Store.{GlobalInstance, Store, extern_type, instance_of}
+use Rattle.meaning.specs.execution.Store.{GlobalInstance, ModuleInstance, Store, extern_type, instance_of}
 use Rattle.meaning.specs.soundness.Values.{TakesArguments}
 use Rattle.meaning.specs.embedding.Commands.{Command, Load, Link, Register, Call, GetGlobal, SetFuel}
 use Rattle.meaning.specs.embedding.Commands.{Refusal, Malformed, Unsupported, Limit, Invalid, UnknownModule, UnknownImport, IncompatibleImport, UnknownInstance, UnknownExport, WrongKind, BadArguments, NameTaken, OutOfMemory}
 use Rattle.meaning.specs.embedding.Commands.{Reply, Loaded, Linked, Done, Ended, Refused}
-use Rattle.meaning.specs.embedding.Names.{HasHosts, NamesContents, export_of, resolve_name, with_instance}
+use Rattle.meaning.specs.embedding.Names.{HasHosts, NamesContents, export_of, extern_of, resolve_name, with_instance}
 
 -- ---- states
 
@@ -85,6 +86,15 @@ abbrev pub type_in : Store → Result Extern Refusal → Option ExternType
 type_in store (Ok e) = extern_type store e
 type_in store (Err refusal) = None
 
+-- The name and the type of an export of an instance, if it stands for something.
+abbrev pub named_type : Store → ModuleInstance → Export → Option (List ℕ × ExternType)
+named_type store instance e =
+    option_map (λ (ty : ExternType). (e.name, ty))
+    (option_and_then (extern_type store) (extern_of instance e.desc))
+
+abbrev pub exports_in : Store → ModuleInstance → List (List ℕ × ExternType)
+exports_in store instance = filter_map (named_type store instance) instance.exports
+
 -- ---- steps
 
 module _ {H : Type 0} where
@@ -95,6 +105,11 @@ module _ {H : Type 0} where
   -- The type of what the instance of a number exports under a name, if there is something.
   abbrev pub export_type : Embedding H → (number : ℕ) → (name : List ℕ) → Option ExternType
   export_type at number name = type_in at.state.store (export_at at number name)
+
+  -- What the instance of a number exports, in order: each name with its type.
+  abbrev pub exports_at : Embedding H → (number : ℕ) → List (List ℕ × ExternType)
+  exports_at at number =
+      exports_in at.state.store (instance_of at.state.store (slice_get at.instances number))
 
   -- A refusal changes nothing.
   abbrev pub Refuses : Embedding H → Refusal → Reply → Embedding H → Type 0

@@ -1,8 +1,7 @@
 -- What a script asks of an embedding, and when its commands pass.
-use Rattle.std.specs.Prelude.{ℕ, ◌+◌, ◌++◌, ◌==◌, ◌&&◌, List, [], ◌∷◌, Bool, true, false, Option, Some, None, bytes_eq, codes, if◌then◌else◌, nat_eq}
+use Rattle.std.specs.Prelude.{ℕ, ◌+◌, ◌++◌, ◌==◌, ◌&&◌, List, [], ◌∷◌, Bool, true, false, Option, Some, None, bytes_eq, if◌then◌else◌, nat_eq}
 use Rattle.std.specs.List.{starts_with}
-use Rattle.core_types.specs.declared.outcome.Trap.{Trap}
-use Rattle.core_types.specs.declared.outcome.Trap.TheVariants.{Unreachable, DivideByZero, IntegerOverflow, MemoryBounds, TableBounds, UndefinedElement, UninitializedElement, IndirectType, Host}
+use Rattle.core_types.specs.Outcome.{trap_text}
 use Rattle.core_types.specs.declared.outcome.Val.{Val}
 use Rattle.core_types.specs.declared.outcome.Val.TheVariants.{I32, I64, FuncRef, ExternRef}
 use Rattle.meaning.specs.embedding.Commands as embedding
@@ -92,18 +91,6 @@ same_values [] [] = true
 same_values [] (w ∷ ws) = false
 same_values (v ∷ vs) [] = false
 same_values (v ∷ vs) (w ∷ ws) = same_value v w && same_values vs ws
-
--- The text of a trap.
-abbrev pub trap_text : Trap → List ℕ
-trap_text Unreachable = codes "unreachable"
-trap_text DivideByZero = codes "integer divide by zero"
-trap_text IntegerOverflow = codes "integer overflow"
-trap_text MemoryBounds = codes "out of bounds memory access"
-trap_text TableBounds = codes "out of bounds table access"
-trap_text UndefinedElement = codes "undefined element"
-trap_text UninitializedElement = codes "uninitialized element"
-trap_text IndirectType = codes "indirect call type mismatch"
-trap_text (Host code) = codes "host trap"
 
 abbrev pub is_linked : Reply → Bool
 is_linked (Linked number) = true

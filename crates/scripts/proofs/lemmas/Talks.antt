@@ -1,21 +1,22 @@
 -- Conversations that go on, break off and come to their end.
 use Rattle.std.proofs.Common.{◌≡◌, ℕ, List, [], ◌∷◌, refl, sym, subst}
-use Rattle.std.specs.Prelude.{Option, Result, Ok, Err}
+use Rattle.std.specs.Prelude.{IfErr, IfOk, Option, Result, Ok, Err}
 use Rattle.std.specs.Result.{IsErrAnd}
 use Rattle.core_types.specs.declared.outcome.Val.{Val}
-use Rattle.meaning.specs.embedding.Commands.{Reply, SetFuel}
+use Rattle.meaning.specs.embedding.Commands.{Command, Done, Reply, SetFuel}
 use Rattle.meaning.specs.embedding.Machine.{Embedding}
 use Rattle.meaning.specs.execution.Runs.{Answer}
 use Rattle.meaning.specs.execution.Store.{Store}
 use Rattle.meaning.specs.scripts.Commands.{Files, Skipped, Task, Tried}
-use Rattle.meaning.specs.scripts.Dialogues.{Dialogue, Asks, Over, Report}
+use Rattle.meaning.specs.scripts.Dialogues.{Dialogue, Asks, IsForMemory, Over, Report}
 use Rattle.meaning.specs.scripts.Dialogues as dialogue
 use Rattle.meaning.specs.scripts.Runner.{Place, after_skipped, after_tried, ask, linking, turn}
+use Rattle.soundness.specs.Embedding.{AppliesWell}
 use Rattle.soundness.proofs.Embedding.{none-well, one-before-well}
 use Rattle.embed.specs.Replies.{reply_of}
 use Rattle.embed.specs.declared.commands.Reply.{Reply as GivenReply}
 use Rattle.embed.specs.declared.commands.Reply.TheVariants as answer
-use Rattle.scripts.specs.Conversations.{Converses, BreaksOff, Holds, nothing, asked, here, lacked, went_on}
+use Rattle.scripts.specs.Conversations.{Converses, BreaksOff, Holds, TakesReply, nothing, asked, here, lacked, went_on}
 use Rattle.scripts.specs.Runs.{IsHeld, IsBegun}
 use Rattle.scripts.specs.declared.faults.ScriptFault.{ScriptFault}
 use Rattle.scripts.specs.declared.faults.ScriptFault.TheVariants.{OutOfMemory}
@@ -30,6 +31,23 @@ module _ {H : Type 0} (HostStep : List H → ℕ → Option ℕ → List Val →
       → BreaksOff HostStep second between new → BreaksOff HostStep first old new
   breaks-later nothing later = later
   breaks-later (asked reply applied has rest) later = went_on reply applied has (breaks-later rest later)
+
+  -- ---- one command
+
+  pub told : {command : Command} {old new : Embedding H} (reply : GivenReply) → AppliesWell HostStep old command (reply_of reply) new → (IsForMemory (reply_of reply) → ⊥)
+      → Holds HostStep reply_of (Asks command) old (Ok reply) new
+  told reply applied has = λ next. asked (reply_of reply) applied has nothing
+
+  pub taken : {command : Command} {old new : Embedding H} (reply : GivenReply) (result : Result GivenReply ScriptFault) → AppliesWell HostStep old command (reply_of reply) new
+      → TakesReply reply result → Holds HostStep reply_of (Asks command) old result new
+  taken reply (Ok found) applied takes = rw takes.0 (told reply applied takes.1)
+  taken reply (Err fault) applied takes = (takes.0, λ next. lacked (reply_of reply) applied takes.1)
+
+  -- What is said has to be put into a reply, for which there may be no memory.
+  pub answered : {command : Command} {old new : Embedding H} (said : Reply) (result : Result GivenReply ScriptFault) → AppliesWell HostStep old command said new → (IsForMemory said → ⊥)
+      → IfOk result (λ reply. reply_of reply ≡ said) → IfErr result (λ fault. fault ≡ OutOfMemory) → Holds HostStep reply_of (Asks command) old result new
+  answered said (Ok reply) applied has is fails = told reply (rw is applied) (rw is has)
+  answered said (Err fault) applied has is fails = (fails, λ next. went_on said applied has here)
 
   -- ---- one part after another
 
@@ -56,22 +74,19 @@ module _ {H : Type 0} (HostStep : List H → ℕ → Option ℕ → List Val →
 
   -- ---- a task that is tried
 
-  pub telling-breaks : {T : Type 0} (see : T → Reply) (fuel : ℕ) (files : Files) (at : Place) (line : ℕ) (task : Task) (done : T) {old between new : Embedding H}
-      → Holds HostStep see (Asks (SetFuel fuel)) old (Ok done) between → ((next : Reply → Dialogue) → BreaksOff HostStep (ask files at.instances task next) between new)
+  pub telling-breaks : (fuel : ℕ) (files : Files) (at : Place) (line : ℕ) (task : Task) {old between new : Embedding H}
+      → AppliesWell HostStep old (SetFuel fuel) Done between → ((next : Reply → Dialogue) → BreaksOff HostStep (ask files at.instances task next) between new)
       → (next : Place → Dialogue) → BreaksOff HostStep (turn fuel files (Tried line task) at next) old new
-  telling-breaks see fuel files at line task done set breaks next =
-      breaks-later (set (λ _. ask files at.instances task (λ r. next (after_tried at line task r)))) (breaks (λ r. next (after_tried at line task r)))
+  telling-breaks fuel files at line task set breaks next = went_on Done set (λ lacks. lacks) (breaks (λ r. next (after_tried at line task r)))
 
-  module _ {T : Type 0} (see : T → Reply) (fuel : ℕ) (files : Files) (at : Place) (line : ℕ) (task : Task) (done reply : T) {old between new : Embedding H}
-      (set : Holds HostStep see (Asks (SetFuel fuel)) old (Ok done) between) (told : Holds HostStep see (ask files at.instances task) between (Ok reply) new) where
+  module _ {T : Type 0} (see : T → Reply) (fuel : ℕ) (files : Files) (at : Place) (line : ℕ) (task : Task) (reply : T) {old between new : Embedding H}
+      (set : AppliesWell HostStep old (SetFuel fuel) Done between) (held : Holds HostStep see (ask files at.instances task) between (Ok reply) new) where
     pub tried-holds : (left : Place) → left ≡ after_tried at line task (see reply) → (next : Place → Dialogue) → Converses HostStep (turn fuel files (Tried line task) at next) old (next left) new
     tried-holds left is next =
-        let all = converses-on (set (λ _. ask files at.instances task (λ r. next (after_tried at line task r)))) (told (λ r. next (after_tried at line task r))) in
-        subst (λ (p : Place). Converses HostStep (turn fuel files (Tried line task) at next) old (next p) new) (sym is) all
+        subst (λ (p : Place). Converses HostStep (turn fuel files (Tried line task) at next) old (next p) new) (sym is) (asked Done set (λ lacks. lacks) (held (λ r. next (after_tried at line task r))))
 
     pub tried-breaks : (next : Place → Dialogue) → BreaksOff HostStep (turn fuel files (Tried line task) at next) old new
-    tried-breaks next =
-        breaks-later (set (λ _. ask files at.instances task (λ r. next (after_tried at line task r)))) (breaks-later (told (λ r. next (after_tried at line task r))) here)
+    tried-breaks next = went_on Done set (λ lacks. lacks) (breaks-later (held (λ r. next (after_tried at line task r))) here)
 
   -- ---- to the end
 

@@ -1,4 +1,6 @@
 use Rattle.std.proofs.Common.{◌∙◌, ap, refl, sym}
+use Rattle.std.proofs.lemmas.Option.{slice_get-get_or}
+use Rattle.std.specs.Prelude.{Some}
 use Rattle.core_types.specs.declared.module.Import.{Import}
 use Rattle.meaning.specs.embedding.Names.{resolve_name}
 use Rattle.store.specs.Contents.{store_of}
@@ -10,7 +12,8 @@ pub returns-in-None-clause-refused : goal.returns-in-None-clause-refused
 returns-in-None-clause-refused c =
     let resolve = λ (i : Import). resolve_name (store_of c.args.store.now) c.args.names.now i.module_name i.name in
     let here = rw (c.as_str.ensures, c.as_str-in-loop-k.ensures) at c.in-None.ensures in
-    missing (map_all-none resolve c.args.imports.now c.loop-k.k c.loop-k.externs.items c.index-imports-k.result c.loop-k-test.true c.loop-k.invariant (ap resolve (sym c.index-imports-k.is) ∙ sym here)) refl
+    missing c.loop-k.k c.index-imports-k.result (slice_get-get_or _ _ _ c.loop-k-test.true ∙ ap Some (sym c.index-imports-k.is)) (sym here)
+    (map_all-none resolve c.args.imports.now c.loop-k.k c.loop-k.externs.items c.index-imports-k.result c.loop-k-test.true c.loop-k.invariant (ap resolve (sym c.index-imports-k.is) ∙ sym here)) refl
 
 pub loop-k-preserved : goal.loop-k-preserved
 loop-k-preserved c =

@@ -1,13 +1,19 @@
-use Rattle.embed.specs.Replies.{reply_of}
-use Rattle.scripts.specs.Conversations.{here, nothing}
-use Rattle.scripts.proofs.lemmas.Talks.{broken}
+use Rattle.std.specs.Prelude.{[], ◌∷◌}
+use Rattle.embed.specs.declared.commands.Reply.TheVariants.{Refused}
+use Rattle.meaning.specs.embedding.Commands.{Ended}
+use Rattle.meaning.specs.execution.Runs.{WithValues}
+use Rattle.scripts.specs.Conversations.{nothing}
+use Rattle.scripts.proofs.lemmas.Talks.{answered, taken}
 use Rattle.scripts.proofs.asking.get.Goals as goal
 
 pub returns-in-None : goal.returns-in-None
 returns-in-None g c = rw c.in-None.is (λ next. nothing)
 
-pub returns-in_err-name-in-Some : goal.returns-in_err-name-in-Some
-returns-in_err-name-in-Some g c = broken _ reply_of _ c.from_residual.result _ _ c.from_residual.ensures.1 (λ fault is. is) (λ next. here)
+pub returns-in-Ok : goal.returns-in-Ok
+returns-in-Ok g c =
+    rw c.in-Some.is (answered _ (Ended (WithValues (c.in-Ok.value ∷ []))) c.reply_with.result
+    (c.in-Ok.ensures.applied, c.in-Ok.ensures.goes_well) (λ lacks. lacks) c.reply_with.ensures.ok c.reply_with.ensures.err)
 
-pub returns-in_ok-name-in-Some : goal.returns-in_ok-name-in-Some
-returns-in_ok-name-in-Some g c = rw c.in-Some.is (rw c.in_ok-name-in-Some.ensures.ok at c.ask.ensures)
+pub returns-in-Err : goal.returns-in-Err
+returns-in-Err g c =
+    rw c.in-Some.is (taken _ (Refused c.in-Err.refusal) c.take_reply.result (c.in-Err.ensures.applied, c.in-Err.ensures.goes_well) c.take_reply.ensures)

@@ -13,7 +13,7 @@ use Rattle.scripts.proofs.asking.load_and_link.Goals as goal
 pub returns-in-Loaded : goal.returns-in-Loaded
 returns-in-Loaded g c =
     let said = rw c.in-Loaded.is at c.in_ok-reply.ensures in
-    holds-on _ reply_of reply_of (Asks (Load c.args.bytes.now)) linking (Loaded c.in-Loaded.number) c.ask.result _ said c.ask.ensures
+    holds-on _ reply_of reply_of (Asks (Load c.args.bytes.now)) linking (Loaded c.in-Loaded.number) c.link.result _ said c.link.ensures
 
 pub returns-in_default : goal.returns-in_default
 returns-in_default g c = λ next.

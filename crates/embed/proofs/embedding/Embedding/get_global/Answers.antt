@@ -1,25 +1,11 @@
-use Rattle.std.proofs.Common.{◌≡◌, ℕ, zero, suc, ◌<◌, List, [], ◌∷◌, length, sym, arith}
-use Rattle.std.specs.Prelude.{None, slice_get}
-use Rattle.soundness.proofs.Embedding.{global-there}
-use Rattle.store.specs.Contents.{store_of}
+use Rattle.meaning.specs.embedding.Commands as machine
+use Rattle.soundness.proofs.Embedding.{goes-well}
+use Rattle.hostfunc.specs.Boxes.{HostAnswers, type_of_host}
 use Rattle.embed.specs.Contents.{embedding_of}
-use Rattle.embed.proofs.lemmas.Steps.{get-value}
+use Rattle.embed.specs.Replies.{global_reply}
 use Rattle.embed.proofs.embedding.Embedding.get_global.Goals as goal
 
 pub returns : goal.returns
 returns g c =
-    let there = rw c.state.ensures.same at (sym c.in-Some.ensures) in
-    let has = rw (c.new-values.ensures.items, c.value.ensures) at c.in_ok-push.ensures.items in
-    get-value (embedding_of c.args.self.now) _ c.in_ok-address.address c.in-Some.variable.now c.push.new.self.items c.in_ok-address.ensures there has
-
--- An item is there at each place inside.
-missing : {X : Type 0} (items : List X) (k : ℕ) → k < length items → slice_get items k ≡ None → ⊥
-missing [] k inside is = omega (arith, inside)
-missing (x ∷ items) zero inside is = cc
-missing (x ∷ items) (suc k) inside is = missing items k (omega (arith, inside)) is
-
-pub unreachable-requires : goal.unreachable-requires
-unreachable-requires g c =
-    let store = store_of c.args.self.now.store in
-    let inside = global-there store c.state.ensures.valid c.args.name.now (slice_get c.args.self.now.instances.items c.args.number) c.in_ok-address.address (sym c.in_ok-address.ensures) in
-    missing store.globals c.in_ok-address.address inside (rw c.state.ensures.same at (sym c.in_default.ensures))
+    let (well, sound) = goes-well type_of_host (HostAnswers (λ vtable. (g.dyn-1.0.entry vtable).1)) (embedding_of c.args.self.now) (embedding_of c.args.self.now) c.show_sound.ensures (global_reply c.read_global.result) c.writing_is_read.ensures.whole (machine.GetGlobal c.args.instance.0 c.args.name.now) tt c.read_global.ensures in
+    record { applied = c.read_global.ensures; goes_well = well }

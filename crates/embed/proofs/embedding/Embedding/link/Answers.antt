@@ -1,34 +1,11 @@
-use Rattle.exec.specs.Endings.{run_state}
-use Rattle.store.specs.Contents.{store_of}
+use Rattle.meaning.specs.embedding.Commands as machine
+use Rattle.soundness.proofs.Embedding.{goes-well}
+use Rattle.hostfunc.specs.Boxes.{HostAnswers, type_of_host}
 use Rattle.embed.specs.Contents.{embedding_of}
-use Rattle.embed.specs.Replies.{reply_of}
-use Rattle.embed.proofs.lemmas.Steps.{link-ended, link-linked, link-refused, module-of}
+use Rattle.embed.specs.Replies.{link_reply}
 use Rattle.embed.proofs.embedding.Embedding.link.Goals as goal
-
-pub returns-in-Ok : goal.returns-in-Ok
-returns-in-Ok g c =
-    let old = embedding_of c.args.self.now in
-    let there = module-of c.args.self.now.modules.items c.args.number c.in-Some.loaded.now (rw c.deref.ensures.value at c.in-Some.ensures) in
-    let resolved = rw (c.as_slice-imports.ensures, c.module.ensures.same, c.as_ref.ensures) at c.in_ok-externs.ensures.found in
-    let state = run_state (store_of c.instantiate.new.store) c.instantiate.new.hosts.objects.items c.instantiate.new.meter.left in
-    rw (there, c.next_number-count.ensures, c.deref-in-Ok.ensures.value, c.append.ensures.appended, c.in_ok-try_reserve.ensures.items)
-    (link-linked _ old state c.args.self.now.meter.bound c.in-Some.loaded.now.value c.in_ok-externs.externs.items resolved c.args.self.now.bound c.in-Ok.address (rw c.deref-2.ensures.value at c.in-Ok.ensures.linked))
-
-pub returns-in-Err-Refused : goal.returns-in-Err-Refused
-returns-in-Err-Refused g c =
-    let old = embedding_of c.args.self.now in
-    let there = module-of c.args.self.now.modules.items c.args.number c.in-Some.loaded.now (rw c.deref.ensures.value at c.in-Some.ensures) in
-    let resolved = rw (c.as_slice-imports.ensures, c.module.ensures.same, c.as_ref.ensures) at c.in_ok-externs.ensures.found in
-    let refused = rw (c.deref-2.ensures.value, c.in-Err-Refused.field-0-is) at c.in-Err-Refused.ensures.linked in
-    let state = run_state (store_of c.instantiate.new.store) c.instantiate.new.hosts.objects.items c.instantiate.new.meter.left in
-    rw (there, c.from.ensures, c.in-Err-Refused.refusal-is, c.in_ok-try_reserve.ensures.items)
-    (link-refused _ old state c.args.self.now.meter.bound c.in-Some.loaded.now.value c.in_ok-externs.externs.items resolved c.in-Err-Refused.refusal refused)
 
 pub returns : goal.returns
 returns g c =
-    let old = embedding_of c.args.self.now in
-    let there = module-of c.args.self.now.modules.items c.args.number c.in-Some.loaded.now (rw c.deref.ensures.value at c.in-Some.ensures) in
-    let resolved = rw (c.as_slice-imports.ensures, c.module.ensures.same, c.as_ref.ensures) at c.in_ok-externs.ensures.found in
-    let state = run_state (store_of c.instantiate.new.store) c.instantiate.new.hosts.objects.items c.instantiate.new.meter.left in
-    rw (there, c.in_ok-try_reserve.ensures.items)
-    (link-ended _ old state c.args.self.now.meter.bound c.in-Some.loaded.now.value c.in_ok-externs.externs.items resolved c.args.self.now.bound c.in-Err-Ended.outcome (reply_of c.from-in-Err-Ended.result) (rw (c.deref-2.ensures.value, c.in-Err-Ended.field-0-is) at c.in-Err-Ended.ensures.linked) (rw c.in-Err-Ended.outcome-is at c.from-in-Err-Ended.ensures))
+    let (well, sound) = goes-well type_of_host (HostAnswers (λ vtable. (g.dyn-1.0.entry vtable).1)) (embedding_of c.args.self.now) (embedding_of c.link_module.new.self) c.show_sound.ensures (link_reply c.link_module.result) c.writing_is_read.ensures.whole (machine.Link c.args.number.0) c.show_linked_module.ensures c.link_module.ensures in
+    record { applied = c.link_module.ensures; goes_well = well; sound = sound }

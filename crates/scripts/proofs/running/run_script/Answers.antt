@@ -4,7 +4,7 @@ use Rattle.meaning.specs.scripts.Commands.{files_in}
 use Rattle.scripts.specs.Conversations.{here}
 use Rattle.scripts.specs.Runs.{files_view}
 use Rattle.scripts.proofs.lemmas.Whole.{runs-broken, runs-held}
-use Rattle.scripts.proofs.running.run_script_lent.Goals as goal
+use Rattle.scripts.proofs.running.run_script.Goals as goal
 
 pub returns-in_err-kept : goal.returns-in_err-kept
 returns-in_err-kept g c =

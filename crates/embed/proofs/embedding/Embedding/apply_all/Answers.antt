@@ -4,7 +4,7 @@ use Rattle.std.proofs.lemmas.List.{append-nil, map-append, take_all}
 use Rattle.meaning.proofs.lemmas.Lists.{map-next}
 use Rattle.soundness.proofs.Embedding.{none-well, one-more-well}
 use Rattle.embed.specs.Replies.{command_of}
-use Rattle.embed.proofs.embedding.Embedding.apply_all_lent.Goals as goal
+use Rattle.embed.proofs.embedding.Embedding.apply_all.Goals as goal
 
 pub loop-command-init : goal.loop-command-init
 loop-command-init g c = record {
@@ -15,12 +15,12 @@ loop-command-init g c = record {
 pub loop-command-preserved : goal.loop-command-preserved
 loop-command-preserved g c =
     let run = c.loop-command.invariant.run in
-    let more = one-more-well _ run.2 (c.apply_lent-reply.ensures.applied, c.apply_lent-reply.ensures.goes_well) in
+    let more = one-more-well _ run.2 (c.apply-reply.ensures.applied, c.apply-reply.ensures.goes_well) in
     let inside : c.loop-command.command-index < length c.args.commands.now = c.loop-command-test.true in
     record {
       room = grind (arith, common_steps);
       run = (
-        run.0 ++ c.apply_lent-reply.result ∷ [],
+        run.0 ++ c.apply-reply.result ∷ [],
         grind (arith, common_steps),
         rw (← map-next command_of c.args.commands.now c.loop-command.command-index c.command-item.result inside, ← c.command-item.is, map-append) more,
       );

@@ -1,7 +1,7 @@
 use Rattle.std.proofs.Common.{drop}
 use Rattle.meaning.specs.execution.Modules.{AreGiven}
 use Rattle.store.specs.Contents.{store_of}
-use Rattle.instantiate.proofs.imports.are_given.Given as goal
+use Rattle.instantiate.proofs.imports.first_mismatch.Given as goal
 
 abbrev pub invariant-loop-k : goal.invariant-loop-k
 invariant-loop-k l =

@@ -4,7 +4,7 @@ use Rattle.hostfunc.specs.Boxes.{HostStep}
 use Rattle.embed.specs.Contents.{embedding_of}
 use Rattle.embed.specs.Replies.{command_of, reply_of}
 use Rattle.embed.specs.declared.commands.Reply.{Reply}
-use Rattle.embed.proofs.embedding.Embedding.apply_all_lent.Given as goal
+use Rattle.embed.proofs.embedding.Embedding.apply_all.Given as goal
 
 abbrev pub invariant-loop-command : goal.invariant-loop-command
 invariant-loop-command g l = record {
