@@ -1,0 +1,102 @@
+//! A platform for contracts: each call buys fuel, and pays for what it spends of it, whether it ends with values, in a trap or in an
+//! exhaustion.
+#![tactic(auto)]
+
+mod account;
+
+use account::{Account, pay_for_call};
+use embed::{Config, Embedding, InstanceNumber, LinkOutcome, NewFault, Outcome, Refusal, Val};
+use std::alloc::Global;
+use std::fs;
+use std::io::{self, Write};
+use thiserror::Error;
+
+/// Why no call is made.
+#[derive(Debug, Drop, Error)]
+pub enum Fault {
+    #[error("{0}")]
+    Io(#[from] io::Error),
+    #[error("{0}")]
+    New(#[from] NewFault),
+    #[error("{0}")]
+    Refused(#[from] Refusal),
+    #[error("the contract does not start")]
+    Start,
+}
+
+// What the caller may spend in all, and how much of it in one call.
+const MONEY: u64 = 3_000;
+
+const LIMIT: u64 = 1_200;
+
+// The calls, with their arguments.
+static CALLS: [(&str, &[Val]); 11] = [
+    ("add", &[Val::I32(1), Val::I32(2)]),
+    ("divide", &[Val::I32(7), Val::I32(0)]),
+    ("fill", &[Val::I32(640)]),
+    ("fill", &[Val::I32(70_000)]),
+    ("copy", &[Val::I32(6_400)]),
+    ("grow", &[Val::I32(1)]),
+    ("grow", &[Val::I32(1)]),
+    ("call_itself", &[]),
+    ("add", &[]),
+    ("loop", &[]),
+    ("add", &[Val::I32(1), Val::I32(2)]),
+];
+
+// An embedding with the contract in it.
+fn start(alloc: Global, bytes: &[u8]) -> Result<(Embedding, InstanceNumber), Fault> {
+    let config = Config::new(LIMIT, 16, 16, 100).ok_or(NewFault::OutOfMemory)?;
+    let mut embedding = Embedding::new(alloc, config, Vec::new(alloc))?;
+    let loaded = embedding.load(bytes)?;
+    match embedding.link(loaded)? {
+        LinkOutcome::Linked(contract) => Ok((embedding, contract)),
+        LinkOutcome::Trap(_) | LinkOutcome::Exhausted(_) => Err(Fault::Start),
+    }
+}
+
+// Prints how a call ended.
+fn print_outcome<W: Write>(out: &mut W, outcome: &Result<Outcome, Refusal>) -> io::Result<()> {
+    match outcome {
+        Ok(Outcome::Values(values)) => write!(out, "{values:?}"),
+        Ok(Outcome::Trap(trap)) => write!(out, "{trap}"),
+        Ok(Outcome::Exhausted(what)) => write!(out, "out of {what}"),
+        Err(refusal) => write!(out, "{refusal}"),
+    }
+}
+
+// Makes a call, and prints how it ended and what it cost.
+fn call<W: Write>(
+    embedding: &mut Embedding,
+    contract: InstanceNumber,
+    account: &mut Account,
+    (export, args): (&str, &[Val]),
+    out: &mut W,
+) -> io::Result<()> {
+    let paid = pay_for_call(account, LIMIT, embedding, contract, export, args);
+    let (bought, left, balance) = (paid.bought, paid.left, account.balance);
+    write!(
+        out,
+        "{export}: bought {bought}, left {left}, balance {balance}: "
+    )?;
+    print_outcome(out, &paid.outcome)?;
+    writeln!(out)
+}
+
+// Makes the calls of a caller of the contract in the file.
+fn main(rt: HostRuntime) -> Result<(), Fault> {
+    let bytes = fs::read(&rt, "contract.wasm")?;
+    let (mut embedding, contract) = start(rt.alloc(), bytes.as_slice())?;
+    let mut account = Account { balance: MONEY };
+    let mut out = rt.stdout();
+    for (export, args) in &CALLS {
+        call(
+            &mut embedding,
+            contract,
+            &mut account,
+            (export, args),
+            &mut out,
+        )?;
+    }
+    Ok(())
+}

@@ -1,0 +1,127 @@
+//! The lines for why bytes are refused.
+
+use module_info::{Verdict, describe};
+use std::alloc::{AllocError, Global};
+use testing::{assemble, bytes_of};
+
+// A body of one instruction, as hexadecimal numbers, and what is said of it.
+#[rattlefmt::skip]
+static INSTRUCTIONS: [(&str, &str); 14] = [
+    ("43 00000000", "a floating-point instruction"),
+    ("2A 02 00", "a floating-point instruction"),
+    ("39 02 00", "a floating-point instruction"),
+    ("5B", "a floating-point instruction"),
+    ("66", "a floating-point instruction"),
+    ("8B", "a floating-point instruction"),
+    ("A6", "a floating-point instruction"),
+    ("A8", "a floating-point conversion"),
+    ("BF", "a floating-point conversion"),
+    ("FC 07", "a floating-point conversion"),
+    ("FC 12", "an instruction of a later proposal, or of none"),
+    ("FD 0C", "a vector instruction"),
+    ("FE 00", "an atomic instruction"),
+    ("06 40", "an instruction of a later proposal, or of none"),
+];
+
+// A type, as hexadecimal numbers, and what is said of it.
+static TYPES: [(&str, &str); 3] = [
+    ("7D", "a floating-point type"),
+    ("7C", "a floating-point type"),
+    ("7B", "the vector type"),
+];
+
+// The text of an invalid module, and the line for it.
+#[rattlefmt::skip]
+static INVALID: [(&str, &str); 10] = [
+    ("(func) (func (result i32) i64.const 1)", "invalid module: function 1\n"),
+    ("(import \"m\" \"t\" (table 2 1 funcref))", "invalid module: section 2: an import names a type that is not there, or has limits out of order or too large\n"),
+    ("(func (type 0)) (func (type 7))", "invalid module: section 3: a function names a type that is not there\n"),
+    ("(table 2 1 funcref)", "invalid module: section 4: a table has limits out of order\n"),
+    ("(memory 1) (memory 1)", "invalid module: section 5: there is more than one memory, or it has limits out of order or too large\n"),
+    ("(global i32 i64.const 0)", "invalid module: section 6: the first value of a global is no constant expression of its type\n"),
+    ("(func) (export \"f\" (func 0)) (export \"f\" (func 0))", "invalid module: section 7: an export names what is not there, or two have one name\n"),
+    ("(func (param i32)) (start 0)", "invalid module: section 8: the start function is not there, or takes or gives something\n"),
+    ("(func) (elem func 1)", "invalid module: section 9: an element segment names what is not there, or its table, an item or its offset is of another type\n"),
+    ("(data (offset i32.const 0) \"x\")", "invalid module: section 11: a data segment has no memory, or its offset is no constant expression of type i32\n"),
+];
+
+// What is no module, as hexadecimal numbers, and the line for it.
+static MALFORMED: [(&str, &str); 3] = [
+    ("", "malformed module at byte 0\n"),
+    ("0061736D01000000 01020161", "malformed module at byte 11\n"),
+    ("0061736D01000000 010101", "malformed module at byte 11\n"),
+];
+
+// Whether these bytes are refused with this line.
+fn has_line(alloc: Global, bytes: &[u8], line: &str) -> bool {
+    let mut out = Vec::new(alloc);
+    let verdict = describe(alloc, &mut out, bytes);
+    matches!(verdict, Ok(Verdict::Refused)) && out.as_slice() == line.as_bytes()
+}
+
+// Whether the bytes that hexadecimal numbers write are refused with this line.
+fn bytes_have_line(alloc: Global, hexadecimal: &str, line: &str) -> bool {
+    match bytes_of(alloc, hexadecimal) {
+        Ok(bytes) => has_line(alloc, bytes.as_slice(), line),
+        Err(_) => false,
+    }
+}
+
+// Whether the module of a text is refused with this line.
+fn text_has_line(alloc: Global, text: &str, line: &str) -> bool {
+    match assemble(alloc, text) {
+        Ok(bytes) => has_line(alloc, bytes.as_slice(), line),
+        Err(_) => false,
+    }
+}
+
+// Whether bytes with this part at the offset of an instruction, or of a type, are refused there for this reason.
+fn is_unsupported(
+    alloc: Global,
+    front: &str,
+    part: &str,
+    offset: usize,
+    reason: &str,
+) -> Result<bool, AllocError> {
+    let bytes = format!(in alloc; "{front} {part} 0B0B0B0B0B")?;
+    let line = format!(in alloc; "unsupported feature at byte {offset}: {reason}\n")?;
+    Ok(bytes_have_line(alloc, bytes.as_str(), line.as_str()))
+}
+
+const BODY: &str = "0061736D01000000 010401600000 03020100 0A07010500";
+
+const PARAMETERS: &str = "0061736D01000000 0105016001";
+
+#[test]
+fn unsupported_instructions_are_named(rt: HostRuntime) {
+    for (part, reason) in &INSTRUCTIONS {
+        assert!(rt;
+            is_unsupported(rt.alloc(), BODY, part, 23, reason) == Ok(true),
+            "{part}"
+        );
+    }
+}
+
+#[test]
+fn unsupported_types_are_named(rt: HostRuntime) {
+    for (part, reason) in &TYPES {
+        assert!(rt;
+            is_unsupported(rt.alloc(), PARAMETERS, part, 13, reason) == Ok(true),
+            "{part}"
+        );
+    }
+}
+
+#[test]
+fn malformed_bytes_are_placed(rt: HostRuntime) {
+    for (bytes, line) in &MALFORMED {
+        assert!(rt; bytes_have_line(rt.alloc(), bytes, line), "{bytes}");
+    }
+}
+
+#[test]
+fn broken_rules_are_named(rt: HostRuntime) {
+    for (module, line) in &INVALID {
+        assert!(rt; text_has_line(rt.alloc(), module, line), "{module}");
+    }
+}
