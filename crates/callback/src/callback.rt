@@ -1,0 +1,190 @@
+ghost use Rattle.std.specs.Prelude.{◌≡◌, IfOk, IfSome, length, map};
+ghost use Rattle.meaning.specs.execution.Values.{type_of};
+
+use crate::ranges::range_within;
+use crate::requests::make_request;
+use core_types::{FuncType, Val};
+use hostfunc::{HostFault, HostFn, have_types};
+use io::{read_full, write_all};
+use messages::{Head, read_head, read_number, skip, split_value, write_message};
+use std::alloc::Global;
+
+/// The code of the trap where the answer is none: of another kind, of other types, out of range, or cut short.
+pub const NO_ANSWER: u32 = 0xFFFF_FFFF;
+
+// The kinds of answers. None is that of an order.
+const RESULTS: u64 = 20;
+
+const TRAP: u64 = 21;
+
+const READ: u64 = 22;
+
+const PUT: u64 = 23;
+
+// The kind of the message that gives lent bytes.
+const LENT: u64 = 11;
+
+// How many bytes a number takes, and a value.
+const NUMBER: u64 = 8;
+
+const VALUE: u64 = 16;
+
+/// A host function that is asked for over one descriptor and answered over another.
+#[derive(Drop)]
+pub struct Callback {
+    alloc: Global,
+    number: u32,
+    ask: i32,
+    hear: i32,
+    ty: FuncType,
+}
+
+// Writes the lent bytes that an answer asks for. Whether they are all lent, and were taken.
+fn give_lent(ask: i32, hear: i32, size: u64, memory: &[u8]) -> bool {
+    if size != 2 * NUMBER {
+        skip(hear, size);
+        return false;
+    }
+    let (Some(first), Some(count)) = (read_number(hear), read_number(hear)) else {
+        return false;
+    };
+    match range_within(first, count, memory.len()) {
+        Some((start, end)) => write_message(ask, LENT, &memory[start..end]),
+        None => false,
+    }
+}
+
+// Puts the bytes of an answer into the lent ones. Whether they are all lent, and came.
+fn put_lent(hear: i32, size: u64, memory: &mut [u8]) -> bool
+    ensures { length memory.new ≡ length memory.old }
+{
+    if size < NUMBER {
+        skip(hear, size);
+        return false;
+    }
+    let Some(first) = read_number(hear) else {
+        return false;
+    };
+    let count = size - NUMBER;
+    match range_within(first, count, memory.len()) {
+        Some((start, end)) => {
+            let part = &mut memory[start..end];
+            read_full(hear, part) == part.len()
+        }
+        None => {
+            skip(hear, count);
+            false
+        }
+    }
+}
+
+// The code of the trap that an answer gives.
+fn take_trap(hear: i32, size: u64) -> u32 {
+    if size != NUMBER {
+        skip(hear, size);
+        return NO_ANSWER;
+    }
+    match read_number(hear) {
+        Some(code) => u32::try_from(code).unwrap_or(NO_ANSWER),
+        None => NO_ANSWER,
+    }
+}
+
+// Reads a value from a descriptor; none where the input ends, or the bytes are none.
+fn read_value(hear: i32) -> Option<Val> {
+    let mut bytes = [0u8; VALUE as usize];
+    if read_full(hear, &mut bytes) != bytes.len() {
+        return None;
+    }
+    let (value, _) = split_value(&bytes)?;
+    Some(value)
+}
+
+impl Callback {
+    /// The host function of a number and a type, which is asked for over one descriptor and answered over another.
+    pub fn new(alloc: Global, number: u32, ask: i32, hear: i32, ty: FuncType) -> Callback
+        ensures { result.ty ≡ ty }
+    {
+        Callback {
+            alloc,
+            number,
+            ask,
+            hear,
+            ty,
+        }
+    }
+
+    // Reads the results of an answer, to their end; none where they are not of the declared types. There is room for them.
+    fn take_results(&self, size: u64, mut results: Vec<Val>) -> Option<Vec<Val>>
+        ensures { IfSome result (λ values. map type_of values.items ≡ self.now.ty.results) }
+    {
+        let types = self.ty.results.as_slice();
+        if size % VALUE != 0 || size / VALUE != types.len() as u64 {
+            skip(self.hear, size);
+            return None;
+        }
+        let mut are_values = true;
+        for _ in 0..types.len() {
+            are_values &= match read_value(self.hear) {
+                Some(value) => results.push(value).is_ok(),
+                None => false,
+            };
+        }
+        if are_values && have_types(results.as_slice(), types) {
+            Some(results)
+        } else {
+            None
+        }
+    }
+
+    // Serves the client until it gives results, or the code of a trap.
+    fn hear_answer(&self, results: Vec<Val>, memory: &mut [u8]) -> Result<Vec<Val>, u32>
+        ensures typed { IfOk result (λ values. map type_of values.items ≡ self.now.ty.results) }
+        ensures lent { length memory.new ≡ length memory.old }
+    {
+        for _ in 0..u64::MAX {
+            let Ok(Head { size, kind }) = read_head(self.hear) else {
+                return Err(NO_ANSWER);
+            };
+            let is_served = match kind {
+                RESULTS => return self.take_results(size, results).ok_or(NO_ANSWER),
+                TRAP => return Err(take_trap(self.hear, size)),
+                READ => give_lent(self.ask, self.hear, size, memory),
+                PUT => put_lent(self.hear, size, memory),
+                _ => {
+                    skip(self.hear, size);
+                    false
+                }
+            };
+            if !is_served {
+                return Err(NO_ANSWER);
+            }
+        }
+        Err(NO_ANSWER)
+    }
+}
+
+impl HostFn for Callback {
+    ghost use Rattle.callback.specs.Strangers.{AnswersAtWill};
+
+    ghost declared = { λ callback. callback.ty };
+
+    ghost Answers = { λ callback _ bytes _ then callback'. AnswersAtWill callback bytes then callback' };
+
+    fn ty(&self) -> &FuncType {
+        &self.ty
+    }
+
+    fn call(&mut self, args: &[Val], memory: &mut [u8]) -> Result<Vec<Val>, HostFault> {
+        // Behind the request there is no memory to ask for, so room for the results is made before it.
+        let results = Vec::with_capacity(self.alloc, self.ty.results.len())?;
+        let request = make_request(self.alloc, self.number, memory.len(), args)?;
+        if !write_all(self.ask, request.as_slice()) {
+            return Err(HostFault::Trap(NO_ANSWER));
+        }
+        match self.hear_answer(results, memory) {
+            Ok(values) => Ok(values),
+            Err(code) => Err(HostFault::Trap(code)),
+        }
+    }
+}

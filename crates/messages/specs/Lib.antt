@@ -1,0 +1,4 @@
+pub mod Messages
+pub mod Numbers
+pub mod Types
+pub mod Values

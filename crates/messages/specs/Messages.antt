@@ -1,0 +1,10 @@
+-- Messages, which are this project's own.
+use Rattle.std.specs.Prelude.{ℕ, List, ◌++◌, length}
+use Rattle.messages.specs.Numbers.{number_bytes}
+
+-- The head of a message: how many bytes its fields have, and its kind.
+abbrev pub head_bytes : ℕ → ℕ → List ℕ
+head_bytes size kind = number_bytes size ++ number_bytes kind
+
+abbrev pub message_bytes : ℕ → List ℕ → List ℕ
+message_bytes kind fields = head_bytes (length fields) kind ++ fields

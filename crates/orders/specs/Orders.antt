@@ -1,0 +1,85 @@
+-- Orders to a server of an embedding, and how messages spell them, which are this project's own.
+use Rattle.std.specs.Prelude.{ℕ, List, [], ◌++◌, ◌<◌, ◌^◌, length, IsUtf8, All}
+use Rattle.core_types.specs.declared.types.FuncType.{FuncType}
+use Rattle.meaning.specs.embedding.Commands.{Command, Load, Link, Register, Call, GetGlobal, SetFuel}
+use Rattle.meaning.specs.embedding.Machine.{Setup}
+use Rattle.messages.specs.Numbers.{number_bytes, text_bytes}
+use Rattle.messages.specs.Types.{types_bytes}
+use Rattle.messages.specs.Values.{HasItsWidth, values_bytes}
+
+pub data Order : Type 0 where
+  End : Order
+  -- a command to the embedding
+  Apply : (command : Command) → Order
+  FuelLeft : Order
+  Exports : (instance : ℕ) → Order
+  -- to keep a file for the next script
+  Keep : (name bytes : List ℕ) → Order
+  RunScript : (text : List ℕ) → Order
+  -- to define a host function under the name of a module and one in it
+  Define : (first second : List ℕ) (signature : FuncType) → Order
+  -- to make the embedding
+  Begin : (setup : Setup) → Order
+
+-- The kind of an order's message.
+abbrev pub kind_of : Order → ℕ
+kind_of End = 0
+kind_of (Apply (Load bytes)) = 1
+kind_of (Apply (Link number)) = 2
+kind_of (Apply (Register number name)) = 3
+kind_of (Apply (Call number name arguments)) = 4
+kind_of (Apply (GetGlobal number name)) = 5
+kind_of (Apply (SetFuel fuel)) = 6
+kind_of FuelLeft = 7
+kind_of (Exports instance) = 8
+kind_of (Keep name bytes) = 9
+kind_of (RunScript text) = 10
+kind_of (Define first second signature) = 11
+kind_of (Begin setup) = 12
+
+-- The fields of an order's message.
+abbrev pub fields_of : Order → List ℕ
+fields_of End = []
+fields_of (Apply (Load bytes)) = bytes
+fields_of (Apply (Link number)) = number_bytes number
+fields_of (Apply (Register number name)) = number_bytes number ++ name
+fields_of (Apply (Call number name arguments)) =
+    number_bytes number ++ (text_bytes name ++ values_bytes arguments)
+fields_of (Apply (GetGlobal number name)) = number_bytes number ++ name
+fields_of (Apply (SetFuel fuel)) = number_bytes fuel
+fields_of FuelLeft = []
+fields_of (Exports instance) = number_bytes instance
+fields_of (Keep name bytes) = text_bytes name ++ bytes
+fields_of (RunScript text) = text
+fields_of (Define first second signature) =
+    text_bytes first ++ (text_bytes second
+    ++ (types_bytes signature.params ++ types_bytes signature.results))
+fields_of (Begin setup) =
+    number_bytes setup.fuel ++ (number_bytes setup.depth
+    ++ (number_bytes setup.pages ++ number_bytes setup.entries))
+
+-- A name is in UTF-8, and its length is a number of 64 bits.
+abbrev pub IsName : List ℕ → Type 0
+IsName name = IsUtf8 name × (length name < 2 ^ 64)
+
+abbrev pub CommandFits : Command → Type 0
+CommandFits (Load bytes) = Unit {0}
+CommandFits (Link number) = number < 2 ^ 64
+CommandFits (Register number name) = (number < 2 ^ 64) × IsUtf8 name
+CommandFits (Call number name arguments) =
+    (number < 2 ^ 64) × IsName name × All HasItsWidth arguments
+CommandFits (GetGlobal number name) = (number < 2 ^ 64) × IsUtf8 name
+CommandFits (SetFuel fuel) = fuel < 2 ^ 64
+
+-- Its names are in UTF-8, its values have the widths of their types, and its numbers have 64 bits.
+abbrev pub Fits : Order → Type 0
+Fits End = Unit {0}
+Fits (Apply command) = CommandFits command
+Fits FuelLeft = Unit {0}
+Fits (Exports instance) = instance < 2 ^ 64
+Fits (Keep name bytes) = IsName name
+Fits (RunScript text) = Unit {0}
+Fits (Define first second signature) = IsName first × IsName second
+    × (length signature.params < 2 ^ 64) × (length signature.results < 2 ^ 64)
+Fits (Begin setup) = (setup.fuel < 2 ^ 64) × (setup.depth < 2 ^ 64) × (setup.pages < 2 ^ 64)
+    × (setup.entries < 2 ^ 64)

@@ -1,0 +1,26 @@
+-- What is read means as an order.
+use Rattle.meaning.specs.embedding.Commands as command
+use Rattle.orders.specs.Orders as order
+use Rattle.orders.specs.declared.order.Order.{Order}
+use Rattle.orders.specs.declared.order.Order.TheVariants.{End, Load, Link, Register, Call, GetGlobal, SetFuel, FuelLeft, Exports, Keep, RunScript, Define, Begin}
+
+abbrev pub order_of : Order → order.Order
+order_of End = order.End
+order_of (Load bytes) = order.Apply (command.Load bytes.now)
+order_of (Link number) = order.Apply (command.Link number)
+order_of (Register number name) = order.Apply (command.Register number name.now)
+order_of (Call number name arguments) =
+    order.Apply (command.Call number name.now arguments.items)
+order_of (GetGlobal number name) = order.Apply (command.GetGlobal number name.now)
+order_of (SetFuel fuel) = order.Apply (command.SetFuel fuel)
+order_of FuelLeft = order.FuelLeft
+order_of (Exports instance) = order.Exports instance
+order_of (Keep name bytes) = order.Keep name.now bytes.now
+order_of (RunScript text) = order.RunScript text.now
+order_of (Define first second signature) = order.Define first.now second.now signature
+order_of (Begin fuel depth pages entries) = order.Begin (record {
+  fuel = fuel;
+  depth = depth;
+  pages = pages;
+  entries = entries;
+})

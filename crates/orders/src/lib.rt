@@ -1,0 +1,9 @@
+//! Orders to a server of an embedding, as messages spell them.
+#![tactic(auto)]
+
+mod fields;
+mod order;
+mod reading;
+
+pub use order::Order;
+pub use reading::read_order;

@@ -1,0 +1,4 @@
+pub mod Answers
+pub mod Causes
+pub mod Exports
+pub mod Obeying
