@@ -1,0 +1,143 @@
+/* How much of its stack the proved code uses: with modules and scripts that are nested deeply or long, and calls to the greatest depth.
+   Ends with 1 where it is more than MOST, a part of what there is. For stacks that are switched by assembly. */
+#include "tegvurn.c"
+
+#include <stdio.h>
+
+#define MOST (STACK_SIZE / 4)
+#define LEVELS 100000
+#define PAINT 0xA5
+
+static int failed;
+static size_t most_used;
+
+static void check(bool is_so, const char *what) {
+  if (is_so) return;
+  printf("%s\n", what);
+  failed++;
+}
+
+/* Bytes that are put together */
+
+static uint8_t bytes[12 * LEVELS];
+static size_t size;
+
+static void put(const void *more, size_t count) {
+  memcpy(bytes + size, more, count);
+  size += count;
+}
+
+static void put_often(const char *text, size_t times) {
+  for (size_t i = 0; i < times; i++) put(text, strlen(text));
+}
+
+/* A number in four bytes of the binary format. */
+static void put_long(size_t number) {
+  const uint8_t digits[] = {(uint8_t)(number | 0x80), (uint8_t)(number >> 7 | 0x80), (uint8_t)(number >> 14 | 0x80),
+                            (uint8_t)(number >> 21 & 0x7F)};
+  put(digits, sizeof digits);
+}
+
+static const char head[] = "\0asm\1\0\0\0";
+
+/* (module (func block .. end ..)), or another beginning of a block. */
+static void spell_blocks(const char *beginning) {
+  size_t body = LEVELS * (strlen(beginning) + 1) + 2;
+  size = 0;
+  put(head, 8);
+  put("\1\4\1\x60\0\0\3\2\1\0\x0a", 11);
+  put_long(5 + body);
+  put("\1", 1);
+  put_long(body);
+  put("\0", 1);
+  put_often(beginning, LEVELS);
+  put_often("\x0b", LEVELS + 1);
+}
+
+/* (module (global i32 (i32.add (i32.const 1) (i32.add ..)))): first all constants, and then all sums. */
+static void spell_sum(void) {
+  size = 0;
+  put(head, 8);
+  put("\6", 1);
+  put_long(1 + 2 + 2 * (LEVELS + 1) + LEVELS + 1);
+  put("\1\x7f\0", 3);
+  put_often("\x41\1", LEVELS + 1);
+  put_often("\x6a", LEVELS);
+  put("\x0b", 1);
+}
+
+/* The stack */
+
+static size_t stack_used(const tegvurn *m) {
+  const uint8_t *at = m->stack.at + m->stack.size - STACK_SIZE, *end = m->stack.at + m->stack.size;
+  while (at < end && *at == PAINT) at++;
+  return (size_t)(end - at);
+}
+
+/* An embedding whose stack is painted, all but what is in use while it waits. */
+static tegvurn *begin_painted(void) {
+  const tegvurn_config config = {10 * LEVELS, 65535, 16, 100};
+  tegvurn *m;
+  check(tegvurn_new(&config, NULL, 0, &m, NULL) == TEGVURN_DONE, "no embedding");
+  uint8_t *lowest = m->stack.at + m->stack.size - STACK_SIZE;
+  memset(lowest, PAINT, (size_t)((uint8_t *)m->stack.inside - lowest));
+  return m;
+}
+
+static void end_painted(tegvurn *m, const char *what) {
+  size_t used = stack_used(m);
+  if (most_used < used) most_used = used;
+  if (used > MOST) printf("%zu bytes are too much: %s\n", used, what), failed++;
+  check(tegvurn_free(m) == TEGVURN_DONE, "it is not freed");
+}
+
+/* Loads and links the module that the bytes spell. */
+static void load(const char *what) {
+  tegvurn *m = begin_painted();
+  uint64_t number;
+  check(tegvurn_load(m, bytes, size, &number) == TEGVURN_DONE, "it is not loaded");
+  check(tegvurn_link(m, number, &number) == TEGVURN_DONE, "it is not linked");
+  end_painted(m, what);
+}
+
+/* (module (func $f (export "f") call $f)) */
+static void call_to_the_greatest_depth(void) {
+  static const char recursion[] = "\0asm\1\0\0\0\1\4\1\x60\0\0\3\2\1\0\7\5\1\1f\0\0\x0a\6\1\4\0\x10\0\x0b";
+  tegvurn *m = begin_painted();
+  uint64_t number;
+  check(tegvurn_load(m, recursion, sizeof recursion - 1, &number) == TEGVURN_DONE, "it is not loaded");
+  check(tegvurn_link(m, number, &number) == TEGVURN_DONE, "it is not linked");
+  check(tegvurn_call(m, number, tegvurn_string("f"), NULL, 0, NULL, 0, NULL) == TEGVURN_EXHAUSTED, "it is not exhausted");
+  check(tegvurn_last(m)->number == TEGVURN_DEPTH, "it is exhausted otherwise");
+  end_painted(m, "a recursion to the depth of 65,535");
+}
+
+/* Runs a script that is refused. */
+static void refuse_script(const char *what) {
+  tegvurn *m = begin_painted();
+  tegvurn_report report;
+  check(tegvurn_script(m, bytes, size, NULL, 0, &report) == TEGVURN_REFUSED, "it is not refused");
+  end_painted(m, what);
+}
+
+int main(void) {
+  spell_blocks("\2\x40");
+  load("nested blocks");
+  spell_blocks("\3\x40");
+  load("nested loops");
+  spell_blocks("\x41\1\4\x40");
+  load("nested branches of if");
+  spell_sum();
+  load("a constant expression");
+  call_to_the_greatest_depth();
+  size = 0;
+  put_often("[", LEVELS);
+  refuse_script("nested arrays that do not end");
+  put_often("]", LEVELS);
+  refuse_script("nested arrays");
+  size = 0;
+  put_often("{\"a\":", LEVELS);
+  refuse_script("nested objects that do not end");
+  printf("%zu bytes of stack at most, %d failed\n", most_used, failed);
+  return failed != 0;
+}

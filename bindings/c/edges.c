@@ -1,0 +1,524 @@
+/* Edges of the library: who may call, room for results, several embeddings, what callbacks may answer and see, texts, and what is kept.
+   With the argument `longjmp` also a callback that is left by longjmp, whose embedding can never be freed. */
+#include "tegvurn.h"
+#include "test_module.h"
+
+#include <pthread.h>
+#include <setjmp.h>
+#include <stdio.h>
+#include <stdlib.h>
+
+#define CHECK(is_so) check((is_so), __LINE__, #is_so)
+#define WIDTH 300
+
+static int passed, failed;
+static pthread_mutex_t counting = PTHREAD_MUTEX_INITIALIZER;
+
+static void check(bool is_so, int line, const char *what) {
+  pthread_mutex_lock(&counting);
+  if (is_so) passed++;
+  else failed++, printf("line %d: %s\n", line, what);
+  pthread_mutex_unlock(&counting);
+}
+
+/* Embeddings with the module of the tests */
+
+/* What a callback does, which gets this as its context. */
+struct asked {
+  bool (*ask)(struct asked *, tegvurn_host_call *);
+  tegvurn *embedding; /* its own */
+  void *other;
+  uint64_t number;
+};
+
+static bool ask(void *context, tegvurn_host_call *call) {
+  struct asked *asked = context;
+  return asked->ask ? asked->ask(asked, call) : (call->results[0] = call->args[0], true);
+}
+
+static bool nothing(void *context, tegvurn_host_call *call) {
+  struct asked *asked = context;
+  (void)call;
+  asked->number++;
+  return true;
+}
+
+static const tegvurn_type i32_type[] = {TEGVURN_I32}, extern_type[] = {TEGVURN_EXTERNREF}, func_type[] = {TEGVURN_FUNCREF};
+static const tegvurn_config config = {1000000, 100, 16, 100};
+
+static tegvurn_host host_of(const char *name, const tegvurn_type *type, size_t count, tegvurn_callback callback, void *context) {
+  return (tegvurn_host){tegvurn_string("host"), tegvurn_string(name), type, count, type, count, callback, context};
+}
+
+/* An embedding in which the module is instance 0. */
+static tegvurn *embedding_of(struct asked *asked) {
+  const tegvurn_host hosts[] = {host_of("ask", i32_type, 1, ask, asked), host_of("keep", extern_type, 1, ask, asked),
+                                host_of("nothing", NULL, 0, nothing, asked)};
+  tegvurn *embedding;
+  uint64_t module = 9, instance = 9;
+  CHECK(tegvurn_new(&config, hosts, 3, &embedding, NULL) == TEGVURN_DONE);
+  CHECK(tegvurn_load(embedding, test_module, sizeof test_module, &module) == TEGVURN_DONE && module == 0);
+  CHECK(tegvurn_link(embedding, module, &instance) == TEGVURN_DONE && instance == 0);
+  asked->embedding = embedding;
+  return embedding;
+}
+
+/* Calls a function that has one argument and one result. */
+static tegvurn_status call_one(tegvurn *embedding, const char *name, tegvurn_value arg, tegvurn_value *result) {
+  return tegvurn_call(embedding, 0, tegvurn_string(name), &arg, 1, result, 1, NULL);
+}
+
+/* Whether the last call trapped in a host function with the code. */
+static bool trapped_with(const tegvurn *embedding, uint32_t code) {
+  const tegvurn_end *end = tegvurn_last(embedding);
+  return end->status == TEGVURN_TRAP && end->number == TEGVURN_HOST_TRAP && end->code == code && !strcmp(end->name, "Host") &&
+         !strcmp(end->text, "host trap");
+}
+
+/* Who may call */
+
+/* Whether each call of an embedding is answered as busy, and leaves what it was given. */
+static bool is_all_busy(tegvurn *embedding) {
+  uint64_t number = 7;
+  tegvurn_value value = tegvurn_i32(7);
+  tegvurn_export *exports = NULL;
+  tegvurn_report report = {7, 7, 7, NULL};
+  size_t count = 7, kept = 7;
+  return tegvurn_load(embedding, test_module, sizeof test_module, &number) == TEGVURN_BUSY &&
+         tegvurn_link(embedding, 0, &number) == TEGVURN_BUSY &&
+         tegvurn_register(embedding, 0, tegvurn_string("m")) == TEGVURN_BUSY &&
+         tegvurn_call(embedding, 0, tegvurn_string("empty"), NULL, 0, &value, 1, &count) == TEGVURN_BUSY && count == 0 &&
+         tegvurn_get_global(embedding, 0, tegvurn_string("number"), &value) == TEGVURN_BUSY &&
+         tegvurn_set_fuel(embedding, 7) == TEGVURN_BUSY && tegvurn_fuel_left(embedding, &number) == TEGVURN_BUSY &&
+         tegvurn_exports(embedding, 0, &exports, &kept) == TEGVURN_BUSY && !exports && kept == 7 &&
+         tegvurn_script(embedding, "{}", 2, NULL, 0, &report) == TEGVURN_BUSY && report.passed == 7 &&
+         tegvurn_free(embedding) == TEGVURN_BUSY && number == 7 && value.i32 == 7;
+}
+
+static void *be_busy_elsewhere(void *embedding) {
+  CHECK(is_all_busy(embedding));
+  return NULL;
+}
+
+static void call_from_another_thread(tegvurn *embedding) {
+  pthread_t thread;
+  CHECK(!pthread_create(&thread, NULL, be_busy_elsewhere, embedding) && !pthread_join(thread, NULL));
+}
+
+static bool ask_busily(struct asked *asked, tegvurn_host_call *call) {
+  CHECK(is_all_busy(asked->embedding));
+  call_from_another_thread(asked->embedding);
+  CHECK(tegvurn_last(asked->embedding)->status == TEGVURN_DONE);
+  call->results[0] = tegvurn_i32(call->args[0].i32 + 1);
+  return true;
+}
+
+static void test_busy(void) {
+  struct asked asked = {ask_busily, NULL, NULL, 0};
+  tegvurn *embedding = embedding_of(&asked);
+  tegvurn_value result;
+  CHECK(call_one(embedding, "ask", tegvurn_i32(41), &result) == TEGVURN_DONE && result.i32 == 42);
+  CHECK(call_one(embedding, "byte", tegvurn_i32(0), &result) == TEGVURN_DONE && result.i32 == 0);
+  call_from_another_thread(embedding);
+  CHECK(call_one(embedding, "trap", tegvurn_i32(0), &result) == TEGVURN_REFUSED);
+  call_from_another_thread(embedding);
+  CHECK(tegvurn_last(embedding)->number == TEGVURN_BAD_ARGUMENTS);
+  CHECK(tegvurn_free(embedding) == TEGVURN_DONE);
+  CHECK(tegvurn_free(NULL) == TEGVURN_DONE);
+}
+
+/* Several embeddings */
+
+/* Calls the embedding of the next one, up to the last. */
+static bool ask_next(struct asked *asked, tegvurn_host_call *call) {
+  struct asked *next = asked->other;
+  tegvurn_value result = tegvurn_i32(0);
+  if (next && call_one(next->embedding, "ask", tegvurn_i32(call->args[0].i32 + 1), &result)) return false;
+  call->results[0] = next ? result : call->args[0];
+  call->memory[0]++;
+  return true;
+}
+
+static void test_nested(void) {
+  enum { DEPTH = 20 };
+  struct asked asked[DEPTH];
+  tegvurn_value result;
+  for (int i = 0; i < DEPTH; i++) {
+    asked[i] = (struct asked){ask_next, NULL, i + 1 < DEPTH ? &asked[i + 1] : NULL, 0};
+    embedding_of(&asked[i]);
+  }
+  for (uint32_t round = 1; round <= 3; round++) {
+    CHECK(call_one(asked[0].embedding, "ask", tegvurn_i32(100), &result) == TEGVURN_DONE && result.i32 == 100 + DEPTH - 1);
+    for (int i = 0; i < DEPTH; i++)
+      CHECK(call_one(asked[i].embedding, "byte", tegvurn_i32(0), &result) == TEGVURN_DONE && result.i32 == round);
+  }
+  for (int i = 0; i < DEPTH; i += 2) CHECK(tegvurn_free(asked[i].embedding) == TEGVURN_DONE);
+  for (int i = 1; i < DEPTH; i += 2) {
+    CHECK(call_one(asked[i].embedding, "byte", tegvurn_i32(8), &result) == TEGVURN_DONE && result.i32 == 'h');
+    CHECK(tegvurn_free(asked[i].embedding) == TEGVURN_DONE);
+  }
+}
+
+static void *call_often(void *start) {
+  struct asked asked = {NULL, NULL, NULL, 0};
+  tegvurn *embedding = embedding_of(&asked);
+  tegvurn_value result;
+  bool is_right = true;
+  for (uint32_t i = 0; i < 200; i++) {
+    uint32_t number = *(uint32_t *)start + i;
+    is_right = is_right && !call_one(embedding, "ask", tegvurn_i32(number), &result) && result.i32 == number;
+  }
+  CHECK(is_right);
+  CHECK(tegvurn_free(embedding) == TEGVURN_DONE);
+  return NULL;
+}
+
+static void test_threads(void) {
+  pthread_t threads[4];
+  uint32_t starts[4] = {0, 1000, 2000, 3000};
+  for (int i = 0; i < 4; i++) CHECK(!pthread_create(&threads[i], NULL, call_often, &starts[i]));
+  for (int i = 0; i < 4; i++) CHECK(!pthread_join(threads[i], NULL));
+}
+
+/* Values, results and their room */
+
+static void test_room(void) {
+  struct asked asked = {NULL, NULL, NULL, 0};
+  tegvurn *embedding = embedding_of(&asked);
+  tegvurn_text two = tegvurn_string("two");
+  for (size_t room = 0; room <= 3; room++) {
+    tegvurn_value results[3] = {tegvurn_i32(77), tegvurn_i32(77), tegvurn_i32(77)};
+    size_t count = 99;
+    CHECK(tegvurn_call(embedding, 0, two, NULL, 0, room ? results : NULL, room, &count) == (room < 2 ? TEGVURN_NO_ROOM : TEGVURN_DONE));
+    CHECK(count == 2 && results[2].i32 == 77);
+    CHECK(room < 1 ? results[0].i32 == 77 : results[0].type == TEGVURN_I32 && results[0].i32 == 1);
+    CHECK(room < 2 ? results[1].i32 == 77 : results[1].type == TEGVURN_I64 && results[1].i64 == 0xFFFFFFFFFFFFFFFEu);
+    CHECK(tegvurn_last(embedding)->status == (room < 2 ? TEGVURN_NO_ROOM : TEGVURN_DONE));
+  }
+  CHECK(tegvurn_call(embedding, 0, two, NULL, 0, NULL, 0, NULL) == TEGVURN_NO_ROOM);
+  CHECK(tegvurn_call(embedding, 0, tegvurn_string("empty"), NULL, 0, NULL, 0, NULL) == TEGVURN_DONE);
+  tegvurn_free(embedding);
+}
+
+static void test_references(void) {
+  struct asked asked = {NULL, NULL, NULL, 0};
+  tegvurn *embedding = embedding_of(&asked);
+  tegvurn_value result;
+  CHECK(call_one(embedding, "keep", tegvurn_null(TEGVURN_EXTERNREF), &result) == TEGVURN_DONE);
+  CHECK(result.type == TEGVURN_EXTERNREF && result.is_null);
+  const uint32_t numbers[] = {0, 1, 7, 0xFFFFFFFFu};
+  for (int i = 0; i < 4; i++) {
+    CHECK(call_one(embedding, "keep", tegvurn_ref(TEGVURN_EXTERNREF, numbers[i]), &result) == TEGVURN_DONE);
+    CHECK(result.type == TEGVURN_EXTERNREF && !result.is_null && result.ref == numbers[i]);
+  }
+  CHECK(tegvurn_call(embedding, 0, tegvurn_string("null"), NULL, 0, &result, 1, NULL) == TEGVURN_DONE);
+  CHECK(result.type == TEGVURN_FUNCREF && result.is_null);
+  CHECK(call_one(embedding, "keep", tegvurn_null(TEGVURN_FUNCREF), &result) == TEGVURN_REFUSED);
+  CHECK(tegvurn_get_global(embedding, 0, tegvurn_string("number"), &result) == TEGVURN_DONE);
+  CHECK(result.type == TEGVURN_I64 && !result.is_null && result.i64 == (uint64_t)-7);
+  tegvurn_free(embedding);
+}
+
+static bool trap(struct asked *asked, tegvurn_host_call *call) {
+  call->results[0] = call->args[0];
+  call->trap = (uint32_t)asked->number;
+  return false;
+}
+
+static bool answer_other(struct asked *asked, tegvurn_host_call *call) {
+  if (asked->other) call->results[0] = *(tegvurn_value *)asked->other;
+  return true;
+}
+
+static void test_traps(void) {
+  struct asked asked = {trap, NULL, NULL, 0};
+  tegvurn *embedding = embedding_of(&asked);
+  tegvurn_value result;
+  const uint32_t codes[] = {0, 13, 0x80000000u, 0xFFFFFFFFu};
+  for (int i = 0; i < 4; i++) {
+    asked.number = codes[i];
+    CHECK(call_one(embedding, "ask", tegvurn_i32(5), &result) == TEGVURN_TRAP && trapped_with(embedding, codes[i]));
+    CHECK(tegvurn_set_fuel(embedding, 1000) == TEGVURN_DONE && tegvurn_last(embedding)->code == 0);
+  }
+  CHECK(tegvurn_call(embedding, 0, tegvurn_string("trap"), NULL, 0, NULL, 0, NULL) == TEGVURN_TRAP);
+  const tegvurn_end *end = tegvurn_last(embedding);
+  CHECK(end->number == TEGVURN_UNREACHABLE && end->code == 0 && !strcmp(end->name, "Unreachable") && !strcmp(end->text, "unreachable"));
+  tegvurn_free(embedding);
+}
+
+/* Results that are not written, or of another type, make the call trap. The embedding goes on. */
+static void test_wrong_results(void) {
+  struct asked asked = {answer_other, NULL, NULL, 0};
+  tegvurn *embedding = embedding_of(&asked);
+  tegvurn_value result, others[] = {tegvurn_i64(0), tegvurn_null(TEGVURN_EXTERNREF), tegvurn_ref(TEGVURN_FUNCREF, 0), tegvurn_i32(0)};
+  others[3].type = (tegvurn_type)5;
+  for (int i = -1; i < 4; i++) {
+    asked.other = i < 0 ? NULL : &others[i];
+    CHECK(call_one(embedding, "ask", tegvurn_i32(5), &result) == TEGVURN_TRAP && trapped_with(embedding, TEGVURN_WRONG_RESULTS));
+    asked.other = &(tegvurn_value){.type = TEGVURN_I32, .i32 = 6};
+    CHECK(call_one(embedding, "ask", tegvurn_i32(5), &result) == TEGVURN_DONE && result.type == TEGVURN_I32 && result.i32 == 6);
+    asked.other = NULL;
+    CHECK(call_one(embedding, "ask", tegvurn_i32(5), &result) == TEGVURN_TRAP && trapped_with(embedding, TEGVURN_WRONG_RESULTS));
+  }
+  tegvurn_value number = tegvurn_i32(0), function = tegvurn_null(TEGVURN_FUNCREF);
+  asked.other = &number;
+  CHECK(call_one(embedding, "keep", tegvurn_null(TEGVURN_EXTERNREF), &result) == TEGVURN_TRAP);
+  CHECK(trapped_with(embedding, TEGVURN_WRONG_RESULTS));
+  asked.other = &function;
+  CHECK(call_one(embedding, "keep", tegvurn_null(TEGVURN_EXTERNREF), &result) == TEGVURN_TRAP);
+  CHECK(trapped_with(embedding, TEGVURN_WRONG_RESULTS));
+  tegvurn_free(embedding);
+}
+
+/* A host function overwrites what its call lies in; the library keeps its own. */
+static bool overwrite(struct asked *asked, tegvurn_host_call *call) {
+  static tegvurn_value elsewhere;
+  (void)asked;
+  call->results[0] = tegvurn_i32(3);
+  *call = (tegvurn_host_call){&elsewhere, 9, &elsewhere, 9, NULL, 9, 9};
+  return true;
+}
+
+static bool look(struct asked *asked, tegvurn_host_call *call) {
+  asked->number = call->memory_size;
+  bool is_lent = call->arg_count == 1 && call->result_count == 1 && call->memory_size == (size_t)call->args[0].i32 * 65536;
+  CHECK(call->memory_size ? !memcmp(call->memory + 8, "hello", 5) : !call->memory);
+  if (call->memory_size) call->memory[9] = call->memory[call->memory_size - 1] = 'a';
+  call->results[0] = tegvurn_i32(is_lent);
+  return true;
+}
+
+static void test_memory(void) {
+  struct asked asked = {look, NULL, NULL, 0};
+  tegvurn *embedding = embedding_of(&asked);
+  tegvurn_value result;
+  CHECK(call_one(embedding, "ask_outside", tegvurn_i32(0), &result) == TEGVURN_DONE && result.i32 == 1 && asked.number == 0);
+  CHECK(call_one(embedding, "ask", tegvurn_i32(1), &result) == TEGVURN_DONE && result.i32 == 1 && asked.number == 65536);
+  CHECK(call_one(embedding, "byte", tegvurn_i32(9), &result) == TEGVURN_DONE && result.i32 == 'a');
+  CHECK(call_one(embedding, "byte", tegvurn_i32(10), &result) == TEGVURN_DONE && result.i32 == 'l');
+  CHECK(call_one(embedding, "byte", tegvurn_i32(65535), &result) == TEGVURN_DONE && result.i32 == 'a');
+  CHECK(call_one(embedding, "ask_outside", tegvurn_i32(0), &result) == TEGVURN_DONE && result.i32 == 1 && asked.number == 0);
+  asked.ask = overwrite;
+  CHECK(call_one(embedding, "ask", tegvurn_i32(1), &result) == TEGVURN_DONE && result.i32 == 3);
+  tegvurn_value often = tegvurn_i32(1000);
+  asked.number = 0;
+  CHECK(tegvurn_call(embedding, 0, tegvurn_string("loop"), &often, 1, NULL, 0, NULL) == TEGVURN_DONE && asked.number == 1000);
+  tegvurn_free(embedding);
+}
+
+/* Texts, types and setups */
+
+static tegvurn_status new_with(tegvurn_host host, tegvurn_end *end) {
+  tegvurn *embedding = (tegvurn *)&config;
+  tegvurn_status status = tegvurn_new(&config, &host, 1, &embedding, end);
+  CHECK(status ? !embedding : embedding != NULL);
+  tegvurn_free(embedding);
+  return status;
+}
+
+static void test_new(void) {
+  struct asked asked = {NULL, NULL, NULL, 0};
+  tegvurn_type no_type[] = {(tegvurn_type)5};
+  tegvurn_config wrong = config;
+  tegvurn *embedding = (tegvurn *)&config;
+  tegvurn_end end;
+  wrong.depth = 0;
+  CHECK(tegvurn_new(&wrong, NULL, 0, &embedding, &end) == TEGVURN_REFUSED && !embedding);
+  CHECK(end.status == TEGVURN_REFUSED && end.number == TEGVURN_BAD_SETUP && !strcmp(end.name, "BadSetup") && *end.text);
+  CHECK(tegvurn_new(&wrong, NULL, 0, &embedding, NULL) == TEGVURN_REFUSED && !embedding);
+  CHECK(new_with(host_of("ask", i32_type, 1, ask, &asked), &end) == TEGVURN_DONE && end.status == TEGVURN_DONE && !*end.text);
+  CHECK(new_with(host_of("ask", func_type, 1, ask, &asked), &end) == TEGVURN_REFUSED && end.number == TEGVURN_HOST_FUNCREF);
+  CHECK(!strcmp(end.name, "HostFuncRef"));
+  CHECK(new_with(host_of("ask", no_type, 1, ask, &asked), &end) == TEGVURN_NOT_SPELT && end.number == 0 && !strcmp(end.name, "NotSpelt"));
+  CHECK(new_with(host_of("\xff", i32_type, 1, ask, &asked), &end) == TEGVURN_NOT_SPELT);
+  CHECK(new_with(host_of("", NULL, 0, ask, &asked), &end) == TEGVURN_DONE);
+}
+
+static void test_texts(void) {
+  struct asked asked = {NULL, NULL, NULL, 0};
+  tegvurn *embedding = embedding_of(&asked);
+  tegvurn_value value = tegvurn_i32(1);
+  uint64_t number;
+  CHECK(tegvurn_register(embedding, 0, tegvurn_string("\xc3")) == TEGVURN_NOT_SPELT);
+  CHECK(tegvurn_register(embedding, 0, (tegvurn_text){"", 0}) == TEGVURN_DONE);
+  CHECK(tegvurn_register(embedding, 0, tegvurn_string("host")) == TEGVURN_REFUSED);
+  CHECK(!strcmp(tegvurn_last(embedding)->name, "NameTaken") && !strcmp(tegvurn_last(embedding)->text, "a host function has the name"));
+  CHECK(tegvurn_get_global(embedding, 0, tegvurn_string("\xff"), &value) == TEGVURN_NOT_SPELT && value.i32 == 1);
+  CHECK(tegvurn_get_global(embedding, 0, (tegvurn_text){"number\0x", 8}, &value) == TEGVURN_REFUSED);
+  CHECK(tegvurn_last(embedding)->number == TEGVURN_UNKNOWN_EXPORT);
+  CHECK(tegvurn_get_global(embedding, 0, (tegvurn_text){"numbers", 6}, &value) == TEGVURN_DONE);
+  CHECK(call_one(embedding, "\xff", value, &value) == TEGVURN_NOT_SPELT);
+  value.type = (tegvurn_type)5;
+  CHECK(call_one(embedding, "ask", value, &value) == TEGVURN_NOT_SPELT);
+  CHECK(tegvurn_load(embedding, "\0asm\1\0\0", 7, &number) == TEGVURN_REFUSED);
+  const tegvurn_end *end = tegvurn_last(embedding);
+  CHECK(end->number == TEGVURN_MALFORMED && end->place == TEGVURN_BYTE && end->at == 7 && !strcmp(end->text, "malformed module at byte 7"));
+  CHECK(tegvurn_set_fuel(embedding, 0) == TEGVURN_DONE && end->status == TEGVURN_DONE && end->number == 0);
+  CHECK(end->place == TEGVURN_NOWHERE && end->at == 0 && !*end->text && !strcmp(end->name, "Done"));
+  CHECK(tegvurn_load(embedding, NULL, 0, &number) == TEGVURN_REFUSED && end->place == TEGVURN_BYTE && end->at == 0);
+  CHECK(call_one(embedding, "byte", tegvurn_i32(0), &value) == TEGVURN_EXHAUSTED);
+  CHECK(end->number == TEGVURN_FUEL && !strcmp(end->name, "Fuel") && !strcmp(end->text, "out of fuel"));
+  tegvurn_free(embedding);
+}
+
+/* Arguments and a name that are longer than all that was said before. */
+static void test_long_messages(void) {
+  static tegvurn_value args[1000];
+  static char name[5000];
+  struct asked asked = {NULL, NULL, NULL, 0};
+  tegvurn_report report;
+  for (int i = 0; i < 1000; i++) args[i] = tegvurn_i64(1);
+  memset(name, 'a', sizeof name);
+  tegvurn *embedding = embedding_of(&asked);
+  CHECK(tegvurn_call(embedding, 0, tegvurn_string("empty"), args, 1000, NULL, 0, NULL) == TEGVURN_REFUSED);
+  CHECK(tegvurn_last(embedding)->number == TEGVURN_BAD_ARGUMENTS);
+  tegvurn_free(embedding);
+  embedding = embedding_of(&asked);
+  CHECK(tegvurn_call(embedding, 0, (tegvurn_text){name, sizeof name}, NULL, 0, NULL, 0, NULL) == TEGVURN_REFUSED);
+  CHECK(tegvurn_last(embedding)->number == TEGVURN_UNKNOWN_EXPORT);
+  tegvurn_free(embedding);
+  embedding = embedding_of(&asked);
+  const tegvurn_file file = {{name, sizeof name}, name, sizeof name};
+  CHECK(tegvurn_script(embedding, "{\"commands\":[]}", 15, &file, 1, &report) == TEGVURN_DONE && report.passed == 0);
+  tegvurn_free(embedding);
+}
+
+/* What is kept and what is not */
+
+static void *copy_of(const void *bytes, size_t size) {
+  void *copy = malloc(size ? size : 1);
+  if (!copy) exit(2);
+  return memcpy(copy, bytes, size);
+}
+
+/* Everything that is passed in is freed behind the call. */
+static void test_copies(void) {
+  struct asked asked = {NULL, NULL, NULL, 0};
+  char *module = copy_of("host", 4), *name = copy_of("ask", 3);
+  tegvurn_type *types = copy_of(i32_type, sizeof i32_type);
+  tegvurn_host *host = malloc(sizeof *host);
+  if (!host) exit(2);
+  *host = (tegvurn_host){{module, 4}, {name, 3}, types, 1, types, 1, ask, &asked};
+  tegvurn *embedding;
+  uint64_t number;
+  CHECK(tegvurn_new(&config, host, 1, &embedding, NULL) == TEGVURN_DONE);
+  free(module), free(name), free(types), free(host);
+  /* (module (import "host" "ask" (func (param i32) (result i32))) (export "f" (func 0))) */
+  static const char bytes[] = "\0asm\1\0\0\0\1\6\1\x60\1\x7f\1\x7f\2\x0c\1\4host\3ask\0\0\7\5\1\1f\0\0";
+  void *copy = copy_of(bytes, sizeof bytes - 1);
+  CHECK(tegvurn_load(embedding, copy, sizeof bytes - 1, &number) == TEGVURN_DONE);
+  free(copy);
+  CHECK(tegvurn_link(embedding, number, &number) == TEGVURN_DONE);
+  tegvurn_value *value = copy_of(&(tegvurn_value){.type = TEGVURN_I32, .i32 = 9}, sizeof *value), result;
+  CHECK(tegvurn_call(embedding, number, tegvurn_string("f"), value, 1, &result, 1, NULL) == TEGVURN_DONE && result.i32 == 9);
+  free(value);
+  tegvurn_export *exports;
+  size_t count;
+  CHECK(tegvurn_exports(embedding, number, &exports, &count) == TEGVURN_DONE && count == 1);
+  CHECK(tegvurn_free(embedding) == TEGVURN_DONE);
+  CHECK(!strcmp(exports[0].name.bytes, "f") && exports[0].name.size == 1 && exports[0].kind == TEGVURN_A_FUNCTION);
+  CHECK(exports[0].param_count == 1 && exports[0].params[0] == TEGVURN_I32 && exports[0].results[0] == TEGVURN_I32);
+  tegvurn_exports_free(exports);
+}
+
+/* Files are forgotten behind a script, and where one of them is not taken. */
+static void test_files(void) {
+  struct asked asked = {NULL, NULL, NULL, 0};
+  tegvurn *embedding = embedding_of(&asked);
+  static const char json[] = "{\"commands\":[{\"type\":\"module\",\"line\":1,\"filename\":\"a\"}]}";
+  const tegvurn_file files[] = {{{"a", 1}, test_module, sizeof test_module}, {{"\xff", 1}, "", 0}};
+  tegvurn_report report = {7, 7, 7, NULL};
+  const tegvurn_end *end = tegvurn_last(embedding);
+  CHECK(tegvurn_script(embedding, json, sizeof json - 1, files, 2, &report) == TEGVURN_NOT_SPELT && end->status == TEGVURN_NOT_SPELT);
+  CHECK(tegvurn_script(embedding, json, sizeof json - 1, NULL, 0, &report) == TEGVURN_REFUSED && end->number == TEGVURN_MISSING_FILE);
+  CHECK(!strcmp(end->name, "MissingFile") && end->place == TEGVURN_COMMAND && end->at == 0 && report.passed == 7);
+  CHECK(tegvurn_script(embedding, json, sizeof json - 1, files, 1, &report) == TEGVURN_DONE);
+  CHECK(report.passed == 1 && report.failed == 0 && report.skipped == 0);
+  CHECK(tegvurn_script(embedding, json, sizeof json - 1, NULL, 0, &report) == TEGVURN_REFUSED && end->number == TEGVURN_MISSING_FILE);
+  tegvurn_free(embedding);
+}
+
+/* A host function of many parameters and results */
+
+static bool add_index(void *context, tegvurn_host_call *call) {
+  (void)context;
+  for (size_t i = 0; i < call->result_count; i++) call->results[i] = tegvurn_i32(call->args[i].i32 + (uint32_t)i);
+  return call->arg_count == WIDTH && call->result_count == WIDTH;
+}
+
+/* The bytes of (module (import "host" "ask" (func (param i32 ..) (result i32 ..))) (export "f" (func 0))). */
+static size_t spell_wide(uint8_t *bytes) {
+  static const uint8_t head[] = {0, 'a', 's', 'm', 1, 0, 0, 0, 1, 0xde, 0x04, 1, 0x60}, width[] = {0xac, 0x02};
+  static const uint8_t rest[] = {2, 12, 1, 4, 'h', 'o', 's', 't', 3, 'a', 's', 'k', 0, 0, 7, 5, 1, 1, 'f', 0, 0};
+  uint8_t *to = bytes;
+  memcpy(to, head, sizeof head), to += sizeof head;
+  for (int i = 0; i < 2; i++) {
+    memcpy(to, width, sizeof width), to += sizeof width;
+    memset(to, TEGVURN_I32, WIDTH), to += WIDTH;
+  }
+  memcpy(to, rest, sizeof rest);
+  return (size_t)(to - bytes) + sizeof rest;
+}
+
+static void test_wide(void) {
+  static tegvurn_type types[WIDTH];
+  static tegvurn_value args[WIDTH], results[WIDTH];
+  uint8_t bytes[2 * WIDTH + 100];
+  for (uint32_t i = 0; i < WIDTH; i++) types[i] = TEGVURN_I32, args[i] = tegvurn_i32(i);
+  tegvurn_host host = host_of("ask", types, WIDTH, add_index, NULL);
+  tegvurn *embedding;
+  uint64_t number;
+  size_t count;
+  CHECK(tegvurn_new(&config, &host, 1, &embedding, NULL) == TEGVURN_DONE);
+  CHECK(tegvurn_load(embedding, bytes, spell_wide(bytes), &number) == TEGVURN_DONE);
+  CHECK(tegvurn_link(embedding, number, &number) == TEGVURN_DONE);
+  for (size_t room = WIDTH; room; room = room / 2) {
+    bool is_right = true;
+    memset(results, 0, sizeof results);
+    CHECK(tegvurn_call(embedding, number, tegvurn_string("f"), args, WIDTH, results, room, &count) ==
+          (room < WIDTH ? TEGVURN_NO_ROOM : TEGVURN_DONE));
+    for (uint32_t i = 0; i < WIDTH; i++) is_right = is_right && results[i].i32 == (i < room ? 2 * i : 0);
+    CHECK(is_right && count == WIDTH);
+  }
+  tegvurn_free(embedding);
+}
+
+/* A callback that is left by longjmp */
+
+static jmp_buf way_out;
+
+static bool jump(struct asked *asked, tegvurn_host_call *call) {
+  (void)asked, (void)call;
+  longjmp(way_out, 1);
+}
+
+static void test_longjmp(void) {
+  static struct asked asked = {jump, NULL, NULL, 0}, other = {NULL, NULL, NULL, 0};
+  tegvurn_value result;
+  embedding_of(&asked);
+  if (!setjmp(way_out)) call_one(asked.embedding, "ask", tegvurn_i32(1), &result);
+  CHECK(is_all_busy(asked.embedding));
+  embedding_of(&other);
+  CHECK(call_one(other.embedding, "ask", tegvurn_i32(1), &result) == TEGVURN_DONE && result.i32 == 1);
+  CHECK(tegvurn_free(other.embedding) == TEGVURN_DONE);
+}
+
+int main(int argc, char **argv) {
+  test_busy();
+  test_nested();
+  test_threads();
+  test_room();
+  test_references();
+  test_traps();
+  test_wrong_results();
+  test_memory();
+  test_new();
+  test_texts();
+  test_long_messages();
+  test_copies();
+  test_files();
+  test_wide();
+  if (argc == 2 && !strcmp(argv[1], "longjmp")) test_longjmp();
+  printf("%d passed, %d failed\n", passed, failed);
+  return failed != 0;
+}

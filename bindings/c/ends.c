@@ -1,0 +1,243 @@
+/* How the C side takes what the proved code writes, over a stand-in of it: ends that the proved code does not come to, texts that are long,
+   and replies that are none. */
+#include "tegvurn.c"
+
+#include <stdio.h>
+
+/* The sizes that the declarations of other languages rest on. */
+#if UINTPTR_MAX == UINT64_MAX
+_Static_assert(sizeof(tegvurn_value) == 16 && sizeof(tegvurn_end) == 168 && sizeof(tegvurn_config) == 24, "sizes");
+_Static_assert(sizeof(tegvurn_host_call) == 56 && sizeof(tegvurn_host) == 80 && sizeof(tegvurn_export) == 88, "sizes");
+_Static_assert(sizeof(tegvurn_file) == 32 && sizeof(tegvurn_report) == 32, "sizes");
+#endif
+
+#define CHECK(is_so) check((is_so), __LINE__, #is_so)
+
+static int passed, failed;
+
+static void check(bool is_so, int line, const char *what) {
+  if (is_so) passed++;
+  else failed++, printf("line %d: %s\n", line, what);
+}
+
+/* The stand-in replies `done` to each order but the one of this number, counted from 0. To that it writes these bytes, and it ends with the
+   status; or it goes on, where that is GOES_ON. Where that is ASKS_FIRST, it asks for a host function before it replies, and goes on. */
+#define GOES_ON 99
+#define ASKS_FIRST 98
+static int special_order;
+static const uint8_t *special_reply;
+static size_t special_size;
+static uint32_t special_status;
+
+static bool read_whole(void *to, size_t size) {
+  for (size_t at = 0; at < size;) {
+    ssize_t some = tegvurn_read(0, (uint8_t *)to + at, size - at);
+    if (some <= 0) return false;
+    at += (size_t)some;
+  }
+  return true;
+}
+
+/* Asks for the host function 0, with ten lent bytes, and reads these in pieces of so many. Answers what the last of these reads did. */
+static ssize_t lent_piece = 10, last_read;
+static bool was_answered;
+
+static void ask_for_host(void) {
+  uint8_t request[HEAD + 2 * NUMBER] = {2 * NUMBER, 0, 0, 0, 0, 0, 0, 0, REQUEST_CALL, 0, 0, 0, 0, 0, 0, 0, 0, 0, 0, 0, 0, 0, 0, 0, 10};
+  uint8_t put[HEAD + NUMBER], lent[10] = "0123456789", answer[HEAD];
+  tegvurn_write(0, request, sizeof request);
+  if (!read_whole(put, sizeof put) || number_at(put + NUMBER) != 23) return;
+  last_read = tegvurn_read(0, lent, (size_t)lent_piece);
+  if (last_read == 10 && lent[9] == 'x') was_answered = read_whole(answer, sizeof answer) && number_at(answer + NUMBER) == 20;
+}
+
+uint32_t tegvurn_serve(int32_t ask, int32_t hear) {
+  static const uint8_t done[HEAD];
+  (void)ask, (void)hear;
+  for (int order = 0;; order++) {
+    uint8_t head[HEAD], byte;
+    if (order == special_order && !special_size && special_status < ASKS_FIRST) return special_status;
+    if (!read_whole(head, HEAD)) return 1;
+    for (uint64_t left = number_at(head); left; left--)
+      if (!read_whole(&byte, 1)) return 2;
+    /* No bytes are read at once. */
+    if (tegvurn_read(0, &byte, 0)) return 2;
+    bool is_special = order == special_order && special_status != ASKS_FIRST;
+    if (order == special_order && special_status == ASKS_FIRST) ask_for_host();
+    const uint8_t *reply = is_special ? special_reply : done;
+    tegvurn_write(0, reply, is_special ? special_size : HEAD);
+    if (is_special && special_status != GOES_ON) return special_status;
+    if (number_at(head + NUMBER) == ORDER_END) return 0;
+  }
+}
+
+static void have_reply(int order, const void *reply, size_t size, uint32_t status) {
+  special_order = order;
+  special_reply = reply;
+  special_size = size;
+  special_status = status;
+}
+
+static const tegvurn_config config = {1, 1, 1, 1};
+
+static tegvurn *embedding_of(void) {
+  tegvurn *embedding;
+  tegvurn_new(&config, NULL, 0, &embedding, NULL);
+  return embedding;
+}
+
+/* The server that ends at once, or before the first order is done. */
+static void test_no_beginning(void) {
+  tegvurn *embedding = (tegvurn *)&config;
+  tegvurn_end end;
+  have_reply(0, NULL, 0, 4);
+  CHECK(tegvurn_new(&config, NULL, 0, &embedding, &end) == TEGVURN_REFUSED && !embedding);
+  CHECK(end.status == TEGVURN_REFUSED && end.number == TEGVURN_OUT_OF_MEMORY && !strcmp(end.name, "OutOfMemory"));
+  CHECK(!strcmp(end.text, "out of memory"));
+  have_reply(0, NULL, 0, 0);
+  CHECK(tegvurn_new(&config, NULL, 0, &embedding, &end) == TEGVURN_OVER && !embedding);
+  CHECK(end.status == TEGVURN_OVER && !strcmp(end.name, "Over"));
+  have_reply(0, NULL, 0, 3);
+  CHECK(tegvurn_new(&config, NULL, 0, &embedding, NULL) == TEGVURN_OVER && !embedding);
+}
+
+/* Calls behind the end of the server are answered, and change nothing. */
+static void test_over(void) {
+  uint64_t number = 77;
+  tegvurn_value value = tegvurn_i32(5);
+  tegvurn_export *exports;
+  tegvurn_report report;
+  size_t count = 3;
+  have_reply(2, NULL, 0, 0);
+  tegvurn *embedding = embedding_of();
+  CHECK(embedding && tegvurn_set_fuel(embedding, 1) == TEGVURN_DONE);
+  CHECK(tegvurn_set_fuel(embedding, 1) == TEGVURN_OVER);
+  CHECK(tegvurn_load(embedding, "", 0, &number) == TEGVURN_OVER && number == 77);
+  CHECK(tegvurn_link(embedding, 0, &number) == TEGVURN_OVER && number == 77);
+  CHECK(tegvurn_register(embedding, 0, tegvurn_string("m")) == TEGVURN_OVER);
+  CHECK(tegvurn_call(embedding, 0, tegvurn_string("f"), NULL, 0, &value, 1, &count) == TEGVURN_OVER && !count && value.i32 == 5);
+  CHECK(tegvurn_get_global(embedding, 0, tegvurn_string("g"), &value) == TEGVURN_OVER && value.i32 == 5);
+  CHECK(tegvurn_fuel_left(embedding, &number) == TEGVURN_OVER && number == 77);
+  CHECK(tegvurn_exports(embedding, 0, &exports, &count) == TEGVURN_OVER);
+  CHECK(tegvurn_script(embedding, "", 0, NULL, 0, &report) == TEGVURN_OVER);
+  const tegvurn_end *end = tegvurn_last(embedding);
+  CHECK(end->status == TEGVURN_OVER && !end->number && !strcmp(end->text, "the embedding has ended"));
+  CHECK(tegvurn_free(embedding) == TEGVURN_DONE);
+}
+
+/* A server that had no memory for a reply. */
+static void test_over_without_memory(void) {
+  have_reply(2, NULL, 0, 4);
+  tegvurn *embedding = embedding_of();
+  CHECK(embedding && tegvurn_set_fuel(embedding, 1) == TEGVURN_DONE);
+  for (int i = 0; i < 2; i++) {
+    CHECK(tegvurn_set_fuel(embedding, 1) == TEGVURN_OVER && tegvurn_last(embedding)->number == TEGVURN_OUT_OF_MEMORY);
+  }
+  tegvurn_free(embedding);
+}
+
+static bool write_last(void *context, tegvurn_host_call *call) {
+  ++*(int *)context;
+  if (call->memory_size == 10 && !memcmp(call->memory, "0123456789", 10)) call->memory[9] = 'x';
+  return true;
+}
+
+/* The callback runs where all of the lent memory is read at once, and only there; the next order is done in any case. */
+static void test_lent_pieces(void) {
+  for (lent_piece = 1; lent_piece <= 11; lent_piece++) {
+    int calls = 0;
+    tegvurn_host host = {{"m", 1}, {"f", 1}, NULL, 0, NULL, 0, write_last, &calls};
+    tegvurn *embedding;
+    bool is_whole = lent_piece == 10;
+    have_reply(2, NULL, 0, ASKS_FIRST);
+    was_answered = false;
+    CHECK(tegvurn_new(&config, &host, 1, &embedding, NULL) == TEGVURN_DONE);
+    CHECK(tegvurn_set_fuel(embedding, 1) == TEGVURN_DONE && calls == is_whole && last_read == (is_whole ? 10 : -1));
+    CHECK(was_answered == is_whole);
+    CHECK(tegvurn_set_fuel(embedding, 1) == TEGVURN_DONE && calls == is_whole);
+    tegvurn_free(embedding);
+  }
+}
+
+/* The status of an order that is answered so. */
+static tegvurn_status status_of(const void *reply, size_t size) {
+  have_reply(1, reply, size, GOES_ON);
+  tegvurn *embedding = embedding_of();
+  tegvurn_status status = embedding ? tegvurn_set_fuel(embedding, 1) : TEGVURN_OVER;
+  tegvurn_free(embedding);
+  return status;
+}
+
+static void test_kinds_of_replies(void) {
+  uint8_t head[HEAD] = {0};
+  for (unsigned kind = 0; kind < 12; kind++) {
+    static const tegvurn_status wanted[] = {TEGVURN_DONE,    TEGVURN_DONE, TEGVURN_DONE, TEGVURN_TRAP,      TEGVURN_EXHAUSTED,
+                                            TEGVURN_REFUSED, TEGVURN_DONE, TEGVURN_DONE, TEGVURN_NOT_SPELT, TEGVURN_OVER,
+                                            TEGVURN_OVER,    TEGVURN_OVER};
+    head[NUMBER] = (uint8_t)kind;
+    if (kind != REQUEST_CALL) CHECK(status_of(head, HEAD) == wanted[kind]);
+  }
+  CHECK(status_of(head, HEAD - 1) == TEGVURN_OVER);
+}
+
+/* A refusal with a text of so many bytes, each of a character of two bytes. */
+static size_t refusal(uint8_t *reply, uint64_t number, size_t text_size) {
+  set_number(reply, 3 * NUMBER + text_size);
+  set_number(reply + NUMBER, REPLY_REFUSED);
+  set_number(reply + HEAD, number);
+  set_number(reply + HEAD + NUMBER, TEGVURN_BYTE);
+  set_number(reply + HEAD + 2 * NUMBER, 11);
+  for (size_t i = 0; i < text_size; i++) reply[HEAD + 3 * NUMBER + i] = i % 2 ? 0xA4 : 0xC3;
+  return HEAD + 3 * NUMBER + text_size;
+}
+
+static void test_texts(void) {
+  static uint8_t reply[1000];
+  const struct { size_t size, kept; } rows[] = {{0, 0}, {2, 2}, {126, 126}, {128, 126}, {500, 126}};
+  for (size_t i = 0; i < sizeof rows / sizeof *rows; i++) {
+    have_reply(1, reply, refusal(reply, 1, rows[i].size), GOES_ON);
+    tegvurn *embedding = embedding_of();
+    CHECK(tegvurn_set_fuel(embedding, 1) == TEGVURN_REFUSED);
+    const tegvurn_end *end = tegvurn_last(embedding);
+    CHECK(end->number == 1 && !strcmp(end->name, "Malformed") && end->place == TEGVURN_BYTE && end->at == 11 && end->code == 0);
+    CHECK(strlen(end->text) == rows[i].kept && !memcmp(end->text, reply + HEAD + 3 * NUMBER, rows[i].kept));
+    tegvurn_free(embedding);
+  }
+}
+
+/* The names of all refusals, traps and exhaustions, and of numbers that are none. */
+static void test_names(void) {
+  static const char *const names[] = {"Malformed",       "Unsupported",   "Limit",     "Invalid",      "UnknownModule", "UnknownImport",
+                                      "IncompatibleImport", "UnknownInstance", "UnknownExport", "WrongKind", "BadArguments",  "NameTaken",
+                                      "OutOfMemory",     "HostFuncRef",   "NotJson",   "BadCommand",   "MissingFile",   "BadSetup", ""};
+  static const char *const trap_names[] = {"Unreachable",      "DivideByZero",        "IntegerOverflow", "MemoryBounds", "TableBounds",
+                                           "UndefinedElement", "UninitializedElement", "IndirectType",    "Host",         ""};
+  static const char *const exhaustion_names[] = {"Fuel", "Depth", "Memory", ""};
+  const struct { const char *const *names; size_t count; uint64_t kind; } rows[] = {
+      {names, 19, REPLY_REFUSED}, {trap_names, 10, REPLY_TRAP}, {exhaustion_names, 4, REPLY_EXHAUSTED}};
+  for (size_t row = 0; row < 3; row++) {
+    for (uint64_t number = 1; number <= rows[row].count; number++) {
+      uint8_t reply[HEAD + 3 * NUMBER];
+      refusal(reply, number, 0);
+      set_number(reply + NUMBER, rows[row].kind);
+      have_reply(1, reply, sizeof reply, GOES_ON);
+      tegvurn *embedding = embedding_of();
+      tegvurn_set_fuel(embedding, 1);
+      const tegvurn_end *end = tegvurn_last(embedding);
+      CHECK(end->number == number && !strcmp(end->name, rows[row].names[number - 1]));
+      tegvurn_free(embedding);
+    }
+  }
+}
+
+int main(void) {
+  test_no_beginning();
+  test_over();
+  test_over_without_memory();
+  test_lent_pieces();
+  test_kinds_of_replies();
+  test_texts();
+  test_names();
+  printf("%d passed, %d failed\n", passed, failed);
+  return failed != 0;
+}

@@ -1,0 +1,122 @@
+/* Prints what calls cost: the best of several rounds. */
+#define _POSIX_C_SOURCE 199309L
+#include "tegvurn.h"
+#include "test_module.h"
+
+#include <stdio.h>
+#include <stdlib.h>
+#include <time.h>
+
+#define ROUNDS 7
+#define CALLS 100000
+#define FUNCTIONS 1000
+#define GROUPS 170 /* of four instructions in a function */
+
+static double now(void) {
+  struct timespec time;
+  clock_gettime(CLOCK_MONOTONIC, &time);
+  return (double)time.tv_sec * 1e9 + (double)time.tv_nsec;
+}
+
+static void need(tegvurn_status status) {
+  if (!status) return;
+  fprintf(stderr, "measure: status %d\n", (int)status);
+  exit(1);
+}
+
+static bool echo(void *context, tegvurn_host_call *call) {
+  (void)context;
+  for (size_t i = 0; i < call->result_count; i++) call->results[i] = call->args[i];
+  return true;
+}
+
+static tegvurn *embedding_of(void) {
+  static const tegvurn_type number[] = {TEGVURN_I32}, reference[] = {TEGVURN_EXTERNREF};
+  const tegvurn_host hosts[] = {
+      {tegvurn_string("host"), tegvurn_string("ask"), number, 1, number, 1, echo, NULL},
+      {tegvurn_string("host"), tegvurn_string("keep"), reference, 1, reference, 1, echo, NULL},
+      {tegvurn_string("host"), tegvurn_string("nothing"), NULL, 0, NULL, 0, echo, NULL},
+  };
+  const tegvurn_config config = {UINT64_MAX, 100, 16, 100};
+  tegvurn *embedding;
+  need(tegvurn_new(&config, hosts, 3, &embedding, NULL));
+  return embedding;
+}
+
+/* Calls an export so often, with one argument or none. */
+static void call_often(tegvurn *embedding, const char *name, size_t arg_count, uint32_t arg, size_t result_count, int times) {
+  tegvurn_value value = tegvurn_i32(arg), result;
+  for (int i = 0; i < times; i++) need(tegvurn_call(embedding, 0, tegvurn_string(name), &value, arg_count, &result, result_count, NULL));
+}
+
+static size_t spell_number(uint8_t *to, size_t number) {
+  size_t size = 0;
+  for (; number >= 128; number >>= 7) to[size++] = (uint8_t)(number % 128 + 128);
+  to[size++] = (uint8_t)number;
+  return size;
+}
+
+/* A section, whose contents are there behind room for its head. Answers its end. */
+static uint8_t *spell_section(uint8_t *to, uint8_t id, const uint8_t *contents, size_t size) {
+  *to++ = id;
+  to += spell_number(to, size);
+  memmove(to, contents, size);
+  return to + size;
+}
+
+/* A module of FUNCTIONS equal functions, of the groups `local.get 0 i32.const 1 i32.add drop`. Answers its size. */
+static size_t spell_large(uint8_t *module) {
+  static const uint8_t head[] = {0, 'a', 's', 'm', 1, 0, 0, 0, 1, 5, 1, 0x60, 1, 0x7f, 0}, group[] = {0x20, 0, 0x41, 1, 0x6a, 0x1a};
+  static uint8_t contents[FUNCTIONS * (GROUPS * sizeof group + 10)];
+  memcpy(module, head, sizeof head);
+  size_t count = spell_number(contents, FUNCTIONS), size = count + FUNCTIONS;
+  memset(contents + count, 0, FUNCTIONS);
+  uint8_t *to = spell_section(module + sizeof head, 3, contents, size);
+  for (int i = 0; i < FUNCTIONS; i++) {
+    count += spell_number(contents + count, GROUPS * sizeof group + 2);
+    contents[count++] = 0;
+    for (int k = 0; k < GROUPS; k++, count += sizeof group) memcpy(contents + count, group, sizeof group);
+    contents[count++] = 0x0b;
+  }
+  return (size_t)(spell_section(to, 10, contents, count) - module);
+}
+
+static double load_once(const uint8_t *module, size_t size) {
+  tegvurn *embedding = embedding_of();
+  uint64_t number;
+  double start = now();
+  need(tegvurn_load(embedding, module, size, &number));
+  double time = now() - start;
+  tegvurn_free(embedding);
+  return time;
+}
+
+static double least(double one, double other) { return one < other ? one : other; }
+
+int main(void) {
+  static uint8_t module[FUNCTIONS * (GROUPS * 6 + 20)];
+  size_t size = spell_large(module);
+  double empty = 1e18, ask = 1e18, loop = 1e18, loading = 1e18, start;
+  tegvurn *embedding = embedding_of();
+  uint64_t number;
+  need(tegvurn_load(embedding, test_module, sizeof test_module, &number));
+  need(tegvurn_link(embedding, number, &number));
+  for (int round = 0; round < ROUNDS; round++) {
+    start = now();
+    call_often(embedding, "empty", 0, 0, 0, CALLS);
+    empty = least(empty, (now() - start) / CALLS);
+    start = now();
+    call_often(embedding, "ask", 1, 5, 1, CALLS);
+    ask = least(ask, (now() - start) / CALLS);
+    start = now();
+    call_often(embedding, "loop", 1, CALLS, 0, 1);
+    loop = least(loop, (now() - start) / CALLS);
+    loading = least(loading, load_once(module, size));
+  }
+  tegvurn_free(embedding);
+  printf("%.0f ns a call of an empty export\n", empty);
+  printf("%.0f ns a call with one argument, a callback and one result\n", ask);
+  printf("%.0f ns a callback in a loop of 6 instructions, 64 KiB lent\n", loop);
+  printf("%.1f ms to load a module of %zu bytes\n", loading / 1e6, size);
+  return 0;
+}

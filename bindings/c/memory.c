@@ -1,0 +1,334 @@
+/* memory [EACH]: refuses each allocation in turn, or each EACHth, of a life of an embedding, the C side's and the proved code's alike: once
+   that one alone, and once all from that one on. A call has to end as with ample memory, or say that there was none; where that one alone
+   was refused, the same call ends as with ample memory when it is made again, unless there was no memory for its reply, which ends the
+   embedding. In the end nothing is left allocated. Linked with --wrap. */
+#include "tegvurn.h"
+#include "test_module.h"
+
+#include <stdio.h>
+#include <stdlib.h>
+#include <sys/mman.h>
+
+/* The allocations */
+
+static long made, live, refused = -1;
+static bool refuses_more;
+
+static bool is_refused(void) {
+  long number = made++;
+  return refused >= 0 && (refuses_more ? number >= refused : number == refused);
+}
+
+static void *counted(void *at, const void *none) {
+  live += at != none;
+  return at;
+}
+
+void *__real_malloc(size_t size);
+void *__real_calloc(size_t count, size_t size);
+void *__real_realloc(void *at, size_t size);
+void __real_free(void *at);
+void *__real_mmap(void *at, size_t size, int may, int flags, int file, off_t offset);
+int __real_munmap(void *at, size_t size);
+int __real_mprotect(void *at, size_t size, int may);
+void *__wrap_malloc(size_t size);
+void *__wrap_calloc(size_t count, size_t size);
+void *__wrap_realloc(void *at, size_t size);
+void __wrap_free(void *at);
+void *__wrap_mmap(void *at, size_t size, int may, int flags, int file, off_t offset);
+int __wrap_munmap(void *at, size_t size);
+int __wrap_mprotect(void *at, size_t size, int may);
+
+void *__wrap_malloc(size_t size) { return is_refused() ? NULL : counted(__real_malloc(size), NULL); }
+void *__wrap_calloc(size_t count, size_t size) { return is_refused() ? NULL : counted(__real_calloc(count, size), NULL); }
+void *__wrap_realloc(void *at, size_t size) {
+  if (is_refused()) return NULL;
+  return at ? __real_realloc(at, size) : counted(__real_realloc(at, size), NULL);
+}
+void __wrap_free(void *at) {
+  live -= at != NULL;
+  __real_free(at);
+}
+void *__wrap_mmap(void *at, size_t size, int may, int flags, int file, off_t offset) {
+  return is_refused() ? MAP_FAILED : counted(__real_mmap(at, size, may, flags, file, offset), MAP_FAILED);
+}
+int __wrap_munmap(void *at, size_t size) {
+  live--;
+  return __real_munmap(at, size);
+}
+int __wrap_mprotect(void *at, size_t size, int may) { return is_refused() ? -1 : __real_mprotect(at, size, may); }
+
+/* The life of an embedding. Each step answers how it ended, and a number that it gave. */
+
+/* How many parameters and results the functions with many have: such that messages grow. */
+#define WIDTH 20
+#define PARAMS 50
+#define RESULTS 100
+#define COMMANDS 3
+#define FAILURES 300
+
+struct answer {
+  tegvurn_status status;
+  uint32_t number;
+  uint64_t given;
+};
+
+static tegvurn *embedding;
+
+static bool echo(void *context, tegvurn_host_call *call) {
+  (void)context;
+  for (size_t i = 0; i < call->result_count; i++) call->results[i] = call->args[i];
+  return true;
+}
+
+static struct answer answer_of(tegvurn_status status, uint64_t given) {
+  return (struct answer){status, status ? tegvurn_last(embedding)->number : 0, status ? 0 : given};
+}
+
+static struct answer make(void) {
+  static const tegvurn_type number[] = {TEGVURN_I32}, reference[] = {TEGVURN_EXTERNREF};
+  static tegvurn_type many[WIDTH];
+  for (int i = 0; i < WIDTH; i++) many[i] = TEGVURN_I64;
+  const tegvurn_host hosts[] = {
+      {tegvurn_string("host"), tegvurn_string("ask"), number, 1, number, 1, echo, NULL},
+      {tegvurn_string("host"), tegvurn_string("keep"), reference, 1, reference, 1, echo, NULL},
+      {tegvurn_string("host"), tegvurn_string("nothing"), NULL, 0, NULL, 0, echo, NULL},
+      {tegvurn_string("host"), tegvurn_string("many"), many, WIDTH, many, WIDTH, echo, NULL},
+  };
+  const tegvurn_config config = {1000, 100, 16, 100};
+  tegvurn_end end;
+  tegvurn_status status = tegvurn_new(&config, hosts, 4, &embedding, &end);
+  return (struct answer){status, end.number, 0};
+}
+
+static struct answer load(void) {
+  uint64_t module = 0;
+  tegvurn_status status = tegvurn_load(embedding, test_module, sizeof test_module, &module);
+  return answer_of(status, module);
+}
+
+static struct answer link_it(void) {
+  uint64_t instance = 0;
+  tegvurn_status status = tegvurn_link(embedding, 0, &instance);
+  return answer_of(status, instance);
+}
+
+static struct answer register_it(void) { return answer_of(tegvurn_register(embedding, 0, tegvurn_string("m")), 0); }
+
+/* A number in two bytes of the binary format. */
+static uint8_t *spell_number(uint8_t *to, unsigned number) {
+  *to++ = (uint8_t)(number % 128 + 128);
+  *to++ = (uint8_t)(number / 128);
+  return to;
+}
+
+static uint8_t *spell_types(uint8_t *to, unsigned count) {
+  to = spell_number(to, count);
+  memset(to, TEGVURN_I64, count);
+  return to + count;
+}
+
+/* (module
+     (type $many (func (param i64 ..) (result i64 ..)))                  ;; WIDTH and WIDTH
+     (import "host" "many" (func $many (type $many)))
+     (export "f" (func $many))
+     (func (export "g") (param i64 ..) (result i64 ..) i64.const 5 ..))  ;; PARAMS and RESULTS */
+static size_t spell_another(uint8_t *bytes) {
+  static const uint8_t head[] = {0, 'a', 's', 'm', 1, 0, 0, 0, 1};
+  static const uint8_t rest[] = {2, 13, 1, 4, 'h', 'o', 's', 't', 4, 'm', 'a', 'n', 'y', 0, 0, 3, 2, 1, 1,
+                                 7, 9,  2, 1, 'f', 0,   0,   1,   'g', 0, 1,   10};
+  uint8_t *to = bytes;
+  memcpy(to, head, sizeof head);
+  to = spell_number(to + sizeof head, 1 + 2 * (1 + 2 + 2) + 2 * WIDTH + PARAMS + RESULTS);
+  *to++ = 2;
+  *to++ = 0x60;
+  to = spell_types(spell_types(to, WIDTH), WIDTH);
+  *to++ = 0x60;
+  to = spell_types(spell_types(to, PARAMS), RESULTS);
+  memcpy(to, rest, sizeof rest);
+  to = spell_number(to + sizeof rest, 1 + 2 + 2 + 2 * RESULTS);
+  *to++ = 1;
+  to = spell_number(to, 2 + 2 * RESULTS);
+  *to++ = 0;
+  for (int i = 0; i < RESULTS; i++) *to++ = 0x42, *to++ = 5;
+  *to++ = 0x0b;
+  return (size_t)(to - bytes);
+}
+
+static struct answer load_another(void) {
+  uint8_t bytes[1000];
+  uint64_t module = 0;
+  tegvurn_status status = tegvurn_load(embedding, bytes, spell_another(bytes), &module);
+  return answer_of(status, module);
+}
+
+static struct answer link_another(void) {
+  uint64_t instance = 0;
+  tegvurn_status status = tegvurn_link(embedding, 1, &instance);
+  return answer_of(status, instance);
+}
+
+static struct answer call(void) {
+  tegvurn_value value = tegvurn_i32(42), result = tegvurn_i32(0);
+  tegvurn_status status = tegvurn_call(embedding, 0, tegvurn_string("ask"), &value, 1, &result, 1, NULL);
+  return answer_of(status, result.i32);
+}
+
+static struct answer call_with_many(void) {
+  tegvurn_value args[WIDTH], results[WIDTH];
+  for (uint64_t i = 0; i < WIDTH; i++) args[i] = tegvurn_i64(i);
+  memset(results, 0, sizeof results);
+  tegvurn_status status = tegvurn_call(embedding, 1, tegvurn_string("f"), args, WIDTH, results, WIDTH, NULL);
+  return answer_of(status, results[WIDTH - 1].i64);
+}
+
+/* More arguments and results than any message had values before. */
+static struct answer call_for_more(void) {
+  tegvurn_value args[PARAMS], results[RESULTS];
+  uint64_t sum = 0;
+  for (int i = 0; i < PARAMS; i++) args[i] = tegvurn_i64(0);
+  memset(results, 0, sizeof results);
+  tegvurn_status status = tegvurn_call(embedding, 1, tegvurn_string("g"), args, PARAMS, results, RESULTS, NULL);
+  for (int i = 0; i < RESULTS; i++) sum += results[i].type == TEGVURN_I64 ? results[i].i64 : 1000;
+  return answer_of(status, sum);
+}
+
+static struct answer get_global(void) {
+  tegvurn_value value = tegvurn_i32(0);
+  tegvurn_status status = tegvurn_get_global(embedding, 0, tegvurn_string("number"), &value);
+  return answer_of(status, value.i64);
+}
+
+static struct answer list_exports(void) {
+  tegvurn_export *exports = NULL;
+  size_t count = 0, bytes = 0;
+  tegvurn_status status = tegvurn_exports(embedding, 0, &exports, &count);
+  for (size_t i = 0; i < count && !status; i++) bytes += exports[i].name.size;
+  tegvurn_exports_free(exports);
+  return answer_of(status, count * 1000 + bytes);
+}
+
+static struct answer set_fuel(void) { return answer_of(tegvurn_set_fuel(embedding, 500), 0); }
+
+static struct answer look_at_fuel(void) {
+  uint64_t fuel = 0;
+  tegvurn_status status = tegvurn_fuel_left(embedding, &fuel);
+  return answer_of(status, fuel);
+}
+
+static struct answer run_script(void) {
+  static const char json[] =
+      "{\"commands\":[{\"type\":\"module\",\"line\":1,\"filename\":\"a\"},"
+      "{\"type\":\"assert_return\",\"line\":2,\"action\":{\"type\":\"invoke\",\"field\":\"empty\",\"args\":[]},\"expected\":[]},"
+      "{\"type\":\"assert_trap\",\"line\":3,\"action\":{\"type\":\"invoke\",\"field\":\"trap\",\"args\":[]},\"text\":\"unreachable\"}]}";
+  const tegvurn_file files[] = {{tegvurn_string("a"), test_module, sizeof test_module}};
+  tegvurn_report report = {0, 0, 0, NULL};
+  tegvurn_status status = tegvurn_script(embedding, json, sizeof json - 1, files, 1, &report);
+  return answer_of(status, report.passed);
+}
+
+/* A report that is longer than any message before. The line of each command that failed is counted in. */
+static struct answer run_failures(void) {
+  static char json[FAILURES * 50 + 50];
+  size_t size = (size_t)sprintf(json, "{\"commands\":[");
+  for (int line = 1; line <= FAILURES; line++)
+    size += (size_t)sprintf(json + size, "%s{\"type\":\"register\",\"line\":%d,\"as\":\"host\"}", line > 1 ? "," : "", line);
+  size += (size_t)sprintf(json + size, "]}");
+  tegvurn_report report = {0, 0, 0, NULL};
+  uint64_t sum = 0;
+  tegvurn_status status = tegvurn_script(embedding, json, size, NULL, 0, &report);
+  for (uint64_t i = 0; i < report.failed && !status; i++) sum += report.failed_lines[i];
+  return answer_of(status, sum);
+}
+
+static const struct step {
+  const char *name;
+  struct answer (*run)(void);
+  uint64_t wanted;   /* the number that it gives */
+  bool wants_memory; /* somewhere it has to answer that there was none */
+} steps[] = {
+    {"new", make, 0, true},
+    {"load", load, 0, true},
+    {"link", link_it, 0, true},
+    {"exports", list_exports, 12 * 1000 + 59, true},
+    {"register", register_it, 0, true},
+    {"load another", load_another, 1, true},
+    {"link another", link_another, 1, true},
+    {"call", call, 42, true},
+    {"call with many", call_with_many, WIDTH - 1, true},
+    {"call for more", call_for_more, 5 * RESULTS, true},
+    {"get a global", get_global, (uint64_t)-7, true},
+    {"set the fuel", set_fuel, 0, false},
+    {"fuel left", look_at_fuel, 500, false},
+    {"script", run_script, COMMANDS, true},
+    {"script of failures", run_failures, FAILURES * (FAILURES + 1) / 2, true},
+};
+
+#define STEPS (sizeof steps / sizeof *steps)
+
+static long without_memory[STEPS];
+static long overs[2], failed;
+
+static void fail(size_t step, struct answer answer, const char *why) {
+  printf("allocation %ld%s: %s: status %d, number %u, given %llu: %s\n", refused, refuses_more ? " and more" : "", steps[step].name,
+         (int)answer.status, answer.number, (unsigned long long)answer.given, why);
+  failed++;
+}
+
+static bool is_as_wanted(size_t step, struct answer answer) { return answer.status == TEGVURN_DONE && answer.given == steps[step].wanted; }
+
+static bool says_no_memory(struct answer answer) {
+  return (answer.status == TEGVURN_REFUSED && answer.number == TEGVURN_OUT_OF_MEMORY) ||
+         (answer.status == TEGVURN_EXHAUSTED && answer.number == TEGVURN_MEMORY);
+}
+
+/* There was no memory for a reply, and no other call is done. */
+static bool is_over(struct answer answer) { return answer.status == TEGVURN_OVER && answer.number == TEGVURN_OUT_OF_MEMORY; }
+
+/* A command of a script that had no memory is one that failed. */
+static bool is_script_in_part(size_t step, struct answer answer) {
+  return steps[step].run == run_script && answer.status == TEGVURN_DONE && answer.given < COMMANDS;
+}
+
+/* Runs a step. Whether the next one can follow. */
+static bool run_step(size_t step) {
+  struct answer answer = steps[step].run();
+  if (is_as_wanted(step, answer)) return true;
+  if (refused < 0 || !(says_no_memory(answer) || is_over(answer) || is_script_in_part(step, answer))) fail(step, answer, "a wrong answer");
+  without_memory[step]++;
+  if (is_over(answer)) overs[refuses_more]++;
+  if (is_over(answer) || refuses_more) return step > 0 && !is_over(answer);
+  answer = steps[step].run();
+  if (!is_as_wanted(step, answer)) fail(step, answer, "a wrong answer when it is called again");
+  return true;
+}
+
+/* A whole life. Answers how many allocations there were. */
+static long live_once(void) {
+  struct answer none = {TEGVURN_DONE, 0, 0};
+  made = live = 0;
+  embedding = NULL;
+  for (size_t step = 0; step < STEPS; step++)
+    if (!run_step(step)) break;
+  if (tegvurn_free(embedding)) fail(0, none, "it is not freed");
+  if (live) fail(0, none, "something is left allocated");
+  return made;
+}
+
+int main(int argc, char **argv) {
+  long each = argc == 2 ? atol(argv[1]) : 1, number = 0, runs = 0;
+  long all = live_once();
+  for (refused = 0; refused <= all && each > 0; refused += each) {
+    for (int more = 0; more < 2; more++, runs++) {
+      refuses_more = more;
+      live_once();
+    }
+  }
+  for (size_t step = 0; step < STEPS; step++) {
+    number += without_memory[step];
+    if (each == 1 && steps[step].wants_memory && !without_memory[step]) printf("%s: never without memory\n", steps[step].name), failed++;
+  }
+  printf("%ld allocations, %ld runs, %ld answers without memory, of which the end of the embedding: %ld and %ld; %ld failed\n", all, runs,
+         number, overs[0], overs[1], failed);
+  return failed != 0;
+}

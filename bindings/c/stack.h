@@ -1,0 +1,91 @@
+/* A stack of its own for a function that is entered and left many times. By assembly on x86-64, else by ucontext. */
+#ifndef TEGVURN_STACK_H
+#define TEGVURN_STACK_H
+
+#include <stdbool.h>
+#include <stddef.h>
+#include <stdint.h>
+#include <sys/mman.h>
+#include <unistd.h>
+#if !defined(TEGVURN_UCONTEXT) && !defined(__x86_64__)
+#define TEGVURN_UCONTEXT
+#endif
+#ifdef TEGVURN_UCONTEXT
+#include <ucontext.h>
+#endif
+#ifdef TEGVURN_VALGRIND
+#include <valgrind/valgrind.h>
+#endif
+
+#define STACK_SIZE ((size_t)1 << 20)
+
+struct stack {
+#ifdef TEGVURN_UCONTEXT
+  ucontext_t inside, outside;
+#else
+  void *inside, *outside;
+#endif
+#ifdef TEGVURN_VALGRIND
+  unsigned id;
+#endif
+  uint8_t *at; /* NULL where there is none */
+  size_t size; /* with the guard page, which is its first */
+};
+
+#ifdef TEGVURN_UCONTEXT
+static void go_in(struct stack *stack) { swapcontext(&stack->outside, &stack->inside); }
+static void go_out(struct stack *stack) { swapcontext(&stack->inside, &stack->outside); }
+#else
+/* Keeps the registers that a function keeps, and the stack pointer in *save; then takes those of the other stack. The code inside does not
+   touch the control words of floating point. */
+void tegvurn_switch(void **save, void *load);
+__asm__(".text\n.local tegvurn_switch\n.type tegvurn_switch, @function\n"
+        "tegvurn_switch:\n"
+        " pushq %rbp\n pushq %rbx\n pushq %r12\n pushq %r13\n pushq %r14\n pushq %r15\n"
+        " movq %rsp, (%rdi)\n movq %rsi, %rsp\n"
+        " popq %r15\n popq %r14\n popq %r13\n popq %r12\n popq %rbx\n popq %rbp\n ret\n"
+        ".size tegvurn_switch, . - tegvurn_switch\n");
+static void go_in(struct stack *stack) { tegvurn_switch(&stack->outside, stack->inside); }
+static void go_out(struct stack *stack) { tegvurn_switch(&stack->inside, stack->outside); }
+#endif
+
+/* Has the function run at the first go_in. It must not return. */
+static bool prepare(struct stack *stack, void (*function)(void)) {
+#ifdef TEGVURN_UCONTEXT
+  if (getcontext(&stack->inside)) return false;
+  stack->inside.uc_stack.ss_sp = stack->at + stack->size - STACK_SIZE;
+  stack->inside.uc_stack.ss_size = STACK_SIZE;
+  stack->inside.uc_link = NULL;
+  makecontext(&stack->inside, function, 0);
+#else
+  /* What tegvurn_switch takes: six registers, where it returns to, and where the function would return to. */
+  uint64_t *top = (uint64_t *)(void *)(stack->at + stack->size);
+  top[-1] = 0;
+  top[-2] = (uint64_t)(uintptr_t)function;
+  stack->inside = top - 8;
+#endif
+  return true;
+}
+
+/* Makes a stack with a guard page, for a function that must not return. What was made is dropped by drop_stack, also where this fails. */
+static bool make_stack(struct stack *stack, void (*function)(void)) {
+  size_t page = (size_t)sysconf(_SC_PAGESIZE), size = STACK_SIZE + page;
+  void *at = mmap(NULL, size, PROT_READ | PROT_WRITE, MAP_PRIVATE | MAP_ANONYMOUS, -1, 0);
+  if (at == MAP_FAILED) return false;
+  stack->at = at;
+  stack->size = size;
+#ifdef TEGVURN_VALGRIND
+  stack->id = VALGRIND_STACK_REGISTER(stack->at + page, stack->at + size);
+#endif
+  return mprotect(at, page, PROT_NONE) == 0 && prepare(stack, function);
+}
+
+static void drop_stack(struct stack *stack) {
+  if (!stack->at) return;
+#ifdef TEGVURN_VALGRIND
+  VALGRIND_STACK_DEREGISTER(stack->id);
+#endif
+  munmap(stack->at, stack->size);
+}
+
+#endif

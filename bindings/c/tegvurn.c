@@ -1,0 +1,595 @@
+/* The C side of the library.
+
+   The proved archive has one export, tegvurn_serve, which reads orders and writes replies until it is told to end (docs/PROTOCOL.md has the
+   messages). It runs on a stack of its own. Each call of tegvurn.h writes down an order and goes over to that stack; the proved code reads
+   the order, writes its reply and asks for the next order, and that brings the call back. The archive's read and write are renamed to
+   tegvurn_read and tegvurn_write, so no descriptor is used.
+
+   A host function that is asked for is answered with all of its lent bytes first, and then with its results. The proved code reads the lent
+   bytes into the lent memory itself, and the callback runs inside of that read, on the caller's stack. So nothing is copied. */
+#define _GNU_SOURCE
+#include "tegvurn.h"
+#include "stack.h"
+
+#include <endian.h>
+#include <stdlib.h>
+#include <sys/types.h>
+
+/* The export of the archive. Its allocator takes no room, so it is no argument here. */
+uint32_t tegvurn_serve(int32_t ask, int32_t hear);
+
+/* What tegvurn_serve answers where it had no memory for a reply. */
+#define NO_MEMORY 4
+
+#define NUMBER ((size_t)8) /* the bytes of a number */
+#define HEAD (2 * NUMBER)  /* of the head of a message */
+#define VALUE (2 * NUMBER) /* of a value */
+#define SMALLEST_EXPORT (4 * NUMBER)
+#define ROOM_AT_FIRST ((size_t)512) /* of a message: more than a refusal takes */
+
+/* The kinds of messages. */
+enum order { ORDER_END, ORDER_LOAD, ORDER_LINK, ORDER_REGISTER, ORDER_CALL, ORDER_GET_GLOBAL, ORDER_SET_FUEL, ORDER_FUEL_LEFT,
+             ORDER_EXPORTS, ORDER_FILE, ORDER_SCRIPT, ORDER_DEFINE, ORDER_BEGIN };
+enum reply { REPLY_DONE, REPLY_NUMBER, REPLY_VALUES, REPLY_TRAP, REPLY_EXHAUSTED, REPLY_REFUSED, REPLY_EXPORTS, REPLY_REPORT,
+             REPLY_NOT_SPELT, REQUEST_CALL = 10 };
+enum answer { ANSWER_RESULTS = 20, ANSWER_TRAP = 21, ANSWER_PUT = 23 };
+
+struct buffer { uint8_t *at; size_t size, room; };
+
+/* Bytes that are left to be read. */
+struct bytes { const uint8_t *at; size_t left; };
+
+struct host { tegvurn_callback callback; void *context; size_t param_count, result_count; };
+
+/* Where the proved code is: at its start, waiting for an order or for the answer of a host function, or at its end. */
+enum state { AT_START, WAITS, ASKS, AT_END };
+
+struct tegvurn {
+  struct stack stack;
+  const void *owner;
+  bool is_busy;
+  enum state state;
+  uint32_t served;      /* what tegvurn_serve answered at its end */
+  struct buffer said;   /* the message that the proved code reads, */
+  struct bytes rest;    /* what it has yet to read of that, */
+  struct bytes behind;  /* and the last bytes of the message, which lie elsewhere */
+  struct buffer heard;  /* the message that it wrote; where there was no memory for all of it, */
+  bool is_cut;          /* it is cut, and its size is that of the whole */
+  bool lends;           /* the lent bytes are read next */
+  uint8_t *lent;        /* the lent bytes, while a callback runs */
+  size_t lent_size;
+  struct host *hosts;
+  tegvurn_value *args, *results; /* of a callback */
+  tegvurn_end end;
+};
+
+/* The embedding whose proved code ran last on this thread. The address of this variable tells threads apart. */
+static _Thread_local tegvurn *running;
+
+/* Numbers and buffers */
+
+static uint64_t number_at(const uint8_t *at) {
+  uint64_t number;
+  memcpy(&number, at, NUMBER);
+  return le64toh(number);
+}
+
+static void set_number(uint8_t *at, uint64_t number) {
+  number = htole64(number);
+  memcpy(at, &number, NUMBER);
+}
+
+static bool reserve(struct buffer *buffer, size_t room) {
+  if (room <= buffer->room) return true;
+  if (room < 2 * buffer->room) room = 2 * buffer->room;
+  if (room < ROOM_AT_FIRST) room = ROOM_AT_FIRST;
+  uint8_t *grown = realloc(buffer->at, room);
+  if (!grown) return false;
+  buffer->at = grown;
+  buffer->room = room;
+  return true;
+}
+
+/* The message that is read: what is added to it has its room. */
+
+static void add_number(tegvurn *m, uint64_t number) {
+  set_number(m->said.at + m->said.size, number);
+  m->said.size += NUMBER;
+}
+
+static void add_text(tegvurn *m, tegvurn_text text) {
+  add_number(m, text.size);
+  if (text.size) memcpy(m->said.at + m->said.size, text.bytes, text.size);
+  m->said.size += text.size;
+}
+
+static void add_types(tegvurn *m, const tegvurn_type *types, size_t count) {
+  add_number(m, count);
+  for (size_t i = 0; i < count; i++) add_number(m, (uint64_t)types[i]);
+}
+
+static void add_values(tegvurn *m, const tegvurn_value *values, size_t count) {
+  for (const tegvurn_value *value = values; count--; value++) {
+    add_number(m, (uint64_t)value->type);
+    if (value->type == TEGVURN_I32) add_number(m, value->i32);
+    else if (value->type == TEGVURN_I64) add_number(m, value->i64);
+    else add_number(m, value->is_null ? 0 : (uint64_t)value->ref + 1);
+  }
+}
+
+static void start_message(tegvurn *m, uint64_t kind) {
+  m->said.size = 0;
+  add_number(m, 0);
+  add_number(m, kind);
+}
+
+/* Makes the message ready to be read. So many bytes more come behind it. */
+static void end_message(tegvurn *m, size_t more) {
+  set_number(m->said.at, m->said.size - HEAD + m->behind.left + more);
+  m->rest = (struct bytes){m->said.at, m->said.size};
+}
+
+/* The message that was written. Behind the end of its fields there are zeros. */
+
+static struct bytes fields_heard(const tegvurn *m) {
+  size_t size = m->heard.size < m->heard.room ? m->heard.size : m->heard.room;
+  return (struct bytes){m->heard.at + HEAD, size < HEAD ? 0 : size - HEAD};
+}
+
+static uint64_t next_number(struct bytes *fields) {
+  if (fields->left < NUMBER) {
+    fields->left = 0;
+    return 0;
+  }
+  fields->at += NUMBER;
+  fields->left -= NUMBER;
+  return number_at(fields->at - NUMBER);
+}
+
+static tegvurn_value next_value(struct bytes *fields) {
+  tegvurn_type type = (tegvurn_type)next_number(fields);
+  uint64_t number = next_number(fields);
+  if (type == TEGVURN_I32) return tegvurn_i32((uint32_t)number);
+  if (type == TEGVURN_I64) return tegvurn_i64(number);
+  return number ? tegvurn_ref(type, (uint32_t)(number - 1)) : tegvurn_null(type);
+}
+
+/* The inner stack */
+
+/* Goes out from inside, and is back with a message to be read. */
+static void leave(tegvurn *m, enum state state) {
+  m->state = state;
+  go_out(&m->stack);
+  m->heard.size = 0;
+  m->is_cut = false;
+}
+
+/* The first function on the inner stack. */
+static void serve_inside(void) {
+  tegvurn *m = running;
+  m->served = tegvurn_serve(0, 0);
+  for (;;) leave(m, AT_END);
+}
+
+/* What the proved code reads and writes by, on the inner stack */
+
+__attribute__((visibility("hidden"))) ssize_t tegvurn_write(int descriptor, const void *bytes, size_t size) {
+  tegvurn *m = running;
+  struct buffer *heard = &m->heard;
+  (void)descriptor;
+  if (!m->is_cut && !reserve(heard, heard->size + size)) m->is_cut = true;
+  size_t fits = heard->room > heard->size ? heard->room - heard->size : 0;
+  if (fits && size) memcpy(heard->at + heard->size, bytes, fits < size ? fits : size);
+  heard->size += size;
+  return (ssize_t)size;
+}
+
+/* Waits for the next order, or for the answer of the host function that is asked for. */
+static void wait_for_message(tegvurn *m) {
+  struct bytes fields = fields_heard(m);
+  bool is_call = fields.left && number_at(m->heard.at + NUMBER) == REQUEST_CALL;
+  if (is_call) next_number(&fields);
+  m->lent_size = is_call ? next_number(&fields) : 0;
+  if (m->lent_size) {
+    start_message(m, ANSWER_PUT);
+    add_number(m, 0);
+    end_message(m, m->lent_size);
+    m->lends = true;
+  } else {
+    leave(m, is_call ? ASKS : WAITS);
+  }
+}
+
+/* The callback runs in here, over the lent memory, which has to be read in one piece. */
+static ssize_t lend(tegvurn *m, uint8_t *memory, size_t size) {
+  bool is_whole = size == m->lent_size;
+  m->lends = false;
+  m->lent = memory;
+  if (is_whole) leave(m, ASKS);
+  else m->heard.size = 0;
+  m->lent = NULL;
+  return is_whole ? (ssize_t)size : -1;
+}
+
+__attribute__((visibility("hidden"))) ssize_t tegvurn_read(int descriptor, void *to, size_t size) {
+  tegvurn *m = running;
+  (void)descriptor;
+  if (!size) return 0;
+  if (!m->rest.left && !m->behind.left && m->lends) return lend(m, to, size);
+  if (!m->rest.left && !m->behind.left) wait_for_message(m);
+  struct bytes *from = m->rest.left ? &m->rest : &m->behind;
+  size_t some = size < from->left ? size : from->left;
+  if (some) memcpy(to, from->at, some);
+  from->at += some;
+  from->left -= some;
+  return (ssize_t)some;
+}
+
+/* Host functions */
+
+/* Answers the host function that is asked for. The room of its values was made with the embedding. */
+static void answer_host_call(tegvurn *m) {
+  struct bytes fields = fields_heard(m);
+  const struct host *host = &m->hosts[next_number(&fields)];
+  next_number(&fields);
+  for (size_t i = 0; i < host->param_count; i++) m->args[i] = next_value(&fields);
+  memset(m->results, 0, host->result_count * sizeof *m->results);
+  tegvurn_host_call call = {m->args, host->param_count, m->results, host->result_count, m->lent, m->lent_size, 0};
+  bool is_done = host->callback(host->context, &call);
+  start_message(m, is_done ? ANSWER_RESULTS : ANSWER_TRAP);
+  if (is_done) add_values(m, m->results, host->result_count);
+  else add_number(m, call.trap);
+  end_message(m, 0);
+}
+
+/* Runs the proved code until it has replied, and its host functions meanwhile. */
+static void run(tegvurn *m) {
+  for (;;) {
+    running = m;
+    go_in(&m->stack);
+    if (m->state != ASKS) return;
+    answer_host_call(m);
+  }
+}
+
+/* How calls end */
+
+struct wording { const char *name, *text; };
+static const struct wording statuses[] = {
+    {"Done", ""}, {"Refused", ""}, {"Trap", ""}, {"Exhausted", ""}, {"NotSpelt", "a text is no UTF-8, or a type is none"},
+    {"NoRoom", "the results do not fit"}, {"Busy", "the embedding is busy"}, {"Over", "the embedding has ended"}};
+static const struct wording refusals[] = {
+    {"", ""}, {"Malformed", ""}, {"Unsupported", ""}, {"Limit", ""}, {"Invalid", ""}, {"UnknownModule", ""}, {"UnknownImport", ""},
+    {"IncompatibleImport", ""}, {"UnknownInstance", ""}, {"UnknownExport", ""}, {"WrongKind", ""}, {"BadArguments", ""}, {"NameTaken", ""},
+    {"OutOfMemory", "out of memory"}, {"HostFuncRef", ""}, {"NotJson", ""}, {"BadCommand", ""}, {"MissingFile", ""}, {"BadSetup", ""}};
+static const struct wording traps[] = {
+    {"", ""}, {"Unreachable", "unreachable"}, {"DivideByZero", "integer divide by zero"}, {"IntegerOverflow", "integer overflow"},
+    {"MemoryBounds", "out of bounds memory access"}, {"TableBounds", "out of bounds table access"},
+    {"UndefinedElement", "undefined element"}, {"UninitializedElement", "uninitialized element"},
+    {"IndirectType", "indirect call type mismatch"}, {"Host", "host trap"}};
+static const struct wording exhaustions[] = {{"", ""}, {"Fuel", "out of fuel"}, {"Depth", "out of depth"}, {"Memory", "out of memory"}};
+
+#define WORDING(words, number) ((words)[(number) < sizeof(words) / sizeof *(words) ? (number) : 0])
+
+/* Bytes as the text of an end. They are cut in front of a character that does not fit. */
+static void set_text(tegvurn_end *end, const void *bytes, size_t size) {
+  if (size >= sizeof end->text) {
+    size = sizeof end->text - 1;
+    while (size && (((const uint8_t *)bytes)[size] & 0xC0) == 0x80) size--;
+  }
+  memcpy(end->text, bytes, size);
+  end->text[size] = 0;
+}
+
+static tegvurn_status set_end(tegvurn_end *end, tegvurn_status status, uint64_t number, struct wording wording) {
+  end->status = status;
+  end->number = (uint32_t)number;
+  end->name = wording.name;
+  end->place = TEGVURN_NOWHERE;
+  end->at = 0;
+  end->code = 0;
+  set_text(end, wording.text, strlen(wording.text));
+  return status;
+}
+
+static tegvurn_status end_plainly(tegvurn_end *end, tegvurn_status status) { return set_end(end, status, 0, statuses[status]); }
+
+static tegvurn_status end_without_memory(tegvurn_end *end) {
+  return set_end(end, TEGVURN_REFUSED, TEGVURN_OUT_OF_MEMORY, refusals[TEGVURN_OUT_OF_MEMORY]);
+}
+
+/* Says that the proved code has ended. */
+static tegvurn_status end_as_over(tegvurn *m) {
+  return set_end(&m->end, TEGVURN_OVER, m->served == NO_MEMORY ? TEGVURN_OUT_OF_MEMORY : 0, statuses[TEGVURN_OVER]);
+}
+
+static tegvurn_status end_as_refused(tegvurn_end *end, uint64_t number, struct bytes fields) {
+  set_end(end, TEGVURN_REFUSED, number, WORDING(refusals, number));
+  end->place = (tegvurn_place)next_number(&fields);
+  end->at = next_number(&fields);
+  set_text(end, fields.at, fields.left);
+  return TEGVURN_REFUSED;
+}
+
+static tegvurn_status end_as_replied(tegvurn *m) {
+  tegvurn_end *end = &m->end;
+  if (m->heard.size < HEAD) return end_as_over(m);
+  uint64_t kind = number_at(m->heard.at + NUMBER);
+  struct bytes fields = fields_heard(m);
+  if (kind <= REPLY_VALUES || kind == REPLY_EXPORTS || kind == REPLY_REPORT) return end_plainly(end, TEGVURN_DONE);
+  uint64_t number = next_number(&fields);
+  if (kind == REPLY_TRAP) {
+    set_end(end, TEGVURN_TRAP, number, WORDING(traps, number));
+    end->code = (uint32_t)next_number(&fields);
+    return TEGVURN_TRAP;
+  }
+  if (kind == REPLY_EXHAUSTED) return set_end(end, TEGVURN_EXHAUSTED, number, WORDING(exhaustions, number));
+  if (kind == REPLY_REFUSED) return end_as_refused(end, number, fields);
+  return kind == REPLY_NOT_SPELT ? end_plainly(end, TEGVURN_NOT_SPELT) : end_as_over(m);
+}
+
+/* Orders */
+
+/* Whether the embedding may be called now: done, busy or over. */
+static tegvurn_status enter(tegvurn *m) {
+  if (m->owner != &running || m->is_busy) return TEGVURN_BUSY;
+  return m->state == AT_END ? end_as_over(m) : TEGVURN_DONE;
+}
+
+/* Starts an order, and makes room for its fields. */
+static tegvurn_status start_order(tegvurn *m, enum order order, size_t room) {
+  tegvurn_status status = enter(m);
+  if (status) return status;
+  if (!reserve(&m->said, HEAD + room)) return end_without_memory(&m->end);
+  start_message(m, order);
+  return TEGVURN_DONE;
+}
+
+/* Has the order done. Its last bytes may lie elsewhere. */
+static tegvurn_status send_order(tegvurn *m, const void *bytes, size_t size) {
+  m->behind = (struct bytes){bytes, size};
+  end_message(m, 0);
+  m->is_busy = true;
+  run(m);
+  m->is_busy = false;
+  return end_as_replied(m);
+}
+
+/* Has an order done that has at most one number, and bytes. */
+static tegvurn_status send_short(tegvurn *m, enum order order, const uint64_t *number, const void *bytes, size_t size) {
+  tegvurn_status status = start_order(m, order, NUMBER);
+  if (status) return status;
+  if (number) add_number(m, *number);
+  return send_order(m, bytes, size);
+}
+
+/* Takes the number that was heard, if the order was done. */
+static tegvurn_status take_number(const tegvurn *m, tegvurn_status status, uint64_t *number) {
+  if (!status) *number = number_at(m->heard.at + HEAD);
+  return status;
+}
+
+/* Making and freeing */
+
+/* Keeps the host functions, and makes room for their requests and answers. */
+static bool make_hosts(tegvurn *m, const tegvurn_host *hosts, size_t count) {
+  size_t params = 1, results = 1;
+  m->hosts = calloc(count + 1, sizeof *m->hosts);
+  if (!m->hosts) return false;
+  for (size_t i = 0; i < count; i++) {
+    m->hosts[i] = (struct host){hosts[i].callback, hosts[i].context, hosts[i].param_count, hosts[i].result_count};
+    if (params < hosts[i].param_count) params = hosts[i].param_count;
+    if (results < hosts[i].result_count) results = hosts[i].result_count;
+  }
+  m->args = calloc(params, sizeof *m->args);
+  m->results = calloc(results, sizeof *m->results);
+  return m->args && m->results && reserve(&m->heard, HEAD + 2 * NUMBER + params * VALUE) && reserve(&m->said, HEAD + results * VALUE);
+}
+
+static tegvurn_status define(tegvurn *m, const tegvurn_host *host) {
+  size_t size = host->module.size + host->name.size + (4 + host->param_count + host->result_count) * NUMBER;
+  tegvurn_status status = start_order(m, ORDER_DEFINE, size);
+  if (status) return status;
+  add_text(m, host->module);
+  add_text(m, host->name);
+  add_types(m, host->params, host->param_count);
+  add_types(m, host->results, host->result_count);
+  return send_order(m, NULL, 0);
+}
+
+static tegvurn_status begin(tegvurn *m, const tegvurn_config *config, const tegvurn_host *hosts, size_t host_count) {
+  tegvurn_status status = TEGVURN_DONE;
+  if (!make_hosts(m, hosts, host_count) || !make_stack(&m->stack, serve_inside)) return end_without_memory(&m->end);
+  for (size_t i = 0; i < host_count && !status; i++) status = define(m, &hosts[i]);
+  if (!status) status = start_order(m, ORDER_BEGIN, 4 * NUMBER);
+  if (status) return status;
+  add_number(m, config->fuel);
+  add_number(m, config->depth);
+  add_number(m, config->pages);
+  add_number(m, config->entries);
+  return send_order(m, NULL, 0);
+}
+
+tegvurn_status tegvurn_new(const tegvurn_config *config, const tegvurn_host *hosts, size_t host_count, tegvurn **embedding,
+                           tegvurn_end *end) {
+  tegvurn_end unwanted;
+  if (!end) end = &unwanted;
+  *embedding = NULL;
+  tegvurn *m = calloc(1, sizeof *m);
+  if (!m) return end_without_memory(end);
+  m->owner = &running;
+  tegvurn_status status = begin(m, config, hosts, host_count);
+  if (status == TEGVURN_OVER && m->served == NO_MEMORY) status = end_without_memory(&m->end);
+  *end = m->end;
+  if (status) tegvurn_free(m);
+  else *embedding = m;
+  return status;
+}
+
+tegvurn_status tegvurn_free(tegvurn *m) {
+  if (!m) return TEGVURN_DONE;
+  if (enter(m) == TEGVURN_BUSY) return TEGVURN_BUSY;
+  if (m->state == WAITS) send_short(m, ORDER_END, NULL, NULL, 0);
+  drop_stack(&m->stack);
+  free(m->said.at);
+  free(m->heard.at);
+  free(m->hosts);
+  free(m->args);
+  free(m->results);
+  free(m);
+  return TEGVURN_DONE;
+}
+
+const tegvurn_end *tegvurn_last(const tegvurn *m) { return &m->end; }
+
+/* The other calls */
+
+tegvurn_status tegvurn_load(tegvurn *m, const void *bytes, size_t size, uint64_t *module) {
+  return take_number(m, send_short(m, ORDER_LOAD, NULL, bytes, size), module);
+}
+
+tegvurn_status tegvurn_link(tegvurn *m, uint64_t module, uint64_t *instance) {
+  return take_number(m, send_short(m, ORDER_LINK, &module, NULL, 0), instance);
+}
+
+tegvurn_status tegvurn_register(tegvurn *m, uint64_t instance, tegvurn_text name) {
+  return send_short(m, ORDER_REGISTER, &instance, name.bytes, name.size);
+}
+
+/* Takes the values that were heard, as many as there is room for. Answers how many there are. */
+static size_t take_values(const tegvurn *m, tegvurn_value *values, size_t room) {
+  struct bytes fields = fields_heard(m);
+  size_t count = (m->heard.size - HEAD) / VALUE;
+  for (size_t i = 0; i < room && i < count; i++) values[i] = next_value(&fields);
+  return count;
+}
+
+tegvurn_status tegvurn_call(tegvurn *m, uint64_t instance, tegvurn_text name, const tegvurn_value *args, size_t arg_count,
+                            tegvurn_value *results, size_t room, size_t *result_count) {
+  size_t unwanted, *count = result_count ? result_count : &unwanted;
+  *count = 0;
+  tegvurn_status status = start_order(m, ORDER_CALL, 2 * NUMBER + name.size + arg_count * VALUE);
+  if (status) return status;
+  /* With room for the results no memory is wanted behind the call. */
+  if (!reserve(&m->heard, HEAD + room * VALUE)) return end_without_memory(&m->end);
+  add_number(m, instance);
+  add_text(m, name);
+  add_values(m, args, arg_count);
+  status = send_order(m, NULL, 0);
+  if (!status) *count = take_values(m, results, room);
+  return *count > room ? end_plainly(&m->end, TEGVURN_NO_ROOM) : status;
+}
+
+tegvurn_status tegvurn_get_global(tegvurn *m, uint64_t instance, tegvurn_text name, tegvurn_value *value) {
+  tegvurn_status status = send_short(m, ORDER_GET_GLOBAL, &instance, name.bytes, name.size);
+  if (!status) take_values(m, value, 1);
+  return status;
+}
+
+tegvurn_status tegvurn_set_fuel(tegvurn *m, uint64_t fuel) { return send_short(m, ORDER_SET_FUEL, &fuel, NULL, 0); }
+
+tegvurn_status tegvurn_fuel_left(tegvurn *m, uint64_t *fuel) {
+  return take_number(m, send_short(m, ORDER_FUEL_LEFT, NULL, NULL, 0), fuel);
+}
+
+/* Exports */
+
+/* Where the types and the names of exports are put next. */
+struct export_room { tegvurn_type *types; char *names; };
+
+static tegvurn_text next_name(struct bytes *fields, struct export_room *room) {
+  tegvurn_text name = {room->names, next_number(fields)};
+  if (name.size > fields->left) name.size = fields->left;
+  memcpy(room->names, fields->at, name.size);
+  room->names[name.size] = 0;
+  room->names += name.size + 1;
+  fields->at += name.size;
+  fields->left -= name.size;
+  return name;
+}
+
+static const tegvurn_type *next_types(struct bytes *fields, struct export_room *room, size_t *count) {
+  tegvurn_type *types = room->types;
+  *count = next_number(fields);
+  if (*count > fields->left / NUMBER) *count = fields->left / NUMBER;
+  for (size_t i = 0; i < *count; i++) *room->types++ = (tegvurn_type)next_number(fields);
+  return types;
+}
+
+static tegvurn_export next_export(struct bytes *fields, struct export_room *room) {
+  tegvurn_export export = {.name = next_name(fields, room)};
+  export.kind = (tegvurn_kind)next_number(fields);
+  bool is_table = export.kind == TEGVURN_A_TABLE, is_global = export.kind == TEGVURN_A_GLOBAL;
+  if (export.kind == TEGVURN_A_FUNCTION) {
+    export.params = next_types(fields, room, &export.param_count);
+    export.results = next_types(fields, room, &export.result_count);
+  }
+  if (is_table || is_global) export.type = (tegvurn_type)next_number(fields);
+  if (is_global) export.is_mutable = next_number(fields) == 1;
+  if (is_table || export.kind == TEGVURN_A_MEMORY) {
+    export.minimum = next_number(fields);
+    export.has_maximum = next_number(fields) == 1;
+    export.maximum = next_number(fields);
+  }
+  return export;
+}
+
+/* The exports that were heard, in one piece of memory: room for the most exports that so many bytes can be, the most types, and names. */
+static tegvurn_export *take_exports(struct bytes fields, size_t *count) {
+  size_t exports_most = fields.left / SMALLEST_EXPORT + 1, types_most = fields.left / NUMBER, name_bytes = fields.left + exports_most;
+  tegvurn_export *exports = malloc(exports_most * sizeof *exports + types_most * sizeof(tegvurn_type) + name_bytes);
+  if (!exports) return NULL;
+  tegvurn_type *types = (tegvurn_type *)(exports + exports_most);
+  struct export_room room = {types, (char *)(types + types_most)};
+  for (*count = 0; fields.left; ++*count) exports[*count] = next_export(&fields, &room);
+  return exports;
+}
+
+tegvurn_status tegvurn_exports(tegvurn *m, uint64_t instance, tegvurn_export **exports, size_t *count) {
+  tegvurn_status status = send_short(m, ORDER_EXPORTS, &instance, NULL, 0);
+  if (status) return status;
+  *exports = m->is_cut ? NULL : take_exports(fields_heard(m), count);
+  return *exports ? status : end_without_memory(&m->end);
+}
+
+void tegvurn_exports_free(tegvurn_export *exports) { free(exports); }
+
+/* Scripts */
+
+static tegvurn_status hand_in_file(tegvurn *m, const tegvurn_file *file) {
+  tegvurn_status status = start_order(m, ORDER_FILE, NUMBER + file->name.size);
+  if (status) return status;
+  add_text(m, file->name);
+  return send_order(m, file->bytes, file->size);
+}
+
+/* Has the files forgotten that were handed in: a script that is no JSON text changes nothing else. How the call ended stays. */
+static void forget_files(tegvurn *m) {
+  tegvurn_end end = m->end;
+  send_short(m, ORDER_SCRIPT, NULL, NULL, 0);
+  m->end = end;
+}
+
+static void take_report(tegvurn *m, tegvurn_report *report) {
+  struct bytes fields = fields_heard(m);
+  report->passed = next_number(&fields);
+  report->failed = next_number(&fields);
+  report->skipped = next_number(&fields);
+  /* Each line is written in the place of its bytes. */
+  uint64_t *lines = (uint64_t *)(void *)(m->heard.at + HEAD + 3 * NUMBER);
+  report->failed_lines = lines;
+  for (size_t i = 0; fields.left; i++) lines[i] = next_number(&fields);
+}
+
+tegvurn_status tegvurn_script(tegvurn *m, const void *json, size_t size, const tegvurn_file *files, size_t file_count,
+                              tegvurn_report *report) {
+  tegvurn_status status = enter(m);
+  /* No command has fewer bytes than the line of one that failed, so no memory is wanted behind the script. */
+  if (!status && !reserve(&m->heard, HEAD + 3 * NUMBER + size)) status = end_without_memory(&m->end);
+  if (status) return status;
+  for (size_t i = 0; i < file_count && !status; i++) status = hand_in_file(m, &files[i]);
+  if (status) forget_files(m);
+  else status = send_short(m, ORDER_SCRIPT, NULL, json, size);
+  if (!status) take_report(m, report);
+  return status;
+}

@@ -1,0 +1,287 @@
+/* Tegvurn for C and C++: WebAssembly modules are loaded, linked and called within a fuel, by an engine that is proved.
+
+   An embedding (`tegvurn`) holds a store: modules and instances, each numbered from 0, and the host functions that it was made with.
+
+   What is passed in is used during the call alone, so it may be freed behind it; but callbacks, and what their contexts point to, have to
+   live until `tegvurn_free`. What comes out is the caller's, but where it says that the embedding keeps it.
+
+   An embedding is called by the thread that made it. Different embeddings are independent, on one thread or on several. A call from another
+   thread, and a call from inside of one of the embedding's own callbacks, is answered `TEGVURN_BUSY`, and does nothing. */
+#ifndef TEGVURN_H
+#define TEGVURN_H
+
+#include <stdbool.h>
+#include <stddef.h>
+#include <stdint.h>
+#include <string.h>
+
+#ifdef __cplusplus
+extern "C" {
+#endif
+
+#define TEGVURN_API __attribute__((visibility("default")))
+
+/* An embedding. */
+typedef struct tegvurn tegvurn;
+
+/* A text: so many bytes of UTF-8, of which any may be 0. */
+typedef struct tegvurn_text {
+  const char *bytes;
+  size_t size;
+} tegvurn_text;
+
+/* The text of a string that ends with a zero byte. It points into the string. */
+static inline tegvurn_text tegvurn_string(const char *string) {
+  tegvurn_text text;
+  text.bytes = string;
+  text.size = strlen(string);
+  return text;
+}
+
+/* The types of values, with the numbers of the binary format. */
+typedef enum tegvurn_type {
+  TEGVURN_I32 = 127,
+  TEGVURN_I64 = 126,
+  TEGVURN_FUNCREF = 112,
+  TEGVURN_EXTERNREF = 111
+} tegvurn_type;
+
+/* A value: its type, and one member of the union. Integers have no sign; a cast gives them one. */
+typedef struct tegvurn_value {
+  tegvurn_type type;
+  bool is_null; /* a reference to nothing: `ref` is not looked at */
+  union {
+    uint32_t i32;
+    uint64_t i64;
+    uint32_t ref; /* a funcref or an externref: a funcref is the number of a function of the store, an externref is any number */
+  };
+} tegvurn_value;
+
+static inline tegvurn_value tegvurn_i32(uint32_t number) {
+  tegvurn_value value;
+  value.type = TEGVURN_I32;
+  value.is_null = false;
+  value.i64 = 0;
+  value.i32 = number;
+  return value;
+}
+
+static inline tegvurn_value tegvurn_i64(uint64_t number) {
+  tegvurn_value value;
+  value.type = TEGVURN_I64;
+  value.is_null = false;
+  value.i64 = number;
+  return value;
+}
+
+/* A reference of a type: a funcref comes out of a call or a global of the same embedding. */
+static inline tegvurn_value tegvurn_ref(tegvurn_type type, uint32_t number) {
+  tegvurn_value value;
+  value.type = type;
+  value.is_null = false;
+  value.i64 = 0;
+  value.ref = number;
+  return value;
+}
+
+static inline tegvurn_value tegvurn_null(tegvurn_type type) {
+  tegvurn_value value;
+  value.type = type;
+  value.is_null = true;
+  value.i64 = 0;
+  return value;
+}
+
+/* How a call of the library ended. */
+typedef enum tegvurn_status {
+  TEGVURN_DONE = 0,
+  TEGVURN_REFUSED = 1,   /* nothing has changed: a `tegvurn_refusal` says why */
+  TEGVURN_TRAP = 2,      /* a function trapped: a `tegvurn_trap` says how; what it did before stays */
+  TEGVURN_EXHAUSTED = 3, /* a function ran out of something: a `tegvurn_exhaustion` says of what; what it did before stays */
+  TEGVURN_NOT_SPELT = 4, /* a text is no UTF-8, or a type is none: nothing has changed */
+  TEGVURN_NO_ROOM = 5,   /* the function was called, but not all of its results fit */
+  TEGVURN_BUSY = 6,      /* nothing was done: see the top of this page */
+  TEGVURN_OVER = 7       /* the embedding has ended, for want of memory or by a fault of the library: all that is left is to free it */
+} tegvurn_status;
+
+/* Why a call is refused. */
+typedef enum tegvurn_refusal {
+  TEGVURN_MALFORMED = 1,            /* the bytes spell no module; the place is the byte where reading failed */
+  TEGVURN_UNSUPPORTED = 2,          /* the bytes use what is left out, from the byte of the place on */
+  TEGVURN_LIMIT = 3,                /* a limit is passed */
+  TEGVURN_INVALID = 4,              /* no typing accepts the module, in the place */
+  TEGVURN_UNKNOWN_MODULE = 5,
+  TEGVURN_UNKNOWN_IMPORT = 6,       /* the names of the import of the place stand for nothing */
+  TEGVURN_INCOMPATIBLE_IMPORT = 7,  /* what the import of the place names is of another type */
+  TEGVURN_UNKNOWN_INSTANCE = 8,
+  TEGVURN_UNKNOWN_EXPORT = 9,
+  TEGVURN_WRONG_KIND = 10,          /* what is exported is no function, or no global */
+  TEGVURN_BAD_ARGUMENTS = 11,       /* they are not those of the function */
+  TEGVURN_NAME_TAKEN = 12,          /* a host function has the name */
+  TEGVURN_OUT_OF_MEMORY = 13,
+  TEGVURN_HOST_FUNCREF = 14,        /* a host function has a funcref result */
+  TEGVURN_NOT_JSON = 15,            /* a script is no JSON text */
+  TEGVURN_BAD_COMMAND = 16,         /* the command of the place has not its form */
+  TEGVURN_MISSING_FILE = 17,        /* the file of the command of the place is not there */
+  TEGVURN_BAD_SETUP = 18            /* a number of the configuration is out of its range */
+} tegvurn_refusal;
+
+typedef enum tegvurn_trap {
+  TEGVURN_UNREACHABLE = 1,
+  TEGVURN_DIVIDE_BY_ZERO = 2,
+  TEGVURN_INTEGER_OVERFLOW = 3,
+  TEGVURN_MEMORY_BOUNDS = 4,
+  TEGVURN_TABLE_BOUNDS = 5,
+  TEGVURN_UNDEFINED_ELEMENT = 6,
+  TEGVURN_UNINITIALIZED_ELEMENT = 7,
+  TEGVURN_INDIRECT_TYPE = 8, /* the type of an indirect call */
+  TEGVURN_HOST_TRAP = 9      /* a host function's, with its code */
+} tegvurn_trap;
+
+typedef enum tegvurn_exhaustion { TEGVURN_FUEL = 1, TEGVURN_DEPTH = 2, TEGVURN_MEMORY = 3 } tegvurn_exhaustion;
+
+/* Kinds of places. Each counts from 0. */
+typedef enum tegvurn_place {
+  TEGVURN_NOWHERE = 0,
+  TEGVURN_BYTE = 1,     /* of the module */
+  TEGVURN_IMPORT = 2,
+  TEGVURN_SECTION = 3,  /* by its id */
+  TEGVURN_FUNCTION = 4, /* among the module's own */
+  TEGVURN_COMMAND = 5   /* of the script */
+} tegvurn_place;
+
+/* The code of the trap where the results of a host function have not the declared types. */
+#define TEGVURN_WRONG_RESULTS 0xFFFFFFFFu
+
+/* How a call ended, in full. */
+typedef struct tegvurn_end {
+  tegvurn_status status;
+  uint32_t number;     /* a `tegvurn_refusal`, `tegvurn_trap` or `tegvurn_exhaustion`, by the status; else 0, but `TEGVURN_OUT_OF_MEMORY`
+                          where the embedding has ended for want of memory */
+  const char *name;    /* of that number or status: "Malformed", "DivideByZero", "Fuel", "Done"; it lives for ever */
+  tegvurn_place place; /* where, of a refusal */
+  uint64_t at;         /* which of them, or 0 */
+  uint32_t code;       /* of a host function's trap; else 0 */
+  char text[128];      /* in words, as "malformed module at byte 11"; cut there if it is longer */
+} tegvurn_end;
+
+/* The bounds of an embedding. */
+typedef struct tegvurn_config {
+  uint64_t fuel;    /* at first */
+  uint32_t depth;   /* open frames at most: 1 to 65,535 */
+  uint32_t pages;   /* pages of a memory at most: 0 to 65,536 */
+  uint32_t entries; /* entries of a table at most: 0 to 10,000,000 */
+} tegvurn_config;
+
+/* One call of a host function. */
+typedef struct tegvurn_host_call {
+  const tegvurn_value *args;
+  size_t arg_count;
+  tegvurn_value *results; /* to be written, with the declared types: they have no type before */
+  size_t result_count;
+  uint8_t *memory; /* the bytes of the calling instance's memory, or NULL where it has none or an empty one */
+  size_t memory_size;
+  uint32_t trap; /* to be written, with a trap's code, where the answer is false */
+} tegvurn_host_call;
+
+/* What a host function does: true where the results are there, false for a trap. It runs on the caller's stack, inside of the call that
+   runs the module. It may read and write the lent memory until it returns, and not later. It has to return: no longjmp and no exception may
+   leave it; where one does, the embedding stays busy for ever. It may call other embeddings, and not its own. */
+typedef bool (*tegvurn_callback)(void *context, tegvurn_host_call *call);
+
+/* A host function: what modules import it by, its type, what it does, and what its calls get as their context. */
+typedef struct tegvurn_host {
+  tegvurn_text module;
+  tegvurn_text name;
+  const tegvurn_type *params;
+  size_t param_count;
+  const tegvurn_type *results;
+  size_t result_count;
+  tegvurn_callback callback;
+  void *context;
+} tegvurn_host;
+
+/* Makes an embedding with these host functions. *embedding is NULL where it is refused; *end, if it is not NULL, says why. */
+TEGVURN_API tegvurn_status tegvurn_new(const tegvurn_config *config, const tegvurn_host *hosts, size_t host_count,
+                                       tegvurn **embedding, tegvurn_end *end);
+
+/* Frees an embedding; NULL is done at once. Where the answer is `TEGVURN_BUSY` it is not freed. */
+TEGVURN_API tegvurn_status tegvurn_free(tegvurn *embedding);
+
+/* How the last call ended that was not answered `TEGVURN_BUSY`. The embedding keeps it, up to its next call. For its own thread alone. */
+TEGVURN_API const tegvurn_end *tegvurn_last(const tegvurn *embedding);
+
+/* Loads a module, and gives its number. */
+TEGVURN_API tegvurn_status tegvurn_load(tegvurn *embedding, const void *bytes, size_t size, uint64_t *module);
+
+/* Links a module to the host functions and to what registered instances export, runs its start function, and gives the instance's number. */
+TEGVURN_API tegvurn_status tegvurn_link(tegvurn *embedding, uint64_t module, uint64_t *instance);
+
+/* Registers an instance under a name, by which modules that are linked later import from it. */
+TEGVURN_API tegvurn_status tegvurn_register(tegvurn *embedding, uint64_t instance, tegvurn_text name);
+
+/* Calls an exported function. There is room for so many results; *result_count, if it is not NULL, is how many there are. Where they do not
+   fit, the first of them are there. */
+TEGVURN_API tegvurn_status tegvurn_call(tegvurn *embedding, uint64_t instance, tegvurn_text name, const tegvurn_value *args,
+                                        size_t arg_count, tegvurn_value *results, size_t room, size_t *result_count);
+
+/* Gives the value of an exported global. */
+TEGVURN_API tegvurn_status tegvurn_get_global(tegvurn *embedding, uint64_t instance, tegvurn_text name, tegvurn_value *value);
+
+TEGVURN_API tegvurn_status tegvurn_set_fuel(tegvurn *embedding, uint64_t fuel);
+TEGVURN_API tegvurn_status tegvurn_fuel_left(tegvurn *embedding, uint64_t *fuel);
+
+/* What can be exported. */
+typedef enum tegvurn_kind {
+  TEGVURN_A_FUNCTION = 0,
+  TEGVURN_A_TABLE = 1,
+  TEGVURN_A_MEMORY = 2,
+  TEGVURN_A_GLOBAL = 3
+} tegvurn_kind;
+
+/* An export: its name, behind which stands a zero byte, and its type. */
+typedef struct tegvurn_export {
+  tegvurn_text name;
+  tegvurn_kind kind;
+  const tegvurn_type *params; /* of a function */
+  size_t param_count;
+  const tegvurn_type *results;
+  size_t result_count;
+  tegvurn_type type; /* of a global's value, or of a table's references */
+  bool is_mutable;   /* a global */
+  uint64_t minimum;  /* entries of a table or pages of a memory, now */
+  bool has_maximum;
+  uint64_t maximum;
+} tegvurn_export;
+
+/* Gives what an instance exports: nothing where there is no such instance. The caller frees *exports, with all that its members point to,
+   by `tegvurn_exports_free`. */
+TEGVURN_API tegvurn_status tegvurn_exports(tegvurn *embedding, uint64_t instance, tegvurn_export **exports, size_t *count);
+TEGVURN_API void tegvurn_exports_free(tegvurn_export *exports);
+
+/* A file of a script. */
+typedef struct tegvurn_file {
+  tegvurn_text name;
+  const void *bytes;
+  size_t size;
+} tegvurn_file;
+
+/* How many commands of a script passed, failed and were skipped, and the line of each that failed. The embedding keeps the lines, up to its
+   next call. */
+typedef struct tegvurn_report {
+  uint64_t passed;
+  uint64_t failed;
+  uint64_t skipped;
+  const uint64_t *failed_lines;
+} tegvurn_report;
+
+/* Runs a script, a command file as wast2json writes it, with the files that it names. Where it is refused, its first commands may have been
+   done. */
+TEGVURN_API tegvurn_status tegvurn_script(tegvurn *embedding, const void *json, size_t size, const tegvurn_file *files, size_t file_count,
+                                          tegvurn_report *report);
+
+#ifdef __cplusplus
+}
+#endif
+
+#endif

@@ -1,0 +1,163 @@
+"""The rows of bindings/rows.txt, which says what they mean, for the tests: reading them, their host functions, and comparing answers."""
+import collections
+import os
+
+ROWS = os.path.join(os.path.dirname(os.path.abspath(__file__)), "../rows.txt")
+
+# A row: the line it stands in, the words of its command, and its answer.
+Row = collections.namedtuple("Row", "line words answer")
+# A host function: it gets what is lent (size, read, put) and the numbers of its arguments, and gives values.
+Host = collections.namedtuple("Host", "module name parameters results function")
+
+
+class HostTrap(Exception):
+    """A host function traps with a code."""
+
+
+def read_rows():
+    """The modules by their names, and the rows."""
+    modules, rows = {}, []
+    with open(ROWS, encoding="utf-8") as file:
+        for number, line in enumerate(file, 1):
+            words = line.split(" -> ")[0].split()
+            if " -> " in line and words[0] != "#":
+                rows.append(Row(number, words, line.split(" -> ")[1].strip()))
+            elif words and words[0] == "module":
+                modules[words[1]] = bytes.fromhex(words[2])
+    return modules, rows
+
+
+class StandardHosts:
+    """The standard host functions, with their state."""
+
+    def __init__(self):
+        self.calls, self.logged = 0, b""
+
+    def count(self, _):
+        self.calls += 1
+        return [("i32", self.calls)]
+
+    def log(self, lent, start, length):
+        if start + length > lent.size:
+            raise HostTrap(7)
+        self.logged += lent.read(start, length)
+        return []
+
+    def fill(self, lent, start, length, byte):
+        if start + length > lent.size:
+            raise HostTrap(8)
+        lent.put(start, bytes([byte]) * length)
+        return []
+
+    def fail(self, _, code):
+        raise HostTrap(code)
+
+    def all(self):
+        """The host functions in their order."""
+        return [
+            Host("env", "count", [], ["i32"], self.count),
+            Host("env", "add", ["i32", "i32"], ["i32"], lambda _, first, second: [("i32", (first + second) % 2**32)]),
+            Host("env", "swap", ["i64", "i32"], ["i32", "i64"], lambda _, first, second: [("i32", second), ("i64", first)]),
+            Host("env", "log", ["i32", "i32"], [], self.log),
+            Host("env", "fill", ["i32", "i32", "i32"], [], self.fill),
+            Host("env", "fail", ["i32"], [], self.fail),
+            Host("env", "wrong", [], ["i32"], lambda _: [("i64", 0)]),
+            Host("env", "echo", ["externref"], ["externref"], lambda _, reference: [("externref", reference)]),
+        ]
+
+
+def read_types(text):
+    """The types that `func(i32,i64)(i32)` spells: those of the parameters, and those of the results."""
+    return [[name for name in part.split(",") if name] for part in text[len("func(") : -1].split(")(")]
+
+
+def read_value(word):
+    """The value that `i32:5` or `funcref:null` spells."""
+    name, number = word.split(":")
+    return name, None if number == "null" else int(number)
+
+
+def show_list(words):
+    """Words with blanks between them."""
+    return " ".join(words) or "nothing"
+
+
+def show_values(values):
+    """Values as rows have them."""
+    return show_list(f"{name}:{'null' if number is None else number}" for name, number in values)
+
+
+def show_type(kind, *parts):
+    """The type of an export as rows have it: of texts, numbers, none, and lists of types for a function."""
+    if kind == "func":
+        return "func" + "".join(f"({','.join(types)})" for types in parts)
+    return f"{kind}({','.join(str(part).lower() for part in parts)})"
+
+
+class Rows:
+    """Runs the rows. `begin(setup, hosts)` gives what answers the commands of an embedding, and how it began."""
+
+    def __init__(self, begin):
+        self.begin, self.embedding, self.hosts = begin, None, None
+        self.modules, self.rows = read_rows()
+
+    def new(self, words):
+        """Begins a fresh embedding."""
+        self.close()
+        self.hosts = StandardHosts()
+        hosts = self.hosts.all()
+        if len(words) > 4:
+            hosts.append(Host(*words[4:6], *read_types(words[6]), None))
+        self.embedding, answer = self.begin([int(word) for word in words[:4]], hosts)
+        return answer
+
+    def script(self, words):
+        """Runs a script."""
+        files = [word.split("=") for word in words[1:]]
+        return self.embedding.script(bytes.fromhex(words[0]), [(file, self.modules[name]) for file, name in files])
+
+    def answer(self, command, *words):
+        """What is answered to a command."""
+        if command == "new":
+            return self.new(words)
+        if command == "load":
+            return self.embedding.load(self.modules[words[0]])
+        if command == "call":
+            return self.embedding.call(int(words[0]), words[1], [read_value(word) for word in words[2:]])
+        if command == "script":
+            return self.script(words)
+        if command == "logged":
+            return self.hosts.logged.hex() or "nothing"
+        return getattr(self.embedding, command)(*(int(word) if word.isdigit() else word for word in words))
+
+    def close(self):
+        """Ends the embedding, if there is one."""
+        if self.embedding:
+            self.embedding.close()
+        self.embedding = None
+
+    def run(self, tests):
+        """Runs all rows, each of them a test."""
+        for row in self.rows:
+            tests.equal(self.answer(*row.words), row.answer, f"rows.txt, line {row.line}: {' '.join(row.words)[:80]}")
+        self.close()
+
+
+class Tests:
+    """Counts what passed and what failed."""
+
+    def __init__(self):
+        self.passed, self.failed = 0, 0
+
+    def equal(self, found, wanted, name):
+        """A test: what was found is what was wanted."""
+        if found == wanted:
+            self.passed += 1
+        else:
+            self.failed += 1
+            print(f"failed: {name}\n  wanted {wanted!r}\n  found  {found!r}")
+
+    def end(self):
+        """Prints the counts, and gives the status."""
+        print(f"{self.passed} passed, {self.failed} failed")
+        return 1 if self.failed or not self.passed else 0

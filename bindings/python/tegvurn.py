@@ -1,0 +1,431 @@
+"""Tegvurn for Python: WebAssembly modules are loaded, linked and called within a fuel, by an engine that is proved.
+
+    def log(memory, start, length):
+        print(bytes(memory[start : start + length]))
+        return []
+
+    with tegvurn.Embedding(fuel=1_000, hosts={("host", "log"): (tegvurn.FunctionType(["i32", "i32"], []), log)}) as embedding:
+        instance = embedding.link(embedding.load(wasm))
+        print(embedding.call(instance, "add", 1, 2))
+
+This file is all that Python needs besides the library `libtegvurn`, which it finds by an argument, by the variable TEGVURN_LIBRARY, or
+among the libraries of the system.
+
+Types are the texts "i32", "i64", "funcref" and "externref". Values are numbers, and None for a null reference; integers that come out have
+no sign, those that go in may have one. Where a type has to be said, a value is `Value("i64", 7)`.
+
+A host function gets the memory that it is lent, as a memoryview that it may write to and that is released when it returns (slices of it
+are not to be kept), and its arguments. It gives its results in a list, or raises `HostTrap(code)`. Another exception comes back from the
+call of the embedding that ran it. An embedding is used by one thread, the one that made it, and not by its own host functions: it is `Busy`
+then.
+"""
+import collections
+import ctypes
+import ctypes.util
+import itertools
+import os
+
+Value = collections.namedtuple("Value", "type number")
+FunctionType = collections.namedtuple("FunctionType", "parameters results")
+TableType = collections.namedtuple("TableType", "references minimum maximum")
+MemoryType = collections.namedtuple("MemoryType", "minimum maximum")
+GlobalType = collections.namedtuple("GlobalType", "value is_mutable")
+# How many commands of a script passed, failed and were skipped, and the lines of those that failed.
+Report = collections.namedtuple("Report", "passed failed skipped failed_lines")
+
+_NUMBERS = {"i32": 127, "i64": 126, "funcref": 112, "externref": 111}
+_NAMES = {number: name for name, number in _NUMBERS.items()}
+_PLACES = [None, "byte", "import", "section", "function", "command"]
+_DONE, _REFUSED, _TRAP, _EXHAUSTED, _NOT_SPELT, _NO_ROOM, _BUSY, _OVER = range(8)
+# The code of the trap where a host function raises an exception.
+_RAISED = 2**32 - 1
+
+
+def _bounded(number, bits):
+    """A number that fits into so many bits."""
+    if not 0 <= number < 2**bits:
+        raise ValueError(f"{number} is not from 0 to {2**bits - 1}")
+    return number
+
+
+class Error(Exception):
+    """A call of an embedding that was not done: its number and its name; the text is in words."""
+
+    def __init__(self, text, number=0, name=""):
+        super().__init__(text)
+        self.number, self.name = number, name
+
+
+class Refused(Error):
+    """Nothing has changed. The place is a kind ("byte", "import", "section", "function", "command") or None, and `at` is which of them."""
+
+    def __init__(self, text, number, name, place, at):
+        super().__init__(text, number, name)
+        self.place, self.at = place, at
+
+
+class Trap(Error):
+    """A function trapped. The code is that of a host function's trap."""
+
+    def __init__(self, text, number, name, code):
+        super().__init__(text, number, name)
+        self.code = code
+
+
+class Exhausted(Error):
+    """A function ran out of fuel, depth or memory."""
+
+
+class Busy(Error):
+    """Nothing was done: the embedding runs already, or belongs to another thread."""
+
+
+class HostTrap(Exception):
+    """A host function raises it to trap with a code of its own, from 0 to 4,294,967,295."""
+
+    def __init__(self, code):
+        super().__init__(f"a host function traps with {code}")
+        self.code = _bounded(code, 32)
+
+
+class _Text(ctypes.Structure):
+    _fields_ = [("bytes", ctypes.c_void_p), ("size", ctypes.c_size_t)]
+
+
+class _Number(ctypes.Union):
+    _fields_ = [("i32", ctypes.c_uint32), ("i64", ctypes.c_uint64), ("ref", ctypes.c_uint32)]
+
+
+class _Value(ctypes.Structure):
+    _anonymous_ = ["number"]
+    _fields_ = [("type", ctypes.c_uint), ("is_null", ctypes.c_bool), ("number", _Number)]
+
+
+class _End(ctypes.Structure):
+    _fields_ = [
+        ("status", ctypes.c_uint),
+        ("number", ctypes.c_uint32),
+        ("name", ctypes.c_char_p),
+        ("place", ctypes.c_uint),
+        ("at", ctypes.c_uint64),
+        ("code", ctypes.c_uint32),
+        ("text", ctypes.c_char * 128),
+    ]
+
+
+class _Config(ctypes.Structure):
+    _fields_ = [("fuel", ctypes.c_uint64), ("depth", ctypes.c_uint32), ("pages", ctypes.c_uint32), ("entries", ctypes.c_uint32)]
+
+
+class _HostCall(ctypes.Structure):
+    _fields_ = [
+        ("args", ctypes.POINTER(_Value)),
+        ("arg_count", ctypes.c_size_t),
+        ("results", ctypes.POINTER(_Value)),
+        ("result_count", ctypes.c_size_t),
+        ("memory", ctypes.c_void_p),
+        ("memory_size", ctypes.c_size_t),
+        ("trap", ctypes.c_uint32),
+    ]
+
+
+_Callback = ctypes.CFUNCTYPE(ctypes.c_bool, ctypes.c_void_p, ctypes.POINTER(_HostCall))
+
+
+class _Host(ctypes.Structure):
+    _fields_ = [
+        ("module", _Text),
+        ("name", _Text),
+        ("params", ctypes.POINTER(ctypes.c_uint)),
+        ("param_count", ctypes.c_size_t),
+        ("results", ctypes.POINTER(ctypes.c_uint)),
+        ("result_count", ctypes.c_size_t),
+        ("callback", _Callback),
+        ("context", ctypes.c_void_p),
+    ]
+
+
+class _Export(ctypes.Structure):
+    _fields_ = [
+        ("name", _Text),
+        ("kind", ctypes.c_uint),
+        ("params", ctypes.POINTER(ctypes.c_uint)),
+        ("param_count", ctypes.c_size_t),
+        ("results", ctypes.POINTER(ctypes.c_uint)),
+        ("result_count", ctypes.c_size_t),
+        ("type", ctypes.c_uint),
+        ("is_mutable", ctypes.c_bool),
+        ("minimum", ctypes.c_uint64),
+        ("has_maximum", ctypes.c_bool),
+        ("maximum", ctypes.c_uint64),
+    ]
+
+
+class _File(ctypes.Structure):
+    _fields_ = [("name", _Text), ("bytes", ctypes.c_void_p), ("size", ctypes.c_size_t)]
+
+
+class _Report(ctypes.Structure):
+    _fields_ = [
+        ("passed", ctypes.c_uint64),
+        ("failed", ctypes.c_uint64),
+        ("skipped", ctypes.c_uint64),
+        ("failed_lines", ctypes.POINTER(ctypes.c_uint64)),
+    ]
+
+
+_AT, _U64, _SIZE = ctypes.c_void_p, ctypes.c_uint64, ctypes.c_size_t
+# The types of what each function of the library takes, and of what it gives if that is no status.
+_FUNCTIONS = {
+    "new": [ctypes.POINTER(_Config), ctypes.POINTER(_Host), _SIZE, ctypes.POINTER(_AT), ctypes.POINTER(_End)],
+    "free": [_AT],
+    "last": [_AT],
+    "load": [_AT, ctypes.c_char_p, _SIZE, ctypes.POINTER(_U64)],
+    "link": [_AT, _U64, ctypes.POINTER(_U64)],
+    "register": [_AT, _U64, _Text],
+    "call": [_AT, _U64, _Text, ctypes.POINTER(_Value), _SIZE, ctypes.POINTER(_Value), _SIZE, ctypes.POINTER(_SIZE)],
+    "get_global": [_AT, _U64, _Text, ctypes.POINTER(_Value)],
+    "set_fuel": [_AT, _U64],
+    "fuel_left": [_AT, ctypes.POINTER(_U64)],
+    "exports": [_AT, _U64, ctypes.POINTER(ctypes.POINTER(_Export)), ctypes.POINTER(_SIZE)],
+    "exports_free": [ctypes.POINTER(_Export)],
+    "script": [_AT, ctypes.c_char_p, _SIZE, ctypes.POINTER(_File), _SIZE, ctypes.POINTER(_Report)],
+}
+_GIVEN = {"last": ctypes.POINTER(_End), "exports_free": None}
+_libraries = {}
+
+
+def _load_library(path):
+    """The library at a path, or where the variable or the system has it."""
+    path = path or os.environ.get("TEGVURN_LIBRARY") or ctypes.util.find_library("tegvurn")
+    if not path:
+        raise FileNotFoundError("libtegvurn is not found: name it by `library` or by TEGVURN_LIBRARY")
+    if path not in _libraries:
+        library = ctypes.CDLL(path)
+        for name, types in _FUNCTIONS.items():
+            function = getattr(library, "tegvurn_" + name)
+            function.argtypes, function.restype = types, _GIVEN.get(name, ctypes.c_uint)
+        _libraries[path] = library
+    return _libraries[path]
+
+
+def _address(data):
+    """Where bytes stand, as long as they live."""
+    return ctypes.cast(ctypes.c_char_p(data), ctypes.c_void_p)
+
+
+def _spell_text(text):
+    """A text for the library, whose bytes live as long as what is given."""
+    data = text.encode()
+    spelt = _Text(_address(data), len(data))
+    spelt.kept = data
+    return spelt
+
+
+def _read_text(text):
+    """The text that the library has written."""
+    return ctypes.string_at(text.bytes, text.size).decode()
+
+
+def _spell_types(names):
+    """Types for the library."""
+    return (ctypes.c_uint * len(names))(*(_NUMBERS[name] for name in names))
+
+
+def _read_types(numbers, count):
+    """The types that the library has written."""
+    return [_NAMES[numbers[k]] for k in range(count)]
+
+
+def _write_value(value, number, type_):
+    """Writes a number, or a value with its type, for the library."""
+    if isinstance(number, Value):
+        type_, number = number
+    value.type, value.is_null, value.i64 = _NUMBERS[type_], number is None, 0
+    if number is None:
+        in_range = type_ in ("funcref", "externref")
+    elif type_ == "i64":
+        in_range = -(2**63) <= number < 2**64
+        value.i64 = number % 2**64
+    else:
+        in_range = (-(2**31) if type_ == "i32" else 0) <= number < 2**32
+        value.i32 = number % 2**32
+    if not in_range:
+        raise ValueError(f"{number} is no {type_}")
+
+
+def _read_value(value):
+    """The number that the library has written, or none."""
+    if value.is_null:
+        return None
+    return value.i64 if value.type == _NUMBERS["i64"] else value.i32
+
+
+def _read_export(export):
+    """The type of an export."""
+    limits = (export.minimum, export.maximum if export.has_maximum else None)
+    if export.kind == 0:
+        return FunctionType(_read_types(export.params, export.param_count), _read_types(export.results, export.result_count))
+    if export.kind == 1:
+        return TableType(_NAMES[export.type], *limits)
+    return MemoryType(*limits) if export.kind == 2 else GlobalType(_NAMES[export.type], export.is_mutable)
+
+
+def _lent_memory(call):
+    """A view of what a host function is lent."""
+    if not call.memory_size:
+        return memoryview(bytearray())
+    return memoryview((ctypes.c_ubyte * call.memory_size).from_address(call.memory)).cast("B")
+
+
+def _error(end):
+    """The exception for how a call ended."""
+    name, text = end.name.decode(), end.text.decode(errors="replace")
+    if end.status == _REFUSED:
+        return Refused(text, end.number, name, _PLACES[end.place], end.at)
+    if end.status == _TRAP:
+        return Trap(text, end.number, name, end.code)
+    return (Exhausted if end.status == _EXHAUSTED else Error)(text, end.number, name)
+
+
+class Embedding:
+    """A store of modules and instances, with the host functions and the fuel for them."""
+
+    def __init__(self, fuel, depth=1_024, pages=1_024, entries=1_000_000, hosts=(), library=None):
+        """Makes an embedding. The host functions are a type and a function for each module and name, in a dictionary or as its items."""
+        self._at, self._raised, self._functions, self._kept = ctypes.c_void_p(), None, {}, []
+        self._library = _load_library(library)
+        pairs = list(hosts.items() if isinstance(hosts, dict) else hosts)
+        host_array = (_Host * len(pairs))(*(self._host(*names, *rest) for names, rest in pairs))
+        config, end = _Config(_bounded(fuel, 64), _bounded(depth, 32), _bounded(pages, 32), _bounded(entries, 32)), _End()
+        status = self._library.tegvurn_new(config, host_array, len(pairs), ctypes.byref(self._at), ctypes.byref(end))
+        if status != _DONE:
+            raise _error(end)
+
+    def __enter__(self):
+        return self
+
+    def __exit__(self, *_):
+        self.close()
+
+    def __del__(self):
+        if self._at:
+            self._library.tegvurn_free(self._at)
+
+    def close(self):
+        """Frees the embedding, if it was not yet."""
+        if self._at and self._library.tegvurn_free(self._at) == _BUSY:
+            raise Busy("the embedding is busy", _BUSY, "Busy")
+        self._at = ctypes.c_void_p()
+
+    def load(self, module):
+        """Loads a module from its bytes, and gives its number."""
+        number, module = ctypes.c_uint64(), bytes(module)
+        self._do("load", module, len(module), ctypes.byref(number))
+        return number.value
+
+    def link(self, module):
+        """Links a module of a number, runs its start function, and gives the number of the instance."""
+        number = ctypes.c_uint64()
+        self._do("link", _bounded(module, 64), ctypes.byref(number))
+        return number.value
+
+    def register(self, instance, name):
+        """Registers an instance under a name, by which modules that are linked later import from it."""
+        self._do("register", _bounded(instance, 64), _spell_text(name))
+
+    def call(self, instance, name, *args):
+        """Calls an exported function, and gives its results in a list."""
+        text, type_ = self._function(instance, name)
+        given = (_Value * len(args))()
+        for value, arg, wanted in itertools.zip_longest(given, args, type_.parameters[: len(args)]):
+            _write_value(value, arg, wanted or ("externref" if arg is None else "i64"))
+        results = (_Value * len(type_.results))()
+        self._do("call", _bounded(instance, 64), text, given, len(args), results, len(results), None)
+        return [_read_value(value) for value in results]
+
+    def get_global(self, instance, name):
+        """The value of an exported global."""
+        value = _Value()
+        self._do("get_global", _bounded(instance, 64), _spell_text(name), ctypes.byref(value))
+        return _read_value(value)
+
+    @property
+    def fuel(self):
+        """The fuel that is left. It may be set."""
+        fuel = ctypes.c_uint64()
+        self._do("fuel_left", ctypes.byref(fuel))
+        return fuel.value
+
+    @fuel.setter
+    def fuel(self, fuel):
+        self._do("set_fuel", _bounded(fuel, 64))
+
+    def exports(self, instance):
+        """The type of each export of an instance by its name, in the order of the module; none where there is no such instance."""
+        found, count = ctypes.POINTER(_Export)(), ctypes.c_size_t()
+        self._do("exports", _bounded(instance, 64), ctypes.byref(found), ctypes.byref(count))
+        try:
+            return {_read_text(found[k].name): _read_export(found[k]) for k in range(count.value)}
+        finally:
+            self._library.tegvurn_exports_free(found)
+
+    def script(self, json, files=()):
+        """Runs a command file of wast2json, given as a text or as bytes, with the bytes of its files by their names; gives the report."""
+        json, report = json.encode() if isinstance(json, str) else bytes(json), _Report()
+        given = [(_spell_text(name), bytes(data)) for name, data in dict(files).items()]
+        file_array = (_File * len(given))(*(_File(name, _address(data), len(data)) for name, data in given))
+        self._do("script", json, len(json), file_array, len(given), ctypes.byref(report))
+        return Report(report.passed, report.failed, report.skipped, [report.failed_lines[k] for k in range(report.failed)])
+
+    def _do(self, name, *args):
+        """Has the library do something, and raises what came of it, if it was not done."""
+        if not self._at:
+            raise ValueError("the embedding is closed")
+        status = getattr(self._library, "tegvurn_" + name)(self._at, *args)
+        if status == _BUSY:
+            raise Busy("the embedding is busy", _BUSY, "Busy")
+        raised, self._raised = self._raised, None
+        if raised:
+            raise raised
+        if status != _DONE:
+            raise _error(self._library.tegvurn_last(self._at).contents)
+
+    def _function(self, instance, name):
+        """The name of an exported function for the library, and its type; one of nothing where there is no such function."""
+        if (instance, name) not in self._functions:
+            types = {export: type_ for export, type_ in self.exports(instance).items() if isinstance(type_, FunctionType)}
+            self._functions.update({(instance, export): (_spell_text(export), type_) for export, type_ in types.items()})
+        return self._functions.get((instance, name)) or (_spell_text(name), FunctionType([], []))
+
+    def _host(self, module, name, type_, function):
+        """A host function for the library. What it points to is kept as long as the embedding."""
+        params, results = type_
+        types = _spell_types(params), _spell_types(results)
+        kept = _spell_text(module), _spell_text(name), _Callback(self._callback(results, function)), types
+        self._kept.append(kept)
+        return _Host(kept[0], kept[1], types[0], len(params), types[1], len(results), kept[2], None)
+
+    def _callback(self, types, function):
+        """What the library calls for a host function with results of these types."""
+
+        def run(call):
+            with _lent_memory(call) as memory:
+                results = function(memory, *(_read_value(call.args[k]) for k in range(call.arg_count)))
+            if len(results) != len(types):
+                raise ValueError(f"a host function gave {len(results)} results in place of {len(types)}")
+            for k, result in enumerate(results):
+                _write_value(call.results[k], result, types[k])
+
+        def callback(_, at):
+            try:
+                run(at.contents)
+                return True
+            except HostTrap as trap:
+                at.contents.trap = trap.code
+            except BaseException as raised:  # it is raised again where the call of the library has ended
+                self._raised = self._raised or raised
+                at.contents.trap = _RAISED
+            return False
+
+        return callback

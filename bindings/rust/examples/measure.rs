@@ -1,0 +1,133 @@
+//! Prints what calls cost: the best of several rounds. Usage: `cargo run --release --example measure`.
+
+use std::time::Instant;
+use tegvurn::{Config, Engine, Error, FuncType, Instance, Linker, Module, Store, Val, ValType};
+
+const ROUNDS: u32 = 7;
+const CALLS: u32 = 100_000;
+const FUNCTIONS: usize = 1_000;
+const GROUPS: usize = 170; // of four instructions in a function
+
+/// The module of `bindings/c/test_module.h`, where its text stands.
+#[rustfmt::skip]
+const TEST_MODULE: &[u8] = &[
+    0x00, 0x61, 0x73, 0x6d, 0x01, 0x00, 0x00, 0x00, 0x01, 0x1b, 0x06, 0x60, 0x01, 0x7f, 0x01, 0x7f,
+    0x60, 0x01, 0x6f, 0x01, 0x6f, 0x60, 0x00, 0x00, 0x60, 0x00, 0x02, 0x7f, 0x7e, 0x60, 0x00, 0x01,
+    0x70, 0x60, 0x01, 0x7f, 0x00, 0x02, 0x27, 0x03, 0x04, 0x68, 0x6f, 0x73, 0x74, 0x03, 0x61, 0x73,
+    0x6b, 0x00, 0x00, 0x04, 0x68, 0x6f, 0x73, 0x74, 0x04, 0x6b, 0x65, 0x65, 0x70, 0x00, 0x01, 0x04,
+    0x68, 0x6f, 0x73, 0x74, 0x07, 0x6e, 0x6f, 0x74, 0x68, 0x69, 0x6e, 0x67, 0x00, 0x02, 0x03, 0x09,
+    0x08, 0x00, 0x01, 0x02, 0x03, 0x00, 0x04, 0x02, 0x05, 0x04, 0x05, 0x01, 0x6f, 0x01, 0x02, 0x05,
+    0x05, 0x04, 0x01, 0x01, 0x01, 0x02, 0x06, 0x06, 0x01, 0x7e, 0x01, 0x42, 0x79, 0x0b, 0x07, 0x60,
+    0x0c, 0x05, 0x74, 0x61, 0x62, 0x6c, 0x65, 0x01, 0x00, 0x06, 0x6d, 0x65, 0x6d, 0x6f, 0x72, 0x79,
+    0x02, 0x00, 0x06, 0x6e, 0x75, 0x6d, 0x62, 0x65, 0x72, 0x03, 0x00, 0x0b, 0x61, 0x73, 0x6b, 0x5f,
+    0x6f, 0x75, 0x74, 0x73, 0x69, 0x64, 0x65, 0x00, 0x00, 0x03, 0x61, 0x73, 0x6b, 0x00, 0x03, 0x04,
+    0x6b, 0x65, 0x65, 0x70, 0x00, 0x04, 0x05, 0x65, 0x6d, 0x70, 0x74, 0x79, 0x00, 0x05, 0x03, 0x74,
+    0x77, 0x6f, 0x00, 0x06, 0x04, 0x62, 0x79, 0x74, 0x65, 0x00, 0x07, 0x04, 0x6e, 0x75, 0x6c, 0x6c,
+    0x00, 0x08, 0x04, 0x74, 0x72, 0x61, 0x70, 0x00, 0x09, 0x04, 0x6c, 0x6f, 0x6f, 0x70, 0x00, 0x0a,
+    0x0a, 0x3b, 0x08, 0x06, 0x00, 0x20, 0x00, 0x10, 0x00, 0x0b, 0x06, 0x00, 0x20, 0x00, 0x10, 0x01,
+    0x0b, 0x02, 0x00, 0x0b, 0x06, 0x00, 0x41, 0x01, 0x42, 0x7e, 0x0b, 0x07, 0x00, 0x20, 0x00, 0x2d,
+    0x00, 0x00, 0x0b, 0x04, 0x00, 0xd0, 0x70, 0x0b, 0x03, 0x00, 0x00, 0x0b, 0x10, 0x00, 0x03, 0x40,
+    0x10, 0x02, 0x20, 0x00, 0x41, 0x01, 0x6b, 0x22, 0x00, 0x0d, 0x00, 0x0b, 0x0b, 0x0b, 0x0b, 0x01,
+    0x00, 0x41, 0x08, 0x0b, 0x05, 0x68, 0x65, 0x6c, 0x6c, 0x6f,
+];
+
+/// A store with the host functions of the module, and much fuel.
+fn store_with_hosts() -> Result<Store<()>, Error> {
+    let engine = Engine::new(Config {
+        fuel: u64::MAX,
+        depth: 100,
+        pages: 16,
+        entries: 100,
+    });
+    let mut linker = Linker::<()>::new(&engine);
+    for (name, types) in [
+        ("ask", &[ValType::I32][..]),
+        ("keep", &[ValType::ExternRef][..]),
+        ("nothing", &[][..]),
+    ] {
+        let ty = FuncType::new(types.to_vec(), types.to_vec());
+        linker.func_new("host", name, ty, |_caller, args, results| {
+            results.copy_from_slice(args);
+            Ok(())
+        });
+    }
+    Store::new(linker, ())
+}
+
+/// Appends an unsigned number as the binary format spells it.
+fn push_number(module: &mut Vec<u8>, mut number: usize) {
+    while number >= 128 {
+        module.push((number % 128 + 128) as u8);
+        number /= 128;
+    }
+    module.push(number as u8);
+}
+
+/// Appends a section.
+fn push_section(module: &mut Vec<u8>, id: u8, contents: &[u8]) {
+    module.push(id);
+    push_number(module, contents.len());
+    module.extend(contents);
+}
+
+/// A module of equal functions, of the groups `local.get 0 i32.const 1 i32.add drop`.
+fn large_module() -> Vec<u8> {
+    let group = [0x20, 0, 0x41, 1, 0x6a, 0x1a];
+    let mut module = b"\0asm\x01\0\0\0\x01\x05\x01\x60\x01\x7f\0".to_vec();
+    let (mut types, mut codes) = (Vec::new(), Vec::new());
+    push_number(&mut types, FUNCTIONS);
+    push_number(&mut codes, FUNCTIONS);
+    for _ in 0..FUNCTIONS {
+        types.push(0);
+        push_number(&mut codes, GROUPS * group.len() + 2);
+        codes.push(0);
+        codes.extend(group.repeat(GROUPS));
+        codes.push(0x0b);
+    }
+    push_section(&mut module, 3, &types);
+    push_section(&mut module, 10, &codes);
+    module
+}
+
+/// The nanoseconds that work takes, the best of several rounds.
+fn best_of(mut work: impl FnMut() -> Result<(), Error>) -> Result<f64, Error> {
+    let mut best = f64::INFINITY;
+    for _ in 0..ROUNDS {
+        let start = Instant::now();
+        work()?;
+        best = best.min(start.elapsed().as_nanos() as f64);
+    }
+    Ok(best)
+}
+
+fn main() -> Result<(), Error> {
+    let mut store = store_with_hosts()?;
+    let module = Module::new(&mut store, TEST_MODULE)?;
+    let instance = Instance::new(&mut store, &module)?;
+    let empty = instance.get_func(&mut store, "empty")?;
+    let ask = instance.get_func(&mut store, "ask")?;
+    let looping = instance.get_func(&mut store, "loop")?;
+    let large = large_module();
+    let calls = f64::from(CALLS);
+    let time = best_of(|| (0..CALLS).try_for_each(|_| empty.call(&mut store, &[], &mut [])))?;
+    println!("{:.0} ns a call of an empty export", time / calls);
+    let mut result = [Val::I32(0)];
+    let time =
+        best_of(|| (0..CALLS).try_for_each(|_| ask.call(&mut store, &[Val::I32(5)], &mut result)))?;
+    println!(
+        "{:.0} ns a call with one argument, a callback and one result",
+        time / calls
+    );
+    let time = best_of(|| looping.call(&mut store, &[Val::I32(CALLS as i32)], &mut []))?;
+    println!(
+        "{:.0} ns a callback in a loop of 6 instructions, 64 KiB lent",
+        time / calls
+    );
+    let time = best_of(|| Module::new(&mut store, &large).map(|_| ()))?;
+    println!(
+        "{:.1} ms to load a module of {} bytes",
+        time / 1e6,
+        large.len()
+    );
+    Ok(())
+}

@@ -1,0 +1,97 @@
+//! A plug-in host: it calls the exports of a plug-in, each within a fuel, with two host functions of its own.
+//! Usage: `cargo run --example plugin_host plugin.wasm`.
+
+use std::error::Error;
+use tegvurn::{Config, Engine, FuncType, HostTrap, Instance, Linker, Module, Store, Val, ValType};
+
+/// What the host functions keep.
+#[derive(Default)]
+struct Host {
+    calls: i32,
+    text: Vec<u8>,
+}
+
+/// The bytes of a memory from a start, so many of them, if they are all there.
+fn bytes_at(memory: &[u8], start: &Val, length: &Val) -> Option<Vec<u8>> {
+    let start = start.i32()? as u32 as usize;
+    let end = start.checked_add(length.i32()? as u32 as usize)?;
+    memory.get(start..end).map(<[u8]>::to_vec)
+}
+
+/// `count () -> i32`: how often it was called; and `write (start: i32, length: i32)`: appends bytes of the plug-in's memory to a text, and
+/// traps with the code 1 where they are not all there.
+fn host_functions(engine: &Engine) -> Linker<Host> {
+    let mut linker = Linker::<Host>::new(engine);
+    linker.func_new(
+        "host",
+        "count",
+        FuncType::new([], [ValType::I32]),
+        |caller, _args, results| {
+            caller.data.calls += 1;
+            results[0] = Val::I32(caller.data.calls);
+            Ok(())
+        },
+    );
+    linker.func_new(
+        "host",
+        "write",
+        FuncType::new([ValType::I32, ValType::I32], []),
+        |caller, args, _results| {
+            let bytes = bytes_at(caller.memory, &args[0], &args[1]).ok_or(HostTrap(1))?;
+            caller.data.text.extend(bytes);
+            Ok(())
+        },
+    );
+    linker
+}
+
+/// Calls an export within a fuel, and says how the call ended.
+fn call_export(
+    store: &mut Store<Host>,
+    plugin: Instance,
+    name: &str,
+    args: &[Val],
+) -> Result<Vec<Val>, tegvurn::Error> {
+    store.set_fuel(1_000)?;
+    let function = plugin.get_func(store, name)?;
+    let mut results: Vec<Val> = function
+        .ty()
+        .results()
+        .iter()
+        .copied()
+        .map(Val::default_of)
+        .collect();
+    function.call(store, args, &mut results)?;
+    Ok(results)
+}
+
+fn main() -> Result<(), Box<dyn Error>> {
+    let path = std::env::args()
+        .nth(1)
+        .ok_or("usage: plugin_host plugin.wasm")?;
+    let engine = Engine::new(Config {
+        fuel: 1_000,
+        depth: 100,
+        pages: 16,
+        entries: 100,
+    });
+    let mut store = Store::new(host_functions(&engine), Host::default())?;
+    let module = Module::new(&mut store, &std::fs::read(path)?)?;
+    let plugin = Instance::new(&mut store, &module)?;
+    let calls: [(&str, &[Val]); 6] = [
+        ("greet", &[]),
+        ("greet", &[]),
+        ("divide", &[Val::I32(1), Val::I32(0)]),
+        ("write_outside", &[]),
+        ("spin", &[]),
+        ("nosuch", &[]),
+    ];
+    for (name, args) in calls {
+        match call_export(&mut store, plugin, name, args) {
+            Ok(results) => println!("{name}: {results:?}"),
+            Err(error) => println!("{name}: {error}"),
+        }
+    }
+    println!("it wrote: {}", String::from_utf8_lossy(&store.data().text));
+    Ok(())
+}

@@ -1,0 +1,675 @@
+//! The C library, and all that is unsafe in this crate. The declarations are those of tegvurn.h.
+//!
+//! What the C library asks of its callers holds so: pointers and counts are those of slices that live during the call; host functions live as
+//! long as the embedding; a closure that panics does not unwind into C; the lent memory is a slice that ends with the closure's call; and an
+//! embedding stays on its thread, as it holds pointers and is neither `Send` nor `Sync`.
+#![allow(unsafe_code)]
+
+use crate::error::{Cause, Error, Exhaustion, Place, Refusal, Trap};
+use crate::linker::{Caller, Config, Definition, HostFunction, HostTrap};
+use crate::store::Report;
+use crate::types::{ExternType, FuncType, Limits, Val, ValType};
+use std::any::Any;
+use std::ffi::{c_char, c_void, CStr};
+use std::mem::size_of;
+use std::panic::{self, AssertUnwindSafe};
+use std::ptr::{self, NonNull};
+use std::slice;
+
+// The declarations
+
+#[repr(C)]
+struct Handle {
+    _private: [u8; 0],
+}
+
+#[repr(C)]
+#[derive(Clone, Copy)]
+struct RawText {
+    bytes: *const u8,
+    size: usize,
+}
+
+#[repr(C)]
+#[derive(Clone, Copy)]
+struct RawValue {
+    ty: u32,
+    is_null: bool,
+    number: RawNumber,
+}
+
+#[repr(C)]
+#[derive(Clone, Copy)]
+union RawNumber {
+    i32: u32,
+    i64: u64,
+    reference: u32,
+}
+
+#[repr(C)]
+struct RawEnd {
+    status: u32,
+    number: u32,
+    name: *const c_char,
+    place: u32,
+    at: u64,
+    code: u32,
+    text: [c_char; 128],
+}
+
+#[repr(C)]
+struct RawConfig {
+    fuel: u64,
+    depth: u32,
+    pages: u32,
+    entries: u32,
+}
+
+#[repr(C)]
+struct RawHostCall {
+    args: *const RawValue,
+    arg_count: usize,
+    results: *mut RawValue,
+    result_count: usize,
+    memory: *mut u8,
+    memory_size: usize,
+    trap: u32,
+}
+
+type RawCallback = unsafe extern "C" fn(*mut c_void, *mut RawHostCall) -> bool;
+
+#[repr(C)]
+struct RawHost {
+    module: RawText,
+    name: RawText,
+    params: *const u32,
+    param_count: usize,
+    results: *const u32,
+    result_count: usize,
+    callback: RawCallback,
+    context: *mut c_void,
+}
+
+#[repr(C)]
+struct RawExport {
+    name: RawText,
+    kind: u32,
+    params: *const u32,
+    param_count: usize,
+    results: *const u32,
+    result_count: usize,
+    ty: u32,
+    is_mutable: bool,
+    minimum: u64,
+    has_maximum: bool,
+    maximum: u64,
+}
+
+#[repr(C)]
+struct RawFile {
+    name: RawText,
+    bytes: *const u8,
+    size: usize,
+}
+
+#[repr(C)]
+struct RawReport {
+    passed: u64,
+    failed: u64,
+    skipped: u64,
+    failed_lines: *const u64,
+}
+
+extern "C" {
+    fn tegvurn_new(
+        config: *const RawConfig,
+        hosts: *const RawHost,
+        host_count: usize,
+        embedding: *mut *mut Handle,
+        end: *mut RawEnd,
+    ) -> u32;
+    fn tegvurn_free(embedding: *mut Handle) -> u32;
+    fn tegvurn_last(embedding: *const Handle) -> *const RawEnd;
+    fn tegvurn_load(embedding: *mut Handle, bytes: *const u8, size: usize, module: *mut u64)
+        -> u32;
+    fn tegvurn_link(embedding: *mut Handle, module: u64, instance: *mut u64) -> u32;
+    fn tegvurn_register(embedding: *mut Handle, instance: u64, name: RawText) -> u32;
+    fn tegvurn_call(
+        embedding: *mut Handle,
+        instance: u64,
+        name: RawText,
+        args: *const RawValue,
+        arg_count: usize,
+        results: *mut RawValue,
+        room: usize,
+        result_count: *mut usize,
+    ) -> u32;
+    fn tegvurn_get_global(
+        embedding: *mut Handle,
+        instance: u64,
+        name: RawText,
+        value: *mut RawValue,
+    ) -> u32;
+    fn tegvurn_set_fuel(embedding: *mut Handle, fuel: u64) -> u32;
+    fn tegvurn_fuel_left(embedding: *mut Handle, fuel: *mut u64) -> u32;
+    fn tegvurn_exports(
+        embedding: *mut Handle,
+        instance: u64,
+        exports: *mut *mut RawExport,
+        count: *mut usize,
+    ) -> u32;
+    fn tegvurn_exports_free(exports: *mut RawExport);
+    fn tegvurn_script(
+        embedding: *mut Handle,
+        json: *const u8,
+        size: usize,
+        files: *const RawFile,
+        file_count: usize,
+        report: *mut RawReport,
+    ) -> u32;
+}
+
+// The sizes of the C library's structs on 64 bits. `ends.c` has them, too.
+#[cfg(target_pointer_width = "64")]
+const _: () = {
+    assert!(size_of::<RawValue>() == 16);
+    assert!(size_of::<RawEnd>() == 168);
+    assert!(size_of::<RawConfig>() == 24);
+    assert!(size_of::<RawHostCall>() == 56);
+    assert!(size_of::<RawHost>() == 80);
+    assert!(size_of::<RawExport>() == 88);
+    assert!(size_of::<RawFile>() == 32);
+    assert!(size_of::<RawReport>() == 32);
+};
+
+const DONE: u32 = 0;
+const REFUSED: u32 = 1;
+const TRAP: u32 = 2;
+const EXHAUSTED: u32 = 3;
+
+// The code of the trap behind which a panic goes on.
+const PANICKED: u32 = u32::MAX;
+
+// Values and types
+
+fn raw_type(ty: ValType) -> u32 {
+    match ty {
+        ValType::I32 => 127,
+        ValType::I64 => 126,
+        ValType::FuncRef => 112,
+        ValType::ExternRef => 111,
+    }
+}
+
+fn raw_types(types: &[ValType]) -> Vec<u32> {
+    types.iter().copied().map(raw_type).collect()
+}
+
+fn type_of(ty: u32) -> ValType {
+    match ty {
+        127 => ValType::I32,
+        126 => ValType::I64,
+        112 => ValType::FuncRef,
+        _ => ValType::ExternRef,
+    }
+}
+
+fn raw_text(text: &str) -> RawText {
+    RawText {
+        bytes: text.as_ptr(),
+        size: text.len(),
+    }
+}
+
+fn raw_value(value: Val) -> RawValue {
+    let (is_null, i64) = match value {
+        Val::I32(number) => (false, u64::from(number as u32)),
+        Val::I64(number) => (false, number as u64),
+        Val::FuncRef(reference) | Val::ExternRef(reference) => {
+            (reference.is_none(), u64::from(reference.unwrap_or(0)))
+        }
+    };
+    let mut number = RawNumber { i64 };
+    if !matches!(value, Val::I64(_)) {
+        number.i32 = i64 as u32;
+    }
+    RawValue {
+        ty: raw_type(value.ty()),
+        is_null,
+        number,
+    }
+}
+
+/// # Safety
+/// The member of its type is written.
+unsafe fn value_of(raw: &RawValue) -> Val {
+    let reference = || {
+        if raw.is_null {
+            None
+        } else {
+            Some(unsafe { raw.number.reference })
+        }
+    };
+    match type_of(raw.ty) {
+        ValType::I32 => Val::I32(unsafe { raw.number.i32 } as i32),
+        ValType::I64 => Val::I64(unsafe { raw.number.i64 } as i64),
+        ValType::FuncRef => Val::FuncRef(reference()),
+        ValType::ExternRef => Val::ExternRef(reference()),
+    }
+}
+
+/// # Safety
+/// There are so many elements at the pointer, for so long, and any pointer will do where there are none.
+unsafe fn slice_of<'a, E>(at: *const E, count: usize) -> &'a [E] {
+    if count == 0 {
+        return &[];
+    }
+    unsafe { slice::from_raw_parts(at, count) }
+}
+
+fn place_of(place: u32, at: u64) -> Option<Place> {
+    Some(match place {
+        1 => Place::Byte(at),
+        2 => Place::Import(at),
+        3 => Place::Section(at),
+        4 => Place::Function(at),
+        5 => Place::Command(at),
+        _ => return None,
+    })
+}
+
+fn error_of(end: &RawEnd) -> Error {
+    let index = (end.number as usize).wrapping_sub(1);
+    match end.status {
+        REFUSED => {
+            // The text ends with a zero byte.
+            let text = unsafe { CStr::from_ptr(end.text.as_ptr()) }
+                .to_string_lossy()
+                .into_owned();
+            match Cause::ALL.get(index) {
+                Some(&cause) => Error::Refused(Refusal {
+                    cause,
+                    place: place_of(end.place, end.at),
+                    text,
+                }),
+                None => Error::Over,
+            }
+        }
+        TRAP => Trap::of_number(end.number, end.code).map_or(Error::Over, Error::Trap),
+        EXHAUSTED => match [Exhaustion::Fuel, Exhaustion::Depth, Exhaustion::Memory].get(index) {
+            Some(&what) => Error::Exhausted(what),
+            None => Error::Over,
+        },
+        _ => Error::Over,
+    }
+}
+
+// Host functions
+
+// What closures share: the data, and the panic of one of them.
+struct Shared<T> {
+    data: T,
+    panic: Option<Box<dyn Any + Send>>,
+}
+
+// A host function, which its calls get as their context.
+struct Host<T> {
+    function: HostFunction<T>,
+    results: Vec<ValType>,
+    shared: NonNull<Shared<T>>,
+}
+
+/// # Safety
+/// The context is a `Host<T>` that no one else uses, and nobody uses what it shares.
+unsafe extern "C" fn call_host<T>(context: *mut c_void, call: *mut RawHostCall) -> bool {
+    let (host, call) = unsafe { (&mut *context.cast::<Host<T>>(), &mut *call) };
+    let shared = unsafe { &mut *host.shared.as_ptr() };
+    let data = &mut shared.data;
+    let (function, results) = (&mut host.function, &host.results);
+    let answer = panic::catch_unwind(AssertUnwindSafe(|| unsafe {
+        call_closure(function, results, data, call)
+    }));
+    match answer {
+        Ok(Ok(())) => true,
+        Ok(Err(HostTrap(code))) => {
+            call.trap = code;
+            false
+        }
+        Err(panic) => {
+            shared.panic = Some(panic);
+            call.trap = PANICKED;
+            false
+        }
+    }
+}
+
+/// # Safety
+/// The call is one of the C library's, of a host function with these results.
+unsafe fn call_closure<T>(
+    function: &mut HostFunction<T>,
+    result_types: &[ValType],
+    data: &mut T,
+    call: &mut RawHostCall,
+) -> Result<(), HostTrap> {
+    let args: Vec<Val> = unsafe { slice_of(call.args, call.arg_count) }
+        .iter()
+        .map(|raw| unsafe { value_of(raw) })
+        .collect();
+    let mut results: Vec<Val> = result_types.iter().copied().map(Val::default_of).collect();
+    let memory: &mut [u8] = if call.memory_size == 0 {
+        &mut []
+    } else {
+        unsafe { slice::from_raw_parts_mut(call.memory, call.memory_size) }
+    };
+    function(Caller { data, memory }, &args, &mut results)?;
+    for (index, result) in results.into_iter().enumerate() {
+        unsafe { call.results.add(index).write(raw_value(result)) };
+    }
+    Ok(())
+}
+
+// The host functions of an embedding, and what they share.
+struct Hosts<T> {
+    shared: NonNull<Shared<T>>,
+    list: Vec<NonNull<Host<T>>>,
+}
+
+// What the C library is told of a host function.
+struct Signature {
+    module: String,
+    name: String,
+    params: Vec<u32>,
+    results: Vec<u32>,
+}
+
+fn boxed<E>(value: E) -> NonNull<E> {
+    NonNull::from(Box::leak(Box::new(value)))
+}
+
+impl<T: 'static> Hosts<T> {
+    fn new(definitions: Vec<Definition<T>>, data: T) -> (Hosts<T>, Vec<Signature>) {
+        let shared = boxed(Shared { data, panic: None });
+        let (mut hosts, mut signatures) = (
+            Hosts {
+                shared,
+                list: Vec::new(),
+            },
+            Vec::new(),
+        );
+        for Definition {
+            module,
+            name,
+            ty,
+            function,
+        } in definitions
+        {
+            signatures.push(Signature {
+                module,
+                name,
+                params: raw_types(ty.params()),
+                results: raw_types(ty.results()),
+            });
+            hosts.list.push(boxed(Host {
+                function,
+                results: ty.results().to_vec(),
+                shared,
+            }));
+        }
+        (hosts, signatures)
+    }
+
+    // Begins an embedding with them.
+    fn begin(&self, config: Config, signatures: &[Signature]) -> Result<NonNull<Handle>, Error> {
+        let raw_hosts: Vec<RawHost> = signatures
+            .iter()
+            .zip(&self.list)
+            .map(|(signature, host)| RawHost {
+                module: raw_text(&signature.module),
+                name: raw_text(&signature.name),
+                params: signature.params.as_ptr(),
+                param_count: signature.params.len(),
+                results: signature.results.as_ptr(),
+                result_count: signature.results.len(),
+                callback: call_host::<T>,
+                context: host.as_ptr().cast(),
+            })
+            .collect();
+        let Config {
+            fuel,
+            depth,
+            pages,
+            entries,
+        } = config;
+        let raw_config = RawConfig {
+            fuel,
+            depth,
+            pages,
+            entries,
+        };
+        let mut end = RawEnd {
+            status: 0,
+            number: 0,
+            name: ptr::null(),
+            place: 0,
+            at: 0,
+            code: 0,
+            text: [0; 128],
+        };
+        let mut handle = ptr::null_mut();
+        unsafe {
+            tegvurn_new(
+                &raw_config,
+                raw_hosts.as_ptr(),
+                raw_hosts.len(),
+                &mut handle,
+                &mut end,
+            )
+        };
+        NonNull::new(handle).ok_or_else(|| error_of(&end))
+    }
+}
+
+impl<T> Drop for Hosts<T> {
+    fn drop(&mut self) {
+        for host in self.list.drain(..) {
+            drop(unsafe { Box::from_raw(host.as_ptr()) });
+        }
+        drop(unsafe { Box::from_raw(self.shared.as_ptr()) });
+    }
+}
+
+/// An embedding, its host functions and their data.
+pub(crate) struct Embedding<T> {
+    handle: NonNull<Handle>,
+    hosts: Hosts<T>,
+}
+
+impl<T: 'static> Embedding<T> {
+    pub(crate) fn new(
+        config: Config,
+        definitions: Vec<Definition<T>>,
+        data: T,
+    ) -> Result<Embedding<T>, Error> {
+        let (hosts, signatures) = Hosts::new(definitions, data);
+        let handle = hosts.begin(config, &signatures)?;
+        Ok(Embedding { handle, hosts })
+    }
+
+    pub(crate) fn data(&self) -> &T {
+        unsafe { &self.hosts.shared.as_ref().data }
+    }
+
+    pub(crate) fn data_mut(&mut self) -> &mut T {
+        unsafe { &mut self.hosts.shared.as_mut().data }
+    }
+
+    // How a call ended. The panic of a closure goes on.
+    fn done(&mut self, status: u32) -> Result<(), Error> {
+        if let Some(panic) = unsafe { self.hosts.shared.as_mut() }.panic.take() {
+            panic::resume_unwind(panic);
+        }
+        if status == DONE {
+            return Ok(());
+        }
+        Err(error_of(unsafe { &*tegvurn_last(self.handle.as_ptr()) }))
+    }
+
+    pub(crate) fn load(&mut self, bytes: &[u8]) -> Result<u64, Error> {
+        let mut module = 0;
+        let status = unsafe {
+            tegvurn_load(
+                self.handle.as_ptr(),
+                bytes.as_ptr(),
+                bytes.len(),
+                &mut module,
+            )
+        };
+        self.done(status).map(|()| module)
+    }
+
+    pub(crate) fn link(&mut self, module: u64) -> Result<u64, Error> {
+        let mut instance = 0;
+        let status = unsafe { tegvurn_link(self.handle.as_ptr(), module, &mut instance) };
+        self.done(status).map(|()| instance)
+    }
+
+    pub(crate) fn register(&mut self, instance: u64, name: &str) -> Result<(), Error> {
+        let status = unsafe { tegvurn_register(self.handle.as_ptr(), instance, raw_text(name)) };
+        self.done(status)
+    }
+
+    /// Calls a function that has as many results as there are places.
+    pub(crate) fn call(
+        &mut self,
+        instance: u64,
+        name: &str,
+        args: &[Val],
+        results: &mut [Val],
+    ) -> Result<(), Error> {
+        let raw_args: Vec<RawValue> = args.iter().copied().map(raw_value).collect();
+        let mut raw_results = vec![raw_value(Val::I64(0)); results.len()];
+        let mut count = 0;
+        let status = unsafe {
+            tegvurn_call(
+                self.handle.as_ptr(),
+                instance,
+                raw_text(name),
+                raw_args.as_ptr(),
+                raw_args.len(),
+                raw_results.as_mut_ptr(),
+                raw_results.len(),
+                &mut count,
+            )
+        };
+        self.done(status)?;
+        for (result, raw) in results.iter_mut().zip(&raw_results) {
+            *result = unsafe { value_of(raw) };
+        }
+        Ok(())
+    }
+
+    pub(crate) fn get_global(&mut self, instance: u64, name: &str) -> Result<Val, Error> {
+        let mut raw = raw_value(Val::I64(0));
+        let status =
+            unsafe { tegvurn_get_global(self.handle.as_ptr(), instance, raw_text(name), &mut raw) };
+        self.done(status).map(|()| unsafe { value_of(&raw) })
+    }
+
+    pub(crate) fn set_fuel(&mut self, fuel: u64) -> Result<(), Error> {
+        let status = unsafe { tegvurn_set_fuel(self.handle.as_ptr(), fuel) };
+        self.done(status)
+    }
+
+    pub(crate) fn fuel_left(&mut self) -> Result<u64, Error> {
+        let mut fuel = 0;
+        let status = unsafe { tegvurn_fuel_left(self.handle.as_ptr(), &mut fuel) };
+        self.done(status).map(|()| fuel)
+    }
+
+    pub(crate) fn exports(&mut self, instance: u64) -> Result<Vec<(String, ExternType)>, Error> {
+        let (mut exports, mut count) = (ptr::null_mut(), 0);
+        let status =
+            unsafe { tegvurn_exports(self.handle.as_ptr(), instance, &mut exports, &mut count) };
+        self.done(status)?;
+        let list = unsafe { slice_of(exports, count) }
+            .iter()
+            .map(|raw| unsafe { (name_of(raw), extern_type_of(raw)) })
+            .collect();
+        unsafe { tegvurn_exports_free(exports) };
+        Ok(list)
+    }
+
+    pub(crate) fn script(&mut self, json: &[u8], files: &[(&str, &[u8])]) -> Result<Report, Error> {
+        let raw_files: Vec<RawFile> = files
+            .iter()
+            .map(|(name, bytes)| RawFile {
+                name: raw_text(name),
+                bytes: bytes.as_ptr(),
+                size: bytes.len(),
+            })
+            .collect();
+        let mut raw = RawReport {
+            passed: 0,
+            failed: 0,
+            skipped: 0,
+            failed_lines: ptr::null(),
+        };
+        let status = unsafe {
+            tegvurn_script(
+                self.handle.as_ptr(),
+                json.as_ptr(),
+                json.len(),
+                raw_files.as_ptr(),
+                raw_files.len(),
+                &mut raw,
+            )
+        };
+        self.done(status)?;
+        let failed_lines = unsafe { slice_of(raw.failed_lines, raw.failed as usize) }.to_vec();
+        Ok(Report {
+            passed: raw.passed,
+            skipped: raw.skipped,
+            failed_lines,
+        })
+    }
+}
+
+/// # Safety
+/// The export is one of the C library's.
+unsafe fn name_of(raw: &RawExport) -> String {
+    String::from_utf8_lossy(unsafe { slice_of(raw.name.bytes, raw.name.size) }).into_owned()
+}
+
+/// # Safety
+/// The export is one of the C library's.
+unsafe fn extern_type_of(raw: &RawExport) -> ExternType {
+    let types = |at, count| {
+        unsafe { slice_of::<u32>(at, count) }
+            .iter()
+            .copied()
+            .map(type_of)
+    };
+    let limits = Limits {
+        minimum: raw.minimum,
+        maximum: raw.has_maximum.then_some(raw.maximum),
+    };
+    match raw.kind {
+        0 => ExternType::Func(FuncType::new(
+            types(raw.params, raw.param_count),
+            types(raw.results, raw.result_count),
+        )),
+        1 => ExternType::Table(type_of(raw.ty), limits),
+        2 => ExternType::Memory(limits),
+        _ => ExternType::Global {
+            ty: type_of(raw.ty),
+            is_mutable: raw.is_mutable,
+        },
+    }
+}
+
+impl<T> Drop for Embedding<T> {
+    fn drop(&mut self) {
+        // It is not busy, as no call of it runs where it is dropped. The host functions are dropped behind it.
+        unsafe { tegvurn_free(self.handle.as_ptr()) };
+    }
+}

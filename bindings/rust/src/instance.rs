@@ -1,0 +1,162 @@
+//! Modules, instances and what they export.
+
+use crate::error::{Cause, Error, Refusal};
+use crate::store::Store;
+use crate::types::{ExternType, FuncType, Val};
+
+/// A module of a store.
+#[derive(Clone, Copy, Debug, PartialEq, Eq, Hash)]
+pub struct Module {
+    store: u64,
+    number: u64,
+}
+
+/// An instance of a store.
+#[derive(Clone, Copy, Debug, PartialEq, Eq, Hash)]
+pub struct Instance {
+    pub(crate) store: u64,
+    pub(crate) number: u64,
+}
+
+/// A function that an instance exports.
+#[derive(Clone, Debug, PartialEq, Eq)]
+pub struct Func {
+    instance: Instance,
+    name: String,
+    ty: FuncType,
+}
+
+/// A global that an instance exports.
+#[derive(Clone, Debug, PartialEq, Eq)]
+pub struct Global {
+    instance: Instance,
+    name: String,
+}
+
+/// What an instance exports under a name.
+#[derive(Clone, Debug, PartialEq, Eq)]
+pub struct Export {
+    /// The name.
+    pub name: String,
+    /// What it is.
+    pub ty: ExternType,
+}
+
+impl Module {
+    /// Loads a module, which is valid then.
+    pub fn new<T>(store: &mut Store<T>, bytes: &[u8]) -> Result<Module, Error> {
+        Ok(Module {
+            store: store.id,
+            number: store.embedding.load(bytes)?,
+        })
+    }
+
+    /// Its number in the store, from 0.
+    pub fn number(self) -> u64 {
+        self.number
+    }
+}
+
+fn refused(cause: Cause, text: &str) -> Error {
+    Error::Refused(Refusal {
+        cause,
+        place: None,
+        text: text.to_owned(),
+    })
+}
+
+impl Instance {
+    /// Links a module to the store's host functions and registered instances, and runs its start function.
+    pub fn new<T>(store: &mut Store<T>, module: &Module) -> Result<Instance, Error> {
+        store.own(module.store)?;
+        Ok(Instance {
+            store: store.id,
+            number: store.embedding.link(module.number)?,
+        })
+    }
+
+    /// Its number in the store, from 0.
+    pub fn number(self) -> u64 {
+        self.number
+    }
+
+    /// Registers it under a name, by which modules that are linked later import from it.
+    pub fn register<T>(self, store: &mut Store<T>, name: &str) -> Result<(), Error> {
+        store.own(self.store)?;
+        store.embedding.register(self.number, name)
+    }
+
+    /// What it exports.
+    pub fn exports<T>(self, store: &mut Store<T>) -> Result<Vec<Export>, Error> {
+        store.own(self.store)?;
+        let exports = store.embedding.exports(self.number)?;
+        Ok(exports
+            .into_iter()
+            .map(|(name, ty)| Export { name, ty })
+            .collect())
+    }
+
+    // The type of what it exports under a name.
+    fn export_type<T>(self, store: &mut Store<T>, name: &str) -> Result<ExternType, Error> {
+        let exports = self.exports(store)?;
+        let export = exports.into_iter().find(|export| export.name == name);
+        Ok(export
+            .ok_or_else(|| refused(Cause::UnknownExport, "nothing is exported under the name"))?
+            .ty)
+    }
+
+    /// The function that it exports under a name.
+    pub fn get_func<T>(self, store: &mut Store<T>, name: &str) -> Result<Func, Error> {
+        match self.export_type(store, name)? {
+            ExternType::Func(ty) => Ok(Func {
+                instance: self,
+                name: name.to_owned(),
+                ty,
+            }),
+            _ => Err(refused(Cause::WrongKind, "the export is of another kind")),
+        }
+    }
+
+    /// The global that it exports under a name.
+    pub fn get_global<T>(self, store: &mut Store<T>, name: &str) -> Result<Global, Error> {
+        match self.export_type(store, name)? {
+            ExternType::Global { .. } => Ok(Global {
+                instance: self,
+                name: name.to_owned(),
+            }),
+            _ => Err(refused(Cause::WrongKind, "the export is of another kind")),
+        }
+    }
+}
+
+impl Func {
+    /// Its type.
+    pub fn ty(&self) -> &FuncType {
+        &self.ty
+    }
+
+    /// Calls it. There are as many places for results as it has results.
+    pub fn call<T>(
+        &self,
+        store: &mut Store<T>,
+        args: &[Val],
+        results: &mut [Val],
+    ) -> Result<(), Error> {
+        store.own(self.instance.store)?;
+        let (wanted, given) = (self.ty.results().len(), results.len());
+        if wanted != given {
+            return Err(Error::ResultCount { wanted, given });
+        }
+        store
+            .embedding
+            .call(self.instance.number, &self.name, args, results)
+    }
+}
+
+impl Global {
+    /// Its value.
+    pub fn get<T>(&self, store: &mut Store<T>) -> Result<Val, Error> {
+        store.own(self.instance.store)?;
+        store.embedding.get_global(self.instance.number, &self.name)
+    }
+}

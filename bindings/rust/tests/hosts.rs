@@ -1,0 +1,250 @@
+//! Host functions that panic, that are lent memory, and that keep things; stores that are mixed up; and the example.
+
+use std::cell::RefCell;
+use std::panic::{self, AssertUnwindSafe};
+use std::process::Command;
+use std::rc::Rc;
+use tegvurn::{
+    Cause, Config, Engine, Error, Exhaustion, FuncType, HostTrap, Instance, Linker, Module, Place,
+    Store, Trap, Val, ValType,
+};
+
+/// `(module (import "host" "ask" (func $ask (param i32) (result i32))) (memory 1) (data (i32.const 8) "hello")
+///   (func (export "ask") (param i32) (result i32) local.get 0 call $ask)
+///   (func (export "byte") (param i32) (result i32) local.get 0 i32.load8_u))`
+const MODULE: &[u8] = &[
+    0x00, 0x61, 0x73, 0x6d, 0x01, 0x00, 0x00, 0x00, 0x01, 0x06, 0x01, 0x60, 0x01, 0x7f, 0x01, 0x7f,
+    0x02, 0x0c, 0x01, 0x04, 0x68, 0x6f, 0x73, 0x74, 0x03, 0x61, 0x73, 0x6b, 0x00, 0x00, 0x03, 0x03,
+    0x02, 0x00, 0x00, 0x05, 0x03, 0x01, 0x00, 0x01, 0x07, 0x0e, 0x02, 0x03, 0x61, 0x73, 0x6b, 0x00,
+    0x01, 0x04, 0x62, 0x79, 0x74, 0x65, 0x00, 0x02, 0x0a, 0x10, 0x02, 0x06, 0x00, 0x20, 0x00, 0x10,
+    0x00, 0x0b, 0x07, 0x00, 0x20, 0x00, 0x2d, 0x00, 0x00, 0x0b, 0x0b, 0x0b, 0x01, 0x00, 0x41, 0x08,
+    0x0b, 0x05, 0x68, 0x65, 0x6c, 0x6c, 0x6f,
+];
+
+const BOUNDS: Config = Config {
+    fuel: 1_000,
+    depth: 100,
+    pages: 16,
+    entries: 100,
+};
+
+/// A store whose host function `ask` is this closure, and the instance of the module.
+fn store_of(
+    ask: impl FnMut(&mut u32, &mut [u8], i32) -> Result<Val, HostTrap> + 'static,
+) -> (Store<u32>, Instance) {
+    let engine = Engine::new(BOUNDS);
+    let (mut linker, mut ask) = (Linker::<u32>::new(&engine), ask);
+    linker.func_new(
+        "host",
+        "ask",
+        FuncType::new([ValType::I32], [ValType::I32]),
+        move |caller, args, results| {
+            results[0] = ask(caller.data, caller.memory, args[0].i32().expect("an i32"))?;
+            Ok(())
+        },
+    );
+    let mut store = Store::new(linker, 0).expect("a store");
+    let module = Module::new(&mut store, MODULE).expect("a module");
+    let instance = Instance::new(&mut store, &module).expect("an instance");
+    (store, instance)
+}
+
+fn call(store: &mut Store<u32>, instance: Instance, name: &str, arg: i32) -> Result<Val, Error> {
+    let mut results = [Val::I32(0)];
+    instance
+        .get_func(store, name)?
+        .call(store, &[Val::I32(arg)], &mut results)?;
+    Ok(results[0])
+}
+
+#[test]
+fn a_panic_goes_on_behind_the_call() {
+    let (mut store, instance) = store_of(|calls, _memory, number| {
+        *calls += 1;
+        if number == 13 {
+            panic::panic_any("thirteen");
+        }
+        Ok(Val::I32(number + 1))
+    });
+    assert_eq!(call(&mut store, instance, "ask", 1), Ok(Val::I32(2)));
+    let panic = panic::catch_unwind(AssertUnwindSafe(|| call(&mut store, instance, "ask", 13)))
+        .expect_err("a panic");
+    assert_eq!(panic.downcast_ref(), Some(&"thirteen"));
+    assert_eq!(call(&mut store, instance, "ask", 2), Ok(Val::I32(3)));
+    assert_eq!(*store.data(), 3);
+}
+
+#[test]
+fn the_memory_of_the_caller_is_read_and_written() {
+    let (mut store, instance) = store_of(|_, memory, at| {
+        assert_eq!(memory.len(), 65_536);
+        assert_eq!(&memory[8..13], b"hello");
+        memory[at as usize] = b'J';
+        Ok(Val::I32(0))
+    });
+    assert_eq!(call(&mut store, instance, "ask", 8), Ok(Val::I32(0)));
+    assert_eq!(
+        call(&mut store, instance, "byte", 8),
+        Ok(Val::I32(i32::from(b'J')))
+    );
+    assert_eq!(
+        call(&mut store, instance, "byte", 9),
+        Ok(Val::I32(i32::from(b'e')))
+    );
+}
+
+#[test]
+fn traps_and_wrong_results_have_their_codes() {
+    let (mut store, instance) = store_of(|_, _, number| {
+        if number == 0 {
+            Ok(Val::I64(0))
+        } else {
+            Err(HostTrap(number as u32))
+        }
+    });
+    assert_eq!(
+        call(&mut store, instance, "ask", 0),
+        Err(Error::Trap(Trap::Host(u32::MAX)))
+    );
+    assert_eq!(
+        call(&mut store, instance, "ask", 7),
+        Err(Error::Trap(Trap::Host(7)))
+    );
+    assert_eq!(
+        call(&mut store, instance, "ask", -1),
+        Err(Error::Trap(Trap::Host(u32::MAX)))
+    );
+    assert_eq!(
+        call(&mut store, instance, "byte", 65_536),
+        Err(Error::Trap(Trap::MemoryBounds))
+    );
+    store.set_fuel(0).expect("fuel");
+    assert_eq!(
+        call(&mut store, instance, "byte", 0),
+        Err(Error::Exhausted(Exhaustion::Fuel))
+    );
+}
+
+#[test]
+fn a_closure_may_call_another_store() {
+    let (mut inner, inner_instance) = store_of(|_, _, number| Ok(Val::I32(number * 2)));
+    let (mut outer, instance) = store_of(move |_, _, number| {
+        call(&mut inner, inner_instance, "ask", number).map_err(|_| HostTrap(1))
+    });
+    assert_eq!(call(&mut outer, instance, "ask", 21), Ok(Val::I32(42)));
+}
+
+#[test]
+fn what_closures_keep_is_dropped_with_the_store() {
+    let kept = Rc::new(RefCell::new(0));
+    let own = Rc::clone(&kept);
+    let (mut store, instance) = store_of(move |_, _, number| {
+        *own.borrow_mut() += number;
+        Ok(Val::I32(0))
+    });
+    call(&mut store, instance, "ask", 5).expect("a result");
+    assert_eq!((*kept.borrow(), Rc::strong_count(&kept)), (5, 2));
+    drop(store);
+    assert_eq!(Rc::strong_count(&kept), 1);
+}
+
+#[test]
+fn what_closures_keep_is_dropped_where_there_is_no_store() {
+    let kept = Rc::new(());
+    let own = Rc::clone(&kept);
+    let mut linker = Linker::<()>::new(&Engine::new(Config { depth: 0, ..BOUNDS }));
+    linker.func_new("host", "ask", FuncType::new([], []), move |_, _, _| {
+        let _ = &own;
+        Ok(())
+    });
+    match Store::new(linker, ()) {
+        Err(Error::Refused(refusal)) => assert_eq!(refusal.cause, Cause::BadSetup),
+        _ => panic!("a store without frames"),
+    }
+    assert_eq!(Rc::strong_count(&kept), 1);
+}
+
+#[test]
+fn stores_are_not_mixed() {
+    let (mut one, instance) = store_of(|_, _, number| Ok(Val::I32(number)));
+    let (mut other, _) = store_of(|_, _, number| Ok(Val::I32(number)));
+    let function = instance.get_func(&mut one, "ask").expect("a function");
+    let mut results = [Val::I32(0)];
+    assert_eq!(
+        function.call(&mut other, &[Val::I32(1)], &mut results),
+        Err(Error::OtherStore)
+    );
+    assert_eq!(instance.exports(&mut other), Err(Error::OtherStore));
+    assert_eq!(instance.register(&mut other, "m"), Err(Error::OtherStore));
+    let module = Module::new(&mut one, MODULE).expect("a module");
+    assert_eq!(Instance::new(&mut other, &module), Err(Error::OtherStore));
+}
+
+#[test]
+fn places_for_results_are_counted_before_the_call() {
+    let (mut store, instance) = store_of(|calls, _, number| {
+        *calls += 1;
+        Ok(Val::I32(number))
+    });
+    let function = instance.get_func(&mut store, "ask").expect("a function");
+    assert_eq!(
+        function.call(&mut store, &[Val::I32(1)], &mut []),
+        Err(Error::ResultCount {
+            wanted: 1,
+            given: 0
+        })
+    );
+    assert_eq!(*store.data(), 0);
+}
+
+#[test]
+fn refusals_say_where() {
+    let mut store = Store::new(Linker::<()>::new(&Engine::new(BOUNDS)), ()).expect("a store");
+    match Module::new(&mut store, &MODULE[..7]) {
+        Err(Error::Refused(refusal)) => {
+            assert_eq!(
+                (refusal.cause, refusal.place),
+                (Cause::Malformed, Some(Place::Byte(7)))
+            );
+            assert_eq!(refusal.text, "malformed module at byte 7");
+        }
+        other => panic!("{other:?}"),
+    }
+    let module = Module::new(&mut store, MODULE).expect("a module");
+    match Instance::new(&mut store, &module) {
+        Err(Error::Refused(refusal)) => assert_eq!(
+            (refusal.cause, refusal.place),
+            (Cause::UnknownImport, Some(Place::Import(0)))
+        ),
+        other => panic!("{other:?}"),
+    }
+}
+
+#[test]
+fn the_example_prints_what_it_has_to() {
+    let folder = env!("CARGO_MANIFEST_DIR");
+    let output = Command::new(env!("CARGO"))
+        .args([
+            "run",
+            "--quiet",
+            "--offline",
+            "--example",
+            "plugin_host",
+            "--",
+        ])
+        .arg(format!(
+            "{folder}/../../crates/plugin_host/data/plugin.wasm"
+        ))
+        .current_dir(folder)
+        .output()
+        .expect("cargo runs");
+    assert!(
+        output.status.success(),
+        "{}",
+        String::from_utf8_lossy(&output.stderr)
+    );
+    assert_eq!(
+        String::from_utf8_lossy(&output.stdout),
+        include_str!("../examples/plugin_host.out")
+    );
+}
