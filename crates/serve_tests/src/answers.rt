@@ -148,12 +148,12 @@ enum ExternTypeParts {
 
 #[rattlefmt::skip]
 static EXPORTS: [(&str, Exported, &str); 6] = [
-    ("f", Exported::Func, "0000000000000000 0200000000000000 7F00000000000000 7E00000000000000 0100000000000000 6F00000000000000"),
-    ("t", Exported::Other(ExternTypeParts::Table(TableType { element: RefType::FuncRef, limits: Limits { min: 1, max: Some(2) } })), "0100000000000000 7000000000000000 0100000000000000 0100000000000000 0200000000000000"),
-    ("e", Exported::Other(ExternTypeParts::Table(TableType { element: RefType::ExternRef, limits: Limits { min: 0, max: None } })), "0100000000000000 6F00000000000000 0000000000000000 0000000000000000 0000000000000000"),
-    ("m", Exported::Other(ExternTypeParts::Memory(Limits { min: 1, max: None })), "0200000000000000 0100000000000000 0000000000000000 0000000000000000"),
-    ("g", Exported::Other(ExternTypeParts::Global(GlobalType { value: ValType::I64, mutability: Mutability::Var })), "0300000000000000 7E00000000000000 0100000000000000"),
-    ("c", Exported::Other(ExternTypeParts::Global(GlobalType { value: ValType::I32, mutability: Mutability::Const })), "0300000000000000 7F00000000000000 0000000000000000"),
+    ("f", Exported::Func, "0100000000000000 66 0000000000000000 0200000000000000 7F00000000000000 7E00000000000000 0100000000000000 6F00000000000000"),
+    ("t", Exported::Other(ExternTypeParts::Table(TableType { element: RefType::FuncRef, limits: Limits { min: 1, max: Some(2) } })), "0100000000000000 74 0100000000000000 7000000000000000 0100000000000000 0100000000000000 0200000000000000"),
+    ("e", Exported::Other(ExternTypeParts::Table(TableType { element: RefType::ExternRef, limits: Limits { min: 0, max: None } })), "0100000000000000 65 0100000000000000 6F00000000000000 0000000000000000 0000000000000000 0000000000000000"),
+    ("m", Exported::Other(ExternTypeParts::Memory(Limits { min: 1, max: None })), "0100000000000000 6D 0200000000000000 0100000000000000 0000000000000000 0000000000000000"),
+    ("g", Exported::Other(ExternTypeParts::Global(GlobalType { value: ValType::I64, mutability: Mutability::Var })), "0100000000000000 67 0300000000000000 7E00000000000000 0100000000000000"),
+    ("c", Exported::Other(ExternTypeParts::Global(GlobalType { value: ValType::I32, mutability: Mutability::Const })), "0100000000000000 63 0300000000000000 7F00000000000000 0000000000000000"),
 ];
 
 // The type of an export.
@@ -170,16 +170,20 @@ fn make_type(alloc: Global, exported: &Exported) -> Result<ExternType, AllocErro
     })
 }
 
-// Whether two exports, this one twice, have this message.
-fn are_spelt(alloc: Global, name: &str, exported: &Exported, ty: &str) -> Result<bool, AllocError> {
+// Whether an export of a name and a type, twice, is this message twice.
+fn are_spelt(
+    alloc: Global,
+    name: &str,
+    exported: &Exported,
+    export: &str,
+) -> Result<bool, AllocError> {
     let mut exports = Vec::new(alloc);
     for _ in 0..2 {
         let name = String::from_str(alloc, name)?;
         let ty = make_type(alloc, exported)?;
         exports.push(ExportType { name, ty })?;
     }
-    let export = format!(in alloc; "0100000000000000 {:02X} {ty}", name.as_bytes()[0])?;
-    let size = 2 * bytes_of(alloc, export.as_str())?.len();
+    let size = 2 * bytes_of(alloc, export)?.len();
     let message = format!(in alloc; "{size:02X}00000000000000 0600000000000000 {export} {export}")?;
     has_message(alloc, &Answer::Exports(exports), message.as_str())
 }
