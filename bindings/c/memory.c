@@ -290,11 +290,21 @@ static bool is_script_in_part(size_t step, struct answer answer) {
   return steps[step].run == run_script && answer.status == TEGVURN_DONE && answer.given < COMMANDS;
 }
 
+/* Whether a call of this life had no memory. Where all later allocations are refused, too, later calls build on what was not done: they are
+   refused, or give other numbers. */
+static bool is_starved;
+
+static bool builds_on_refused(struct answer answer) {
+  return refuses_more && is_starved && (answer.status == TEGVURN_DONE || answer.status == TEGVURN_REFUSED);
+}
+
 /* Runs a step. Whether the next one can follow. */
 static bool run_step(size_t step) {
   struct answer answer = steps[step].run();
-  if (is_as_wanted(step, answer)) return true;
-  if (refused < 0 || !(says_no_memory(answer) || is_over(answer) || is_script_in_part(step, answer))) fail(step, answer, "a wrong answer");
+  bool lacks_memory = says_no_memory(answer) || is_over(answer) || is_script_in_part(step, answer);
+  if (is_as_wanted(step, answer) || (!lacks_memory && builds_on_refused(answer))) return true;
+  if (refused < 0 || !lacks_memory) fail(step, answer, "a wrong answer");
+  is_starved = true;
   without_memory[step]++;
   if (is_over(answer)) overs[refuses_more]++;
   if (is_over(answer) || refuses_more) return step > 0 && !is_over(answer);
@@ -307,6 +317,7 @@ static bool run_step(size_t step) {
 static long live_once(void) {
   struct answer none = {TEGVURN_DONE, 0, 0};
   made = live = 0;
+  is_starved = false;
   embedding = NULL;
   for (size_t step = 0; step < STEPS; step++)
     if (!run_step(step)) break;
