@@ -1,7 +1,5 @@
 ghost use Rattle.std.specs.Prelude.{◌≡◌, ◌<◌, ◌^◌};
 ghost use Rattle.core_types.specs.declared.op.LoadOp.TheVariants as from;
-ghost use Rattle.core_types.specs.declared.op.StoreOp.TheVariants as into;
-ghost use Rattle.core_types.specs.declared.op.Sign.TheVariants.{Unsigned};
 ghost use Rattle.core_types.specs.declared.op.Width.TheVariants.{W32};
 ghost use Rattle.meaning.specs.execution.Memories.{load_from, store_into, store_size};
 ghost use Rattle.meaning.specs.validation.Instructions.{load_type};
@@ -28,6 +26,7 @@ pub fn load_cell(op: LoadInstruction, bytes: &[u8], offset: u64) -> Result<u64, 
         LoadInstruction::I32Load8S => {
             Ok(unary_32(UnaryOp::Extend8S, read_8(bytes, offset)? as u32) as u64)
         }
+        LoadInstruction::I32Load8U => Ok(read_8(bytes, offset)? as u64),
         LoadInstruction::I64Load8S => {
             Ok(unary_64(UnaryOp::Extend8S, read_8(bytes, offset)? as u64))
         }
@@ -55,15 +54,6 @@ pub fn load_i32(bytes: &[u8], offset: u64) -> Result<u64, Trap>
     Ok(read_32(bytes, offset)? as u64)
 }
 
-/// The cell that `i32.load8_u` reads at an offset, or a trap past the end (Execution, Memory Instructions, t.loadN_sx).
-#[inline(always)]
-pub fn load_i32_8u(bytes: &[u8], offset: u64) -> Result<u64, Trap>
-    ensures { load_from (from.Bits8 W32 Unsigned) bytes.now offset
-        ≡ value_of_result (load_type (from.Bits8 W32 Unsigned)) result }
-{
-    Ok(read_8(bytes, offset)? as u64)
-}
-
 /// Writes a cell, or its low bytes, at an offset, or traps past the end and writes nothing (Execution, Memory Instructions,
 /// t.store and t.storeN).
 ///
@@ -82,19 +72,10 @@ pub fn store_cell(
     match op {
         StoreInstruction::I32Store => write_32(bytes, offset, cell),
         StoreInstruction::I64Store => write_64(bytes, offset, cell),
+        StoreInstruction::I32Store8 => write_8(bytes, offset, cell),
         StoreInstruction::I64Store8 => write_8(bytes, offset, cell),
         StoreInstruction::I32Store16 => write_16(bytes, offset, cell),
         StoreInstruction::I64Store16 => write_16(bytes, offset, cell),
         StoreInstruction::I64Store32 => write_32(bytes, offset, cell),
     }
-}
-
-/// Writes the low byte of a cell at an offset, as `i32.store8` does, or traps past the end and writes nothing (Execution, Memory
-/// Instructions, t.storeN).
-#[inline(always)]
-pub fn store_i32_8(bytes: &mut [u8], offset: u64, cell: u64) -> Result<(), Trap>
-    ensures { Wrote result bytes.old bytes.new
-        (store_into bytes.old offset (store_size (into.Bits8 W32)) cell) }
-{
-    write_8(bytes, offset, cell)
 }

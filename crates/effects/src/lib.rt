@@ -9,7 +9,7 @@ mod payment;
 mod segments;
 mod tables;
 
-pub use accesses::{load_cell, load_i32, load_i32_8u, store_cell, store_i32_8};
+pub use accesses::{load_cell, load_i32, store_cell};
 pub use memories::{copy_memory, fill_memory, grow_memory, init_memory};
 pub use numeric::{compute_binary, compute_unary, low};
 pub use payment::{Paid, Refusal};

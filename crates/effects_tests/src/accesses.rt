@@ -1,7 +1,7 @@
 //! Loads and stores over cells: what is read and written, worked out from the standard.
 
 use core_types::Trap;
-use effects::{load_cell, load_i32, load_i32_8u, store_cell, store_i32_8};
+use effects::{load_cell, load_i32, store_cell};
 use sidetable::{LoadInstruction as Load, StoreInstruction as Store};
 
 const PAST: Trap = Trap::MemoryBounds;
@@ -17,7 +17,7 @@ struct LoadRow {
 }
 
 #[rattlefmt::skip]
-static LOADS: [LoadRow; 24] = [
+static LOADS: [LoadRow; 27] = [
     LoadRow { name: "i64.load", op: Load::I64Load, offset: 0, result: Ok(0x0605_0403_0201_FF80) },
     LoadRow { name: "i64.load at the end", op: Load::I64Load, offset: 1, result: Ok(0x8706_0504_0302_01FF) },
     LoadRow { name: "i64.load past the end", op: Load::I64Load, offset: 2, result: Err(PAST) },
@@ -25,6 +25,9 @@ static LOADS: [LoadRow; 24] = [
     LoadRow { name: "i32.load8_s", op: Load::I32Load8S, offset: 0, result: Ok(0xFFFF_FF80) },
     LoadRow { name: "i32.load8_s, positive", op: Load::I32Load8S, offset: 2, result: Ok(1) },
     LoadRow { name: "i32.load8_s past the end", op: Load::I32Load8S, offset: 9, result: Err(PAST) },
+    LoadRow { name: "i32.load8_u", op: Load::I32Load8U, offset: 0, result: Ok(0x80) },
+    LoadRow { name: "i32.load8_u, the last byte", op: Load::I32Load8U, offset: 8, result: Ok(0x87) },
+    LoadRow { name: "i32.load8_u past the end", op: Load::I32Load8U, offset: 9, result: Err(PAST) },
     LoadRow { name: "i64.load8_s", op: Load::I64Load8S, offset: 8, result: Ok(0xFFFF_FFFF_FFFF_FF87) },
     LoadRow { name: "i64.load8_s past the end", op: Load::I64Load8S, offset: 9, result: Err(PAST) },
     LoadRow { name: "i64.load8_u", op: Load::I64Load8U, offset: 8, result: Ok(0x87) },
@@ -55,26 +58,23 @@ fn loads_give_cells(rt: HostRuntime) {
     }
 }
 
-// An offset, and what i32.load and i32.load8_u give there.
+// An offset, and what i32.load gives there.
 struct FrequentRow {
     name: &'static str,
     offset: u64,
-    whole: Result<u64, Trap>,
-    byte: Result<u64, Trap>,
+    result: Result<u64, Trap>,
 }
 
 #[rattlefmt::skip]
 static FREQUENT: [FrequentRow; 4] = [
-    FrequentRow { name: "at the start", offset: 0, whole: Ok(0x0201_FF80), byte: Ok(0x80) },
-    FrequentRow { name: "the last four bytes", offset: 5, whole: Ok(0x8706_0504), byte: Ok(4) },
-    FrequentRow { name: "the last byte", offset: 8, whole: Err(PAST), byte: Ok(0x87) },
-    FrequentRow { name: "past the end", offset: 9, whole: Err(PAST), byte: Err(PAST) },
+    FrequentRow { name: "at the start", offset: 0, result: Ok(0x0201_FF80) },
+    FrequentRow { name: "the last four bytes", offset: 5, result: Ok(0x8706_0504) },
+    FrequentRow { name: "the last byte", offset: 8, result: Err(PAST) },
+    FrequentRow { name: "past the end", offset: 9, result: Err(PAST) },
 ];
 
 fn loads_frequent(row: &FrequentRow) -> bool {
-    row.offset < 0x2_0000_0000
-        && load_i32(&BYTES, row.offset) == row.whole
-        && load_i32_8u(&BYTES, row.offset) == row.byte
+    row.offset < 0x2_0000_0000 && load_i32(&BYTES, row.offset) == row.result
 }
 
 #[test]
@@ -84,10 +84,10 @@ fn frequent_loads_give_cells(rt: HostRuntime) {
     }
 }
 
-// A store into nine zeros, its answer and the bytes after it. No store is i32.store8.
+// A store into nine zeros, its answer and the bytes after it.
 struct StoreRow {
     name: &'static str,
-    op: Option<Store>,
+    op: Store,
     offset: u64,
     result: Result<(), Trap>,
     after: [u8; 9],
@@ -98,20 +98,20 @@ const CELL: u64 = 0x8182_8384_8586_8788;
 
 #[rattlefmt::skip]
 static STORES: [StoreRow; 14] = [
-    StoreRow { name: "i64.store", op: Some(Store::I64Store), offset: 1, result: Ok(()), after: [0, 0x88, 0x87, 0x86, 0x85, 0x84, 0x83, 0x82, 0x81] },
-    StoreRow { name: "i64.store past the end", op: Some(Store::I64Store), offset: 2, result: Err(PAST), after: [0, 0, 0, 0, 0, 0, 0, 0, 0] },
-    StoreRow { name: "i32.store", op: Some(Store::I32Store), offset: 5, result: Ok(()), after: [0, 0, 0, 0, 0, 0x88, 0x87, 0x86, 0x85] },
-    StoreRow { name: "i32.store past the end", op: Some(Store::I32Store), offset: 6, result: Err(PAST), after: [0, 0, 0, 0, 0, 0, 0, 0, 0] },
-    StoreRow { name: "i64.store32", op: Some(Store::I64Store32), offset: 0, result: Ok(()), after: [0x88, 0x87, 0x86, 0x85, 0, 0, 0, 0, 0] },
-    StoreRow { name: "i64.store32 past the end", op: Some(Store::I64Store32), offset: 0x1_FFFF_FFFE, result: Err(PAST), after: [0, 0, 0, 0, 0, 0, 0, 0, 0] },
-    StoreRow { name: "i32.store16", op: Some(Store::I32Store16), offset: 7, result: Ok(()), after: [0, 0, 0, 0, 0, 0, 0, 0x88, 0x87] },
-    StoreRow { name: "i32.store16 past the end", op: Some(Store::I32Store16), offset: 8, result: Err(PAST), after: [0, 0, 0, 0, 0, 0, 0, 0, 0] },
-    StoreRow { name: "i64.store16", op: Some(Store::I64Store16), offset: 0, result: Ok(()), after: [0x88, 0x87, 0, 0, 0, 0, 0, 0, 0] },
-    StoreRow { name: "i64.store16 past the end", op: Some(Store::I64Store16), offset: 8, result: Err(PAST), after: [0, 0, 0, 0, 0, 0, 0, 0, 0] },
-    StoreRow { name: "i64.store8", op: Some(Store::I64Store8), offset: 8, result: Ok(()), after: [0, 0, 0, 0, 0, 0, 0, 0, 0x88] },
-    StoreRow { name: "i64.store8 past the end", op: Some(Store::I64Store8), offset: 9, result: Err(PAST), after: [0, 0, 0, 0, 0, 0, 0, 0, 0] },
-    StoreRow { name: "i32.store8", op: None, offset: 8, result: Ok(()), after: [0, 0, 0, 0, 0, 0, 0, 0, 0x88] },
-    StoreRow { name: "i32.store8 past the end", op: None, offset: 9, result: Err(PAST), after: [0, 0, 0, 0, 0, 0, 0, 0, 0] },
+    StoreRow { name: "i64.store", op: Store::I64Store, offset: 1, result: Ok(()), after: [0, 0x88, 0x87, 0x86, 0x85, 0x84, 0x83, 0x82, 0x81] },
+    StoreRow { name: "i64.store past the end", op: Store::I64Store, offset: 2, result: Err(PAST), after: [0, 0, 0, 0, 0, 0, 0, 0, 0] },
+    StoreRow { name: "i32.store", op: Store::I32Store, offset: 5, result: Ok(()), after: [0, 0, 0, 0, 0, 0x88, 0x87, 0x86, 0x85] },
+    StoreRow { name: "i32.store past the end", op: Store::I32Store, offset: 6, result: Err(PAST), after: [0, 0, 0, 0, 0, 0, 0, 0, 0] },
+    StoreRow { name: "i64.store32", op: Store::I64Store32, offset: 0, result: Ok(()), after: [0x88, 0x87, 0x86, 0x85, 0, 0, 0, 0, 0] },
+    StoreRow { name: "i64.store32 past the end", op: Store::I64Store32, offset: 0x1_FFFF_FFFE, result: Err(PAST), after: [0, 0, 0, 0, 0, 0, 0, 0, 0] },
+    StoreRow { name: "i32.store16", op: Store::I32Store16, offset: 7, result: Ok(()), after: [0, 0, 0, 0, 0, 0, 0, 0x88, 0x87] },
+    StoreRow { name: "i32.store16 past the end", op: Store::I32Store16, offset: 8, result: Err(PAST), after: [0, 0, 0, 0, 0, 0, 0, 0, 0] },
+    StoreRow { name: "i64.store16", op: Store::I64Store16, offset: 0, result: Ok(()), after: [0x88, 0x87, 0, 0, 0, 0, 0, 0, 0] },
+    StoreRow { name: "i64.store16 past the end", op: Store::I64Store16, offset: 8, result: Err(PAST), after: [0, 0, 0, 0, 0, 0, 0, 0, 0] },
+    StoreRow { name: "i64.store8", op: Store::I64Store8, offset: 8, result: Ok(()), after: [0, 0, 0, 0, 0, 0, 0, 0, 0x88] },
+    StoreRow { name: "i64.store8 past the end", op: Store::I64Store8, offset: 9, result: Err(PAST), after: [0, 0, 0, 0, 0, 0, 0, 0, 0] },
+    StoreRow { name: "i32.store8", op: Store::I32Store8, offset: 8, result: Ok(()), after: [0, 0, 0, 0, 0, 0, 0, 0, 0x88] },
+    StoreRow { name: "i32.store8 past the end", op: Store::I32Store8, offset: 9, result: Err(PAST), after: [0, 0, 0, 0, 0, 0, 0, 0, 0] },
 ];
 
 fn stores(row: &StoreRow) -> bool {
@@ -119,10 +119,7 @@ fn stores(row: &StoreRow) -> bool {
         return false;
     }
     let mut bytes = [0; 9];
-    let result = match row.op {
-        Some(op) => store_cell(op, &mut bytes, row.offset, CELL),
-        None => store_i32_8(&mut bytes, row.offset, CELL),
-    };
+    let result = store_cell(row.op, &mut bytes, row.offset, CELL);
     result == row.result && bytes == row.after
 }
 

@@ -6,11 +6,12 @@ use Rattle.meaning.specs.embedding.Machine.{Embedding}
 use Rattle.exec.specs.Endings.{run_state}
 use Rattle.hostfunc.specs.declared.host_object.HostObject.{HostObject}
 use Rattle.store.specs.Contents.{store_of}
+use Rattle.store.specs.Loaded.{LoadedContents}
 use Rattle.embed.specs.declared.embedding.Embedding.{Embedding as Kept}
 
 -- The modules that are shared.
-abbrev pub modules_in : {Z : Type 0} → List (Rc Module Z) → List Module
-modules_in shared = map (λ (r : Rc Module _). r.value) shared
+abbrev pub modules_in : {Z : Type 0} → List (Rc LoadedContents Z) → List Module
+modules_in shared = map (λ (r : Rc LoadedContents _). r.value.source) shared
 
 module _ {I : Type 0} {F : I → Type 0} where
   -- The embedding that is kept.

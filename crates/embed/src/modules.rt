@@ -12,8 +12,8 @@ use validator::validate;
 
 /// The module that bytes spell, if it is valid.
 pub fn load_module(alloc: Global, bytes: &[u8]) -> Result<Rc<LoadedModule>, Refusal>
-    ensures decoded { IfOk result (λ loaded. IsDecoded bytes.now loaded.value) }
-    ensures valid { IfOk result (λ loaded. IsValid loaded.value) }
+    ensures decoded { IfOk result (λ loaded. IsDecoded bytes.now loaded.value.source) }
+    ensures valid { IfOk result (λ loaded. IsValid loaded.value.source) }
     ensures refused { IfErr result (λ refusal. RefusesBytes bytes.now refusal) }
 {
     let decoded = decode(alloc, bytes)?;

@@ -80,19 +80,19 @@ module _ (bound : ℕ) (r : AtRest) (op : PlainOp) (u : Whole) (b : RestsBefore 
 
   -- ---- operands
 
-  operand-is : (n : ℕ) → m.base + m.locals + n ≤ m.top → (k : ℕ) → k < n → get_or (cells_in m) (height_in m - suc k) 0 ≡ operand_of r.call k
+  operand-is : (n : ℕ) → m.base + g.code.locals + n ≤ m.top → (k : ℕ) → k < n → get_or (cells_in g m) (height_in m - suc k) 0 ≡ operand_of r.call k
   operand-is n low zero less = topmost b.rests.world m g runs n (omega arith) low
   operand-is n low (suc j) less = under b.rests.world m g runs (suc (suc j)) (omega arith) (omega arith) (omega arith) (m.top - suc j) (omega arith)
 
   -- Operands of these types, the topmost first.
   pub record Operands (types : List ValType) : Type 0 where
-    pub low : m.base + m.locals + length types ≤ m.top
+    pub low : m.base + g.code.locals + length types ≤ m.top
     pub has : HasOperands r.call types
 
-  operands : (types : List ValType) → HasOperandCells g (cells_in m) (height_in m) types → Operands (reverse types)
+  operands : (types : List ValType) → HasOperandCells g (cells_in g m) (height_in m) types → Operands (reverse types)
   operands types h =
       let many : length (reverse types) ≡ length types = simp length-reverse in
-      let low : m.base + m.locals + length types ≤ m.top = omega (arith, h.above, runs.count, runs.low) in
+      let low : m.base + g.code.locals + length types ≤ m.top = omega (arith, h.above, runs.runs.holds.count, runs.low) in
       let inside_is = inside b.rests.world m g runs in record {
         low = omega (arith, many, low);
         has = record {
@@ -109,19 +109,19 @@ module _ (bound : ℕ) (r : AtRest) (op : PlainOp) (u : Whole) (b : RestsBefore 
   no-operands = record { low = omega (arith, runs.low); has = record { low = omega arith; inside = inside b.rests.world m g runs; cells = λ k less. absurd (omega (arith, less)) } }
 
   -- There is room for one more.
-  room-above : height_in m < length (cells_in m) → m.top + 1 < length m.cells
+  room-above : height_in m < length (cells_in g m) → m.top + 1 < length m.cells
   room-above room =
       let written = length-set m.cells m.top m.operand in
-      let size = frame-length m.locals m.base (set m.cells m.top m.operand) (omega (arith, written, runs.scrap)) in
+      let size = frame-length g.code.locals m.base (set m.cells m.top m.operand) (omega (arith, written, runs.scrap)) in
       omega (arith, written, size, room, runs.low)
 
   -- ---- outcomes, over the store and the operands at rest
 
   abbrev HasAt : (below : ℕ) → Outcome → Type 0
-  HasAt below o = HasOutcome g (cells_in m) m.place (height_in m) below o
+  HasAt below o = HasOutcome g (cells_in g m) m.place (height_in m) below o
 
   abbrev cell : (k : ℕ) → ℕ
-  cell k = get_or (cells_in m) (height_in m - suc k) 0
+  cell k = get_or (cells_in g m) (height_in m - suc k) 0
 
   over-none : (below : ℕ) (outcome : Store → Outcome) → HasAt below (outcome g.store) → HasAt below (outcome (store_around r))
   over-none below outcome = subst (λ (s : Store). HasAt below (outcome s)) store-is
@@ -132,7 +132,7 @@ module _ (bound : ℕ) (r : AtRest) (op : PlainOp) (u : Whole) (b : RestsBefore 
       let same : height_in m ≡ height_in m - 0 = omega arith in
       over-none (height_in m - 0) outcome (subst (λ (n : ℕ). HasAt n (outcome g.store)) same h)
 
-  module _ (n : ℕ) (low : m.base + m.locals + n ≤ m.top) (below : ℕ) where
+  module _ (n : ℕ) (low : m.base + g.code.locals + n ≤ m.top) (below : ℕ) where
     over-cell : (k : ℕ) → k < n → (outcome : ℕ → Outcome) → HasAt below (outcome (cell k)) → HasAt below (outcome (operand_of r.call k))
     over-cell k less outcome = subst (λ (x : ℕ). HasAt below (outcome x)) (operand-is n low k less)
 
@@ -149,13 +149,13 @@ module _ (bound : ℕ) (r : AtRest) (op : PlainOp) (u : Whole) (b : RestsBefore 
 
 module _ (m : Machine) (taken : ℕ) where
   -- In the place of operands.
-  pub room-taken : 1 ≤ taken → m.base + m.locals + taken ≤ m.top → m.top < length m.cells → (result : Result Paid Refusal) → HasRoomFor m taken result
-  room-taken some low inside (Ok paid) = by paid.result
+  pub room-taken : 1 ≤ taken → (below : ℕ) → below + taken ≤ m.top → m.top < length m.cells → (result : Result Paid Refusal) → HasRoomFor m taken result
+  room-taken some below low inside (Ok paid) = by paid.result
     where
       by : (result : Option ℕ) → HasRoom m taken result
       by None = tt
       by (Some cell) = omega (arith, some, low, inside)
-  room-taken some low inside (Err refusal) = tt
+  room-taken some below low inside (Err refusal) = tt
 
   -- Where there is none.
   pub room-none : (cost : ℕ) (store old new : Store) (fuel : ℕ) (result : Result Paid Refusal) → Gives (made cost store []) old new fuel result → HasRoomFor m taken result
@@ -186,8 +186,8 @@ pub record Ready {T : Type 0} (r : AtRest) (g : Ghost) (items : List T) (none : 
   pub named : name ≡ Some address
   pub inside : address < length items
   pub has_operands : HasOperands r.call (types (get_or items address none))
-  pub low : (machine_of r).base + (machine_of r).locals + length (types (get_or items address none)) ≤ (machine_of r).top
-  pub has : HasOutcome g (cells_in (machine_of r)) (machine_of r).place (height_in (machine_of r)) (height_in (machine_of r) - length (types (get_or items address none))) (outcome address (get_or items address none))
+  pub low : (machine_of r).base + g.code.locals + length (types (get_or items address none)) ≤ (machine_of r).top
+  pub has : HasOutcome g (cells_in g (machine_of r)) (machine_of r).place (height_in (machine_of r)) (height_in (machine_of r) - length (types (get_or items address none))) (outcome address (get_or items address none))
 
 -- The operands of the call.
 abbrev topmost_of : AtRest → ℕ
@@ -201,7 +201,7 @@ third_of r = operand_of r.call 2
 
 module _ {T : Type 0} (bound : ℕ) (r : AtRest) (op : PlainOp) (u : Whole) (b : RestsBefore bound r op u) (items : List T) (none : T) (name : Option ℕ) (types : T → List ValType) (outcome : ℕ → T → Outcome) where
   abbrev OutcomeOf : ℕ → T → Type 0
-  OutcomeOf address t = HasOutcome u.ghost (cells_in (machine_of r)) (machine_of r).place (height_in (machine_of r)) (height_in (machine_of r) - length (types t)) (outcome address t)
+  OutcomeOf address t = HasOutcome u.ghost (cells_in u.ghost (machine_of r)) (machine_of r).place (height_in (machine_of r)) (height_in (machine_of r) - length (types t)) (outcome address t)
 
   ready : (a : ℕ) (t : T) → IsThere items none name a t → Operands bound r op u b (types t) → OutcomeOf a t → Ready r u.ghost items none name types outcome
   ready a t there o has = record {
@@ -209,7 +209,7 @@ module _ {T : Type 0} (bound : ℕ) (r : AtRest) (op : PlainOp) (u : Whole) (b :
     named = there.named;
     inside = there.inside;
     has_operands = subst (λ (z : T). HasOperands r.call (types z)) (sym there.is) o.has;
-    low = subst (λ (z : T). (machine_of r).base + (machine_of r).locals + length (types z) ≤ (machine_of r).top) (sym there.is) o.low;
+    low = subst (λ (z : T). (machine_of r).base + u.ghost.code.locals + length (types z) ≤ (machine_of r).top) (sym there.is) o.low;
     has = subst (OutcomeOf a) (sym there.is) has;
   }
 
@@ -218,7 +218,7 @@ module _ (r : AtRest) (u : Whole) where
   machine = machine_of r
 
   abbrev frame_cells : List ℕ
-  frame_cells = cells_in machine
+  frame_cells = cells_in u.ghost machine
 
   abbrev height : ℕ
   height = height_in machine

@@ -1,7 +1,7 @@
 -- Calls of host functions: what they lead to for the whole.
-use Rattle.std.proofs.Common.{◌≡◌, ℕ, suc, ◌+◌, ◌-◌, ◌≤◌, List, [], ◌∷◌, ◌++◌, length, map, reverse, take, drop, set, refl, ap, sym, subst, ◌∙◌, arith, append_assoc, length-append}
+use Rattle.std.proofs.Common.{◌≡◌, ℕ, suc, ◌+◌, ◌-◌, ◌<◌, ◌≤◌, List, [], ◌∷◌, ◌++◌, length, map, reverse, take, drop, set, refl, ap, sym, subst, ◌∙◌, arith, append_assoc, length-append}
 use Rattle.std.proofs.lemmas.List.{append-nil, length-drop, length-reverse, length-set, reverse-reverse, take-set-le, take-take}
-use Rattle.std.proofs.lemmas.Option.{same_Some, slice_get_within}
+use Rattle.std.proofs.lemmas.Option.{same_Some}
 use Rattle.std.specs.Prelude.{Option, Some, slice_get}
 use Rattle.core_types.specs.declared.op.PlainOp.{PlainOp}
 use Rattle.core_types.specs.declared.outcome.Trap.TheVariants.{Host}
@@ -36,20 +36,21 @@ use Rattle.simulation.specs.Callees.{IsCalling, IsHostCall, IsTailCalling, Reach
 use Rattle.simulation.specs.Calls.{activation_of, around}
 use Rattle.simulation.specs.Outcomes.{operand_cells}
 use Rattle.simulation.specs.Piles.{cells_of}
-use Rattle.simulation.specs.Runs.{Ghost, config_of, frame_of, place_of}
+use Rattle.simulation.specs.Runs.{Ghost, Runs, config_of, frame_of, place_of}
 use Rattle.simulation.specs.Settling.{in_frame}
-use Rattle.simulation.specs.Standing.{StandsIn, values_under}
+use Rattle.simulation.specs.Standing.{FrameCode, StandsIn, values_under}
 use Rattle.simulation.proofs.Calls.{plug-around}
 use Rattle.simulation.proofs.Cells.{cells-joined, map-reversed}
 use Rattle.simulation.proofs.Frames.{callers-on}
 use Rattle.simulation.proofs.Hosts.{bytes-lent, calls-reach-hosts, tail-calls-reach-hosts}
 use Rattle.simulation.proofs.Steps.{within}
-use Rattle.store.specs.Contents.{AreOfContext, Contents, code_store, functions_in, host_function, store_with}
+use Rattle.store.specs.Contents.{AreOfContext, Contents, IsLoaded, code_store, functions_in, host_function, store_with}
 use Rattle.store.specs.State.{StateContents}
 use Rattle.exec.specs.Endings.{first_memory}
 use Rattle.exec.proofs.Lending.{one_type}
 use Rattle.interpreter.specs.Callers.{Caller, CallerStands, CallersStand, layers_around}
 use Rattle.interpreter.specs.Calling.{frame_waiting}
+use Rattle.sidetable.specs.FlatModules.{operations_of}
 use Rattle.interpreter.specs.Layout.{put_back, without_scrap}
 use Rattle.interpreter.specs.Looping.{loop_at, machine_at}
 use Rattle.interpreter.specs.Running.{Machine, cells_in, height_in}
@@ -69,6 +70,7 @@ use Rattle.exec.specs.Endings.{run_state}
 use Rattle.exec.specs.Resting.{AtRest, Rests, at_rest, fuel_left, loop_of, machine_of, store_around}
 use Rattle.exec.specs.declared.call.Call.{Call}
 use Rattle.exec.proofs.Putting.{operands-there, results-below, results-on-top, results-size}
+use Rattle.interpreter.proofs.Worlds.{flat-seen}
 use Rattle.exec.proofs.Seeing.{seen-from}
 
 -- Cells that are read at types have these types.
@@ -85,7 +87,7 @@ cells_held r = set (machine_of r).cells (machine_of r).top (machine_of r).operan
 -- ---- a host function that is called
 
 module _ (bound : ℕ) (r : AtRest) (w : Whole) (rests : Rests bound r w) (op : PlainOp) (address : ℕ) (function : FunctionInstance) (height behind : ℕ) (lies : behind ≡ (machine_of r).base + height + 1) (paid : 1 ≤ fuel_left r)
-    (c : ReachesCall op address function w.ghost (cells_in (machine_of r)) (machine_of r).place (height_in (machine_of r)) height)
+    (c : ReachesCall op address function w.ghost (cells_in w.ghost (machine_of r)) (machine_of r).place (height_in (machine_of r)) height)
     (number : ℕ) (t : FuncType) (found : slice_get (functions_in r.code) address ≡ Some (host_function number t)) where
   abbrev m : Machine
   m = machine_of r
@@ -123,15 +125,19 @@ module _ (bound : ℕ) (r : AtRest) (w : Whole) (rests : Rests bound r w) (op : 
   abbrev pub there : Reaches bound l w l
   there = lifted-there bound l w rests.runs (fuel_left r) (record { new = c.new; same = c.same; store = c.store; steps = c.steps (fuel_left r); runs = c.runs })
 
-  instance-is : g.instance ≡ r.call.position.frame.instance
+  instance-is : g.instance ≡ r.call.position.instance
   instance-is = c.same.instance ∙ rests.runs.runs.number ∙ sym rests.runs.number
 
-  count : m.locals ≡ length g.locals
-  count = there.runs.runs.count
+  -- Its code is that of the frame.
+  locals-are : g.code.locals ≡ w.ghost.code.locals
+  locals-are = ap (λ (code : FrameCode). code.locals) c.same.code
+
+  count : w.ghost.code.locals ≡ length g.locals
+  count = sym locals-are ∙ sym there.runs.runs.runs.holds.count
 
   -- ---- the arguments
 
-  above : m.locals + k ≤ height
+  above : w.ghost.code.locals + k ≤ height
   above = let le = c.operands.above in omega (arith, le, count, many-are)
 
   pub enough : k ≤ behind
@@ -143,8 +149,8 @@ module _ (bound : ℕ) (r : AtRest) (w : Whole) (rests : Rests bound r w) (op : 
   held-size : length held ≡ length m.cells
   held-size = length-set m.cells m.top m.operand
 
-  frame-size : length (cells_in m) ≡ length m.cells - suc m.base
-  frame-size = let scrap = rests.runs.runs.scrap in frame-length m.locals m.base held (omega (arith, held-size, scrap)) ∙ omega (arith, held-size)
+  frame-size : length (cells_in w.ghost m) ≡ length m.cells - suc m.base
+  frame-size = let scrap = rests.runs.runs.scrap in frame-length w.ghost.code.locals m.base held (omega (arith, held-size, scrap)) ∙ omega (arith, held-size)
 
   pub behind-inside : behind ≤ length m.cells
   behind-inside =
@@ -153,11 +159,11 @@ module _ (bound : ℕ) (r : AtRest) (w : Whole) (rests : Rests bound r w) (op : 
       let scrap = rests.runs.runs.scrap in
       omega (arith, frame-size, within_cells, lies, under_top, scrap)
 
-  arguments-lie : operand_cells (cells_in m) height (length function.ty.params) ≡ take k (drop first held)
+  arguments-lie : operand_cells (cells_in w.ghost m) height (length function.ty.params) ≡ take k (drop first held)
   arguments-lie =
       let scrap = rests.runs.runs.scrap in
-      ap (operand_cells (cells_in m) height) many-are
-      ∙ operands-there m.locals m.base held height k first (omega (arith, held-size, scrap)) (omega (arith, above)) first-is (omega (arith, above))
+      ap (operand_cells (cells_in w.ghost m) height) many-are
+      ∙ operands-there w.ghost.code.locals m.base held height k first (omega (arith, held-size, scrap)) (omega (arith, above)) first-is (omega (arith, above))
 
   pub arguments-fit : AreCellsOf t.params (take k (drop first held))
   arguments-fit = subst (λ (ts : List ValType). AreCellsOf ts (take k (drop first held))) params-are (subst (AreCellsOf function.ty.params) arguments-lie c.operands.fit)
@@ -173,7 +179,7 @@ module _ (bound : ℕ) (r : AtRest) (w : Whole) (rests : Rests bound r w) (op : 
   slice-is cells n same is = rw (same, is) (ap (λ (j : ℕ). take j (drop first held)) (omega (arith, enough)))
 
   abbrev arguments_read : List Val
-  arguments_read = values_of function.ty.params (operand_cells (cells_in m) height (length function.ty.params))
+  arguments_read = values_of function.ty.params (operand_cells (cells_in w.ghost m) height (length function.ty.params))
 
   arguments-are : arguments_read ≡ arguments
   arguments-are = ap (values_of function.ty.params) arguments-lie ∙ ap (λ (ts : List ValType). values_of ts (take k (drop first held))) params-are
@@ -181,7 +187,7 @@ module _ (bound : ℕ) (r : AtRest) (w : Whole) (rests : Rests bound r w) (op : 
   -- ---- the call
 
   abbrev pub lent : Option ℕ
-  lent = first_memory (code_store r.code) r.call.position.frame.instance
+  lent = first_memory (code_store r.code) r.call.position.instance
 
   lent-is : lent_memory (store_around r) (frame_of g) ≡ lent
   lent-is = ap (λ (i : ℕ). first_memory (code_store r.code) i) instance-is
@@ -199,12 +205,10 @@ module _ (bound : ℕ) (r : AtRest) (w : Whole) (rests : Rests bound r w) (op : 
   typed : ConfigurationHasType (store_around r) outermost (whole there.new) w.results
   typed = subst (λ (s : Store). ConfigurationHasType s outermost (whole there.new) w.results) rests.sees.store there.runs.typed
 
-  instance-there : suc r.call.position.frame.instance ≤ length r.code.instances
+  instance-there : IsLoaded r.code.instances r.call.position.instance rests.world.instance
   instance-there =
-      let inside_world = slice_get_within rests.world.code.instances rests.world.number rests.world.instance rests.runs.runs.instance.there in
-      let same = ap (λ (code : Contents). length code.instances) rests.sees.code in
-      let seen = rests.sees.seen_from in
-      omega (arith, inside_world, same, seen)
+      subst (λ (n : ℕ). IsLoaded r.code.instances n rests.world.instance) rests.sees.seen_from
+      (subst (λ (code : Contents). IsLoaded code.instances rests.world.number rests.world.instance) rests.sees.code rests.sees.instance.loaded)
 
   -- ---- what comes of it
 
@@ -280,11 +284,11 @@ module _ (bound : ℕ) (r : AtRest) (w : Whole) (rests : Rests bound r w) (op : 
   module _ (counted : counts_of c.new.code.signatures op ≡ Some (counts (c.over + length function.ty.params) (length function.ty.results)))
       (goes_on : (results : List Val) → ValuesHaveTypes c.new.store results function.ty.results → ConfigurationHasType c.new.store (place_of c.new) (in_frame (reverse results ++ drop (length function.ty.params) c.values) c.new.labels c.rest) c.new.results)
       (step : step_instruction c.new.store (frame_of c.new) op c.new.values c.rest ≡ call_function 1 c.new.store (lent_memory c.new.store (frame_of c.new)) (Some function) c.values c.rest) where
-    abbrev nested : IsCalling op address function w.ghost (cells_in m) m.place (height_in m) height
+    abbrev nested : IsCalling op address function w.ghost (cells_in w.ghost m) m.place (height_in m) height
     nested = record { reached = c; counted = counted; goes_on = goes_on; step = step }
 
-    call : IsHostCall op address function w.ghost (cells_in m) m.place (height_in m) height number nested
-    call = calls-reach-hosts op address function w.ghost (cells_in m) m.place (height_in m) height number nested (ap (λ (f : FunctionInstance). f.implementation) function-is)
+    call : IsHostCall op address function w.ghost (cells_in w.ghost m) m.place (height_in m) height number nested
+    call = calls-reach-hosts op address function w.ghost (cells_in w.ghost m) m.place (height_in m) height number nested (ap (λ (f : FunctionInstance). f.implementation) function-is)
 
     abbrev inner : Configuration
     inner = in_frame (drop (length function.ty.params) c.values) g.labels c.rest
@@ -361,41 +365,40 @@ module _ (bound : ℕ) (r : AtRest) (w : Whole) (rests : Rests bound r w) (op : 
       size-is : length cells' ≡ length m.cells
       size-is = results-size held first values room-held ∙ held-size
 
-      frame-is : cells_in m' ≡ without_scrap m.locals m.base cells'
-      frame-is = popped-frame m.locals m.base cells' position'.top
+      frame-is : cells_in w.ghost m' ≡ without_scrap w.ghost.code.locals m.base cells'
+      frame-is = popped-frame w.ghost.code.locals m.base cells' position'.top
 
-      frame-size' : length (cells_in m') ≡ length (cells_in m)
+      frame-size' : length (cells_in w.ghost m') ≡ length (cells_in w.ghost m)
       frame-size' =
           let scrap = rests.runs.runs.scrap in
-          ap (λ (z : List ℕ). length z) frame-is ∙ frame-length m.locals m.base cells' (omega (arith, size-is, scrap)) ∙ omega (arith, size-is, frame-size)
+          ap (λ (z : List ℕ). length z) frame-is ∙ frame-length w.ghost.code.locals m.base cells' (omega (arith, size-is, scrap)) ∙ omega (arith, size-is, frame-size)
 
       height-is : height_in m' ≡ height - length function.ty.params + length values
       height-is = omega (arith, first-is, many-are, above)
 
-      put-there : take (height_in m') (cells_in m') ≡ take (height - length function.ty.params) (cells_in m) ++ map cell_of values
+      put-there : take (height_in m') (cells_in w.ghost m') ≡ take (height - length function.ty.params) (cells_in w.ghost m) ++ map cell_of values
       put-there =
           let part : height - length function.ty.params ≡ height - k = omega (arith, many-are) in
           ap (take (height_in m')) frame-is
-          ∙ ap (λ (n : ℕ). take n (without_scrap m.locals m.base cells')) (height-is ∙ ap (λ (n : ℕ). n + length values) part)
-          ∙ results-on-top held first values room-held m.locals m.base (height - k) first-is (omega (arith, above))
-          ∙ ap (λ (n : ℕ). take n (cells_in m) ++ map cell_of values) (sym part)
+          ∙ ap (λ (n : ℕ). take n (without_scrap w.ghost.code.locals m.base cells')) (height-is ∙ ap (λ (n : ℕ). n + length values) part)
+          ∙ results-on-top held first values room-held w.ghost.code.locals m.base (height - k) first-is (omega (arith, above))
+          ∙ ap (λ (n : ℕ). take n (cells_in w.ghost m) ++ map cell_of values) (sym part)
 
       below-is : take m.base cells' ≡ take m.base m.cells
       below-is =
           let low = rests.runs.runs.low in
           results-below held first values room-held m.base (omega (arith, first-is)) ∙ take-set-le m.base m.cells m.top m.operand (omega (arith, low))
 
-      runs-then : (other : World) → Sees r.code its_store r.call.position.frame.instance other → RunsWhole bound (loop_at other cells' r.call.callers position') new
+      runs-then : (other : World) → Sees r.code its_store r.call.position.instance other → RunsWhole bound (loop_at other cells' r.call.callers position') new
       runs-then other sees = record {
         runs = record {
-          runs = call.goes_on its_store values (then-valid host_type Answers hosts hosts' waiting_nested nested-next ready state' values told) (subst (λ (s : Store). Follows s its_store) (sym store-is) (follows host_type Answers hosts hosts' waiting_nested nested-next ready state' values told))
+          runs = subst (λ (n : ℕ). Runs new.ghost (put_back n m'.base m'.cells m'.top m'.operand) m'.place (height_in m')) (sym locals-are)
+              (call.goes_on its_store values (then-valid host_type Answers hosts hosts' waiting_nested nested-next ready state' values told) (subst (λ (s : Store). Follows s its_store) (sym store-is) (follows host_type Answers hosts hosts' waiting_nested nested-next ready state' values told))
               (same-instances host_type Answers hosts hosts' waiting_nested nested-next ready state' values told) (fit-there host_type Answers hosts hosts' waiting_nested nested-next ready state' values told)
-              (cells_in m') (m.place + 1) (height_in m') put-there frame-size' (omega arith) height-is;
-          low = omega (arith, first-is, above);
-          scrap = let scrap = rests.runs.runs.scrap in omega (arith, size-is, scrap);
-          count = count;
-          packed = there.runs.runs.packed;
-          within = there.runs.runs.within;
+              (cells_in w.ghost m') (m.place + 1) (height_in m') put-there frame-size' (omega arith) height-is);
+          low = omega (arith, first-is, above, locals-are);
+          scrap = let scrap = rests.runs.runs.scrap in omega (arith, size-is, scrap, locals-are);
+          operations = there.runs.runs.operations ∙ ap operations_of (rests.sees.instance.flat ∙ sym (flat-seen r.code.instances r.call.position.instance rests.world.instance instance-there other (ap (λ (code : Contents). code.instances) sees.code) sees.seen_from sees.instance));
           store = sym sees.store;
           number = instance-is ∙ sym sees.seen_from;
           instance = sees.instance;
@@ -411,13 +414,13 @@ module _ (bound : ℕ) (r : AtRest) (w : Whole) (rests : Rests bound r w) (op : 
 
       comes-over : (call' : Call) → call'.cells.items ≡ cells' → call'.position ≡ position' → call'.callers ≡ r.call.callers → ComesOver (IsHostStep host_type Answers) bound r hosts w (at_rest r.code state' call') hosts'
       comes-over call' cells_is position_is callers_is =
-          let (other, sees) = seen-from r.code state' r.call.position.frame.instance instance-there in record {
+          let (other, sees) = seen-from r.code state' r.call.position.instance (rests.world.instance, instance-there) in record {
             new = new;
             results = refl;
             steps = subst (λ (n : ℕ). Steps (IsHostStep host_type Answers) bound no_frame (run_state (store_around r) hosts (fuel_left r)) (whole w) (run_state its_store hosts' n) (whole new)) (sym (ap (λ (p : Position). p.fuel) position_is)) new-steps;
             rests = record {
               world = other;
-              sees = subst (λ (i : ℕ). Sees r.code its_store i other) (sym (ap (λ (p : Position). p.frame.instance) position_is)) sees;
+              sees = subst (λ (i : ℕ). Sees r.code its_store i other) (sym (ap (λ (p : Position). p.instance) position_is)) sees;
               runs = subst (λ (z : List ℕ). RunsWhole bound (loop_at other z call'.callers call'.position) new) (sym cells_is)
                   (subst (λ (fs : List Frame). RunsWhole bound (loop_at other cells' fs call'.position) new) (sym callers_is)
                   (subst (λ (p : Position). RunsWhole bound (loop_at other cells' r.call.callers p) new) (sym position_is) (runs-then other sees)));
@@ -427,7 +430,7 @@ module _ (bound : ℕ) (r : AtRest) (w : Whole) (rests : Rests bound r w) (op : 
   -- ---- a tail call, whose results take the place of the frame
 
   module _ (results_are : function.ty.results ≡ c.new.results) (step : step_instruction c.new.store (frame_of c.new) op c.new.values c.rest ≡ TailCalls (lent_memory c.new.store (frame_of c.new)) function c.values) where
-    abbrev last : IsTailCalling op address function w.ghost (cells_in m) m.place (height_in m) height
+    abbrev last : IsTailCalling op address function w.ghost (cells_in w.ghost m) m.place (height_in m) height
     last = record { reached = c; results = results_are; step = step }
 
     -- What waits around the frame.
@@ -436,7 +439,7 @@ module _ (bound : ℕ) (r : AtRest) (w : Whole) (rests : Rests bound r w) (op : 
     waiting_around (b ∷ bs) = plug (around b.labels (layers_around bs b.code.outermost.kept)) (record { instance = Some b.instance; locals = b.locals }) (Running b.values b.rest)
 
     reaches-host : (outer : Activated) (activation : Activation) → next g.store outer (InFrame activation (frame_of g) (config_of g)) ≡ CallsHost 1 number (lent_memory g.store (frame_of g)) arguments_read (Running activation.values activation.rest)
-    reaches-host = tail-calls-reach-hosts op address function w.ghost (cells_in m) m.place (height_in m) height number last (ap (λ (f : FunctionInstance). f.implementation) function-is)
+    reaches-host = tail-calls-reach-hosts op address function w.ghost (cells_in w.ghost m) m.place (height_in m) height number last (ap (λ (f : FunctionInstance). f.implementation) function-is)
 
     next-around : (bs : List Caller) (arity : ℕ) → next g.store no_frame (plug (layers_around bs arity) (frame_of g) (config_of g)) ≡ CallsHost 1 number (lent_memory g.store (frame_of g)) arguments_read (waiting_around bs)
     next-around [] arity = reaches-host no_frame (activation_of arity [] Empty)
@@ -493,13 +496,13 @@ module _ (bound : ℕ) (r : AtRest) (w : Whole) (rests : Rests bound r w) (op : 
         stand-so = subst (λ (fs : List Frame). CallersStand rests.world.code (length m.cells) fs w.callers g.code.outermost.kept (take m.base m.cells)) are there.runs.callers
 
         abbrev base : ℕ
-        base = r.call.position.frame.base
+        base = r.call.position.base
 
         module _ (b : Caller) (bs : List Caller) (stand : Stand (b ∷ bs)) where
           abbrev stands_by : CallerStands rests.world.code (length m.cells) frame b g.code.outermost.kept (take m.base m.cells)
           stands_by = stand.0
 
-          begins-at : base ≡ suc (frame.base + frame.function.now.locals) + held_values b
+          begins-at : base ≡ suc (frame.base + b.code.locals) + held_values b
           begins-at = base-is rests.world m w.ghost rests.runs.runs 0 (omega arith) rests.world.code frame b g.code.outermost.kept stands_by
 
           module _ (typed_all : ConfigurationHasType then_store outermost (answered values (waiting_around (b ∷ bs))) w.results) where
@@ -536,7 +539,7 @@ module _ (bound : ℕ) (r : AtRest) (w : Whole) (rests : Rests bound r w) (op : 
             valid-then : StoreIsValid then_store
             valid-then = then-valid host_type Answers hosts hosts' (waiting_around w.callers) last-next ready state' values told
 
-            room-back : frame.base + frame.function.now.locals + 1 + held_values b + length (reverse values) ≤ length m.cells
+            room-back : frame.base + b.code.locals + held_values b + length (reverse values) < length m.cells
             room-back =
                 caller-room rests.world.code (length m.cells) frame b g.code.outermost.kept (take m.base m.cells) stands_by then_store valid-then resumed.types resumed.given resumed.own its-context.types its-context.functions
                 (reverse values) last-many resumed.typed
@@ -551,14 +554,14 @@ module _ (bound : ℕ) (r : AtRest) (w : Whole) (rests : Rests bound r w) (op : 
             position_back = position_answered frame r.call.position base values held
 
             abbrev height_back : ℕ
-            height_back = frame.function.now.locals + held_values b
+            height_back = b.code.locals + held_values b
 
-            cells-back : take (height_back + length (reverse values)) (put_back frame.function.now.locals frame.base cells_back position_back.top position_back.operand)
+            cells-back : take (height_back + length (reverse values)) (put_back b.code.locals frame.base cells_back position_back.top position_back.operand)
                 ≡ map cell_of b.locals ++ cells_of ((reverse values ++ b.values) ++ values_under b.labels)
             cells-back =
-                ap (take (height_back + length (reverse values))) (popped-frame frame.function.now.locals frame.base cells_back position_back.top)
-                ∙ ap (λ (n : ℕ). take (height_back + n) (without_scrap frame.function.now.locals frame.base cells_back)) (length-reverse values)
-                ∙ results-on-top held base values room-held-back frame.function.now.locals frame.base height_back (omega (arith, begins-at)) (omega arith)
+                ap (take (height_back + length (reverse values))) (popped-frame b.code.locals frame.base cells_back position_back.top)
+                ∙ ap (λ (n : ℕ). take (height_back + n) (without_scrap b.code.locals frame.base cells_back)) (length-reverse values)
+                ∙ results-on-top held base values room-held-back b.code.locals frame.base height_back (omega (arith, begins-at)) (omega arith)
                 ∙ ap (λ (z : List ℕ). z ++ map cell_of values) (caller-held rests.world m w.ghost rests.runs.runs 0 (omega arith) rests.world.code frame b g.code.outermost.kept stands_by)
                 ∙ ap (λ (z : List ℕ). (map cell_of b.locals ++ cells_of (b.values ++ values_under b.labels)) ++ z) (sym (reverse-reverse (map cell_of values)) ∙ ap reverse (sym (map-reversed values)))
                 ∙ append_assoc (map cell_of b.locals) (cells_of (b.values ++ values_under b.labels)) (cells_of (reverse values))
@@ -581,7 +584,7 @@ module _ (bound : ℕ) (r : AtRest) (w : Whole) (rests : Rests bound r w) (op : 
             runs-back other sees = record {
               runs =
                   caller-runs rests.world.code (length m.cells) frame b g.code.outermost.kept (take m.base m.cells) stands_by then_store valid-then resumed.types resumed.given resumed.own its-context.types its-context.functions
-                  (reverse values) last-many resumed.typed cells_back position_back.top position_back.operand size-back (omega (arith, begins-at, length-reverse values)) cells-back other sees.store sees.seen_from sees.instance;
+                  (reverse values) last-many resumed.typed cells_back position_back.top position_back.operand size-back (omega (arith, begins-at, length-reverse values)) cells-back other sees.store (sees.code ∙ sym rests.sees.code) sees.seen_from sees.instance;
               number = sym sees.seen_from;
               callers = subst (λ (code : Contents). CallersStand code (length cells_back) others bs b.code.outermost.kept (take frame.base cells_back)) (rests.sees.code ∙ sym sees.code)
                   (subst (λ (n : ℕ). CallersStand rests.world.code n others bs b.code.outermost.kept (take frame.base cells_back)) (sym size-back)
@@ -591,21 +594,20 @@ module _ (bound : ℕ) (r : AtRest) (w : Whole) (rests : Rests bound r w) (op : 
               typed = subst (λ (s : Store). ConfigurationHasType s outermost (whole new_back) w.results) (sym sees.store) whole-typed;
             }
 
-            frame-there : suc frame.instance ≤ length r.code.instances
+            frame-there : IsLoaded r.code.instances frame.instance stands_by.instance
             frame-there =
-                let inside = stands_by.there in
-                let same = ap (λ (code : Contents). length code.instances) rests.sees.code in
-                omega (arith, inside, same, stands_by.number)
+                subst (λ (n : ℕ). IsLoaded r.code.instances n stands_by.instance) (sym stands_by.number)
+                (subst (λ (code : Contents). IsLoaded code.instances b.instance stands_by.instance) rests.sees.code stands_by.loaded)
 
             goes-back : LeadsOn (answered values (waiting_around (b ∷ bs))) → (call' : Call) → call'.cells.items ≡ cells_back → call'.position ≡ position_back → call'.callers ≡ others → ComesOver (IsHostStep host_type Answers) bound r hosts w (at_rest r.code state' call') hosts'
             goes-back steps_all call' cells_is position_is callers_is =
-                let (other, sees) = seen-from r.code state' frame.instance frame-there in record {
+                let (other, sees) = seen-from r.code state' frame.instance (stands_by.instance, frame-there) in record {
                   new = new_back;
                   results = refl;
                   steps = subst (λ (n : ℕ). Steps (IsHostStep host_type Answers) bound no_frame (run_state (store_around r) hosts (fuel_left r)) (whole w) (run_state then_store hosts' n) (whole new_back)) (sym (ap (λ (p : Position). p.fuel) position_is)) (subst LeadsOn answered-around steps_all);
                   rests = record {
                     world = other;
-                    sees = subst (λ (i : ℕ). Sees r.code then_store i other) (sym (ap (λ (p : Position). p.frame.instance) position_is)) sees;
+                    sees = subst (λ (i : ℕ). Sees r.code then_store i other) (sym (ap (λ (p : Position). p.instance) position_is)) sees;
                     runs = subst (λ (z : List ℕ). RunsWhole bound (loop_at other z call'.callers call'.position) new_back) (sym cells_is)
                         (subst (λ (fs : List Frame). RunsWhole bound (loop_at other cells_back fs call'.position) new_back) (sym callers_is)
                         (subst (λ (p : Position). RunsWhole bound (loop_at other cells_back others p) new_back) (sym position_is) (runs-back other sees)));
@@ -633,8 +635,8 @@ module _ (bound : ℕ) (r : AtRest) (w : Whole) (kind : CallKind) (address behin
   abbrev n : CallsHostNext (fuel_left r) (machine_of r) w kind address behind
   n = wait.next
 
-  abbrev d : ReachesCall wait.next.op address wait.next.function w.ghost (cells_in (machine_of r)) (machine_of r).place (height_in (machine_of r)) wait.next.height
-  d = reached-by kind wait.next.op address wait.next.function w.ghost (cells_in (machine_of r)) (machine_of r).place (height_in (machine_of r)) wait.next.height wait.next.calls
+  abbrev d : ReachesCall wait.next.op address wait.next.function w.ghost (cells_in w.ghost (machine_of r)) (machine_of r).place (height_in (machine_of r)) wait.next.height
+  d = reached-by kind wait.next.op address wait.next.function w.ghost (cells_in w.ghost (machine_of r)) (machine_of r).place (height_in (machine_of r)) wait.next.height wait.next.calls
 
   module _ (number : ℕ) (t : FuncType) (found : slice_get (functions_in r.code) address ≡ Some (host_function number t)) where
     pub arguments-fit-there : AreCellsOf t.params (take (length t.params) (drop (behind - length t.params) (cells_held r)))
@@ -659,7 +661,7 @@ module _ (bound : ℕ) (r : AtRest) (w : Whole) (kind : CallKind) (address behin
 module _ (bound : ℕ) (r : AtRest) (w : Whole) (address behind : ℕ) (number : ℕ) (t : FuncType) (found : slice_get (functions_in r.code) address ≡ Some (host_function number t))
     {H : Type 0} (host_type : H → FuncType) (Answers : H → List Val → List ℕ → Answer → List ℕ → H → Type 0) (hosts hosts' : List H) where
   abbrev its_lent : Option ℕ
-  its_lent = first_memory (code_store r.code) r.call.position.frame.instance
+  its_lent = first_memory (code_store r.code) r.call.position.instance
 
   abbrev its_arguments : List Val
   its_arguments = values_of t.params (take (length t.params) (drop (behind - length t.params) (cells_held r)))
@@ -709,13 +711,13 @@ module _ (bound : ℕ) (r : AtRest) (w : Whole) (address behind : ℕ) (number :
           ends-with bound r w wait.rests wait.next.op address wait.next.function wait.next.height behind wait.next.lies wait.next.paid wait.next.calls.reached number t found wait.next.calls.results wait.next.calls.step
           host_type Answers hosts hosts' ready state' values told
 
-      pub room-back-there : (frame : Frame) (others : List Frame) → r.call.callers ≡ frame ∷ others → (1 ≤ r.call.position.frame.base) × (r.call.position.frame.base + length values ≤ length (cells_held r))
+      pub room-back-there : (frame : Frame) (others : List Frame) → r.call.callers ≡ frame ∷ others → (1 ≤ r.call.position.base) × (r.call.position.base + length values ≤ length (cells_held r))
       room-back-there =
           last-fits bound r w wait.rests wait.next.op address wait.next.function wait.next.height behind wait.next.lies wait.next.paid wait.next.calls.reached number t found wait.next.calls.results wait.next.calls.step
           host_type Answers hosts hosts' ready state' values told
 
-      pub comes-back-there : (frame : Frame) (others : List Frame) → r.call.callers ≡ frame ∷ others → (call' : Call) → call'.cells.items ≡ with_results (cells_held r) r.call.position.frame.base values
-          → call'.position ≡ position_answered frame r.call.position r.call.position.frame.base values (cells_held r) → call'.callers ≡ others → ComesOver HostsAnswer bound r hosts w (at_rest r.code state' call') hosts'
+      pub comes-back-there : (frame : Frame) (others : List Frame) → r.call.callers ≡ frame ∷ others → (call' : Call) → call'.cells.items ≡ with_results (cells_held r) r.call.position.base values
+          → call'.position ≡ position_answered frame r.call.position r.call.position.base values (cells_held r) → call'.callers ≡ others → ComesOver HostsAnswer bound r hosts w (at_rest r.code state' call') hosts'
       comes-back-there =
           comes-back bound r w wait.rests wait.next.op address wait.next.function wait.next.height behind wait.next.lies wait.next.paid wait.next.calls.reached number t found wait.next.calls.results wait.next.calls.step
           host_type Answers hosts hosts' ready state' values told

@@ -21,11 +21,14 @@ use Rattle.soundness.proofs.Calls.{empty-runs}
 use Rattle.soundness.proofs.Values.{All-at, defaults-typed, values-joined, values-length, values-reversed}
 use Rattle.cells.specs.Cells.{cell_of}
 use Rattle.sidetable.specs.Counts.{Signatures}
-use Rattle.simulation.specs.Laws.{code_of as code_in, function_label}
+use Rattle.sidetable.specs.Flat.{FlatOp}
+use Rattle.sidetable.specs.FlatModules.{operations_of}
+use Rattle.simulation.specs.Laws.{code_at, function_label}
 use Rattle.simulation.specs.Runs.{Ghost, IsTyped, Runs}
 use Rattle.simulation.proofs.Cells.{first-cells}
 use Rattle.simulation.proofs.Frames.{functions-entered}
-use Rattle.store.specs.Contents.{module_instance_of, signatures_of_instance, store_with}
+use Rattle.store.specs.Contents.{signatures_of_instance, store_with}
+use Rattle.store.specs.declared.instances.Instance.{Instance}
 use Rattle.store.specs.declared.instances.ModuleFunction.{ModuleFunction}
 use Rattle.interpreter.specs.Layout.{put_back}
 use Rattle.exec.specs.Starting.{FunctionAddress, Takes}
@@ -47,6 +50,12 @@ module _ (a : FunctionAddress) (f : ModuleFunction) (arguments : List Val) (take
   abbrev pub s : Signatures
   s = signatures_of_instance (slice_get a.code.instances f.instance)
 
+  abbrev pub i : Instance
+  i = takes.flat.0
+
+  abbrev pub ops : List FlatOp
+  ops = operations_of i.loaded.value.flat
+
   abbrev pub n : ℕ
   n = length t.params
 
@@ -54,7 +63,13 @@ module _ (a : FunctionAddress) (f : ModuleFunction) (arguments : List Val) (take
   k = length code.locals
 
   pub at-address : IsAtAddress a.code a.address f
-  at-address = record { found = takes.found; flat = flat-body s f takes.flat.0 takes.declared.0 takes.declared.1; within = takes.flat.1; types = takes.types }
+  at-address = record {
+    found = takes.found;
+    instance = i;
+    loaded = takes.flat.1;
+    flat = flat-body s ops f takes.flat.2 takes.declared.0 takes.declared.1;
+    types = takes.types;
+  }
 
   typed : ValuesHaveTypes store arguments t.params
   typed =
@@ -64,20 +79,17 @@ module _ (a : FunctionAddress) (f : ModuleFunction) (arguments : List Val) (take
   pub count : length arguments ≡ n
   count = values-length store arguments t.params typed
 
-  pub arguments-few : length arguments ≤ f.flat.function.now.locals
-  arguments-few = let locals = at-address.flat.locals in omega (arith, count, locals)
+  pub arguments-few : length arguments ≤ f.flat.now.greatest
+  arguments-few = let locals = at-address.flat.locals in let greatest = at-address.flat.greatest in omega (arith, count, locals, greatest)
 
   pub valid : ImplementationIsValid store t (InCode f.instance code)
   valid = All-at (FunctionIsValid store) store.functions a.address (record { ty = t; implementation = InCode f.instance code }) takes.found takes.valid.functions
-
-  pub instance-there : f.instance < length a.code.instances
-  instance-there = let size = length-map a.code.instances module_instance_of in let inside = valid.0 in omega (arith, size, inside)
 
   -- ---- the step
 
   abbrev pub entered : Ghost
   entered = record {
-    code = code_in s (length t.results) code.body;
+    code = code_at s ops (n + k) (length t.results) f.flat.now.place code.body;
     store = store;
     instance = f.instance;
     types = t.params ++ code.locals;
@@ -130,7 +142,7 @@ module _ (a : FunctionAddress) (f : ModuleFunction) (arguments : List Val) (take
   pub locals-size : length entered.locals ≡ n + k
   locals-size = let one = length-append arguments (map default_of code.locals) in let two = length-map code.locals default_of in omega (arith, one, two, count)
 
-  module _ (size : ℕ) (enough : n + k + entered.code.greatest < size) where
+  module _ (size : ℕ) (enough : entered.code.greatest < size) where
     abbrev pub first : List ℕ
     first = map cell_of arguments ++ drop (length arguments) (replicate size 0)
 
@@ -153,15 +165,17 @@ module _ (a : FunctionAddress) (f : ModuleFunction) (arguments : List Val) (take
         ∙ sym (map-append cell_of arguments (map default_of code.locals))
         ∙ sym (append-nil (map cell_of entered.locals))
 
-    pub entered-runs : Runs entered (put_back (n + k) 0 first (0 + (n + k)) 0) 0 (n + k)
+    pub entered-runs : Runs entered (put_back (n + k) 0 first (0 + (n + k)) 0) f.flat.now.place (n + k)
+    unfolding at-address
     entered-runs =
         let put = length-set first (0 + (n + k)) 0 in
         let own = frame-length (n + k) 0 (set first (0 + (n + k)) 0) (omega (arith, put, first-size, enough)) in
         record {
-          stands = functions-entered (context_at store (body_place t f.instance code)) s takes.types.types takes.types.functions t code.body valid.1;
+          stands = functions-entered (context_at store (body_place t f.instance code)) s takes.types.types takes.types.functions t code.body valid.1 ops (n + k) f.flat.now.place at-address.flat.begins;
           holds = record {
             held = own-cells (n + k) 0 first 0 (omega (arith, first-size, enough)) ∙ first-held;
             top_is = omega (arith, locals-size);
+            count = locals-size;
             room = omega (arith, own, put, first-size, enough, locals-size);
           };
           typed = entered-typed;

@@ -14,7 +14,7 @@ use Rattle.interpreter.specs.Worlds.{World, store_in}
 use Rattle.interpreter.proofs.Cells.{frame-length, popped-frame, to-top}
 use Rattle.exec.specs.Instructions.{HasRoom, operand_behind, top_behind}
 
-module _ (w : World) (m : Machine) (g : Ghost) (r : RunsAt w m g) (taken : ℕ) (low : m.base + m.locals + taken ≤ m.top) where
+module _ (w : World) (m : Machine) (g : Ghost) (r : RunsAt w m g) (taken : ℕ) (low : m.base + g.code.locals + taken ≤ m.top) where
   abbrev spilled : List ℕ
   spilled = set m.cells m.top m.operand
 
@@ -30,18 +30,18 @@ module _ (w : World) (m : Machine) (g : Ghost) (r : RunsAt w m g) (taken : ℕ) 
 
   -- The frame's cells behind it: those below its operands, and that of its result.
   behind : (results : List Val) (result : Option ℕ) → AreInCell results result → HasRoom m taken result
-      → (take (height_in (machine_behind result)) (cells_in (machine_behind result)) ≡ take below (cells_in m) ++ cells_of results)
-      × (length (cells_in (machine_behind result)) ≡ length (cells_in m))
+      → (take (height_in (machine_behind result)) (cells_in g (machine_behind result)) ≡ take below (cells_in g m) ++ cells_of results)
+      × (length (cells_in g (machine_behind result)) ≡ length (cells_in g m))
       × (height_in (machine_behind result) ≡ below + length results)
-      × (m.base + m.locals ≤ (machine_behind result).top)
+      × (m.base + g.code.locals ≤ (machine_behind result).top)
   behind results None none room =
       let height : m.top - taken - m.base ≡ below = omega (arith, low) in
       let many : length results ≡ 0 = ap (λ (z : List Val). length z) none in
-      let same = popped-frame m.locals m.base spilled (m.top - taken) in (
-        ap (λ (n : ℕ). take n (cells_in (machine_behind None))) height
+      let same = popped-frame g.code.locals m.base spilled (m.top - taken) in (
+        ap (λ (n : ℕ). take n (cells_in g (machine_behind None))) height
             ∙ ap (take below) same
-            ∙ sym (append-nil (take below (cells_in m)))
-            ∙ ap (λ (z : List Val). take below (cells_in m) ++ cells_of z) (sym none),
+            ∙ sym (append-nil (take below (cells_in g m)))
+            ∙ ap (λ (z : List Val). take below (cells_in g m) ++ cells_of z) (sym none),
         ap (λ (z : List ℕ). length z) same,
         omega (arith, height, many),
         omega (arith, low),
@@ -50,25 +50,25 @@ module _ (w : World) (m : Machine) (g : Ghost) (r : RunsAt w m g) (taken : ℕ) 
       let height : m.top - taken + 1 - m.base ≡ suc below = omega (arith, low) in
       let mapped : length (map cell_of results) ≡ length results = length-map results cell_of in
       let many : length (map cell_of results) ≡ 1 = ap (λ (z : List ℕ). length z) one in
-      let scrap : m.base + m.locals < length spilled = omega (arith, spilled-size, r.scrap) in
+      let scrap : m.base + g.code.locals < length spilled = omega (arith, spilled-size, r.scrap) in
       let written = length-set spilled (m.top - taken + 1) cell in
-      let size = frame-length m.locals m.base spilled scrap in
-      let size' = frame-length m.locals m.base (set spilled (m.top - taken + 1) cell) (omega (arith, written, scrap)) in (
-        ap (λ (n : ℕ). take n (cells_in (machine_behind (Some cell)))) height
-            ∙ to-top m.locals m.base spilled scrap below (m.top - taken + 1) cell (omega (arith, low)) (omega (arith, low)) (omega (arith, spilled-size, room))
-            ∙ ap (λ (z : List ℕ). take below (cells_in m) ++ reverse z) (sym one),
+      let size = frame-length g.code.locals m.base spilled scrap in
+      let size' = frame-length g.code.locals m.base (set spilled (m.top - taken + 1) cell) (omega (arith, written, scrap)) in (
+        ap (λ (n : ℕ). take n (cells_in g (machine_behind (Some cell)))) height
+            ∙ to-top g.code.locals m.base spilled scrap below (m.top - taken + 1) cell (omega (arith, low)) (omega (arith, low)) (omega (arith, spilled-size, room))
+            ∙ ap (λ (z : List ℕ). take below (cells_in g m) ++ reverse z) (sym one),
         omega (arith, size, size', written),
         omega (arith, height, many, mapped),
         omega (arith, low),
       )
 
   -- It goes on there, in the store that the outcome has.
-  pub goes-on : (cost : ℕ) (store' : Store) (results : List Val) (result : Option ℕ) → AreInCell results result → HasRoom m taken result → IsMade g cost store' (cells_in m) m.place below results
+  pub goes-on : (cost : ℕ) (store' : Store) (results : List Val) (result : Option ℕ) → AreInCell results result → HasRoom m taken result → IsMade g cost store' (cells_in g m) m.place below results
       → (w' : World) → store' ≡ store_in w' → (fuel left : ℕ) → cost ≤ fuel → left ≡ fuel - cost → GoesTo g m fuel w' (machine_behind result) left
   goes-on cost store' results result are room made w' store_is fuel left enough left_is =
       let (cells, size, height, low') = behind results result are room in record {
-        leads = subst (λ (s : Store). Leads g fuel s (cells_in (machine_behind result)) (m.place + 1) (height_in (machine_behind result)) left) store_is
-            (made (cells_in (machine_behind result)) (m.place + 1) (height_in (machine_behind result)) fuel left cells size (omega arith) height enough left_is);
+        leads = subst (λ (s : Store). Leads g fuel s (cells_in g (machine_behind result)) (m.place + 1) (height_in (machine_behind result)) left) store_is
+            (made (cells_in g (machine_behind result)) (m.place + 1) (height_in (machine_behind result)) fuel left cells size (omega arith) height enough left_is);
         low = low';
         size = spilled-size;
         below = take-set-le m.base m.cells m.top m.operand (omega (arith, low));

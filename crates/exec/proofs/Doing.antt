@@ -1,7 +1,6 @@
 -- What an instruction's outcome in its frame comes to for the whole, at rest.
-use Rattle.std.proofs.Common.{◌≡◌, ℕ, ◌+◌, ◌-◌, ◌<◌, ◌≤◌, List, length, take, refl, ap, sym, subst, ◌∙◌, arith}
+use Rattle.std.proofs.Common.{◌≡◌, ℕ, ◌+◌, ◌-◌, ◌^◌, ◌<◌, ◌≤◌, List, length, take, refl, ap, sym, subst, ◌∙◌, arith}
 use Rattle.std.proofs.lemmas.List.{length-set}
-use Rattle.std.proofs.lemmas.Option.{slice_get_within}
 use Rattle.std.specs.Prelude.{Result, Ok, Err}
 use Rattle.core_types.specs.declared.op.PlainOp.{PlainOp}
 use Rattle.core_types.specs.declared.outcome.Trap.{Trap}
@@ -19,7 +18,7 @@ use Rattle.simulation.specs.Outcomes.{HasOutcome, Outcome, failed, grown, made}
 use Rattle.simulation.specs.Runs.{AsksToGrow, Fails, Lacks, config_of, frame_of}
 use Rattle.simulation.specs.Standing.{FrameCode}
 use Rattle.simulation.proofs.Frames.{steps-lifted}
-use Rattle.store.specs.Contents.{Contents, store_with}
+use Rattle.store.specs.Contents.{Contents, IsLoaded, store_with}
 use Rattle.store.specs.State.{StateContents}
 use Rattle.effects.specs.Outcomes.{IsDone, IsRefused, cost_of}
 use Rattle.effects.specs.declared.payment.Paid.{Paid}
@@ -35,7 +34,8 @@ use Rattle.interpreter.specs.declared.machine.Position.{Position}
 use Rattle.interpreter.specs.declared.machine.Stop.TheVariants as stop
 use Rattle.interpreter.proofs.Lifting.{fails-whole, lacks-whole, layers-out, lifted-there, runs-then, steps-typed, with_ghost}
 use Rattle.interpreter.proofs.Forms.{inside}
-use Rattle.interpreter.proofs.Turning.{operations-turn}
+use Rattle.interpreter.proofs.Turning.{place-fits}
+use Rattle.interpreter.proofs.Worlds.{flat-seen}
 use Rattle.exec.specs.Instructions.{Acts, GoesOn, HasRoom, RestsBefore, RestsSomeBefore, cells_behind, operand_behind, position_behind, top_behind}
 use Rattle.exec.specs.Resting.{AtRest, Comes, LacksMemory, Rests, StopsAtRest, at_rest, fuel_left, loop_of, machine_of, store_around}
 use Rattle.exec.specs.declared.call.Call.{Call}
@@ -44,7 +44,7 @@ use Rattle.exec.proofs.Seeing.{seen-from}
 
 module _ (bound : ℕ) (r : AtRest) (u : Whole) (rests : Rests bound r u) (state' : StateContents) (call' : Call) where
   abbrev number : ℕ
-  number = r.call.position.frame.instance
+  number = r.call.position.instance
 
   abbrev runs : RunsAt rests.world (machine_of r) u.ghost
   runs = rests.runs.runs
@@ -53,11 +53,13 @@ module _ (bound : ℕ) (r : AtRest) (u : Whole) (rests : Rests bound r u) (state
   there = at_rest r.code state' call'
 
   -- The instance is there.
-  number-there : number < length r.code.instances
+  number-there : IsLoaded r.code.instances number rests.world.instance
   number-there =
-      let inside = slice_get_within rests.world.code.instances rests.world.number rests.world.instance rests.sees.instance.there in
-      let many : length rests.world.code.instances ≡ length r.code.instances = ap (λ (c : Contents). length c.instances) rests.sees.code in
-      omega (arith, inside, many, rests.sees.seen_from)
+      subst (λ (n : ℕ). IsLoaded r.code.instances n rests.world.instance) rests.sees.seen_from
+      (subst (λ (c : Contents). IsLoaded c.instances rests.world.number rests.world.instance) rests.sees.code rests.sees.instance.loaded)
+
+  flat-same : (w' : World) → Sees r.code (store_with r.code state') number w' → w'.flat ≡ rests.world.flat
+  flat-same w' sees = flat-seen r.code.instances number rests.world.instance number-there w' (ap (λ (c : Contents). c.instances) sees.code) sees.seen_from sees.instance ∙ sym rests.sees.instance.flat
 
   store-is : u.ghost.store ≡ store_around r
   store-is = runs.store ∙ rests.sees.store
@@ -66,7 +68,7 @@ module _ (bound : ℕ) (r : AtRest) (u : Whole) (rests : Rests bound r u) (state
 
   -- Something runs there, over these cells.
   abbrev RestsAt : Whole → (cells : List ℕ) → List WaitingFrame → Position → Type 0
-  RestsAt new cells callers position = (w : World) × Sees r.code (store_with r.code state') position.frame.instance w × RunsWhole bound (loop_at w cells callers position) new
+  RestsAt new cells callers position = (w : World) × Sees r.code (store_with r.code state') position.instance w × RunsWhole bound (loop_at w cells callers position) new
 
   abbrev rests-so : (new : Whole) (cells : List ℕ) (callers : List WaitingFrame) (position : Position) → call'.cells.items ≡ cells → call'.callers ≡ callers → call'.position ≡ position → RestsAt new cells callers position → Rests bound there new
   rests-so new cells callers position cells_are callers_are position_is at =
@@ -79,11 +81,11 @@ module _ (bound : ℕ) (r : AtRest) (u : Whole) (rests : Rests bound r u) (state
 
   module _ (cells' : List ℕ) (place top operand left : ℕ) (goes : (w' : World) → Sees r.code (store_with r.code state') number w' → GoesTo u.ghost (machine_of r) (fuel_left r) w' (record (machine_of r) { cells = cells'; place = place; top = top; operand = operand }) left) where
     abbrev position : Position
-    position = record { frame = record r.call.position.frame { place = place }; top = top; operand = operand; fuel = left }
+    position = record r.call.position { place = place; top = top; operand = operand; fuel = left }
 
     pub went : call'.cells.items ≡ cells' → call'.callers ≡ r.call.callers → call'.position ≡ position → Comes bound r u there left
     went cells_are callers_are position_is =
-        let (w', sees) = seen-from r.code state' number number-there in
+        let (w', sees) = seen-from r.code state' number (rests.world.instance, number-there) in
         let led = goes w' sees in
         let h = led.leads.new in
         let same = led.leads.same in
@@ -103,7 +105,7 @@ module _ (bound : ℕ) (r : AtRest) (u : Whole) (rests : Rests bound r u) (state
             w',
             sees,
             record {
-              runs = runs-then rests.world (machine_of r) u.ghost runs w' (sees.seen_from ∙ sym rests.sees.seen_from) sees.instance cells' place top operand (fuel_left r) left led;
+              runs = runs-then rests.world (machine_of r) u.ghost runs w' (sees.seen_from ∙ sym rests.sees.seen_from) (flat-same w' sees) sees.instance cells' place top operand (fuel_left r) left led;
               number = sym sees.seen_from;
               callers = subst (λ (c : Contents). CallersStand c (length cells') r.call.callers u.callers h.code.outermost.kept (take (machine_of r).base cells')) code_is
                   (subst (λ (n : ℕ). CallersStand rests.world.code n r.call.callers u.callers h.code.outermost.kept (take (machine_of r).base cells')) (sym led.size)
@@ -139,25 +141,25 @@ module _ (bound : ℕ) (r : AtRest) (u : Whole) (rests : Rests bound r u) (state
         }
 
     -- The next step costs more than is left.
-    pub lacks-fuel : left ≡ fuel_left r → Lacks u.ghost (fuel_left r) (cells_in (machine_of r)) (machine_of r).place (height_in (machine_of r)) (fuel_left r) → StopsAtRest bound r u stop.NoFuel there
+    pub lacks-fuel : left ≡ fuel_left r → Lacks u.ghost (fuel_left r) (cells_in u.ghost (machine_of r)) (machine_of r).place (height_in (machine_of r)) (fuel_left r) → StopsAtRest bound r u stop.NoFuel there
     lacks-fuel left_is lacks =
         let (t, dear) = lacks-whole bound its_loop u rests.runs lacks in
         let dear' = subst (λ (s : Store). fuel_left r < price (next s no_frame (whole t.new))) (rests.sees.store ∙ sym same) dear in
         let now : fuel_left r ≡ fuel_left there + 0 = omega (arith, left_is, ap (λ (p : Position). p.fuel) position_is) in
-        let both = subst (λ (n : ℕ). (c : Comes bound r u there n) × StopsBy bound stop.NoFuel (store_around there) n (machine_of there) c.new) now (stayed (fuel_left r) t, dear') in
+        let both = subst (λ (n : ℕ). (c : Comes bound r u there n) × StopsBy bound stop.NoFuel c.rests.world.flat.tables (store_around there) n (machine_of there) c.new) now (stayed (fuel_left r) t, dear') in
         record { there = both.0; by = both.1 }
 
     -- It traps.
-    pub traps : (trap : Trap) → 1 ≤ fuel_left r → left ≡ fuel_left r - 1 → Fails u.ghost (fuel_left r) (cells_in (machine_of r)) (machine_of r).place (height_in (machine_of r)) left trap → StopsAtRest bound r u (stop.Traps trap) there
+    pub traps : (trap : Trap) → 1 ≤ fuel_left r → left ≡ fuel_left r - 1 → Fails u.ghost (fuel_left r) (cells_in u.ghost (machine_of r)) (machine_of r).place (height_in (machine_of r)) left trap → StopsAtRest bound r u (stop.Traps trap) there
     traps trap enough left_is fails =
         let (t, wrong) = fails-whole bound its_loop u rests.runs left trap fails in
         let wrong' = subst (λ (s : Store). next s no_frame (whole t.new) ≡ Traps 1 trap) (rests.sees.store ∙ sym same) wrong in
         let now : left + 1 ≡ fuel_left there + 1 = ap (λ (p : Position). p.fuel + 1) (sym position_is) in
-        let both = subst (λ (n : ℕ). (c : Comes bound r u there n) × StopsBy bound (stop.Traps trap) (store_around there) n (machine_of there) c.new) now (stayed (left + 1) t, (wrong', omega arith)) in
+        let both = subst (λ (n : ℕ). (c : Comes bound r u there n) × StopsBy bound (stop.Traps trap) c.rests.world.flat.tables (store_around there) n (machine_of there) c.new) now (stayed (left + 1) t, (wrong', omega arith)) in
         record { there = both.0; by = both.1 }
 
     -- It asks to grow.
-    pub lacks-memory : left ≡ fuel_left r → (cost : ℕ) → cost ≤ fuel_left r → AsksToGrow u.ghost (fuel_left r) (cells_in (machine_of r)) (machine_of r).place (height_in (machine_of r)) cost → LacksMemory bound r u there
+    pub lacks-memory : left ≡ fuel_left r → (cost : ℕ) → cost ≤ fuel_left r → AsksToGrow u.ghost (fuel_left r) (cells_in u.ghost (machine_of r)) (machine_of r).place (height_in (machine_of r)) cost → LacksMemory bound r u there
     lacks-memory left_is cost enough asks =
         let t = lifted-there bound its_loop u rests.runs (fuel_left r) asks.leads in
         let h = asks.leads.new in
@@ -191,15 +193,15 @@ module _ (r : AtRest) (op : PlainOp) (taken : ℕ) (state' : StateContents) wher
     pub inside-cells : r.call.position.top < length r.call.cells.items
     inside-cells = let (bound, u, b) = some in inside b.rests.world (machine_of r) u.ghost b.rests.runs.runs
 
-    pub inside-code : r.call.position.frame.place < length r.call.position.frame.function.now.operations.items
-    inside-code = let (bound, u, b) = some in (operations-turn b.rests.world (machine_of r) u.ghost b.rests.runs.runs).0
+    pub next-fits : r.call.position.place + 1 < 2 ^ 32
+    next-fits = let (bound, u, b) = some in place-fits b.rests.world (machine_of r) u.ghost b.rests.runs.runs
 
   -- ---- it was done
 
   module _ (paid : Paid) (acts : Acted (Ok paid)) (call' : Call) where
     module _ (bound : ℕ) (u : Whole) (b : RestsBefore bound r op u) where
-      its-goes : (o : Outcome) → HasOutcome u.ghost (cells_in (machine_of r)) (machine_of r).place (height_in (machine_of r)) (height_in (machine_of r) - taken) o → (low : (machine_of r).base + (machine_of r).locals + taken ≤ (machine_of r).top) → HasRoom (machine_of r) taken paid.result
-          → IsDone o (store_with r.code state') (fuel_left r) paid → (w' : World) → Sees r.code (store_with r.code state') r.call.position.frame.instance w'
+      its-goes : (o : Outcome) → HasOutcome u.ghost (cells_in u.ghost (machine_of r)) (machine_of r).place (height_in (machine_of r)) (height_in (machine_of r) - taken) o → (low : (machine_of r).base + u.ghost.code.locals + taken ≤ (machine_of r).top) → HasRoom (machine_of r) taken paid.result
+          → IsDone o (store_with r.code state') (fuel_left r) paid → (w' : World) → Sees r.code (store_with r.code state') r.call.position.instance w'
           → GoesTo u.ghost (machine_of r) (fuel_left r) w' (machine_behind b.rests.world (machine_of r) u.ghost b.rests.runs.runs taken low paid.result) paid.fuel
       its-goes (made cost store results) (makes, dear) low room (is, store_is) w' sees =
           goes-on b.rests.world (machine_of r) u.ghost b.rests.runs.runs taken low cost store results paid.result is.result room makes w' (sym store_is ∙ sym sees.store) (fuel_left r) paid.fuel is.enough is.left
@@ -218,7 +220,7 @@ module _ (r : AtRest) (op : PlainOp) (taken : ℕ) (state' : StateContents) wher
           comes = λ bound u b.
               let has = acts bound u b in
               subst (λ (n : ℕ). Comes bound r u (at_rest r.code state' call') n) (sym fuel_is)
-              (went bound r u b.rests state' call' (cells_behind r.call) (r.call.position.frame.place + 1) (top_behind r.call.position.top taken paid.result) (operand_behind (cells_behind r.call) r.call.position.top taken paid.result) paid.fuel
+              (went bound r u b.rests state' call' (cells_behind r.call) (r.call.position.place + 1) (top_behind r.call.position.top taken paid.result) (operand_behind (cells_behind r.call) r.call.position.top taken paid.result) paid.fuel
               (its-goes bound u b has.outcome has.has has.low has.room has.gives) cells_are callers_are position_is);
           falls = let less = its-falls bound u b (acts bound u b).outcome (acts bound u b).gives in omega (arith, less, fuel_is);
           size = ap (λ (z : List ℕ). length z) cells_are ∙ length-set r.call.cells.items r.call.position.top r.call.position.operand;
@@ -229,9 +231,9 @@ module _ (r : AtRest) (op : PlainOp) (taken : ℕ) (state' : StateContents) wher
 
   module _ (bound : ℕ) (u : Whole) (b : RestsBefore bound r op u) where
     abbrev Has : Outcome → Type 0
-    Has o = HasOutcome u.ghost (cells_in (machine_of r)) (machine_of r).place (height_in (machine_of r)) (height_in (machine_of r) - taken) o
+    Has o = HasOutcome u.ghost (cells_in u.ghost (machine_of r)) (machine_of r).place (height_in (machine_of r)) (height_in (machine_of r) - taken) o
 
-    its-lack : (o : Outcome) → Has o → fuel_left r < cost_of o → Lacks u.ghost (fuel_left r) (cells_in (machine_of r)) (machine_of r).place (height_in (machine_of r)) (fuel_left r)
+    its-lack : (o : Outcome) → Has o → fuel_left r < cost_of o → Lacks u.ghost (fuel_left r) (cells_in u.ghost (machine_of r)) (machine_of r).place (height_in (machine_of r)) (fuel_left r)
     its-lack (made cost store results) (makes, dear) less = dear (fuel_left r) less
     its-lack (grown cost store results) (makes, dear, asks) less = dear (fuel_left r) less
     its-lack (failed trap) (traps, dear) less = dear (fuel_left r) less
@@ -256,7 +258,7 @@ module _ (r : AtRest) (op : PlainOp) (taken : ℕ) (state' : StateContents) wher
       its-trap same (grown cost store results) has wrong call' cells_are callers_are position_is = absurd wrong
       its-trap same (failed other) (fails, dear) (is, paid) call' cells_are callers_are position_is =
           traps bound r u b.rests state' call' same cells_are callers_are (fuel_left r - 1) position_is trap paid refl
-          (subst (λ (t : Trap). Fails u.ghost (fuel_left r) (cells_in (machine_of r)) (machine_of r).place (height_in (machine_of r)) (fuel_left r - 1) t) (sym is) (fails (fuel_left r) (fuel_left r - 1) paid refl))
+          (subst (λ (t : Trap). Fails u.ghost (fuel_left r) (cells_in u.ghost (machine_of r)) (machine_of r).place (height_in (machine_of r)) (fuel_left r - 1) t) (sym is) (fails (fuel_left r) (fuel_left r - 1) paid refl))
 
       pub refused-trap : Acted (Err (refusal.Traps trap)) → (call' : Call) → call'.cells.items ≡ r.call.cells.items → call'.callers ≡ r.call.callers → call'.position ≡ record r.call.position { fuel = fuel_left r - 1 } → StopsAtRest bound r u (stop.Traps trap) (at_rest r.code state' call')
       refused-trap acts = let has = acts bound u b in its-trap has.gives.1 has.outcome has.has has.gives.0

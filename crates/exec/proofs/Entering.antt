@@ -1,14 +1,14 @@
 -- The outermost frame of a call from outside.
-use Rattle.std.proofs.Common.{◌≡◌, ℕ, ◌+◌, ◌-◌, ◌<◌, ◌≤◌, List, [], ◌++◌, length, map, drop, replicate, refl, ap, sym, subst, ◌∙◌, arith}
+use Rattle.std.proofs.Common.{◌≡◌, ℕ, ◌+◌, ◌-◌, ◌<◌, ◌≤◌, List, [], ◌++◌, length, map, drop, replicate, refl, ap, sym, subst, arith}
 use Rattle.std.specs.Global.{Vec}
 use Rattle.core_types.specs.declared.outcome.Val.{Val}
 use Rattle.meaning.specs.execution.Store.{Store}
 use Rattle.soundness.specs.Configurations.{ConfigurationHasType}
 use Rattle.soundness.specs.Places.{outermost}
 use Rattle.cells.specs.Cells.{cell_of}
-use Rattle.sidetable.specs.Flat.{FlatFunction}
-use Rattle.sidetable.specs.FlatModules.{AreWithin}
-use Rattle.simulation.specs.Runs.{Runs}
+use Rattle.sidetable.specs.FlatModules.{operations_of}
+use Rattle.simulation.specs.Runs.{Ghost, Runs}
+use Rattle.store.specs.Contents.{Contents}
 use Rattle.store.specs.declared.instances.ModuleFunction.{ModuleFunction}
 use Rattle.interpreter.specs.Layout.{put_back}
 use Rattle.interpreter.specs.Looping.{loop_at, machine_at}
@@ -18,57 +18,55 @@ use Rattle.interpreter.specs.Whole.{RunsWhole, whole}
 use Rattle.interpreter.specs.Worlds.{Sees, World}
 use Rattle.interpreter.specs.declared.machine.Frame.{Frame}
 use Rattle.interpreter.specs.declared.machine.Position.{Position}
-use Rattle.exec.proofs.Beginning.{at-address, begun, entered, entered-runs, first-size, instance-there, k, locals-size, n, starts-typed, steps, store}
+use Rattle.exec.proofs.Beginning.{at-address, begun, entered, entered-runs, first-size, k, n, starts-typed, steps, store}
 use Rattle.interpreter.proofs.Lifting.{steps-typed}
+use Rattle.interpreter.proofs.Worlds.{flat-seen}
 use Rattle.exec.proofs.Seeing.{seen-from}
 
 -- The first place of a function.
 abbrev first_position : ModuleFunction → (fuel : ℕ) → Position
 first_position f fuel = record {
-  frame = record {
-    function = f.flat.function;
-    tables = f.flat.tables;
-    instance = f.instance;
-    base = 0;
-    place = 0;
-  };
-  top = f.flat.function.now.locals;
+  instance = f.instance;
+  base = 0;
+  place = f.flat.now.place;
+  top = f.flat.now.locals;
   operand = 0;
   fuel = fuel;
 }
 
 module _ (a : FunctionAddress) (f : ModuleFunction) (arguments : List Val) (takes : Takes a f arguments) where
-  locals-are : n a f arguments takes + k a f arguments takes ≡ f.flat.function.now.locals
+  abbrev g : Ghost
+  g = entered a f arguments takes
+
+  abbrev count : ℕ
+  count = n a f arguments takes + k a f arguments takes
+
+  locals-are : count ≡ f.flat.now.locals
   locals-are = sym (at-address a f arguments takes).flat.locals
 
   abbrev size : ℕ
-  size = f.flat.function.now.locals + f.flat.function.now.greatest + 1
+  size = f.flat.now.greatest + 1
 
-  enough : n a f arguments takes + k a f arguments takes + (entered a f arguments takes).code.greatest < size
-  enough = let greatest = ap (λ (z : FlatFunction). z.greatest) (at-address a f arguments takes).flat.flat in omega (arith, greatest, locals-are)
+  enough : g.code.greatest < size
+  enough = let greatest = (at-address a f arguments takes).flat.greatest in omega (arith, greatest)
 
   abbrev cells : List ℕ
   cells = map cell_of arguments ++ drop (length arguments) (replicate size 0)
 
-  runs : Runs (entered a f arguments takes) (put_back f.flat.function.now.locals 0 cells f.flat.function.now.locals 0) 0 (f.flat.function.now.locals - 0)
+  runs : Runs g (put_back count 0 cells f.flat.now.locals 0) f.flat.now.place (f.flat.now.locals - 0)
   runs =
-      let sum : 0 + (n a f arguments takes + k a f arguments takes) ≡ f.flat.function.now.locals = omega (arith, locals-are) in
-      let height : n a f arguments takes + k a f arguments takes ≡ f.flat.function.now.locals - 0 = omega (arith, locals-are) in
-      subst (λ (q : ℕ). Runs (entered a f arguments takes) (put_back q 0 cells f.flat.function.now.locals 0) 0 (f.flat.function.now.locals - 0)) locals-are
-      (subst (λ (q : ℕ). Runs (entered a f arguments takes) (put_back (n a f arguments takes + k a f arguments takes) 0 cells q 0) 0 (f.flat.function.now.locals - 0)) sum
-      (subst (λ (q : ℕ). Runs (entered a f arguments takes) (put_back (n a f arguments takes + k a f arguments takes) 0 cells (0 + (n a f arguments takes + k a f arguments takes)) 0) 0 q) height
-      (entered-runs a f arguments takes size enough)))
+      let sum : 0 + count ≡ f.flat.now.locals = omega (arith, locals-are) in
+      let height : count ≡ f.flat.now.locals - 0 = omega (arith, locals-are) in
+      subst (λ (q : ℕ). Runs g (put_back count 0 cells q 0) f.flat.now.place (f.flat.now.locals - 0)) sum
+      (subst (λ (q : ℕ). Runs g (put_back count 0 cells (0 + count) 0) f.flat.now.place q) height (entered-runs a f arguments takes size enough))
 
-  runs-at : (fuel : ℕ) (w : World) → Sees a.code (store a f arguments takes) f.instance w → RunsAt w (machine_at cells (first_position f fuel)) (entered a f arguments takes)
+  runs-at : (fuel : ℕ) (w : World) → Sees a.code (store a f arguments takes) f.instance w → RunsAt w (machine_at cells (first_position f fuel)) g
   runs-at fuel w sees =
-      let held = first-size a f arguments takes size enough in
-      let at = at-address a f arguments takes in record {
+      let held = first-size a f arguments takes size enough in record {
         runs = runs;
-        low = omega arith;
-        scrap = omega (arith, held);
-        count = sym locals-are ∙ sym (locals-size a f arguments takes);
-        packed = sym (ap (λ (z : FlatFunction). z.operations) at.flat.flat);
-        within = subst (λ (q : ℕ). AreWithin f.flat.tables.now f.flat.function.now.operations.items q) at.flat.results at.within;
+        low = omega (arith, locals-are);
+        scrap = omega (arith, held, enough);
+        operations = ap operations_of (sym (flat-seen a.code.instances f.instance takes.flat.0 takes.flat.1 w (ap (λ (c : Contents). c.instances) sees.code) sees.seen_from sees.instance));
         store = sym sees.store;
         number = sym sees.seen_from;
         instance = sees.instance;
@@ -88,7 +86,7 @@ module _ (a : FunctionAddress) (f : ModuleFunction) (arguments : List Val) (take
   -- It runs at the first place of its code.
   pub begins : (bound : ℕ) → 1 ≤ bound → (fuel : ℕ) (v : Vec ℕ) → v.items ≡ cells → (callers : List Frame) → callers ≡ [] → Begins bound a f arguments fuel (record { cells = v; callers = callers; position = first_position f fuel })
   begins bound some fuel v v_is callers callers_are =
-      let (w, sees) = seen-from a.code a.state f.instance (instance-there a f arguments takes) in record {
+      let (w, sees) = seen-from a.code a.state f.instance (takes.flat.0, takes.flat.1) in record {
         new = begun a f arguments takes;
         results = refl;
         left = refl;

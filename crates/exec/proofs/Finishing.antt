@@ -111,15 +111,19 @@ module _ {H : Type 0} (HostStep : List H → ℕ → Option ℕ → List Val →
     pub ends-so : (c : Concludes bound r' stop.Over r'') (results : List Val) → results ≡ reverse (c first.new first.rests).values → RunsSo w (WithValues results) r'' hosts'
     ends-so c results are = Steps-run HostStep bound no_frame first.steps (over-ends HostStep bound r' r'' hosts' first.new (c first.new first.rests) results are)
 
-    pub over-typed : (c : Concludes bound r' stop.Over r'') → HasResults (store_around r'') (machine_of r'') types (c first.new first.rests).values
+    over-typed : (c : Concludes bound r' stop.Over r'') → HasResults (store_around r'') (machine_of r'') types (c first.new first.rests).values
     over-typed c = let e = c first.new first.rests in subst (λ (ts : List ValType). HasResults (store_around r'') (machine_of r'') ts e.values) (first.results ∙ is.1) e.results
 
-    -- With the results in the place of as many values.
-    pub ends-taken : (c : Concludes bound r' stop.Over r'') (values old : List Val) (n : ℕ) (results : List Val) (fuel : ℕ) → length values ≡ n → values ≡ reverse (c first.new first.rests).values
+    pub some-results : Concludes bound r' stop.Over r'' → (s : Store) × (values : List Val) × HasResults s (machine_of r'') types values
+    some-results c = (store_around r'', (c first.new first.rests).values, over-typed c)
+
+    -- With the results, as they are read, in the place of as many values.
+    pub ends-taken : (c : Concludes bound r' stop.Over r'') (values old : List Val) (n : ℕ) (results : List Val) (fuel : ℕ) → length values ≡ n
+        → ((s : Store) (given : List Val) → HasResults s (machine_of r'') types given → values ≡ reverse given)
         → results ≡ take n (values ++ drop (length values) old) → fuel ≡ fuel_left r'' → Run HostStep bound no_frame (run_state (store_around r) hosts (fuel_left r)) (whole w) (WithValues results) (run_state (store_around r'') hosts' fuel)
-    ends-taken c values old n results fuel size are taken left =
+    ends-taken c values old n results fuel size reads taken left =
         subst (λ (k : ℕ). Run HostStep bound no_frame (run_state (store_around r) hosts (fuel_left r)) (whole w) (WithValues results) (run_state (store_around r'') hosts' k)) (sym left)
-        (ends-so c results (taken ∙ take_at values (drop (length values) old) n size ∙ are))
+        (ends-so c results (taken ∙ take_at values (drop (length values) old) n size ∙ reads (store_around r'') (c first.new first.rests).values (over-typed c)))
 
     pub traps-so : (trap : Trap) → Concludes bound r' (stop.Traps trap) r'' → RunsSo w (WithTrap trap) r'' hosts'
     traps-so trap c = let stops = c first.new first.rests in Steps-run HostStep bound no_frame first.steps (stops-trapped HostStep bound r' r'' hosts' first.new (stop.Traps trap) stops trap stops.by.0 refl)
@@ -147,8 +151,10 @@ module _ {H : Type 0} (HostStep : List H → ℕ → Option ℕ → List Val →
       abbrev pub called : ComesOver HostStep bound r hosts w r'' hosts'
       called = over-then HostStep bound r r' r'' hosts hosts' hosts' w first (stops-over HostStep bound r' r'' hosts' first.new (stop.CallsHost kind address behind) stops refl)
 
-      pub ended-so : (r3 : AtRest) (hosts3 : List H) (ending : Ending) → Run HostStep bound no_frame (run_state (store_around r'') hosts' (fuel_left r'')) (whole called.new) ending (run_state (store_around r3) hosts3 (fuel_left r3)) → RunsSo w ending r3 hosts3
-      ended-so r3 hosts3 ending f = Steps-run HostStep bound no_frame called.steps f
+      pub ended-so : (r3 : AtRest) (hosts3 : List H) (ending : Ending)
+          → ((u : Whole) → WaitsForHost bound r'' u kind address behind → Run HostStep bound no_frame (run_state (store_around r'') hosts' (fuel_left r'')) (whole u) ending (run_state (store_around r3) hosts3 (fuel_left r3)))
+          → RunsSo w ending r3 hosts3
+      ended-so r3 hosts3 ending ended = Steps-run HostStep bound no_frame called.steps (ended waiting waits-so)
 
   pub came-answered : (r' r'' r3 : AtRest) (hosts' hosts3 : List H) → CameOver r' hosts' → (kind : CallKind) (address behind : ℕ) → Concludes bound r' (stop.CallsHost kind address behind) r''
       → ((u : Whole) → WaitsForHost bound r'' u kind address behind → ComesOver HostStep bound r'' hosts' u r3 hosts3) → CameOver r3 hosts3

@@ -1,22 +1,27 @@
 -- Runs of code of instances, one behind the other.
-use Rattle.std.proofs.Common.{◌≡◌, ◌≢◌, ℕ, suc, ◌+◌, ◌-◌, ◌*◌, ◌^◌, ◌<◌, ◌≤◌, List, ◌++◌, length, replicate, refl, ap, sym, subst, ◌∙◌, arith, length-append}
+use Rattle.std.proofs.Common.{◌≡◌, ◌≢◌, ℕ, suc, ◌+◌, ◌-◌, ◌*◌, ◌^◌, ◌<◌, ◌≤◌, List, ◌++◌, length, replicate, Some, slice_get, refl, ap, sym, subst, ◌∙◌, arith, length-append}
 use Rattle.std.proofs.lemmas.List.{length-replicate}
+use Rattle.std.proofs.lemmas.Option.{slice_get_within}
 use Rattle.std.specs.Global.{Vec}
 use Rattle.core_types.specs.declared.types.ValType.{ValType}
 use Rattle.core_types.specs.declared.op.PlainOp.{PlainOp}
-use Rattle.meaning.specs.execution.Configurations.{Configuration, depth, no_frame}
-use Rattle.meaning.specs.execution.Instructions.{Next}
-use Rattle.meaning.specs.execution.Runs.{AsksForMemory, IsStep, IsWithinBound, NoHosts, State, Steps, calls, goes, grows, none, one_more, opens, price}
+use Rattle.meaning.specs.execution.Configurations.{Configuration, no_frame}
+use Rattle.meaning.specs.execution.Runs.{IsStep, NoHosts, State, Steps, calls, goes, grows, none, one_more, opens}
 use Rattle.meaning.proofs.lemmas.Runs.{Steps-join}
 use Rattle.soundness.specs.Stores.{StoreIsValid}
 use Rattle.sidetable.specs.Flat.{Plain}
 use Rattle.sidetable.specs.Packing.{other_op}
 use Rattle.sidetable.specs.declared.operations.OtherInstruction.{OtherInstruction}
+use Rattle.sidetable.specs.declared.flat_module.FlatModule.{FlatModule}
+use Rattle.sidetable.specs.declared.side_tables.SideTables.{SideTables}
+use Rattle.store.specs.Contents.{Contents}
+use Rattle.store.specs.declared.instances.Instance.{Instance}
 use Rattle.interpreter.specs.Looping.{loop_at}
 use Rattle.interpreter.specs.Turns.{IsLeft, StandsThere}
 use Rattle.exec.specs.Instructions.{GoesOn, RestsBefore, RestsSomeBefore, StopsFor, left_op}
 use Rattle.exec.specs.Resting.{AtRest, Comes, Concludes, ConcludesFrom, LacksMemory, Rests, RestsSome, RunsFrom, RunsTo, StopsAtRest, fuel_left, left_of, loop_of, machine_of, store_around}
-use Rattle.interpreter.specs.Whole.{AsksNext, HasResults, RunsWhole, Whole, left_at, paid_for, whole}
+use Rattle.interpreter.specs.Whole.{AsksNext, HasResults, RunsWhole, Whole, left_at, paid_for}
+use Rattle.interpreter.specs.Worlds.{Sees, World}
 use Rattle.interpreter.specs.declared.machine.Frame.{Frame}
 use Rattle.interpreter.specs.declared.machine.Stop.{Stop}
 use Rattle.interpreter.specs.declared.machine.Stop.TheVariants as stop
@@ -157,9 +162,26 @@ module _ (bound : ℕ) where
 
   -- ---- instructions that the loop leaves to others
 
-  module _ (r r' r'' r3 : AtRest) (came : Came bound r r') (kind : OtherInstruction) (n : ℕ) (runs : RunsFrom bound r' (stop.LeavesOther kind n) r'') where
+  -- The instance whose code is next is there.
+  pub left-there : (r r' r'' : AtRest) → Came bound r r' → (kind : OtherInstruction) (n : ℕ) → RunsFrom bound r' (stop.LeavesOther kind n) r'' → RestsSome bound r → r''.call.position.instance < length r''.code.instances
+  left-there r r' r'' came kind n runs (u, rests) =
+      let first = came.from u rests in
+      let its = (runs.from first.new first.rests).there.rests in
+      let inside = slice_get_within its.world.code.instances its.world.number its.world.instance its.sees.instance.loaded.there in
+      let same = ap (λ (c : Contents). length c.instances) its.sees.code in
+      let seen = its.sees.seen_from in
+      omega (arith, inside, same, seen)
+
+  module _ (r r' r'' r3 : AtRest) (came : Came bound r r') (kind : OtherInstruction) (n : ℕ) (runs : RunsFrom bound r' (stop.LeavesOther kind n) r'')
+      (tables : SideTables) (are : (i : Instance) → slice_get r''.code.instances r''.call.position.instance ≡ Some i → tables ≡ i.loaded.value.flat.tables) where
     abbrev op : PlainOp
-    op = left_op r'' kind n
+    op = left_op tables kind n
+
+    -- They are those of the world that is seen.
+    tables-seen : (w : World) → Sees r''.code (store_around r'') r''.call.position.instance w → w.flat.tables ≡ tables
+    tables-seen w sees =
+        ap (λ (z : FlatModule). z.tables) sees.instance.flat
+        ∙ sym (are w.instance (subst (λ (n : ℕ). slice_get r''.code.instances n ≡ Some w.instance) sees.seen_from (subst (λ (c : Contents). slice_get c.instances w.number ≡ Some w.instance) sees.code sees.instance.loaded.there)))
 
     -- The call has come before it.
     come-before : (u : Whole) → Rests bound r u → (there : Comes bound r u r'' (fuel_left r'')) × RestsBefore bound r'' op there.new
@@ -167,8 +189,9 @@ module _ (bound : ℕ) where
         let first = came.from u rests in
         let stops = stops-later r r' r'' u (stop.LeavesOther kind n) first (runs.from first.new first.rests) in
         let same : fuel_left r'' + 0 ≡ fuel_left r'' = omega arith in
-        let (there, stands) = subst (λ (left : ℕ). (c : Comes bound r u r'' left) × StandsThere (machine_of r'') c.new.ghost (Plain (other_op (machine_of r'').tables kind n))) same (stops.there, stops.by.1) in
-        (there, record { rests = there.rests; there = stands })
+        let stands = subst (λ (ts : SideTables). StandsThere (machine_of r'') stops.there.new.ghost (Plain (other_op ts kind n))) (tables-seen stops.there.rests.world stops.there.rests.sees) stops.by.1 in
+        let (there, its) = subst (λ (left : ℕ). (c : Comes bound r u r'' left) × StandsThere (machine_of r'') c.new.ghost (Plain op)) same (stops.there, stands) in
+        (there, record { rests = there.rests; there = its })
 
     pub left-before : RestsSome bound r → IsLeft kind
     left-before (u, rests) = let first = came.from u rests in (runs.from first.new first.rests).by.0
@@ -187,7 +210,7 @@ module _ (bound : ℕ) where
         let spent : fuel_left r'' + 0 ≤ fuel_left r' = steps-spend bound (runs.from first.new first.rests).there.steps in
         let deep = (come-before u rests).1.rests.runs.deep in
         let as_many = ap (λ (fs : List Frame). length fs) done.callers in
-        measure-falls (fuel_left r') (fuel_left r3) (length r'.call.callers) (length r3.call.callers) r'.call.position.frame.place r3.call.position.frame.place (length r'.call.cells.items) (length r3.call.cells.items)
+        measure-falls (fuel_left r') (fuel_left r3) (length r'.call.callers) (length r3.call.callers) r'.call.position.place r3.call.position.place (length r'.call.cells.items) (length r3.call.cells.items)
         (omega (arith, spent, done.falls)) (omega (arith, deep, as_many, small)) (done.size ∙ size)
 
     -- It stops there.

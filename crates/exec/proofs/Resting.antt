@@ -1,5 +1,5 @@
 -- Runs of code of one instance, from rest to rest.
-use Rattle.std.proofs.Common.{◌≡◌, ℕ, ◌+◌, length, take, sym, subst, ◌∙◌}
+use Rattle.std.proofs.Common.{◌≡◌, ℕ, ◌+◌, length, take, ap, sym, subst, ◌∙◌}
 use Rattle.meaning.specs.structure.Bodies.{Empty}
 use Rattle.meaning.specs.execution.Configurations.{Configuration, Running, no_frame}
 use Rattle.meaning.specs.execution.Runs.{NoHosts, Steps}
@@ -7,6 +7,7 @@ use Rattle.meaning.specs.execution.Store.{Store}
 use Rattle.soundness.specs.Configurations.{ConfigurationHasType}
 use Rattle.soundness.specs.Places.{outermost}
 use Rattle.soundness.specs.Stores.{StoreIsValid}
+use Rattle.sidetable.specs.FlatModules.{operations_of}
 use Rattle.store.specs.Contents.{Contents}
 use Rattle.interpreter.specs.Callers.{CallersStand}
 use Rattle.exec.specs.Resting.{AtRest, Comes, FallsTo, LeadsTo, Rests, RestsSome, RunsFrom, RunsTo, fuel_left, loop_of, machine_of, store_around}
@@ -14,6 +15,7 @@ use Rattle.interpreter.specs.Whole.{FallsAt, HasResults, IsSeenFrom, Loop, Reach
 use Rattle.interpreter.specs.Worlds.{Sees, World, memory_in, store_in, with_memory_back}
 use Rattle.interpreter.specs.declared.machine.Stop.{Stop}
 use Rattle.interpreter.specs.declared.machine.Stop.TheVariants as stop
+use Rattle.interpreter.proofs.Worlds.{flat-seen}
 use Rattle.exec.proofs.Seeing.{seen-from}
 
 -- ---- whoever sees the store
@@ -25,9 +27,7 @@ runs-seen bound l u other seen r = record {
     runs = r.runs.runs;
     low = r.runs.low;
     scrap = r.runs.scrap;
-    count = r.runs.count;
-    packed = r.runs.packed;
-    within = r.runs.within;
+    operations = r.runs.operations ∙ ap operations_of (r.runs.instance.flat ∙ sym (flat-seen l.world.code.instances l.world.number l.world.instance r.runs.instance.loaded other (ap (λ (c : Contents). c.instances) seen.code) (seen.seen_from ∙ r.number) seen.instance));
     store = r.runs.store ∙ sym seen.store;
     number = r.runs.number ∙ sym r.number ∙ sym seen.seen_from;
     instance = seen.instance;
@@ -44,7 +44,7 @@ refuelled : (bound : ℕ) (l : Loop) (fuel : ℕ) (u : Whole) → RunsWhole boun
 refuelled bound l fuel u r = record { runs = r.runs; number = r.number; callers = r.callers; arity = r.arity; deep = r.deep; typed = r.typed }
 
 module _ (bound : ℕ) (r : AtRest) where
-  pub runs-at : (u : Whole) → Rests bound r u → (w : World) → Sees r.code (store_around r) r.call.position.frame.instance w → RunsWhole bound (loop_of w r) u
+  pub runs-at : (u : Whole) → Rests bound r u → (w : World) → Sees r.code (store_around r) r.call.position.instance w → RunsWhole bound (loop_of w r) u
   runs-at u rests w sees =
       runs-seen bound (loop_of rests.world r) u w (record { store = sees.store ∙ sym rests.sees.store; code = sees.code ∙ sym rests.sees.code; seen_from = sees.seen_from; instance = sees.instance }) rests.runs
 
@@ -56,7 +56,7 @@ module _ (bound : ℕ) (r : AtRest) where
 
 -- ---- a run of the loop
 
-module _ (bound : ℕ) (r r' : AtRest) (w w' : World) (start : Sees r.code (store_around r) r.call.position.frame.instance w) (code_is : w'.code ≡ r'.code) (store_is : store_in w' ≡ store_around r') where
+module _ (bound : ℕ) (r r' : AtRest) (w w' : World) (start : Sees r.code (store_around r) r.call.position.instance w) (code_is : w'.code ≡ r'.code) (store_is : store_in w' ≡ store_around r') where
   led : (u : Whole) (end : Store) → end ≡ store_around r' → (left : ℕ) (c : Configuration) → Steps NoHosts bound no_frame (state (store_in w) (fuel_left r)) (whole u) (state end left) c → LeadsTo bound r u r' left c
   led u end end_is left c steps =
       subst (λ (s : Store). Steps NoHosts bound no_frame (state (store_around r) (fuel_left r)) (whole u) (state s left) c) end_is
@@ -77,11 +77,11 @@ module _ (bound : ℕ) (r r' : AtRest) (w w' : World) (start : Sees r.code (stor
     results = subst (λ (s : Store). HasResults s (machine_of r') u.results o.values) store_is o.results;
   }
   runs-to stop.Switches u (there, goes) =
-      let (other, sees) = seen-from w'.code (with_memory_back w'.state w'.address (memory_in w')) r'.call.position.frame.instance there in
+      let (other, sees) = seen-from w'.code (with_memory_back w'.state w'.address (memory_in w')) r'.call.position.instance there in
       comes u other (sees.code ∙ code_is) (sees.store ∙ store_is) (fuel_left r') (goes other sees)
   runs-to s u stops = record {
     there = comes u w' code_is store_is (fuel_left r' + paid_for s) stops.there;
-    by = subst (λ (z : Store). StopsBy bound s z (fuel_left r' + paid_for s) (machine_of r') stops.there.new) store_is stops.by;
+    by = subst (λ (z : Store). StopsBy bound s w'.flat.tables z (fuel_left r' + paid_for s) (machine_of r') stops.there.new) store_is stops.by;
   }
 
   falls-to : (s : Stop) → FallsAt (loop_of w r) s (loop_of w' r') → FallsTo r s r'
@@ -102,5 +102,5 @@ module _ (bound : ℕ) (l l' : Loop) (u : Whole) where
       subst StoreIsValid (t.runs.runs.store ∙ sees.store) t.runs.runs.runs.typed.valid
   valid-from s stops = subst StoreIsValid stops.there.runs.runs.store stops.there.runs.runs.runs.typed.valid
 
-pub stops-valid : (bound : ℕ) (r : AtRest) (w : World) → Sees r.code (store_around r) r.call.position.frame.instance w → RestsSome bound r → (s : Stop) (l' : Loop) → StopsAt bound (loop_of w r) s l' → StoreIsValid (store_in l'.world)
+pub stops-valid : (bound : ℕ) (r : AtRest) (w : World) → Sees r.code (store_around r) r.call.position.instance w → RestsSome bound r → (s : Stop) (l' : Loop) → StopsAt bound (loop_of w r) s l' → StoreIsValid (store_in l'.world)
 stops-valid bound r w sees (u, rests) s l' stops = valid-from bound (loop_of w r) l' u s (stops.from u (runs-at bound r u rests w sees))

@@ -1,24 +1,16 @@
 -- A store as its instances see it, and their memories in it.
-use Rattle.std.proofs.Common.{◌≡◌, ◌⊎◌, inl, inr, ℕ, ◌<◌, ◌≤◌, List, length, get_or, Option, Some, None, slice_get, refl, ap, subst, ◌∙◌, arith}
+use Rattle.std.proofs.Common.{◌≡◌, ℕ, ◌<◌, ◌≤◌, List, length, Option, Some, None, slice_get, refl, ap, subst, ◌∙◌, arith}
 use Rattle.std.proofs.lemmas.List.{get_or-set_same, length-set, set-get_or, set-set}
-use Rattle.std.proofs.lemmas.Option.{slice_get-get_or, slice_get-map, slice_get_cases}
+use Rattle.std.proofs.lemmas.Option.{slice_get-get_or, slice_get-map}
 use Rattle.std.specs.Prelude.{option_map}
 use Rattle.meaning.specs.execution.Memories.{MemoryInstance}
 use Rattle.meaning.specs.execution.Store.{Store}
 use Rattle.soundness.specs.Stores.{InstanceIsValid, MemoryIsValid, StoreIsValid}
 use Rattle.soundness.proofs.Values.{All-at}
-use Rattle.store.specs.Contents.{Contents, module_instance_of, store_with}
+use Rattle.store.specs.Contents.{Contents, IsLoaded, module_instance_of, store_with}
 use Rattle.store.specs.State.{StateContents, memory_of, no_memory, put_memory}
 use Rattle.store.specs.declared.instances.Instance.{Instance}
 use Rattle.interpreter.specs.Worlds.{Sees, World, with_memory_back}
-
--- What is inside is there.
-item-there : {X : Type 0} (xs : List X) (k : ℕ) → k < length xs → (x : X) × (slice_get xs k ≡ Some x)
-item-there {X} xs k inside = by (slice_get_cases xs k).1
-  where
-    by : ((x : X) × (k < length xs) × (slice_get xs k ≡ Some x) × (get_or xs k x ≡ x)) ⊎ ((length xs ≤ k) × (slice_get xs k ≡ None)) → (x : X) × (slice_get xs k ≡ Some x)
-    by (inl (x, there, is, same)) = (x, is)
-    by (inr (past, none)) = absurd (omega (arith, past, inside))
 
 module _ (code : Contents) (state : StateContents) where
   abbrev store : Store
@@ -40,32 +32,46 @@ module _ (code : Contents) (state : StateContents) where
     state = state;
     number = number;
     instance = i;
+    flat = i.loaded.value.flat;
     address = o;
     limits = (memory_seen o).limits;
     bytes = (memory_seen o).bytes;
   }
 
   -- Each instance sees it.
-  pub seen-from : (number : ℕ) → number < length code.instances → (w : World) × Sees code store number w
-  seen-from number inside =
-      let (i, there) = item-there code.instances number inside in (
-        world_at number i (slice_get i.addresses.memories.items 0),
-        record { store = put-back-there (slice_get i.addresses.memories.items 0); code = refl; seen_from = refl; instance = record { there = there; memory = refl } },
-      )
-
-  module _ (number : ℕ) (i : Instance) (there : slice_get code.instances number ≡ Some i) where
-    -- With its memory taken out, and with none.
-    pub seen-taken : (a : ℕ) → slice_get i.addresses.memories.items 0 ≡ Some a
-        → Sees code store number (record { code = code; state = put_memory state a no_memory; number = number; instance = i; address = Some a; limits = (memory_of state a).limits; bytes = (memory_of state a).bytes })
-    seen-taken a has = record {
-      store = ap (λ (ms : List MemoryInstance). record store { memories = ms }) (set-set state.contents.memories a no_memory (memory_of state a) ∙ set-get_or state.contents.memories a no_memory);
+  pub seen-from : (number : ℕ) → (i : Instance) × IsLoaded code.instances number i → (w : World) × Sees code store number w
+  seen-from number (i, loaded) = (
+    world_at number i (slice_get i.addresses.memories.items 0),
+    record {
+      store = put-back-there (slice_get i.addresses.memories.items 0);
       code = refl;
       seen_from = refl;
-      instance = record { there = there; memory = has };
-    }
+      instance = record { loaded = loaded; flat = refl; memory = refl };
+    },
+  )
 
-    -- ---- its memory
+  -- With its memory taken out.
+  pub seen-taken : (number : ℕ) (i : Instance) → IsLoaded code.instances number i → (a : ℕ) → slice_get i.addresses.memories.items 0 ≡ Some a
+      → Sees code store number (record {
+        code = code;
+        state = put_memory state a no_memory;
+        number = number;
+        instance = i;
+        flat = i.loaded.value.flat;
+        address = Some a;
+        limits = (memory_of state a).limits;
+        bytes = (memory_of state a).bytes;
+      })
+  seen-taken number i loaded a has = record {
+    store = ap (λ (ms : List MemoryInstance). record store { memories = ms }) (set-set state.contents.memories a no_memory (memory_of state a) ∙ set-get_or state.contents.memories a no_memory);
+    code = refl;
+    seen_from = refl;
+    instance = record { loaded = loaded; flat = refl; memory = has };
+  }
 
+  -- ---- its memory
+
+  module _ (number : ℕ) (i : Instance) (there : slice_get code.instances number ≡ Some i) where
     module _ (valid : StoreIsValid store) (a : ℕ) (has : slice_get i.addresses.memories.items 0 ≡ Some a) where
       pub memory-inside : a < length state.contents.memories
       memory-inside =

@@ -33,7 +33,9 @@ with_results cells first values =
 -- In a frame behind a call, which was paid for, with so many results from a place on.
 abbrev pub position_answered : Frame → Position → (first : ℕ) → List Val → List ℕ → Position
 position_answered frame at first values cells = record {
-  frame = frame;
+  instance = frame.instance;
+  base = frame.base;
+  place = frame.place;
   top = first + length values - 1;
   operand = get_or (with_results cells first values) (first + length values - 1) 0;
   fuel = at.fuel - 1;
@@ -43,16 +45,16 @@ position_answered frame at first values cells = record {
 abbrev pub HasRoomForResults : Call → (many : ℕ) → Type 0
 HasRoomForResults call many =
     (frame : Frame) (others : List Frame) → call.callers ≡ frame ∷ others
-    → (1 ≤ call.position.frame.base)
-    × (call.position.frame.base + many ≤ length call.cells.items)
+    → (1 ≤ call.position.base)
+    × (call.position.base + many ≤ length call.cells.items)
 
 -- Results took the place of the innermost frame, in the one that waited.
 abbrev pub GoesBack : Call → List Val → Call → Type 0
 GoesBack old values new =
     (frame : Frame) × (old.callers ≡ frame ∷ new.callers)
-    × (new.cells.items ≡ with_results old.cells.items old.position.frame.base values)
+    × (new.cells.items ≡ with_results old.cells.items old.position.base values)
     × (new.position ≡
-    position_answered frame old.position old.position.frame.base values old.cells.items)
+    position_answered frame old.position old.position.base values old.cells.items)
 
 -- None waited, and the call ended with them.
 abbrev pub EndsWith : Call → List Val → Outcome → Call → Type 0

@@ -8,6 +8,7 @@ use Rattle.cells.specs.Cells.{IsCellOf}
 use Rattle.sidetable.specs.Flat.{Plain}
 use Rattle.sidetable.specs.Packing.{other_op}
 use Rattle.sidetable.specs.declared.operations.OtherInstruction.{OtherInstruction}
+use Rattle.sidetable.specs.declared.side_tables.SideTables.{SideTables}
 use Rattle.sidetable.specs.declared.operations.OtherInstruction.TheVariants as other
 use Rattle.simulation.specs.Outcomes.{HasOutcome, Outcome}
 use Rattle.simulation.specs.Runs.{Ghost}
@@ -35,12 +36,12 @@ abbrev pub RestsSomeBefore : AtRest → PlainOp → Type 0
 RestsSomeBefore r op = (bound : ℕ) × (u : Whole) × RestsBefore bound r op u
 
 -- The instruction that an operation stands for.
-abbrev pub left_op : AtRest → OtherInstruction → (number : ℕ) → PlainOp
-left_op r kind n = other_op r.call.position.frame.tables.now kind n
+abbrev pub left_op : SideTables → OtherInstruction → (number : ℕ) → PlainOp
+left_op tables kind n = other_op tables kind n
 
 -- What the instance of the innermost frame has.
 abbrev pub instance_in : Contents → Call → ModuleInstance
-instance_in code call = instance_of (code_store code) (Some call.position.frame.instance)
+instance_in code call = instance_of (code_store code) (Some call.position.instance)
 
 -- An address is there.
 abbrev pub IsNamed : Option ℕ → Type 0
@@ -86,9 +87,9 @@ HasRoomFor m taken (Err refusal) = Unit {0}
 pub record HasCome (r : AtRest) (g : Ghost) (taken : ℕ) (new : Store) (result : Result Paid Refusal)
     : Type 0 where
   pub outcome : Outcome
-  pub has : HasOutcome g (cells_in (machine_of r)) r.call.position.frame.place
+  pub has : HasOutcome g (cells_in g (machine_of r)) r.call.position.place
       (height_in (machine_of r)) (height_in (machine_of r) - taken) outcome
-  pub low : (machine_of r).base + (machine_of r).locals + taken ≤ (machine_of r).top
+  pub low : (machine_of r).base + g.code.locals + taken ≤ (machine_of r).top
   pub room : HasRoomFor (machine_of r) taken result
   pub gives : Gives outcome (store_around r) new (fuel_left r) result
 
@@ -113,12 +114,13 @@ abbrev pub cells_behind : Call → List ℕ
 cells_behind call = set call.cells.items call.position.top call.position.operand
 
 abbrev pub position_behind : Call → (taken : ℕ) → Paid → Position
-position_behind call taken paid = record {
-  frame = record call.position.frame { place = call.position.frame.place + 1 };
-  top = top_behind call.position.top taken paid.result;
-  operand = operand_behind (cells_behind call) call.position.top taken paid.result;
-  fuel = paid.fuel;
-}
+position_behind call taken paid =
+    record call.position {
+      place = call.position.place + 1;
+      top = top_behind call.position.top taken paid.result;
+      operand = operand_behind (cells_behind call) call.position.top taken paid.result;
+      fuel = paid.fuel;
+    }
 
 -- The call goes on behind it, with less fuel.
 pub record GoesOn (r : AtRest) (op : PlainOp) (r' : AtRest) : Type 0 where

@@ -40,7 +40,7 @@ loop_of w r = loop_at w r.call.cells.items r.call.callers r.call.position
 -- The loop runs the whole there, in the store as the instance of the innermost frame sees it.
 pub record Rests (bound : ℕ) (r : AtRest) (w : Whole) : Type 0 where
   pub world : World
-  pub sees : Sees r.code (store_around r) r.call.position.frame.instance world
+  pub sees : Sees r.code (store_around r) r.call.position.instance world
   pub runs : RunsWhole bound (loop_of world r) w
 
 abbrev pub RestsSome : (bound : ℕ) → AtRest → Type 0
@@ -65,7 +65,8 @@ pub record Comes (bound : ℕ) (r : AtRest) (w : Whole) (r' : AtRest) (fuel : �
 pub record StopsAtRest (bound : ℕ) (r : AtRest) (w : Whole) (s : Stop) (r' : AtRest)
     : Type 0 where
   pub there : Comes bound r w r' (fuel_left r' + paid_for s)
-  pub by : StopsBy bound s (store_around r') (fuel_left r' + paid_for s) (machine_of r') there.new
+  pub by : StopsBy bound s there.rests.world.flat.tables (store_around r') (fuel_left r' + paid_for s)
+      (machine_of r') there.new
 
 -- It came to where it asks for memory that is not there.
 pub record LacksMemory (bound : ℕ) (r : AtRest) (w : Whole) (r' : AtRest) : Type 0 where
@@ -87,7 +88,7 @@ RunsTo bound r w s r' = StopsAtRest bound r w s r'
 
 -- What is left to do.
 abbrev pub left_of : AtRest → ℕ
-left_of r = left_at (fuel_left r) (length r.call.callers) r.call.position.frame.place
+left_of r = left_at (fuel_left r) (length r.call.callers) r.call.position.place
 
 abbrev pub FallsTo : AtRest → Stop → AtRest → Type 0
 FallsTo r stop.Switches r' = left_of r' < left_of r

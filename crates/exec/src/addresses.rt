@@ -5,44 +5,44 @@ use crate::call::Call;
 use store::Code;
 
 /// The address of the table that the innermost frame's instance has under an index.
-pub fn table_at(code: &Code, call: &Call<'_>, x: u32) -> u32
+pub fn table_at(code: &Code, call: &Call, x: u32) -> u32
     requires { IsNamed (slice_get (instance_in code.now call.now).tables x) }
     ensures { slice_get (instance_in code.now call.now).tables x ≡ Some result }
 {
-    match code.table_address(call.position.frame.instance, x) {
+    match code.table_address(call.position.instance, x) {
         Some(address) => address,
         None => unreachable!(),
     }
 }
 
 /// The address of its memory.
-pub fn memory_at(code: &Code, call: &Call<'_>) -> u32
+pub fn memory_at(code: &Code, call: &Call) -> u32
     requires { IsNamed (slice_get (instance_in code.now call.now).memories 0) }
     ensures { slice_get (instance_in code.now call.now).memories 0 ≡ Some result }
 {
-    match code.memory_address(call.position.frame.instance, 0) {
+    match code.memory_address(call.position.instance, 0) {
         Some(address) => address,
         None => unreachable!(),
     }
 }
 
 /// The address of an element segment.
-pub fn elements_at(code: &Code, call: &Call<'_>, x: u32) -> u32
+pub fn elements_at(code: &Code, call: &Call, x: u32) -> u32
     requires { IsNamed (slice_get (instance_in code.now call.now).elements x) }
     ensures { slice_get (instance_in code.now call.now).elements x ≡ Some result }
 {
-    match code.element_address(call.position.frame.instance, x) {
+    match code.element_address(call.position.instance, x) {
         Some(address) => address,
         None => unreachable!(),
     }
 }
 
 /// The address of a data segment.
-pub fn data_at(code: &Code, call: &Call<'_>, x: u32) -> u32
+pub fn data_at(code: &Code, call: &Call, x: u32) -> u32
     requires { IsNamed (slice_get (instance_in code.now call.now).datas x) }
     ensures { slice_get (instance_in code.now call.now).datas x ≡ Some result }
 {
-    match code.data_address(call.position.frame.instance, x) {
+    match code.data_address(call.position.instance, x) {
         Some(address) => address,
         None => unreachable!(),
     }

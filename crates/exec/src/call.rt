@@ -1,22 +1,25 @@
-ghost use Rattle.std.specs.Prelude.{◌≡◌, ◌+◌, ◌<◌, length};
+ghost use Rattle.std.specs.Prelude.{◌≡◌, ◌+◌, ◌<◌, ◌^◌};
+ghost use Rattle.interpreter.specs.Calling.{frame_waiting};
 
 use core_types::Stack;
 use interpreter::{Frame, Position};
 
 /// A call that runs or has stopped: its cells, the frames that wait, the innermost first, and where it is.
 #[derive(Drop)]
-pub struct Call<'a> {
+pub struct Call {
     pub cells: Vec<u64>,
-    pub callers: Stack<Frame<'a>>,
-    pub position: Position<'a>,
+    pub callers: Stack<Frame>,
+    pub position: Position,
 }
 
-/// The frame behind the operation where it is.
-pub fn frame_behind<'a>(frame: Frame<'a>) -> Frame<'a>
-    requires { frame.place < length frame.function.now.operations.items }
-    ensures { result ≡ record frame.entry { place = frame.entry.place + 1 } }
+/// The innermost frame, behind the operation where it is.
+pub fn frame_behind(position: Position) -> Frame
+    requires { position.place + 1 < 2 ^ 32 }
+    ensures { result ≡ frame_waiting position }
 {
-    let mut behind = frame;
-    behind.place += 1;
-    behind
+    Frame {
+        base: position.base,
+        place: position.place as u32 + 1,
+        instance: position.instance,
+    }
 }

@@ -1,25 +1,27 @@
-ghost use Rattle.std.specs.Prelude.{◌≡◌, ◌++◌, length, replicate, slice_get, Some, None, OnErr, OnOk};
+ghost use Rattle.std.specs.Prelude.{◌≡◌, ◌<◌, ◌++◌, length, replicate, slice_get, Some, None, OnErr, OnOk};
 ghost use Rattle.soundness.specs.Stores.{StoreIsValid};
+ghost use Rattle.store.specs.declared.instances.Instance.{Instance as AnyInstance};
 ghost use Rattle.exec.specs.Resting.{Concludes, RestsSome, RunsFrom, at_rest, store_around};
 
 use crate::call::Call;
 use crate::instructions::step;
 use core_types::Limits;
 use interpreter::{Stop, Surroundings, run};
+use sidetable::SideTables;
 use std::alloc::AllocError;
 use store::{Code, Instance, State};
 
 // Runs code of an instance that has a memory, which is taken out of the state meanwhile.
-fn run_with_memory<'a>(
-    code: &'a Code,
-    instance: &'a Instance,
+fn run_with_memory(
+    code: &Code,
+    instance: &Instance,
     address: u32,
     state: &mut State,
     bound: u64,
-    call: &mut Call<'a>,
+    call: &mut Call,
 ) -> Stop
     requires rests { RestsSome bound (at_rest code.now state.old call.old) }
-    requires there { slice_get code.now.instances call.old.position.frame.instance ≡ Some
+    requires there { slice_get code.now.instances call.old.position.instance ≡ Some
         instance.now }
     requires memory { slice_get instance.now.addresses.memories.items 0 ≡ Some address }
     ensures runs { RunsFrom bound (at_rest code.now state.old call.old) result
@@ -30,7 +32,8 @@ fn run_with_memory<'a>(
     let around = Surroundings {
         code,
         instance,
-        number: call.position.frame.instance,
+        flat: instance.loaded.as_ref().flat(),
+        number: call.position.instance,
         address: Some(address),
         limits: memory.limits(),
         bound,
@@ -48,15 +51,15 @@ fn run_with_memory<'a>(
 }
 
 // Runs code of an instance that has none.
-fn run_without_memory<'a>(
-    code: &'a Code,
-    instance: &'a Instance,
+fn run_without_memory(
+    code: &Code,
+    instance: &Instance,
     state: &mut State,
     bound: u64,
-    call: &mut Call<'a>,
+    call: &mut Call,
 ) -> Stop
     requires rests { RestsSome bound (at_rest code.now state.old call.old) }
-    requires there { slice_get code.now.instances call.old.position.frame.instance ≡ Some
+    requires there { slice_get code.now.instances call.old.position.instance ≡ Some
         instance.now }
     requires memory { slice_get instance.now.addresses.memories.items 0 ≡ None }
     ensures runs { RunsFrom bound (at_rest code.now state.old call.old) result
@@ -66,7 +69,8 @@ fn run_without_memory<'a>(
     let around = Surroundings {
         code,
         instance,
-        number: call.position.frame.instance,
+        flat: instance.loaded.as_ref().flat(),
+        number: call.position.instance,
         address: None,
         limits: Limits { min: 0, max: None },
         bound,
@@ -82,13 +86,13 @@ fn run_without_memory<'a>(
 }
 
 // Runs code of the instance of the innermost frame.
-fn run_code<'a>(code: &'a Code, state: &mut State, bound: u64, call: &mut Call<'a>) -> Stop
+fn run_code(code: &Code, state: &mut State, bound: u64, call: &mut Call) -> Stop
     requires rests { RestsSome bound (at_rest code.now state.old call.old) }
     ensures runs { RunsFrom bound (at_rest code.now state.old call.old) result
         (at_rest code.now state.new call.new) }
     ensures size { length call.new.cells.items ≡ length call.old.cells.items }
 {
-    let Some(instance) = code.instance(call.position.frame.instance) else {
+    let Some(instance) = code.instance(call.position.instance) else {
         unreachable!()
     };
     match instance.addresses.memories.first().copied() {
@@ -107,12 +111,24 @@ fn grow(cells: &mut Vec<u64>) -> Result<(), AllocError>
     cells.resize(size, 0)
 }
 
+// The side tables of the module whose code is next.
+fn tables_of<'a>(code: &'a Code, call: &Call) -> &'a SideTables
+    requires { call.now.position.instance < length code.now.instances }
+    ensures { (i : AnyInstance) → slice_get code.now.instances call.now.position.instance ≡ Some i
+        → result.now ≡ i.loaded.value.flat.tables }
+{
+    let Some(instance) = code.instance(call.position.instance) else {
+        unreachable!()
+    };
+    &instance.loaded.as_ref().flat().tables
+}
+
 /// Runs a call on, in code of any instances, until it is over or stops (Execution, Instructions).
 ///
 /// At most so many frames may be open. Cells are added as frames need them. Where there is no memory for them, for a frame, or for a
 /// table or a memory that grows, it stops with `NoMemory`. It never stops with `NoRoom` or `Switches`, nor before an instruction that
 /// the loop leaves to others. Where it stops it can be run on, from there and with the fuel that is left.
-pub fn go_on<'a>(code: &'a Code, state: &mut State, bound: u64, call: &mut Call<'a>) -> Stop
+pub fn go_on(code: &Code, state: &mut State, bound: u64, call: &mut Call) -> Stop
     requires rests { RestsSome bound (at_rest code.now state.old call.old) }
     ensures concludes { Concludes bound (at_rest code.now state.old call.old) result
         (at_rest code.now state.new call.new) }
@@ -126,10 +142,12 @@ pub fn go_on<'a>(code: &'a Code, state: &mut State, bound: u64, call: &mut Call<
                     return Stop::NoMemory;
                 };
             }
-            Stop::LeavesOther(kind, n) => match step(code, state, kind, n, call) {
-                Ok(()) => {}
-                Err(stop) => return stop,
-            },
+            Stop::LeavesOther(kind, n) => {
+                match step(code, tables_of(code, call), state, kind, n, call) {
+                    Ok(()) => {}
+                    Err(stop) => return stop,
+                }
+            }
             stop => return stop,
         }
     }

@@ -65,12 +65,12 @@ fn call_lent(
 }
 
 // Puts results from a cell on, and goes on in a frame behind the call, which was paid for.
-fn put_results<'a>(values: &[Val], first: usize, frame: Frame<'a>, call: &mut Call<'a>)
+fn put_results(values: &[Val], first: usize, frame: Frame, call: &mut Call)
     requires room { first + length values.now ≤ length call.old.cells.items }
     requires above { 1 ≤ first }
     requires paid { 1 ≤ call.old.position.fuel }
     ensures cells { call.new.cells.items ≡ with_results call.old.cells.items first values.now }
-    ensures position { call.new.position ≡ position_answered frame.entry call.old.position first
+    ensures position { call.new.position ≡ position_answered frame call.old.position first
         values.now call.old.cells.items }
     ensures callers { call.new.callers ≡ call.old.callers }
 {
@@ -78,13 +78,15 @@ fn put_results<'a>(values: &[Val], first: usize, frame: Frame<'a>, call: &mut Ca
     let top = first + values.len() - 1;
     call.position.top = top;
     call.position.operand = call.cells[top];
-    call.position.frame = frame;
+    call.position.instance = frame.instance;
+    call.position.base = frame.base;
+    call.position.place = frame.place as usize;
     call.position.fuel -= 1;
 }
 
 // Puts results in the place of the innermost frame, whose last step was paid for. The frame that waits goes on with them; where none
 // waits, the call ends with them.
-fn return_results(values: Vec<Val>, call: &mut Call<'_>) -> Result<(), Outcome>
+fn return_results(values: Vec<Val>, call: &mut Call) -> Result<(), Outcome>
     requires room { HasRoomForResults call.old (length values.items) }
     requires paid { 1 ≤ call.old.position.fuel }
     ensures back { IfOk result (λ done. GoesBack call.old values.items call.new) }
@@ -94,7 +96,7 @@ fn return_results(values: Vec<Val>, call: &mut Call<'_>) -> Result<(), Outcome>
         call.position.fuel -= 1;
         return Err(Outcome::Values(Items::from_vec(values)));
     };
-    let first = call.position.frame.base;
+    let first = call.position.base;
     put_results(&values, first, frame, call);
     Ok(())
 }
@@ -116,7 +118,7 @@ pub fn call_host(
     hosts: &mut HostTable,
     bound: u64,
     wanted: HostCall,
-    call: &mut Call<'_>,
+    call: &mut Call,
 ) -> Result<(), Outcome>
     requires waits { (w : Whole)
         × WaitsForHost bound (at_rest code.now state.old call.old) w wanted.kind
@@ -153,13 +155,13 @@ pub fn call_host(
         code,
         state,
         hosts,
-        call.position.frame.instance,
+        call.position.instance,
         host.number,
         &args,
     ) {
         Ok(values) => match wanted.kind {
             CallKind::Nested => {
-                let frame = frame_behind(call.position.frame);
+                let frame = frame_behind(call.position);
                 put_results(&values, first, frame, call);
                 Ok(())
             }

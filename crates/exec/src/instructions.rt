@@ -1,11 +1,11 @@
-ghost use Rattle.std.specs.Prelude.{◌≡◌, ◌+◌, ◌<◌, ◌≤◌, length, Some};
+ghost use Rattle.std.specs.Prelude.{◌≡◌, ◌+◌, ◌<◌, ◌≤◌, ◌^◌, length};
 ghost use Rattle.sidetable.specs.SideTables.{pair_of as pair_at};
 ghost use Rattle.store.specs.Contents.{store_with};
 ghost use Rattle.interpreter.specs.Turns.{IsLeft};
 ghost use Rattle.exec.specs.Instructions.{Acts, Does, RestsSomeBefore, cells_behind, left_op, position_behind, taken_by as takes};
 ghost use Rattle.exec.specs.Resting.{at_rest};
 
-use crate::call::{Call, frame_behind};
+use crate::call::Call;
 use crate::memories::{data_drop, memory_copy, memory_fill, memory_grow, memory_init};
 use crate::tables::{
     elem_drop, table_copy, table_fill, table_get, table_grow, table_init, table_set, table_size,
@@ -31,19 +31,20 @@ fn pair_of(tables: &SideTables, n: u32) -> IndexPair
 // Does an instruction that the loop leaves to others.
 fn act(
     code: &Code,
+    tables: &SideTables,
     state: &mut State,
     kind: OtherInstruction,
     n: u32,
-    call: &Call<'_>,
+    call: &Call,
 ) -> Result<Paid, Refusal>
     requires left { IsLeft kind }
     requires rests { RestsSomeBefore (at_rest code.now state.old call.now)
-        (left_op (at_rest code.now state.old call.now) kind n) }
+        (left_op tables.now kind n) }
     ensures { Acts (at_rest code.now state.old call.now)
-        (left_op (at_rest code.now state.old call.now) kind n) (takes kind)
+        (left_op tables.now kind n) (takes kind)
         (store_with code.now state.new) result }
 {
-    let pair = pair_of(call.position.frame.tables, n);
+    let pair = pair_of(tables, n);
     match kind {
         OtherInstruction::MemoryGrow => memory_grow(code, state, call),
         OtherInstruction::MemoryFill => memory_fill(code, state, call),
@@ -80,11 +81,10 @@ fn taken_by(kind: OtherInstruction) -> usize
 }
 
 // Goes on behind an instruction that took so many operands.
-fn go_behind(call: &mut Call<'_>, taken: usize, paid: Paid)
+fn go_behind(call: &mut Call, taken: usize, paid: Paid)
     requires low { taken ≤ call.old.position.top }
     requires inside { call.old.position.top < length call.old.cells.items }
-    requires code { call.old.position.frame.place < length
-        call.old.position.frame.function.now.operations.items }
+    requires next { call.old.position.place + 1 < 2 ^ 32 }
     ensures cells { call.new.cells.items ≡ cells_behind call.old }
     ensures callers { call.new.callers ≡ call.old.callers }
     ensures position { call.new.position ≡ position_behind call.old taken paid }
@@ -102,26 +102,27 @@ fn go_behind(call: &mut Call<'_>, taken: usize, paid: Paid)
             call.position.operand = call.cells[below];
         }
     }
-    call.position.frame = frame_behind(call.position.frame);
+    call.position.place += 1;
     call.position.fuel = paid.fuel;
 }
 
-/// Does the instruction before which the loop stopped, and goes on behind it; or stops there.
-pub fn step<'a>(
+/// Does the instruction before which the loop stopped, whose module has these side tables, and goes on behind it; or stops there.
+pub fn step(
     code: &Code,
+    tables: &SideTables,
     state: &mut State,
     kind: OtherInstruction,
     n: u32,
-    call: &mut Call<'a>,
+    call: &mut Call,
 ) -> Result<(), Stop>
     requires left { IsLeft kind }
     requires rests { RestsSomeBefore (at_rest code.now state.old call.old)
-        (left_op (at_rest code.now state.old call.old) kind n) }
+        (left_op tables.now kind n) }
     ensures { Does (at_rest code.now state.old call.old)
-        (left_op (at_rest code.now state.old call.old) kind n) result
+        (left_op tables.now kind n) result
         (at_rest code.now state.new call.new) }
 {
-    match act(code, state, kind, n, call) {
+    match act(code, tables, state, kind, n, call) {
         Ok(paid) => {
             go_behind(call, taken_by(kind), paid);
             Ok(())

@@ -9,26 +9,21 @@ ghost use Rattle.interpreter.specs.Whole.{HasResults};
 use crate::call::Call;
 use cells::{value_of, write_cells};
 use core_types::{Stack, Val, ValType};
-use interpreter::{Frame, Position};
+use interpreter::Position;
 use std::alloc::{AllocError, Global};
 use store::ModuleFunction;
 
-// The cells of an outermost frame: the arguments first, and zeros behind them.
-fn first_cells(
-    alloc: Global,
-    locals: usize,
-    greatest: u64,
-    arguments: &[Val],
-) -> Result<Vec<u64>, AllocError>
-    requires { length arguments.now ≤ locals }
+// The cells of an outermost frame, for so many locals and operands: the arguments first, and zeros behind them.
+fn first_cells(alloc: Global, greatest: u64, arguments: &[Val]) -> Result<Vec<u64>, AllocError>
+    requires { length arguments.now ≤ greatest }
     ensures { IfOk result (λ cells. cells.items ≡ map cell arguments.now ++ drop
-        (length arguments.now) (replicate (locals + greatest + 1) 0)) }
+        (length arguments.now) (replicate (greatest + 1) 0)) }
 {
-    if greatest >= u64::MAX - locals as u64 {
+    if greatest == u64::MAX {
         return Err(AllocError);
     }
     let mut cells = Vec::new(alloc);
-    cells.resize(locals + greatest as usize + 1, 0)?;
+    cells.resize(greatest as usize + 1, 0)?;
     write_cells(arguments, &mut cells);
     Ok(cells)
 }
@@ -36,31 +31,26 @@ fn first_cells(
 /// Begins a call of a function of a module, with arguments of its parameter types.
 ///
 /// Where there is no memory for the cells of its frame, there is no call (Execution, Modules, Invocation).
-pub fn begin<'a>(
+pub fn begin(
     alloc: Global,
-    function: &ModuleFunction<'a>,
+    function: &ModuleFunction<'_>,
     arguments: &[Val],
     fuel: u64,
-) -> Result<Call<'a>, AllocError>
+) -> Result<Call, AllocError>
     requires takes { (a : FunctionAddress) × Takes a function.now arguments.now }
     ensures begins { IfOk result (λ call. (a : FunctionAddress)
         → Takes a function.now arguments.now → BeginsSo a function.now arguments.now fuel call) }
 {
-    let flat = function.flat.function;
-    let cells = first_cells(alloc, flat.locals, flat.greatest, arguments)?;
-    let frame = Frame {
-        function: flat,
-        tables: function.flat.tables,
-        instance: function.instance,
-        base: 0,
-        place: 0,
-    };
+    let flat = function.flat;
+    let cells = first_cells(alloc, flat.greatest, arguments)?;
     Ok(Call {
         cells,
         callers: Stack::new(alloc),
         position: Position {
-            frame,
-            top: flat.locals,
+            instance: function.instance,
+            base: 0,
+            place: flat.place as usize,
+            top: flat.locals as usize,
             operand: 0,
             fuel,
         },
@@ -79,7 +69,7 @@ fn read_cells(types: &[ValType], cells: &[u64], into: &mut [Val])
 }
 
 /// Reads the results of a call that is over, of these types, over as many values. Takes no memory (Execution, Modules, Invocation).
-pub fn results(call: &mut Call<'_>, types: &[ValType], values: &mut [Val])
+pub fn results(call: &mut Call, types: &[ValType], values: &mut [Val])
     requires over { (store : Store) × (results : List AnyVal) × HasResults store
         (machine_at call.old.cells.items call.old.position) types.now results }
     requires room { length values.old ≡ length types.now }

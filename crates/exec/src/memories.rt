@@ -11,7 +11,7 @@ use effects::{Paid, Refusal, copy_memory, drop_data, fill_memory, grow_memory, i
 use store::{Code, State};
 
 /// Adds pages to the memory (Execution, Memory Instructions, memory.grow).
-pub fn memory_grow(code: &Code, state: &mut State, call: &Call<'_>) -> Result<Paid, Refusal>
+pub fn memory_grow(code: &Code, state: &mut State, call: &Call) -> Result<Paid, Refusal>
     requires { RestsSomeBefore (at_rest code.now state.old call.now) (Memory memory.Grow) }
     ensures { Acts (at_rest code.now state.old call.now) (Memory memory.Grow) 1
         (store_with code.now state.new) result }
@@ -22,7 +22,7 @@ pub fn memory_grow(code: &Code, state: &mut State, call: &Call<'_>) -> Result<Pa
 }
 
 /// Gives bytes of the memory a value (Execution, Memory Instructions, memory.fill).
-pub fn memory_fill(code: &Code, state: &mut State, call: &Call<'_>) -> Result<Paid, Refusal>
+pub fn memory_fill(code: &Code, state: &mut State, call: &Call) -> Result<Paid, Refusal>
     requires { RestsSomeBefore (at_rest code.now state.old call.now) (Memory memory.Fill) }
     ensures { Acts (at_rest code.now state.old call.now) (Memory memory.Fill) 3
         (store_with code.now state.new) result }
@@ -35,7 +35,7 @@ pub fn memory_fill(code: &Code, state: &mut State, call: &Call<'_>) -> Result<Pa
 }
 
 /// Copies bytes of the memory (Execution, Memory Instructions, memory.copy).
-pub fn memory_copy(code: &Code, state: &mut State, call: &Call<'_>) -> Result<Paid, Refusal>
+pub fn memory_copy(code: &Code, state: &mut State, call: &Call) -> Result<Paid, Refusal>
     requires { RestsSomeBefore (at_rest code.now state.old call.now) (Memory memory.Copy) }
     ensures { Acts (at_rest code.now state.old call.now) (Memory memory.Copy) 3
         (store_with code.now state.new) result }
@@ -51,7 +51,7 @@ pub fn memory_copy(code: &Code, state: &mut State, call: &Call<'_>) -> Result<Pa
 pub fn memory_init(
     code: &Code,
     state: &mut State,
-    call: &Call<'_>,
+    call: &Call,
     segment: u32,
 ) -> Result<Paid, Refusal>
     requires { RestsSomeBefore (at_rest code.now state.old call.now)
@@ -76,12 +76,7 @@ pub fn memory_init(
 }
 
 /// Drops the bytes of a data segment (Execution, Memory Instructions, data.drop).
-pub fn data_drop(
-    code: &Code,
-    state: &mut State,
-    call: &Call<'_>,
-    segment: u32,
-) -> Result<Paid, Refusal>
+pub fn data_drop(code: &Code, state: &mut State, call: &Call, segment: u32) -> Result<Paid, Refusal>
     requires { RestsSomeBefore (at_rest code.now state.old call.now)
         (Memory (memory.DataDrop segment)) }
     ensures { Acts (at_rest code.now state.old call.now) (Memory (memory.DataDrop segment)) 0

@@ -5,7 +5,7 @@ use crate::call::Call;
 use effects::low;
 
 /// An operand, counted from the topmost one.
-pub fn operand(call: &Call<'_>, depth: usize) -> u64
+pub fn operand(call: &Call, depth: usize) -> u64
     requires low { depth ≤ call.now.position.top }
     requires inside { call.now.position.top < length call.now.cells.items }
     ensures { result ≡ operand_of call.now depth }
@@ -18,7 +18,7 @@ pub fn operand(call: &Call<'_>, depth: usize) -> u64
 }
 
 /// An operand that is an integer of 32 bits.
-pub fn integer(call: &Call<'_>, depth: usize) -> u32
+pub fn integer(call: &Call, depth: usize) -> u32
     requires low { depth ≤ call.now.position.top }
     requires inside { call.now.position.top < length call.now.cells.items }
     requires cell { operand_of call.now depth < 2 ^ 32 }

@@ -38,7 +38,7 @@ fn run_to_end<'a>(
     bound: u64,
     types: &[ValType],
     mut values: Vec<Val>,
-    call: &mut Call<'a>,
+    call: &mut Call,
 ) -> Outcome
     requires rests { (w : Whole)
         × RestsWith bound (at_rest code.now state.old call.old) w types.now }

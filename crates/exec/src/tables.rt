@@ -14,7 +14,7 @@ use effects::{
 use store::{Code, State};
 
 /// Reads an entry of a table (Execution, Table Instructions, table.get).
-pub fn table_get(code: &Code, state: &mut State, call: &Call<'_>, x: u32) -> Result<Paid, Refusal>
+pub fn table_get(code: &Code, state: &mut State, call: &Call, x: u32) -> Result<Paid, Refusal>
     requires { RestsSomeBefore (at_rest code.now state.old call.now) (Table (table.Get x)) }
     ensures { Acts (at_rest code.now state.old call.now) (Table (table.Get x)) 1
         (store_with code.now state.new) result }
@@ -25,7 +25,7 @@ pub fn table_get(code: &Code, state: &mut State, call: &Call<'_>, x: u32) -> Res
 }
 
 /// Sets an entry of a table (Execution, Table Instructions, table.set).
-pub fn table_set(code: &Code, state: &mut State, call: &Call<'_>, x: u32) -> Result<Paid, Refusal>
+pub fn table_set(code: &Code, state: &mut State, call: &Call, x: u32) -> Result<Paid, Refusal>
     requires { RestsSomeBefore (at_rest code.now state.old call.now) (Table (table.Set x)) }
     ensures { Acts (at_rest code.now state.old call.now) (Table (table.Set x)) 2
         (store_with code.now state.new) result }
@@ -37,7 +37,7 @@ pub fn table_set(code: &Code, state: &mut State, call: &Call<'_>, x: u32) -> Res
 }
 
 /// Measures a table (Execution, Table Instructions, table.size).
-pub fn table_size(code: &Code, state: &mut State, call: &Call<'_>, x: u32) -> Result<Paid, Refusal>
+pub fn table_size(code: &Code, state: &mut State, call: &Call, x: u32) -> Result<Paid, Refusal>
     requires { RestsSomeBefore (at_rest code.now state.old call.now) (Table (table.Size x)) }
     ensures { Acts (at_rest code.now state.old call.now) (Table (table.Size x)) 0
         (store_with code.now state.new) result }
@@ -47,7 +47,7 @@ pub fn table_size(code: &Code, state: &mut State, call: &Call<'_>, x: u32) -> Re
 }
 
 /// Adds entries to a table (Execution, Table Instructions, table.grow).
-pub fn table_grow(code: &Code, state: &mut State, call: &Call<'_>, x: u32) -> Result<Paid, Refusal>
+pub fn table_grow(code: &Code, state: &mut State, call: &Call, x: u32) -> Result<Paid, Refusal>
     requires { RestsSomeBefore (at_rest code.now state.old call.now) (Table (table.Grow x)) }
     ensures { Acts (at_rest code.now state.old call.now) (Table (table.Grow x)) 2
         (store_with code.now state.new) result }
@@ -59,7 +59,7 @@ pub fn table_grow(code: &Code, state: &mut State, call: &Call<'_>, x: u32) -> Re
 }
 
 /// Gives entries of a table a reference (Execution, Table Instructions, table.fill).
-pub fn table_fill(code: &Code, state: &mut State, call: &Call<'_>, x: u32) -> Result<Paid, Refusal>
+pub fn table_fill(code: &Code, state: &mut State, call: &Call, x: u32) -> Result<Paid, Refusal>
     requires { RestsSomeBefore (at_rest code.now state.old call.now) (Table (table.Fill x)) }
     ensures { Acts (at_rest code.now state.old call.now) (Table (table.Fill x)) 3
         (store_with code.now state.new) result }
@@ -75,7 +75,7 @@ pub fn table_fill(code: &Code, state: &mut State, call: &Call<'_>, x: u32) -> Re
 pub fn table_copy(
     code: &Code,
     state: &mut State,
-    call: &Call<'_>,
+    call: &Call,
     x: u32,
     y: u32,
 ) -> Result<Paid, Refusal>
@@ -103,7 +103,7 @@ pub fn table_copy(
 pub fn table_init(
     code: &Code,
     state: &mut State,
-    call: &Call<'_>,
+    call: &Call,
     segment: u32,
     x: u32,
 ) -> Result<Paid, Refusal>
@@ -129,12 +129,7 @@ pub fn table_init(
 }
 
 /// Drops the references of an element segment (Execution, Table Instructions, elem.drop).
-pub fn elem_drop(
-    code: &Code,
-    state: &mut State,
-    call: &Call<'_>,
-    segment: u32,
-) -> Result<Paid, Refusal>
+pub fn elem_drop(code: &Code, state: &mut State, call: &Call, segment: u32) -> Result<Paid, Refusal>
     requires { RestsSomeBefore (at_rest code.now state.old call.now)
         (Table (table.ElemDrop segment)) }
     ensures { Acts (at_rest code.now state.old call.now) (Table (table.ElemDrop segment)) 0

@@ -7,10 +7,15 @@ use hostfunc::HostTable;
 use std::alloc::Global;
 use store::{Callee, ModuleFunction, Store, accepts};
 
-// Whether a function has so many operations and this greatest height.
-fn has_flat_code(function: &ModuleFunction<'_>) -> bool {
-    let flat = function.flat.function;
-    flat.operations.len() == 5 && flat.greatest == 1
+// Whether a function is of a module with so many operations, and has this greatest height.
+fn has_flat_code(store: &Store, function: &ModuleFunction<'_>) -> bool {
+    match store.code().instance(function.instance) {
+        Some(instance) => {
+            let flat = instance.loaded.as_ref().flat();
+            flat.operations.len() == 5 && function.flat.greatest == 1
+        }
+        None => false,
+    }
 }
 
 // Whether the function of a module is kept with its flat code.
@@ -18,7 +23,7 @@ fn keeps_flat_code(alloc: Global) -> bool {
     let text = "(func i32.const 0 if block end else end)";
     match store_with(alloc, &[text]) {
         Some(store) => match store.code().function(0) {
-            Some(Callee::InModule(function)) => has_flat_code(&function),
+            Some(Callee::InModule(function)) => has_flat_code(&store, &function),
             _ => false,
         },
         None => false,

@@ -1,9 +1,9 @@
-//! Rows of flat code: for the last function of a module, its operations with their entries and its greatest height, or how many
-//! parameters, locals and results it has.
+//! Rows of flat code: for the last function of a module, its operations with their entries and its greatest height above its locals,
+//! or how many parameters, locals and results it has.
 
 use crate::listing::list;
 use binary::{DecodeError, decode};
-use sidetable::{FlatCode, PackedOp, flatten};
+use sidetable::{FlatModule, PackedFunction, PackedOp, flatten};
 use std::alloc::{AllocError, Global};
 use std::mem::size_of;
 use testing::{AssembleError, assemble};
@@ -11,10 +11,10 @@ use validator::{ValidateError, validate};
 
 // What a row says of a function.
 enum Expected {
-    // Its operations, and its greatest height.
+    // Its operations, and its greatest height above its locals.
     Code(&'static str, u64),
     // How many parameters, locals with these, and results it has.
-    Counts(usize, usize, u32),
+    Counts(u32, u32, u32),
 }
 
 use Expected::{Code, Counts};
@@ -115,11 +115,16 @@ impl From<ValidateError> for Refused {
 }
 
 // Whether a function's flat code is so.
-fn is_so(alloc: Global, code: &FlatCode<'_>, expected: &Expected) -> Result<bool, AllocError> {
-    let function = code.function;
+fn is_so(
+    alloc: Global,
+    flat: &FlatModule,
+    function: &PackedFunction,
+    expected: &Expected,
+) -> Result<bool, AllocError> {
     match expected {
         Code(listing, greatest) => {
-            Ok(function.greatest == *greatest && list(alloc, code)?.as_str() == *listing)
+            let above = function.greatest.checked_sub(u64::from(function.locals));
+            Ok(above == Some(*greatest) && list(alloc, flat, function)?.as_str() == *listing)
         }
         Counts(params, locals, results) => {
             Ok(
@@ -136,13 +141,10 @@ fn is_flattened(alloc: Global, row: &Row) -> Result<bool, Refused> {
     let bytes = assemble(alloc, row.source)?;
     let validated = validate(alloc, decode(alloc, &bytes)?)?;
     let flat = flatten(alloc, &validated)?;
-    let Some(last) = flat.function_count().checked_sub(1) else {
+    let Some(last) = flat.functions.last() else {
         return Ok(false);
     };
-    let Ok(last) = u32::try_from(last) else {
-        return Ok(false);
-    };
-    Ok(is_so(alloc, &flat.function(last), &row.expected)?)
+    Ok(is_so(alloc, &flat, last, &row.expected)?)
 }
 
 #[test]

@@ -52,9 +52,9 @@ fn allocate(
     loaded: &Rc<LoadedModule>,
     given: &[Extern],
 ) -> Result<u32, LinkEnd>
-    requires limits { IsWithinLimits (store_of store.old) loaded.now.value }
-    requires linkable { IsLinkable (store_of store.old) loaded.now.value given.now }
-    ensures { Allocates result loaded.now.value given.now (store_of store.old)
+    requires limits { IsWithinLimits (store_of store.old) loaded.now.value.source }
+    requires linkable { IsLinkable (store_of store.old) loaded.now.value.source given.now }
+    ensures { Allocates result loaded.now.value.source given.now (store_of store.old)
         (store_of store.new) }
 {
     let _ = store.state();
@@ -173,7 +173,7 @@ fn link(
     requires hosts { HaveHosts (store_of store.old) hosts.old.objects.items }
     requires closed { meter.old.frames ≡ 0 }
     ensures linked { Links (HostStep ⟦<dyn HostFn as HostFn>⟧) result meter.old.bound
-        loaded.now.value externs.now
+        loaded.now.value.source externs.now
         (run_state (store_of store.old) hosts.old.objects.items meter.old.left)
         (run_state (store_of store.new) hosts.new.objects.items meter.new.left) }
     ensures hosts { HaveHosts (store_of store.new) hosts.new.objects.items }
@@ -220,11 +220,11 @@ pub fn instantiate(
     requires hosts { HaveHosts (store_of store.old) hosts.old.objects.items }
     requires closed { meter.old.frames ≡ 0 }
     ensures linked { Links (HostStep ⟦<dyn HostFn as HostFn>⟧) result meter.old.bound
-        loaded.now.value externs.now
+        loaded.now.value.source externs.now
         (run_state (store_of store.old) hosts.old.objects.items meter.old.left)
         (run_state (store_of store.new) hosts.new.objects.items meter.new.left) }
     ensures extends { Extends (store_of store.old) (store_of store.new) }
-    ensures instance_stays { LeavesInstance result loaded.now.value externs.now
+    ensures instance_stays { LeavesInstance result loaded.now.value.source externs.now
         (store_of store.old) (store_of store.new) }
     ensures spends { meter.new.left ≤ meter.old.left }
     ensures hosts { HaveHosts (store_of store.new) hosts.new.objects.items }

@@ -211,8 +211,8 @@ fn new_element_segments(
 
 // The data segments of a module, which share it.
 fn new_datas(alloc: Global, loaded: &Rc<LoadedModule>) -> Result<Vec<DataSegment>, AllocError>
-    requires { length loaded.now.value.datas < 2 ^ 32 }
-    ensures { IfOk result (λ datas. datas.items ≡ map new_data loaded.now.value.datas) }
+    requires { length loaded.now.value.source.datas < 2 ^ 32 }
+    ensures { IfOk result (λ datas. datas.items ≡ map new_data loaded.now.value.source.datas) }
 {
     let mut datas = Vec::new(alloc);
     for k in 0..loaded.as_ref().module().datas.len() {
@@ -228,12 +228,13 @@ pub fn new_objects(
     loaded: &Rc<LoadedModule>,
     addresses: &Addresses,
 ) -> Result<Objects, ObjectFault>
-    requires { HasRoom (store_of store.now) loaded.now.value }
+    requires { HasRoom (store_of store.now) loaded.now.value.source }
     ensures values { IfOk result (λ objects. new_objects (store_of store.now)
-        (module_instance (lists_of addresses.now) loaded.now.value) loaded.now.value ≡ Some
-        objects) }
+        (module_instance (lists_of addresses.now) loaded.now.value.source)
+        loaded.now.value.source ≡ Some objects) }
     ensures none { OnNoValue result (new_objects (store_of store.now)
-        (module_instance (lists_of addresses.now) loaded.now.value) loaded.now.value) }
+        (module_instance (lists_of addresses.now) loaded.now.value.source)
+        loaded.now.value.source) }
 {
     let wanted = loaded.as_ref().module();
     let state = store.state();

@@ -11,17 +11,19 @@ use Rattle.meaning.specs.execution.Instructions.{Next}
 use Rattle.meaning.specs.execution.Modules.{code_of}
 use Rattle.meaning.specs.execution.Runs.{AsksForMemory, IsWithinBound, price}
 use Rattle.meaning.specs.execution.Store.{FunctionInstance, Store}
+use Rattle.sidetable.specs.FlatModules.{operations_of}
 use Rattle.sidetable.specs.SideTables.{pair_of}
 use Rattle.sidetable.specs.declared.operations.PackedOp.TheVariants as op
 use Rattle.sidetable.specs.declared.side_tables.IndexPair.{IndexPair}
 use Rattle.simulation.specs.Callees.{IsCalling, IsTailCalling, ReachesCall}
 use Rattle.simulation.specs.Runs.{Ghost}
+use Rattle.simulation.specs.Standing.{FrameCode}
 use Rattle.store.specs.Contents.{IsCalleeAt, callee_function, function_of, functions_in, host_function, signatures_of_instance}
 use Rattle.store.specs.declared.instances.Callee.{Callee}
 use Rattle.store.specs.declared.instances.Callee.TheVariants as callee
 use Rattle.store.specs.declared.instances.HostFunction.{HostFunction}
 use Rattle.store.specs.declared.instances.ModuleFunction.{ModuleFunction}
-use Rattle.interpreter.specs.Callees.{FindsEntry, IsCalled, RefersToFunction, by_name, through_table, transfer_by_name, transfer_through}
+use Rattle.interpreter.specs.Callees.{FindsEntry, IsCalled, RefersToFunction, by_name, through_table, operation_by_name, transfer_through}
 use Rattle.interpreter.specs.Calling.{Calls, CallsInModule, CallsModule, ReplacesModule}
 use Rattle.interpreter.specs.Layout.{put_back}
 use Rattle.interpreter.specs.Looping.{loop_at, machine_at}
@@ -36,9 +38,9 @@ use Rattle.interpreter.specs.declared.machine.Frame.{Frame}
 use Rattle.interpreter.specs.declared.machine.Position.{Position}
 use Rattle.interpreter.specs.declared.machine.Stop.{Stop}
 use Rattle.interpreter.specs.declared.machine.Stop.TheVariants as stop
-use Rattle.interpreter.proofs.Calling.{entry-calls, entry-found, entry-traps, refers, within-code}
+use Rattle.interpreter.proofs.Calling.{entry-calls, entry-found, entry-traps, reached-by, refers, within-code}
 use Rattle.interpreter.proofs.Cells.{frame-length, popped-frame}
-use Rattle.interpreter.proofs.Entering.{declared, fits}
+use Rattle.interpreter.proofs.Entering.{declared, fits, high}
 use Rattle.interpreter.proofs.Finding.{IsAtAddress, flat-body}
 use Rattle.interpreter.proofs.Forms.{inside, lower}
 use Rattle.interpreter.proofs.Lifting.{lifted-there, reaches-first, reaches-then, stops-empty, stops-failing, stops-unpaid}
@@ -49,10 +51,10 @@ use Rattle.interpreter.proofs.Waiting.{called, depth-is, opened, opens-next}
 -- An operation calls so what is at an address, with its arguments on top at another position in the frame.
 record CallsFrom (w : World) (cells : List ℕ) (at from : Position) (kind : CallKind) (op : PlainOp) (address : ℕ) (function : FunctionInstance) : Type 0 where
   pub height : ℕ
-  pub top_is : from.top ≡ at.frame.base + height
+  pub top_is : from.top ≡ at.base + height
   pub inside : from.top < length cells
-  pub same : take height (put_back at.frame.function.now.locals at.frame.base cells from.top from.operand) ≡ take height (cells_in (machine_at cells at))
-  pub calls : (g : Ghost) → RunsAt w (machine_at cells at) g → IsCalled kind op address function g (cells_in (machine_at cells at)) at.frame.place (height_in (machine_at cells at)) height
+  pub same : (g : Ghost) → RunsAt w (machine_at cells at) g → take height (put_back g.code.locals at.base cells from.top from.operand) ≡ take height (cells_in g (machine_at cells at))
+  pub calls : (g : Ghost) → RunsAt w (machine_at cells at) g → IsCalled kind op address function g (cells_in g (machine_at cells at)) at.place (height_in (machine_at cells at)) height
 
 module _ (bound : ℕ) (w : World) (cells : List ℕ) (callers : List Frame) (at from : Position) (op : PlainOp) (address : ℕ) where
   abbrev m : Machine
@@ -63,22 +65,27 @@ module _ (bound : ℕ) (w : World) (cells : List ℕ) (callers : List Frame) (at
 
   -- ---- of a module
 
-  module _ (f : ModuleFunction) (found : IsAtAddress w.code address f) (height : ℕ) (top_is : from.top ≡ at.frame.base + height) (in_cells : from.top < length cells)
-      (same : take height (put_back at.frame.function.now.locals at.frame.base cells from.top from.operand) ≡ take height (cells_in (machine_at cells at))) where
+  module _ (f : ModuleFunction) (found : IsAtAddress w.code address f) (height : ℕ) (top_is : from.top ≡ at.base + height) (in_cells : from.top < length cells)
+      (same : (g : Ghost) → RunsAt w (machine_at cells at) g → take height (put_back g.code.locals at.base cells from.top from.operand) ≡ take height (cells_in g (machine_at cells at))) where
     abbrev function : FunctionInstance
     function = function_of f.ty.now f.instance f.func.now
 
     -- The whole, once labels were left.
-    module _ (u : Whole) (r : RunsWhole bound l u) (c : ReachesCall op address function u.ghost (cells_in m) m.place (height_in m) height) where
+    module _ (u : Whole) (r : RunsWhole bound l u) (c : ReachesCall op address function u.ghost (cells_in u.ghost m) m.place (height_in m) height) where
       abbrev settles : Reaches bound l u l
       settles = lifted-there bound l u r at.fuel (record { new = c.new; same = c.same; store = c.store; steps = c.steps at.fuel; runs = c.runs })
 
-      size : length (put_back at.frame.function.now.locals at.frame.base cells from.top from.operand) ≡ length (cells_in m)
+      -- The frame has as many locals then.
+      as-many : cells_in u.ghost m ≡ cells_in c.new m
+      as-many = ap (λ (k : FrameCode). put_back k.locals at.base cells at.top at.operand) (sym c.same.code)
+
+      size : length (put_back c.new.code.locals at.base cells from.top from.operand) ≡ length (cells_in c.new m)
       size =
           let one = length-set cells from.top from.operand in
           let two = length-set cells at.top at.operand in
-          let first = frame-length at.frame.function.now.locals at.frame.base (set cells from.top from.operand) (omega (arith, one, r.runs.scrap)) in
-          let second = frame-length at.frame.function.now.locals at.frame.base (set cells at.top at.operand) (omega (arith, two, r.runs.scrap)) in
+          let scrap = settles.runs.runs.scrap in
+          let first = frame-length c.new.code.locals at.base (set cells from.top from.operand) (omega (arith, one, scrap)) in
+          let second = frame-length c.new.code.locals at.base (set cells at.top at.operand) (omega (arith, two, scrap)) in
           omega (arith, one, two, first, second)
 
       abbrev arguments : ArgumentsLie op m c.new from.top from.operand f.ty.now f.instance (code_of f.func.now)
@@ -90,24 +97,32 @@ module _ (bound : ℕ) (w : World) (cells : List ℕ) (callers : List Frame) (at
         over = c.over;
         above = c.top_is;
         top_is = top_is;
-        holds = record { held = same ∙ c.holds.held; top_is = c.holds.top_is; room = let room = c.holds.room in omega (arith, room, size) };
+        holds = record {
+          held = same c.new settles.runs.runs ∙ ap (take height) (sym as-many) ∙ c.holds.held;
+          top_is = c.holds.top_is;
+          count = c.holds.count;
+          room = let room = c.holds.room in omega (arith, room, size, ap length as-many);
+        };
         valid = c.valid;
         below = c.below;
         typed = c.typed;
         enough = c.enough;
       }
 
-      fits-so : at.frame.base + at.frame.function.now.locals + f.flat.function.now.params ≤ from.top
+      fits-so : at.base + f.flat.now.params ≤ from.top
       fits-so = fits w m settles.new.ghost settles.runs.runs op from.top from.operand address f found arguments
 
-      declared-so : f.flat.function.now.params ≤ f.flat.function.now.locals
+      declared-so : f.flat.now.params ≤ f.flat.now.locals
       declared-so = declared w m settles.new.ghost settles.runs.runs op from.top from.operand address f found arguments
+
+      high-so : f.flat.now.locals ≤ f.flat.now.greatest
+      high-so = high w m settles.new.ghost settles.runs.runs op from.top from.operand address f found arguments
 
     -- ---- in a frame above
 
-    module _ (calls : (g : Ghost) → RunsAt w m g → IsCalling op address function g (cells_in m) m.place (height_in m) height) where
+    module _ (calls : (g : Ghost) → RunsAt w m g → IsCalling op address function g (cells_in g m) m.place (height_in m) height) where
       module _ (u : Whole) (r : RunsWhole bound l u) where
-        abbrev c : IsCalling op address function u.ghost (cells_in m) m.place (height_in m) height
+        abbrev c : IsCalling op address function u.ghost (cells_in u.ghost m) m.place (height_in m) height
         c = calls u.ghost r.runs
 
         abbrev nested : Reaches bound l u l
@@ -136,6 +151,7 @@ module _ (bound : ℕ) (w : World) (cells : List ℕ) (callers : List Frame) (at
         room = in_cells;
         arguments = fits-so v q (calls v.ghost q.runs).reached;
         declared = declared-so v q (calls v.ghost q.runs).reached;
+        high = high-so v q (calls v.ghost q.runs).reached;
         no_depth = λ some full. record { from = λ u r. stops-unpaid bound stop.NoDepth refl l l u (nested u r) (opens u r some, let d = deep u r in omega (arith, d, full)); falls = tt };
         no_room = λ some shallow. record { from = λ u r. stops-unpaid bound stop.NoRoom refl l l u (nested u r) (asks-to-open u r some shallow); falls = omega arith };
         no_memory = λ some shallow. record { from = λ u r. stops-unpaid bound stop.NoMemory refl l l u (nested u r) (asks-to-open u r some shallow); falls = tt };
@@ -147,9 +163,9 @@ module _ (bound : ℕ) (w : World) (cells : List ℕ) (callers : List Frame) (at
 
     -- ---- in the frame's place
 
-    module _ (calls : (g : Ghost) → RunsAt w m g → IsTailCalling op address function g (cells_in m) m.place (height_in m) height) where
+    module _ (calls : (g : Ghost) → RunsAt w m g → IsTailCalling op address function g (cells_in g m) m.place (height_in m) height) where
       module _ (u : Whole) (r : RunsWhole bound l u) where
-        abbrev tail_call : IsTailCalling op address function u.ghost (cells_in m) m.place (height_in m) height
+        abbrev tail_call : IsTailCalling op address function u.ghost (cells_in u.ghost m) m.place (height_in m) height
         tail_call = calls u.ghost r.runs
 
         abbrev last : Reaches bound l u l
@@ -163,6 +179,7 @@ module _ (bound : ℕ) (w : World) (cells : List ℕ) (callers : List Frame) (at
         room = in_cells;
         arguments = fits-so v q (calls v.ghost q.runs).reached;
         declared = declared-so v q (calls v.ghost q.runs).reached;
+        high = high-so v q (calls v.ghost q.runs).reached;
         no_room = λ some. record { from = λ u r. stops-unpaid bound stop.NoRoom refl l l u (last u r) (asks-to-replace u r some); falls = omega arith };
         replaces = λ some room cells' moved u r.
             let k = calls u.ghost r.runs in
@@ -183,24 +200,34 @@ module _ (bound : ℕ) (w : World) (cells : List ℕ) (callers : List Frame) (at
     falls = tt;
   }
 
+  at-address : (f : ModuleFunction) → IsCalleeAt w.code address (callee.InModule f) → IsAtAddress w.code address f
+  at-address f is =
+      let (i, loaded, flat) = is.flat in record {
+        found = is.there;
+        instance = i;
+        loaded = loaded;
+        flat = flat-body (signatures_of_instance (slice_get w.code.instances f.instance)) (operations_of i.loaded.value.flat) f flat is.declared.0 is.declared.1;
+        types = is.types;
+      }
+
   -- What is found there is called.
   calls-found : (kind : CallKind) → RunsSomeWhole bound l → (found : Callee) → IsCalleeAt w.code address found → CallsFrom w cells at from kind op address (callee_function found) → Calls bound w cells callers at from kind address found
   calls-found kind some (callee.InModule f) is k =
-      calls-in-module kind f (record { found = is.there; flat = flat-body (signatures_of_instance (slice_get w.code.instances f.instance)) f is.flat.0 is.declared.0 is.declared.1; within = is.flat.1; types = is.types }) k some
+      calls-in-module kind f (at-address f is) k some
   calls-found kind some (callee.InHost f) is k = (k.inside, calls-host kind f k)
 
 -- What turns at a call, of either kind.
-by-name-leads : (kind : CallKind) (w : World) (m : Machine) (n : ℕ) → Turns w m (op.Transfer (transfer_by_name kind) n) → (g : Ghost) → RunsAt w m g → CallsByName kind w m g n × CostsOne g m
+by-name-leads : (kind : CallKind) (w : World) (m : Machine) (n : ℕ) → Turns w m (operation_by_name kind n) → (g : Ghost) → RunsAt w m g → CallsByName kind w m g n × CostsOne g m
 by-name-leads Nested w m n turns g r = turns g r
 by-name-leads Tail w m n turns g r = turns g r
 
 through-leads : (kind : CallKind) (w : World) (m : Machine) (n : ℕ) → Turns w m (op.Transfer (transfer_through kind) n) → (g : Ghost) → RunsAt w m g
-    → CallsThrough kind w m g (pair_of m.tables n).first (pair_of m.tables n).second × CostsOne g m
+    → CallsThrough kind w m g (pair_of w.flat.tables n).first (pair_of w.flat.tables n).second × CostsOne g m
 through-leads Nested w m n turns g r = turns g r
 through-leads Tail w m n turns g r = turns g r
 
 -- What it needs.
-pub by-name-fits : (kind : CallKind) (w : World) (m : Machine) (n : ℕ) → Fits w m (op.Transfer (transfer_by_name kind) n) → n < length w.instance.addresses.functions.items
+pub by-name-fits : (kind : CallKind) (w : World) (m : Machine) (n : ℕ) → Fits w m (operation_by_name kind n) → n < length w.instance.addresses.functions.items
 by-name-fits Nested w m n fits = fits
 by-name-fits Tail w m n fits = fits
 
@@ -217,7 +244,7 @@ module _ (bound : ℕ) (w : World) (cells : List ℕ) (callers : List Frame) (at
 
   -- ---- by an index
 
-  module _ (x : ℕ) (turns : Turns w (machine_at cells at) (op.Transfer (transfer_by_name kind) x)) where
+  module _ (x : ℕ) (turns : Turns w (machine_at cells at) (operation_by_name kind x)) where
     pub call-lacks : at.fuel ≡ 0 → StopsAt bound loop stop.NoFuel loop
     call-lacks none = stops-empty bound loop (λ g r. (by-name-leads kind w its x turns g r).1) none
 
@@ -233,12 +260,12 @@ module _ (bound : ℕ) (w : World) (cells : List ℕ) (callers : List Frame) (at
           height = height_in its;
           top_is = omega (arith, r.runs.low);
           inside = inside w its u.ghost r.runs;
-          same = refl;
+          same = λ g s. refl;
           calls = λ g s.
               let (function, named, calls) = (by-name-leads kind w its x turns g s).0 in
               let one : function ≡ callee_function found = same_Some function (callee_function found) (sym named ∙ ap (slice_get (functions_in w.code)) (sym is) ∙ there.there) in
-              subst (λ (a : ℕ). IsCalled kind (by_name kind x) a (callee_function found) g (cells_in its) its.place (height_in its) (height_in its)) (sym is)
-              (subst (λ (i : FunctionInstance). IsCalled kind (by_name kind x) (function_address w x) i g (cells_in its) its.place (height_in its) (height_in its)) one calls);
+              subst (λ (a : ℕ). IsCalled kind (by_name kind x) a (callee_function found) g (cells_in g its) its.place (height_in its) (height_in its)) (sym is)
+              (subst (λ (i : FunctionInstance). IsCalled kind (by_name kind x) (function_address w x) i g (cells_in g its) its.place (height_in its) (height_in its)) one calls);
         })
 
   -- ---- through a table
@@ -247,7 +274,7 @@ module _ (bound : ℕ) (w : World) (cells : List ℕ) (callers : List Frame) (at
     pub through-lacks : (why : Stop) → (why ≡ stop.NoFuel) × (at.fuel ≡ 0) → StopsAt bound loop why loop
     through-lacks why (is, none) = subst (λ (s : Stop). StopsAt bound loop s loop) (sym is) (stops-empty bound loop (λ g r. (through-leads kind w its n turns g r).1) none)
 
-  module _ (n : ℕ) (turns : Turns w (machine_at cells at) (op.Transfer (transfer_through kind) n)) (pair : IndexPair) (pair_is : pair ≡ pair_of at.frame.tables.now n) where
+  module _ (n : ℕ) (turns : Turns w (machine_at cells at) (op.Transfer (transfer_through kind) n)) (pair : IndexPair) (pair_is : pair ≡ pair_of w.flat.tables n) where
     abbrev type : ℕ
     type = pair.first
 
@@ -265,26 +292,37 @@ module _ (bound : ℕ) (w : World) (cells : List ℕ) (callers : List Frame) (at
     found-in g r address = ap (λ (s : Store). slice_get s.functions address) (sym r.store)
 
     abbrev CalledSo : Ghost → (address : ℕ) → FunctionInstance → Type 0
-    CalledSo g address function = IsCalled kind (through_table kind type x) address function g (cells_in its) its.place (height_in its) (height_in its - 1)
+    CalledSo g address function = IsCalled kind (through_table kind type x) address function g (cells_in g its) its.place (height_in its) (height_in its - 1)
 
     pub through-refers : RunsSomeWhole bound loop → RefersToFunction w.code entry
     through-refers (u, r) =
-        refers w.code u.ghost (found-in u.ghost r.runs) (cells_in its) its.place (height_in its) (CalledSo u.ghost) (type_of w.instance type) entry (through u.ghost r.runs entry refl)
+        refers w.code u.ghost (found-in u.ghost r.runs) (cells_in u.ghost its) its.place (height_in its) (CalledSo u.ghost) (type_of w.instance type) entry (through u.ghost r.runs entry refl)
 
     pub through-traps : (left : ℕ) → (1 ≤ at.fuel) × (left ≡ at.fuel - 1) → (trap : Trap) → FindsEntry w.code (type_of w.instance type) entry (Err trap)
         → StopsAt bound loop (stop.Traps trap) (loop_at w cells callers (record at { fuel = left }))
     through-traps left (paid, left_is) trap finds = stops-failing bound loop left trap
-        (λ g r. entry-traps w.code g (found-in g r) (cells_in its) its.place (height_in its) (CalledSo g) (type_of w.instance type) entry trap finds (through g r entry refl) at.fuel left paid left_is)
+        (λ g r. entry-traps w.code g (found-in g r) (cells_in g its) its.place (height_in its) (CalledSo g) (type_of w.instance type) entry trap finds (through g r entry refl) at.fuel left paid left_is)
 
-    pub through-calls : RunsSomeWhole bound loop → at.frame.base + at.frame.function.now.locals + 1 ≤ at.top → (f : Found) → FindsEntry w.code (type_of w.instance type) entry (Ok f)
+    pub through-calls : RunsSomeWhole bound loop → at.base + 1 ≤ at.top → (f : Found) → FindsEntry w.code (type_of w.instance type) entry (Ok f)
         → Calls bound w cells callers at (record at { top = at.top - 1; operand = get_or cells (at.top - 1) 0 }) kind f.address f.callee
-    through-calls (u, r) few f finds =
+    through-calls (u, r) some f finds =
         let in_cells = inside w its u.ghost r.runs in
         calls-found bound w cells callers at (record at { top = at.top - 1; operand = get_or cells (at.top - 1) 0 }) (through_table kind type x) f.address kind (u, r) f.callee (entry-found w.code (type_of w.instance type) entry f finds)
         (record {
           height = height_in its - 1;
-          top_is = omega (arith, few);
+          top_is = omega (arith, some);
           inside = omega (arith, in_cells);
-          same = ap (take (height_in its - 1)) (popped-frame at.frame.function.now.locals at.frame.base cells (at.top - 1)) ∙ sym (lower w its u.ghost r.runs 1 (omega arith) few);
-          calls = λ g s. entry-calls w.code g (found-in g s) (cells_in its) its.place (height_in its) (CalledSo g) (type_of w.instance type) entry f finds (through g s entry refl);
+          same = λ g s. ap (take (height_in its - 1)) (popped-frame g.code.locals at.base cells (at.top - 1)) ∙ sym (lower w its g s 1 (omega arith) (own-fits some f finds g s));
+          calls = λ g s. entry-called f finds g s;
         })
+      where
+        entry-called : (f : Found) → FindsEntry w.code (type_of w.instance type) entry (Ok f) → (g : Ghost) → RunsAt w its g → CalledSo g f.address (callee_function f.callee)
+        entry-called f finds g s = entry-calls w.code g (found-in g s) (cells_in g its) its.place (height_in its) (CalledSo g) (type_of w.instance type) entry f finds (through g s entry refl)
+
+        -- The offset of the entry lies above the locals.
+        own-fits : at.base + 1 ≤ at.top → (f : Found) → FindsEntry w.code (type_of w.instance type) entry (Ok f) → (g : Ghost) → RunsAt w its g → at.base + g.code.locals + 1 ≤ at.top
+        own-fits some f finds g s =
+            let c : ReachesCall (through_table kind type x) f.address (callee_function f.callee) g (cells_in g its) its.place (height_in its) (height_in its - 1) =
+            reached-by kind (through_table kind type x) f.address (callee_function f.callee) g (cells_in g its) its.place (height_in its) (height_in its - 1) (entry-called f finds g s) in
+            let locals : c.new.code.locals ≡ g.code.locals = ap (λ (k : FrameCode). k.locals) c.same.code in
+            omega (arith, c.holds.top_is, c.holds.count, locals, some)

@@ -21,12 +21,12 @@ use Rattle.simulation.proofs.TableCalls.{calls-through, tail-calls-through}
 use Rattle.store.specs.Contents.{Contents, IsCalleeAt, callee_function, function_at, functions_in}
 use Rattle.interpreter.specs.Callees.{FindsEntry, IsCalled, RefersToFunction, by_name, through_table}
 use Rattle.interpreter.specs.Running.{Machine, RunsAt, cells_in, height_in}
-use Rattle.interpreter.specs.Turns.{CallsByName, CallsThrough, CostsOne, HasOperands, function_address, table_address}
+use Rattle.interpreter.specs.Turns.{CallsByName, CallsThrough, CostsOne, function_address, table_address}
 use Rattle.interpreter.specs.Worlds.{World}
 use Rattle.interpreter.specs.declared.callees.Found.{Found}
 use Rattle.interpreter.specs.declared.machine.CallKind.{CallKind}
 use Rattle.interpreter.specs.declared.machine.CallKind.TheVariants.{Nested, Tail}
-use Rattle.interpreter.proofs.Forms.{IsAt, has-operands, topmost}
+use Rattle.interpreter.proofs.Forms.{HasOwn, IsAt, has-operands, topmost}
 use Rattle.interpreter.proofs.Worlds.{TableThere, function-there, table-there, type-there}
 
 -- What stands there finds its function, or its table.
@@ -47,25 +47,25 @@ reached-by Tail op address function g cells at top height c = c.reached
 module _ (w : World) (m : Machine) (g : Ghost) (r : RunsAt w m g) (kind : CallKind) where
   pub calls-there : (x : ℕ) → IsAt m g (Plain (by_name kind x)) → (x < length w.instance.addresses.functions.items) × (CallsByName kind w m g x × CostsOne g m)
   calls-there x b =
-      let ((address, function, named, calling), costs) = found-by-name kind g (cells_in m) m.place (height_in m) x b in
+      let ((address, function, named, calling), costs) = found-by-name kind g (cells_in g m) m.place (height_in m) x b in
       let (inside, is) = function-there w m g r x address named in
-      let c : ReachesCall (by_name kind x) address function g (cells_in m) m.place (height_in m) (height_in m) = reached-by kind (by_name kind x) address function g (cells_in m) m.place (height_in m) (height_in m) calling in
+      let c : ReachesCall (by_name kind x) address function g (cells_in g m) m.place (height_in m) (height_in m) = reached-by kind (by_name kind x) address function g (cells_in g m) m.place (height_in m) (height_in m) calling in
       let there : slice_get (functions_in w.code) (function_address w x) ≡ Some function =
       ap (slice_get (functions_in w.code)) is ∙ ap (λ (s : Store). slice_get s.functions address) (sym (c.store ∙ r.store)) ∙ c.there in
-      (inside, ((function, there, subst (λ (a : ℕ). IsCalled kind (by_name kind x) a function g (cells_in m) m.place (height_in m) (height_in m)) (sym is) calling), costs))
+      (inside, ((function, there, subst (λ (a : ℕ). IsCalled kind (by_name kind x) a function g (cells_in g m) m.place (height_in m) (height_in m)) (sym is) calling), costs))
 
   pub calls-through-there : (type x : ℕ) → IsAt m g (Plain (through_table kind type x))
-      → (HasOperands m 1 × (type < length w.instance.loaded.value.types) × (x < length w.instance.addresses.tables.items) × (table_address w.instance x < length w.state.contents.tables))
+      → (HasOwn g m 1 × (type < length w.instance.loaded.value.source.types) × (x < length w.instance.addresses.tables.items) × (table_address w.instance x < length w.state.contents.tables))
       × (CallsThrough kind w m g type x × CostsOne g m)
   calls-through-there type x b =
-      let ((address, table, has_table, wanted, named, operands, one, is_cell, entries), costs) = found-through kind g (cells_in m) m.place (height_in m) type x b in
-      let some : HasOperands m 1 = has-operands w m g r 1 (let above = operands.above in let size = length-append wanted.params (ty.I32 ∷ []) in omega (arith, above, size)) (omega arith) in
+      let ((address, table, has_table, wanted, named, operands, one, is_cell, entries), costs) = found-through kind g (cells_in g m) m.place (height_in m) type x b in
+      let some : HasOwn g m 1 = has-operands w m g r 1 (let above = operands.above in let size = length-append wanted.params (ty.I32 ∷ []) in omega (arith, above, size)) (omega arith) in
       let (type_inside, type_is) = type-there w m g r type wanted named in
       let t : TableThere w m g r x table = table-there w m g r x address table has_table in (
         (some, type_inside, t.named, t.inside),
         (
           λ entry is.
-              subst (λ (u : FuncType). CallsEntry g (cells_in m) m.place (height_in m) (λ a function. IsCalled kind (through_table kind type x) a function g (cells_in m) m.place (height_in m) (height_in m - 1)) u entry) (sym type_is)
+              subst (λ (u : FuncType). CallsEntry g (cells_in g m) m.place (height_in m) (λ a function. IsCalled kind (through_table kind type x) a function g (cells_in g m) m.place (height_in m) (height_in m - 1)) u entry) (sym type_is)
               (entries entry (ap (slice_get table.entries) (topmost w m g r 1 (omega arith) some.0) ∙ sym (t.entry m.operand) ∙ is)),
           costs,
         ),

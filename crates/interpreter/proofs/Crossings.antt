@@ -13,10 +13,10 @@ use Rattle.interpreter.specs.declared.machine.Position.{Position}
 use Rattle.interpreter.specs.declared.machine.Stop.{Stop}
 use Rattle.interpreter.proofs.Switching.{crosses}
 
-module _ (bound : ℕ) (w : World) (cells : List ℕ) (callers : List Frame) (at : Position) (next : at.frame.place + 1 < 2 ^ 64) where
+module _ (bound : ℕ) (w : World) (cells : List ℕ) (callers : List Frame) (at : Position) (next : at.place + 1 < 2 ^ 32) where
   -- A frame was opened.
   pub crosses-in : (from : Position) (f : ModuleFunction) → RunsSomeWhole bound (loop_at w cells callers at) → CallsModule bound w cells callers at from f → 1 ≤ at.fuel → suc (length callers) < bound
-      → from.top + 1 + declared_locals f + f.flat.function.now.greatest < length cells → (cells' : List ℕ) → take (from.top + 1 + declared_locals f) cells' ≡ take (from.top + 1) (set cells from.top from.operand) ++ replicate (declared_locals f) 0
+      → from.top + 1 - f.flat.now.params + f.flat.now.greatest < length cells → (cells' : List ℕ) → take (from.top + 1 + declared_locals f) cells' ≡ take (from.top + 1) (set cells from.top from.operand) ++ replicate (declared_locals f) 0
       → length cells' ≡ length cells → (callers' : List Frame) → callers' ≡ frame_waiting at ∷ callers → (result : Crossing) → IsCrossed w.number result f.instance
       → (why : Stop) → Crosses bound (loop_at w cells callers at) result why cells' callers' (position_opened at from.top f)
   crosses-in from f some c paid shallow room cells' filled size callers' callers_are result is why =
@@ -25,14 +25,14 @@ module _ (bound : ℕ) (w : World) (cells : List ℕ) (callers : List Frame) (at
 
   -- One took the place of the frame.
   pub crosses-over : (from : Position) (f : ModuleFunction) → RunsSomeWhole bound (loop_at w cells callers at) → ReplacesModule bound w cells callers at from f → 1 ≤ at.fuel
-      → at.frame.base + f.flat.function.now.locals + f.flat.function.now.greatest < length cells → (cells' : List ℕ) → AreReplaced cells at.frame.base from f cells'
+      → at.base + f.flat.now.greatest < length cells → (cells' : List ℕ) → AreReplaced cells at.base from f cells'
       → (result : Crossing) → IsCrossed w.number result f.instance → (why : Stop) → Crosses bound (loop_at w cells callers at) result why cells' callers (position_replaced at f)
   crosses-over from f some c paid room cells' replaced result is why =
       crosses bound (loop_at w cells callers at) cells' callers result (position_replaced at f) some is (c.replaces paid room cells' replaced) (omega (arith, paid, next)) why
 
   -- A frame was left.
   module _ (fuel results : ℕ) (leaves : Leaves bound w cells callers at fuel results) where
-    pub crosses-out : (frame : Frame) (others : List Frame) → callers ≡ frame ∷ others → (cells' : List ℕ) (operand' : ℕ) → AreMoved (set cells at.top at.operand) at.top (at.frame.base - 1) results cells' operand'
+    pub crosses-out : (frame : Frame) (others : List Frame) → callers ≡ frame ∷ others → (cells' : List ℕ) (operand' : ℕ) → AreMoved (set cells at.top at.operand) at.top (at.base - 1) results cells' operand'
         → (result : Crossing) → IsCrossed w.number result frame.instance → (why : Stop) → Crosses bound (loop_at w cells callers (record at { fuel = fuel })) result why cells' others (position_resumed at frame results operand')
     crosses-out frame others are cells' operand' moved result is why =
         let count = ap length are in

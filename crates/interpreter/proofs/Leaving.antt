@@ -87,11 +87,11 @@ module _ (bound : ℕ) (w : World) (cells : List ℕ) (at : Position) (fuel : �
     over-from h (c ∷ cs) all_results r left is = absurd r.callers
 
     fits-from : (frame : Frame) (others : List Frame) (h : Ghost) (cs : List Caller) (all_results : List ValType) → RunsWhole bound (before (frame ∷ others)) (record { ghost = h; callers = cs; results = all_results }) → IsLeft cost h → results ≡ h.code.outermost.kept
-        → (1 ≤ at.frame.base) × (at.frame.base - 1 + results ≤ at.top)
+        → (1 ≤ at.base) × (at.base - 1 + results ≤ at.top)
     fits-from frame others h [] all_results r left is = absurd r.callers
     fits-from frame others h (c ∷ cs) all_results r left is = back-fits bound w cells at fuel cost paid left_is h left results is all_results frame others c cs r
 
-    back-from : (frame : Frame) (others : List Frame) (cells' : List ℕ) (operand' : ℕ) → AreMoved (set cells at.top at.operand) at.top (at.frame.base - 1) results cells' operand' → (h : Ghost) (cs : List Caller) (all_results : List ValType)
+    back-from : (frame : Frame) (others : List Frame) (cells' : List ℕ) (operand' : ℕ) → AreMoved (set cells at.top at.operand) at.top (at.base - 1) results cells' operand' → (h : Ghost) (cs : List Caller) (all_results : List ValType)
         → RunsWhole bound (before (frame ∷ others)) (record { ghost = h; callers = cs; results = all_results }) → IsLeft cost h → results ≡ h.code.outermost.kept
         → SwitchesTo bound (before (frame ∷ others)) (record { ghost = h; callers = cs; results = all_results }) (loop_at w cells' others (position_resumed at frame results operand'))
     back-from frame others cells' operand' moved h [] all_results r left is = absurd r.callers

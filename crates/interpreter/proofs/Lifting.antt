@@ -1,5 +1,5 @@
 -- What happens in the innermost frame happens to the whole.
-use Rattle.std.proofs.Common.{◌≡◌, ℕ, ◌+◌, ◌<◌, ◌≤◌, List, [], ◌∷◌, length, take, refl, ap, sym, subst, ◌∙◌, arith}
+use Rattle.std.proofs.Common.{◌≡◌, ℕ, ◌+◌, ◌-◌, ◌<◌, ◌≤◌, List, [], ◌∷◌, length, take, refl, ap, sym, subst, ◌∙◌, arith}
 use Rattle.std.specs.Prelude.{Some}
 use Rattle.core_types.specs.declared.outcome.Trap.{Trap}
 use Rattle.core_types.specs.declared.types.ValType.{ValType}
@@ -15,15 +15,15 @@ use Rattle.soundness.specs.Configurations.{ConfigurationHasType, IsGood}
 use Rattle.soundness.specs.Places.{outermost as outside_place}
 use Rattle.soundness.specs.Stores.{StoreIsValid}
 use Rattle.soundness.proofs.Steps.{stays-good}
-use Rattle.soundness.proofs.Values.{values-length}
-use Rattle.sidetable.specs.FlatModules.{AreWithin}
+use Rattle.sidetable.specs.FlatModules.{operations_of}
 use Rattle.simulation.specs.Callees.{CostsAround}
 use Rattle.simulation.specs.Calls.{activation_of, around}
-use Rattle.simulation.specs.Runs.{Fails, Ghost, Lacks, Leads, StepsIn, config_of, frame_of}
+use Rattle.simulation.specs.Runs.{Fails, Ghost, Lacks, Leads, Runs, StepsIn, config_of, frame_of}
 use Rattle.simulation.specs.Standing.{FrameCode}
 use Rattle.simulation.proofs.Frames.{steps-lifted}
 use Rattle.store.specs.State.{StateContents}
 use Rattle.interpreter.specs.Callers.{Caller, CallersStand, layers_around}
+use Rattle.interpreter.specs.Layout.{put_back}
 use Rattle.interpreter.specs.Running.{GoesTo, Machine, RunsAt, cells_in, height_in}
 use Rattle.interpreter.specs.Whole.{Loop, Ran, Reaches, RunsWhole, StopsAt, StopsBy, StopsWhole, Whole, layers_of, left_to_do, paid_for, whole}
 use Rattle.interpreter.specs.Worlds.{IsInstance, World, store_in}
@@ -108,22 +108,18 @@ module _ (bound : ℕ) (results : List ValType) where
 -- ---- steps in the frame
 
 -- What it goes to runs there.
-pub runs-then : (w : World) (m : Machine) (g : Ghost) → RunsAt w m g → (w' : World) → w'.number ≡ w.number → IsInstance w' → (cells' : List ℕ) (place top operand fuel left : ℕ)
+pub runs-then : (w : World) (m : Machine) (g : Ghost) → RunsAt w m g → (w' : World) → w'.number ≡ w.number → w'.flat ≡ w.flat → IsInstance w' → (cells' : List ℕ) (place top operand fuel left : ℕ)
     → (led : GoesTo g m fuel w' (record m { cells = cells'; place = place; top = top; operand = operand }) left)
     → RunsAt w' (record m { cells = cells'; place = place; top = top; operand = operand }) led.leads.new
-runs-then w m g r w' number instance cells' place top operand fuel left led =
+runs-then w m g r w' number flat instance cells' place top operand fuel left led =
     let l = led.leads in
-    let before = values-length g.store g.locals g.types r.runs.typed.own in
-    let after = values-length l.new.store l.new.locals l.new.types l.runs.typed.own in
-    let types : length l.new.types ≡ length g.types = ap (λ (ts : List ValType). length ts) l.same.types in
+    let locals : l.new.code.locals ≡ g.code.locals = ap (λ (c : FrameCode). c.locals) l.same.code in
     let size = led.size in
     record {
-      runs = l.runs;
-      low = led.low;
-      scrap = omega (arith, size, r.scrap);
-      count = omega (arith, before, after, types, r.count);
-      packed = ap (λ (c : FrameCode). c.operations) l.same.code ∙ r.packed;
-      within = subst (λ (c : FrameCode). AreWithin m.tables m.operations c.outermost.kept) (sym l.same.code) r.within;
+      runs = subst (λ (n : ℕ). Runs l.new (put_back n m.base cells' top operand) place (top - m.base)) (sym locals) l.runs;
+      low = let low = led.low in omega (arith, low, locals);
+      scrap = omega (arith, size, r.scrap, locals);
+      operations = ap (λ (c : FrameCode). c.operations) l.same.code ∙ r.operations ∙ ap operations_of (sym flat);
       store = l.store;
       number = l.same.instance ∙ r.number ∙ sym number;
       instance = instance;
@@ -171,7 +167,7 @@ module _ (bound : ℕ) (l : Loop) (w : Whole) (r : RunsWhole bound l w) where
         results = refl;
         steps = steps;
         runs = record {
-          runs = runs-then l.world l.machine w.ghost r.runs l'.world refl (record { there = r.runs.instance.there; memory = r.runs.instance.memory }) cells' place' top' operand' l.fuel left' led;
+          runs = runs-then l.world l.machine w.ghost r.runs l'.world refl refl (record { loaded = r.runs.instance.loaded; flat = r.runs.instance.flat; memory = r.runs.instance.memory }) cells' place' top' operand' l.fuel left' led;
           number = r.number;
           callers = subst (λ (n : ℕ). CallersStand l.world.code n l.callers w.callers h.code.outermost.kept (take l.machine.base cells')) (sym led.size)
               (subst (λ (n : ℕ). CallersStand l.world.code (length l.machine.cells) l.callers w.callers n (take l.machine.base cells')) (sym kept)
@@ -183,13 +179,13 @@ module _ (bound : ℕ) (l : Loop) (w : Whole) (r : RunsWhole bound l w) where
       }
 
   -- The frame goes on to where the loop is.
-  abbrev pub lifted-there : (left : ℕ) → Leads w.ghost l.fuel w.ghost.store (cells_in l.machine) l.machine.place (height_in l.machine) left → Reaches bound l w (record l { fuel = left })
+  abbrev pub lifted-there : (left : ℕ) → Leads w.ghost l.fuel w.ghost.store (cells_in w.ghost l.machine) l.machine.place (height_in l.machine) left → Reaches bound l w (record l { fuel = left })
   lifted-there left leads =
       lifted l.world.state l.world.bytes l.machine.cells l.machine.place l.machine.top l.machine.operand left
-      (record { leads = leads-there w.ghost (store_in l.world) l.fuel (cells_in l.machine) l.machine.place (height_in l.machine) left r.runs.store leads; low = r.runs.low; size = refl; below = refl })
+      (record { leads = leads-there w.ghost (store_in l.world) l.fuel (cells_in w.ghost l.machine) l.machine.place (height_in l.machine) left r.runs.store leads; low = r.runs.low; size = refl; below = refl })
 
   -- Where the next step costs more than is left in the frame, it does so in the whole.
-  pub lacks-whole : Lacks w.ghost l.fuel (cells_in l.machine) l.machine.place (height_in l.machine) l.fuel → (there : Reaches bound l w l) × (l.fuel < price (next (store_in l.world) no_frame (whole there.new)))
+  pub lacks-whole : Lacks w.ghost l.fuel (cells_in w.ghost l.machine) l.machine.place (height_in l.machine) l.fuel → (there : Reaches bound l w l) × (l.fuel < price (next (store_in l.world) no_frame (whole there.new)))
   lacks-whole lacks =
       let there = lifted-there l.fuel lacks.leads in
       let h = lacks.leads.new in
@@ -201,7 +197,7 @@ module _ (bound : ℕ) (l : Loop) (w : Whole) (r : RunsWhole bound l w) where
       )
 
   -- The same of a step that costs one unit of fuel in whatever frame it lies.
-  pub lacks-around : CostsAround w.ghost (cells_in l.machine) l.machine.place (height_in l.machine) → l.fuel ≡ 0 → (there : Reaches bound l w l) × (l.fuel < price (next (store_in l.world) no_frame (whole there.new)))
+  pub lacks-around : CostsAround w.ghost (cells_in w.ghost l.machine) l.machine.place (height_in l.machine) → l.fuel ≡ 0 → (there : Reaches bound l w l) × (l.fuel < price (next (store_in l.world) no_frame (whole there.new)))
   lacks-around costs empty =
       let there = lifted-there l.fuel (record { new = costs.new; same = costs.same; store = costs.store; steps = costs.steps l.fuel; runs = costs.runs }) in
       let h = costs.new in (
@@ -212,7 +208,7 @@ module _ (bound : ℕ) (l : Loop) (w : Whole) (r : RunsWhole bound l w) where
       )
 
   -- The same of a trap.
-  pub fails-whole : (left : ℕ) (trap : Trap) → Fails w.ghost l.fuel (cells_in l.machine) l.machine.place (height_in l.machine) left trap
+  pub fails-whole : (left : ℕ) (trap : Trap) → Fails w.ghost l.fuel (cells_in w.ghost l.machine) l.machine.place (height_in l.machine) left trap
       → (there : Reaches bound l w (record l { fuel = left + 1 })) × (next (store_in l.world) no_frame (whole there.new) ≡ Traps 1 trap)
   fails-whole left trap fails =
       let there = lifted-there (left + 1) fails.leads in
@@ -245,10 +241,10 @@ module _ (bound : ℕ) where
   ran-then l l' l'' first second = record { from = λ w r. let f = first.from w r in reaches-then l l' l'' w f (second.from f.new f.runs); falls = omega (arith, first.falls, second.falls) }
 
   -- It stops where nothing was paid for the next step.
-  pub stops-unpaid : (s : Stop) → paid_for s ≡ 0 → (l l' : Loop) (w : Whole) (there : Reaches bound l w l') → StopsBy bound s (store_in l'.world) l'.fuel l'.machine there.new → StopsWhole bound l w s l'
+  pub stops-unpaid : (s : Stop) → paid_for s ≡ 0 → (l l' : Loop) (w : Whole) (there : Reaches bound l w l') → StopsBy bound s l'.world.flat.tables (store_in l'.world) l'.fuel l'.machine there.new → StopsWhole bound l w s l'
   stops-unpaid s none_paid l l' w there by =
       let same : l'.fuel ≡ l'.fuel + paid_for s = omega (arith, none_paid) in
-      let both = subst (λ (n : ℕ). (t : Reaches bound l w (record l' { fuel = n })) × StopsBy bound s (store_in l'.world) n l'.machine t.new) same (there, by) in
+      let both = subst (λ (n : ℕ). (t : Reaches bound l w (record l' { fuel = n })) × StopsBy bound s l'.world.flat.tables (store_in l'.world) n l'.machine t.new) same (there, by) in
       record { there = both.0; by = both.1 }
 
   -- An operation goes on in the frame, whatever runs there.
@@ -258,12 +254,12 @@ module _ (bound : ℕ) where
   ran-turned l state' bytes' cells' place' top' operand' left' step falls = record { from = λ w r. lifted bound l w r state' bytes' cells' place' top' operand' left' (step w.ghost r.runs); falls = falls }
 
   -- It lacks fuel, or traps.
-  pub stops-lacking : (l : Loop) → ((g : Ghost) → RunsAt l.world l.machine g → Lacks g l.fuel (cells_in l.machine) l.machine.place (height_in l.machine) l.fuel) → StopsAt bound l stop.NoFuel l
+  pub stops-lacking : (l : Loop) → ((g : Ghost) → RunsAt l.world l.machine g → Lacks g l.fuel (cells_in g l.machine) l.machine.place (height_in l.machine) l.fuel) → StopsAt bound l stop.NoFuel l
   stops-lacking l lacks = record { from = λ w r. let (there, dear) = lacks-whole bound l w r (lacks w.ghost r.runs) in stops-unpaid stop.NoFuel refl l l w there dear; falls = tt }
 
-  pub stops-empty : (l : Loop) → ((g : Ghost) → RunsAt l.world l.machine g → CostsAround g (cells_in l.machine) l.machine.place (height_in l.machine)) → l.fuel ≡ 0 → StopsAt bound l stop.NoFuel l
+  pub stops-empty : (l : Loop) → ((g : Ghost) → RunsAt l.world l.machine g → CostsAround g (cells_in g l.machine) l.machine.place (height_in l.machine)) → l.fuel ≡ 0 → StopsAt bound l stop.NoFuel l
   stops-empty l costs empty = record { from = λ w r. let (there, dear) = lacks-around bound l w r (costs w.ghost r.runs) empty in stops-unpaid stop.NoFuel refl l l w there dear; falls = tt }
 
-  pub stops-failing : (l : Loop) (left : ℕ) (trap : Trap) → ((g : Ghost) → RunsAt l.world l.machine g → Fails g l.fuel (cells_in l.machine) l.machine.place (height_in l.machine) left trap)
+  pub stops-failing : (l : Loop) (left : ℕ) (trap : Trap) → ((g : Ghost) → RunsAt l.world l.machine g → Fails g l.fuel (cells_in g l.machine) l.machine.place (height_in l.machine) left trap)
       → StopsAt bound l (stop.Traps trap) (record l { fuel = left })
   stops-failing l left trap fails = record { from = λ w r. let (there, traps) = fails-whole bound l w r left trap (fails w.ghost r.runs) in record { there = there; by = (traps, omega arith) }; falls = tt }

@@ -11,6 +11,7 @@ use Rattle.sidetable.specs.declared.operations.PackedOp.{PackedOp}
 use Rattle.sidetable.specs.declared.operations.PackedOp.TheVariants as op
 use Rattle.simulation.specs.Runs.{Ghost}
 use Rattle.store.specs.State.{StateContents}
+use Rattle.interpreter.specs.Calling.{Leaves}
 use Rattle.interpreter.specs.Layout.{AreMoved}
 use Rattle.interpreter.specs.Looping.{loop_at, machine_at}
 use Rattle.interpreter.specs.Running.{GoesTo, IsDear, Pays, RunsAt, Traps}
@@ -23,6 +24,7 @@ use Rattle.interpreter.specs.declared.machine.Position.{Position}
 use Rattle.interpreter.specs.declared.machine.Stop.{Stop}
 use Rattle.interpreter.specs.declared.machine.Stop.TheVariants as stop
 use Rattle.interpreter.proofs.Lifting.{ran-then, ran-turned, reaches-first, reaches-then, stops-failing, stops-lacking, stops-unpaid, turned}
+use Rattle.interpreter.proofs.Returning.{end-leaves}
 
 -- Where it stops behind a run it stops from its start.
 stops-from : (bound : ℕ) (l l' l'' : Loop) (s : Stop) (w : Whole) (first : Reaches bound l w l') → StopsFrom bound l' first.new s l'' → StopsFrom bound l w s l''
@@ -50,6 +52,10 @@ module _ (bound : ℕ) (start l : Loop) (ran : Ran bound start l) where
   pub runs-there : RunsSomeWhole bound start → (g : Ghost) × RunsAt l.world l.machine g
   runs-there (w, r) = let there = ran.from w r in (there.new.ghost, there.runs.runs)
 
+  -- Some whole runs there.
+  pub some-there : RunsSomeWhole bound start → RunsSomeWhole bound l
+  some-there (w, r) = let there = ran.from w r in (there.new, there.runs)
+
   module _ (o o' : PackedOp) (turns : Turns l.world l.machine o) (is : o ≡ o') where
     leads : (g : Ghost) → RunsAt l.world l.machine g → LeadsOn l.world l.machine g o'
     leads = subst (Turns l.world l.machine) is turns
@@ -70,11 +76,11 @@ module _ (bound : ℕ) (start l : Loop) (ran : Ran bound start l) where
     fails-op trap paid fails = stops-then bound start l _ (stop.Traps trap) ran (stops-failing bound l (l.fuel - 1) trap (λ g r. fails g (leads g r) l.fuel (l.fuel - 1) paid refl))
 
   -- A branch that is taken goes to its entry.
-  pub branches-op : (o : PackedOp) (n : ℕ) (turns : Turns l.world l.machine o) (is : o ≡ op.BrIf n) → (e : Entry) → e ≡ entry_of_number l.machine.tables n → (cells' : List ℕ) (operand' : ℕ)
-      → AreMoved l.machine.cells (l.machine.top - 1) (l.machine.base + l.machine.locals + e.height) e.kept cells' operand' → 1 ≤ l.fuel → (l.machine.operand ≡ 0 → ⊥)
-      → Ran bound start (turned l l.world.state l.world.bytes cells' e.target (l.machine.base + l.machine.locals + e.height + e.kept) operand' (l.fuel - 1))
+  pub branches-op : (o : PackedOp) (n : ℕ) (turns : Turns l.world l.machine o) (is : o ≡ op.BrIf n) → (e : Entry) → e ≡ entry_of_number l.world.flat.tables n → (cells' : List ℕ) (operand' : ℕ)
+      → AreMoved l.machine.cells (l.machine.top - 1) (l.machine.base + e.height) e.kept cells' operand' → 1 ≤ l.fuel → (l.machine.operand ≡ 0 → ⊥)
+      → Ran bound start (turned l l.world.state l.world.bytes cells' e.target (l.machine.base + e.height + e.kept) operand' (l.fuel - 1))
   branches-op o n turns is e e_is cells' operand' moved paid taken =
-      pays-op o (op.BrIf n) turns is l.world.state l.world.bytes cells' e.target (l.machine.base + l.machine.locals + e.height + e.kept) operand' paid
+      pays-op o (op.BrIf n) turns is l.world.state l.world.bytes cells' e.target (l.machine.base + e.height + e.kept) operand' paid
       (λ g leads. subst (Lands l.world l.machine g l.machine.cells (l.machine.top - 1)) (sym e_is) (leads.1 taken) cells' operand' moved)
 
   -- It stops behind an operation that may go on in another frame.
@@ -85,18 +91,22 @@ module _ (bound : ℕ) (start l : Loop) (ran : Ran bound start l) where
 pub ran-at : (bound : ℕ) (start : Loop) (w : World) (cells : List ℕ) (callers : List Frame) (at to : Position) → to ≡ at → Ran bound start (loop_at w cells callers at) → Ran bound start (loop_at w cells callers to)
 ran-at bound start w cells callers at to is ran = subst (λ (p : Position). Ran bound start (loop_at w cells callers p)) (sym is) ran
 
--- ---- operations that are rarer
-
 module _ (bound : ℕ) (start : Loop) (w : World) (cells : List ℕ) (callers : List Frame) (at : Position) (ran : Ran bound start (loop_at w cells callers at)) where
+  -- The end of the code leaves the frame.
+  pub leaves-op : RunsSomeWhole bound start → (o : PackedOp) (n : ℕ) → Turns w (machine_at cells at) o → o ≡ op.Leave n → Leaves bound w cells callers at at.fuel n
+  leaves-op some o n turns is = end-leaves bound w cells callers at n (subst (Turns w (machine_at cells at)) is turns) (some-there bound start (loop_at w cells callers at) ran some)
+
+  -- ---- operations that are rarer
+
   -- An instruction went on in its frame.
   pub steps-on : (state' : StateContents) (bytes' cells' : List ℕ) (to : Position) → StepsTo w cells at (record w { state = state'; bytes = bytes' }) cells' to
       → Ran bound start (loop_at (record w { state = state'; bytes = bytes' }) cells' callers to)
   steps-on state' bytes' cells' to steps =
-      subst (λ (f : Frame). Ran bound start (loop_at (record w { state = state'; bytes = bytes' }) cells' callers (record to { frame = f }))) (sym steps.frame)
-      (ran-then bound start (loop_at w cells callers at) _ ran (ran-turned bound (loop_at w cells callers at) state' bytes' cells' (at.frame.place + 1) to.top to.operand to.fuel
-      (λ g r. subst (λ (f : Frame). GoesTo g (machine_at cells at) at.fuel (record w { state = state'; bytes = bytes' }) (machine_at cells' (record to { frame = f })) to.fuel) steps.frame (steps.leads g r)) (omega (arith, steps.falls))))
+      subst (λ (p : Position). Ran bound start (loop_at (record w { state = state'; bytes = bytes' }) cells' callers p)) (sym steps.there)
+      (ran-then bound start (loop_at w cells callers at) _ ran (ran-turned bound (loop_at w cells callers at) state' bytes' cells' (at.place + 1) to.top to.operand to.fuel
+      (λ g r. subst (λ (p : Position). GoesTo g (machine_at cells at) at.fuel (record w { state = state'; bytes = bytes' }) (machine_at cells' p) to.fuel) steps.there (steps.leads g r)) (omega (arith, steps.falls))))
 
-  stays : (runs : (g : Ghost) × RunsAt w (machine_at cells at) g) (s : Stop) → ((g : Ghost) → RunsAt w (machine_at cells at) g → StopsThere s (machine_at cells at) at.fuel g) → StopsAt bound (loop_at w cells callers at) s (loop_at w cells callers at)
+  stays : (runs : (g : Ghost) × RunsAt w (machine_at cells at) g) (s : Stop) → ((g : Ghost) → RunsAt w (machine_at cells at) g → StopsThere s w (machine_at cells at) at.fuel g) → StopsAt bound (loop_at w cells callers at) s (loop_at w cells callers at)
   stays runs stop.NoFuel there = stops-lacking bound (loop_at w cells callers at) there
   stays runs (stop.LeavesOther kind n) there = record {
     from = λ whole r. stops-unpaid bound (stop.LeavesOther kind n) refl (loop_at w cells callers at) (loop_at w cells callers at) whole (reaches-first bound (loop_at w cells callers at) whole r) (there whole.ghost r.runs);

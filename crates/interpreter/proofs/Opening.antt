@@ -11,8 +11,10 @@ use Rattle.meaning.specs.soundness.Values.{ValuesHaveTypes}
 use Rattle.soundness.specs.Places.{context_at}
 use Rattle.soundness.specs.Stores.{ImplementationIsValid, body_place}
 use Rattle.sidetable.specs.Counts.{Signatures}
+use Rattle.sidetable.specs.Flat.{FlatOp}
 use Rattle.cells.specs.Cells.{cell_of}
 use Rattle.simulation.specs.Entries.{callee}
+use Rattle.simulation.specs.Laws.{BeginsAt}
 use Rattle.simulation.specs.Piles.{cells_of}
 use Rattle.simulation.specs.Runs.{Ghost, Holds, Runs}
 use Rattle.simulation.specs.Standing.{values_under}
@@ -43,7 +45,7 @@ pub record ArgumentsLie (op : PlainOp) (m : Machine) (h : Ghost) (top operand : 
   pub over : ℕ
   pub above : height_in m ≡ height + over
   pub top_is : top ≡ m.base + height
-  pub holds : Holds (record h { values = values }) (put_back m.locals m.base m.cells top operand) height
+  pub holds : Holds (record h { values = values }) (put_back h.code.locals m.base m.cells top operand) height
   pub valid : ImplementationIsValid h.store t (InCode instance code)
   pub below : List ValType
   pub typed : ValuesHaveTypes h.store values (reverse t.params ++ below)
@@ -61,10 +63,10 @@ module _ (w : World) (m : Machine) (h : Ghost) (r : RunsAt w m h) (op : PlainOp)
 
   -- The cells of the frame, up to the arguments.
   abbrev frame_cells : List ℕ
-  frame_cells = put_back m.locals m.base m.cells top operand
+  frame_cells = put_back h.code.locals m.base m.cells top operand
 
-  pub arguments-fit : m.base + m.locals + n ≤ top
-  arguments-fit = omega (arith, b.holds.top_is, b.top_is, r.count, b.enough)
+  pub arguments-fit : m.base + h.code.locals + n ≤ top
+  arguments-fit = omega (arith, b.holds.top_is, b.top_is, r.runs.holds.count, b.enough)
 
   pub top-inside : top < length m.cells
   top-inside = omega (arith, b.above, b.top_is, r.low, inside w m h r)
@@ -73,27 +75,27 @@ module _ (w : World) (m : Machine) (h : Ghost) (r : RunsAt w m h) (op : PlainOp)
   put-size = length-set m.cells top operand
 
   frame-size : length frame_cells ≡ length m.cells - suc m.base
-  frame-size = let whole = frame-length m.locals m.base put (omega (arith, put-size, r.scrap)) in omega (arith, put-size, whole)
+  frame-size = let whole = frame-length h.code.locals m.base put (omega (arith, put-size, r.scrap)) in omega (arith, put-size, whole)
 
   -- The arguments, from where the first one lies.
   arguments-lie : (from : ℕ) → from + n ≡ top + 1 → take n (drop from put) ≡ take n (drop (b.height - n) frame_cells)
   arguments-lie from from_is =
-      let j = b.height - n - m.locals in
-      let over : b.height - n ≡ m.locals + j = omega (arith, arguments-fit, b.top_is) in
-      let at : suc (m.base + m.locals) + j ≡ from = omega (arith, arguments-fit, from_is, b.top_is) in
+      let j = b.height - n - h.code.locals in
+      let over : b.height - n ≡ h.code.locals + j = omega (arith, arguments-fit, b.top_is) in
+      let at : suc (m.base + h.code.locals) + j ≡ from = omega (arith, arguments-fit, from_is, b.top_is) in
       ap (λ (i : ℕ). take n (drop i put)) (sym at)
-      ∙ ap (take n) (sym (drop-frame m.locals m.base put (omega (arith, put-size, r.scrap)) j))
+      ∙ ap (take n) (sym (drop-frame h.code.locals m.base put (omega (arith, put-size, r.scrap)) j))
       ∙ ap (λ (i : ℕ). take n (drop i frame_cells)) (sym over)
 
   -- The callee runs at its first place, in a frame that begins with the arguments, behind which the cells are cleared.
   module _ (cells' : List ℕ) (base' : ℕ) (own : take (n + k) (drop base' cells') ≡ take n (drop (b.height - n) frame_cells) ++ replicate k 0) where
-    pub callee-runs : (s : Signatures) → (context_at h.store (body_place t instance code)).types ≡ s.types → (context_at h.store (body_place t instance code)).functions ≡ s.functions
-        → base' + (n + k) + (callee h s t instance code b.values).code.greatest < length cells'
-        → Runs (callee h s t instance code b.values) (put_back (n + k) base' cells' (base' + (n + k)) 0) 0 (n + k)
-    callee-runs s types functions room =
+    pub callee-runs : (s : Signatures) (ops : List FlatOp) (at : ℕ) → (context_at h.store (body_place t instance code)).types ≡ s.types → (context_at h.store (body_place t instance code)).functions ≡ s.functions
+        → BeginsAt s ops (n + k) (length t.results) at code.body → base' + (callee h s ops at t instance code b.values).code.greatest < length cells'
+        → Runs (callee h s ops at t instance code b.values) (put_back (n + k) base' cells' (base' + (n + k)) 0) at (n + k)
+    callee-runs s ops at types functions begins room =
         let set_size = length-set cells' (base' + (n + k)) 0 in
         let whole_size = frame-length (n + k) base' (set cells' (base' + (n + k)) 0) (omega (arith, set_size, room)) in
-        call-enters (record h { values = b.values }) frame_cells b.height r.runs.typed.valid b.holds (omega (arith, frame-size, top-inside, b.top_is)) s t instance code b.valid b.below b.typed b.enough types functions (put_back (n + k) base' cells' (base' + (n + k)) 0)
+        call-enters (record h { values = b.values }) frame_cells b.height r.runs.typed.valid b.holds (omega (arith, frame-size, top-inside, b.top_is)) s ops at t instance code b.valid b.below b.typed b.enough types functions begins (put_back (n + k) base' cells' (base' + (n + k)) 0)
         (own-cells (n + k) base' cells' 0 (omega (arith, room)) ∙ own)
         (omega (arith, whole_size, set_size, room))
 
@@ -135,14 +137,14 @@ module _ (w : World) (m : Machine) (h : Ghost) (r : RunsAt w m h) (op : PlainOp)
         ∙ ap (λ (z : List ℕ). z ++ replicate k 0) (ap (λ (i : ℕ). drop base' (take i put)) (sym base_is) ∙ drop-take base' n put ∙ arguments-lie base' base_is)
 
     -- What the caller's frame holds then.
-    pub caller-cells : without_scrap m.locals m.base (take base' cells') ≡ map cell_of h.locals ++ cells_of (drop n b.values ++ values_under h.labels)
+    pub caller-cells : without_scrap h.code.locals m.base (take base' cells') ≡ map cell_of h.locals ++ cells_of (drop n b.values ++ values_under h.labels)
     caller-cells =
-        let j = base' - suc (m.base + m.locals) in
-        let sum : base' ≡ suc (m.base + m.locals) + j = omega (arith, arguments-fit, base_is) in
-        let height : m.locals + j ≡ b.height - n = omega (arith, arguments-fit, base_is, b.top_is) in
+        let j = base' - suc (m.base + h.code.locals) in
+        let sum : base' ≡ suc (m.base + h.code.locals) + j = omega (arith, arguments-fit, base_is) in
+        let height : h.code.locals + j ≡ b.height - n = omega (arith, arguments-fit, base_is, b.top_is) in
         let all = all-length b.values h.labels in
-        ap (without_scrap m.locals m.base) (same-below base' (omega (arith, base_is)) ∙ ap (λ (q : ℕ). take q put) sum)
-        ∙ sym (frame-taken m.locals m.base put (omega (arith, put-size, r.scrap)) j)
+        ap (without_scrap h.code.locals m.base) (same-below base' (omega (arith, base_is)) ∙ ap (λ (q : ℕ). take q put) sum)
+        ∙ sym (frame-taken h.code.locals m.base put (omega (arith, put-size, r.scrap)) j)
         ∙ ap (λ (q : ℕ). take q frame_cells) height
         ∙ below-parted frame_cells b.height h.locals (b.values ++ values_under h.labels) n b.holds.held (omega (arith, b.holds.top_is, all)) (omega (arith, b.enough, all))
         ∙ ap (λ (vs : List Val). map cell_of h.locals ++ cells_of vs) (drop-append-le n b.values (values_under h.labels) b.enough)

@@ -2,21 +2,21 @@
 use Rattle.std.proofs.Common.{◌≡◌, ℕ, ◌+◌, ◌-◌, ◌<◌, ◌≤◌, List, [], ◌∷◌, ◌++◌, length, take, drop, set, replicate, Some, slice_get, refl, ap, sym, subst, ◌∙◌, arith, append_assoc}
 use Rattle.std.proofs.lemmas.List.{take-set-le}
 use Rattle.core_types.specs.declared.op.PlainOp.{PlainOp}
-use Rattle.core_types.specs.declared.outcome.Val.{Val}
 use Rattle.core_types.specs.declared.types.ValType.{ValType}
 use Rattle.meaning.specs.structure.Bodies.{Body, Empty, Then}
-use Rattle.meaning.specs.execution.Configurations.{Frame as Activated, Label, depth, no_frame}
+use Rattle.meaning.specs.execution.Configurations.{Frame as Activated, depth, no_frame}
 use Rattle.meaning.specs.execution.Instructions.{Grows, Next, TailCalls, frame_of as frame_of_call, lent_memory, next, step_instruction}
-use Rattle.meaning.specs.execution.Layers.{Layer, outermost, plug}
+use Rattle.meaning.specs.execution.Layers.{Layer, plug}
 use Rattle.meaning.specs.execution.Modules.{code_of}
 use Rattle.meaning.specs.execution.Runs.{AsksForMemory, IsWithinBound, grows, none, one_more, price}
 use Rattle.meaning.specs.execution.Store.{Store}
-use Rattle.simulation.specs.Calls.{around, opened_in}
+use Rattle.simulation.specs.Calls.{opened_in}
 use Rattle.simulation.specs.Entries.{callee}
 use Rattle.simulation.specs.Laws.{function_label}
 use Rattle.simulation.specs.Runs.{Ghost, frame_of}
 use Rattle.simulation.specs.Settling.{in_frame}
 use Rattle.simulation.proofs.Calls.{frames-come-and-go}
+use Rattle.sidetable.specs.FlatModules.{operations_of}
 use Rattle.store.specs.Contents.{function_of, signatures_of_instance}
 use Rattle.store.specs.declared.instances.ModuleFunction.{ModuleFunction}
 use Rattle.interpreter.specs.Callers.{Caller, CallersStand, layers_around}
@@ -27,7 +27,7 @@ use Rattle.interpreter.specs.Whole.{AsksNext, IsSeenFrom, Loop, Reaches, RunsWho
 use Rattle.interpreter.specs.Worlds.{World, store_in}
 use Rattle.interpreter.specs.declared.machine.Frame.{Frame}
 use Rattle.interpreter.specs.declared.machine.Position.{Position}
-use Rattle.interpreter.proofs.Entering.{callee-there, declared-is, entered-runs, fits}
+use Rattle.interpreter.proofs.Entering.{declared-is, entered-runs}
 use Rattle.interpreter.proofs.Finding.{IsAtAddress}
 use Rattle.interpreter.proofs.Lifting.{layers-out}
 use Rattle.interpreter.proofs.Opening.{ArgumentsLie, placed-below, placed-own}
@@ -65,7 +65,7 @@ module _ (bound : ℕ) (w : World) (cells : List ℕ) (callers : List Frame) (at
   -- The whole with the callee's frame.
   abbrev replaced_whole : Whole
   replaced_whole = record {
-    ghost = callee h (signatures_of_instance (slice_get w.code.instances f.instance)) f.ty.now f.instance (code_of f.func.now) b.values;
+    ghost = callee h (signatures_of_instance (slice_get w.code.instances f.instance)) (operations_of found.instance.loaded.value.flat) f.flat.now.place f.ty.now f.instance (code_of f.func.now) b.values;
     callers = u.callers;
     results = u.results;
   }
@@ -100,13 +100,13 @@ module _ (bound : ℕ) (w : World) (cells : List ℕ) (callers : List Frame) (at
 
   -- ---- with the arguments moved down, and the cells behind them cleared
 
-  module _ (cells' : List ℕ) (replaced_so : AreReplaced cells at.frame.base (record { frame = at.frame; top = top; operand = operand; fuel = at.fuel }) f cells')
-      (room : at.frame.base + f.flat.function.now.locals + f.flat.function.now.greatest < length cells) where
-    filled : take (at.frame.base + (n + k)) cells' ≡ take at.frame.base cells ++ (take n (drop (top + 1 - n) (set cells top operand)) ++ replicate k 0)
+  module _ (cells' : List ℕ) (replaced_so : AreReplaced cells at.base (record at { top = top; operand = operand }) f cells')
+      (room : at.base + f.flat.now.greatest < length cells) where
+    filled : take (at.base + (n + k)) cells' ≡ take at.base cells ++ (take n (drop (top + 1 - n) (set cells top operand)) ++ replicate k 0)
     filled =
-        subst (λ (q : ℕ). take (at.frame.base + q) cells' ≡ take at.frame.base cells ++ (take n (drop (top + 1 - n) (set cells top operand)) ++ replicate k 0)) found.flat.locals
-        (subst (λ (q : ℕ). take (at.frame.base + f.flat.function.now.locals) cells' ≡ take at.frame.base cells ++ (take n (drop (top + 1 - n) (set cells top operand)) ++ replicate q 0)) (declared-is w m h r.runs op top operand address f found b)
-        (subst (λ (q : ℕ). take (at.frame.base + f.flat.function.now.locals) cells' ≡ take at.frame.base cells ++ (take q (drop (top + 1 - q) (set cells top operand)) ++ replicate (declared_locals f) 0)) found.flat.params replaced_so.0))
+        subst (λ (q : ℕ). take (at.base + q) cells' ≡ take at.base cells ++ (take n (drop (top + 1 - n) (set cells top operand)) ++ replicate k 0)) found.flat.locals
+        (subst (λ (q : ℕ). take (at.base + f.flat.now.locals) cells' ≡ take at.base cells ++ (take n (drop (top + 1 - n) (set cells top operand)) ++ replicate q 0)) (declared-is w m h r.runs op top operand address f found b)
+        (subst (λ (q : ℕ). take (at.base + f.flat.now.locals) cells' ≡ take at.base cells ++ (take q (drop (top + 1 - q) (set cells top operand)) ++ replicate (declared_locals f) 0)) found.flat.params replaced_so.0))
 
     replaced-in : 1 ≤ at.fuel → (other : World) → IsSeenFrom f.instance w other → Reaches bound l u (record (loop_at w cells' callers (position_replaced at f)) { world = other })
     replaced-in some other seen =
@@ -115,11 +115,11 @@ module _ (bound : ℕ) (w : World) (cells : List ℕ) (callers : List Frame) (at
         let arity : h.code.outermost.kept ≡ length f.ty.now.results = r.arity ∙ ap (λ (ts : List ValType). length ts) (sym results) in
         switched bound l (loop_at w cells' callers (position_replaced at f)) u replaced_whole other seen r refl
         (one_more none (grows grows-next some refl refl))
-        (entered-runs w m h r.runs op top operand address f found b cells' at.frame.base own (omega (arith, room, size)) other seen)
+        (entered-runs w m h r.runs op top operand address f found b cells' at.base own (omega (arith, room, size)) other seen)
         (subst (λ (z : List ℕ). CallersStand w.code (length cells') callers u.callers (length f.ty.now.results) z) (sym (placed-below w m h r.runs op top operand f.ty.now f.instance (code_of f.func.now) b cells' filled))
-        (subst (λ (q : ℕ). CallersStand w.code (length cells') callers u.callers q (take at.frame.base cells)) arity
-        (subst (λ (q : ℕ). CallersStand w.code q callers u.callers h.code.outermost.kept (take at.frame.base cells)) (sym size) r.callers)))
+        (subst (λ (q : ℕ). CallersStand w.code (length cells') callers u.callers q (take at.base cells)) arity
+        (subst (λ (q : ℕ). CallersStand w.code q callers u.callers h.code.outermost.kept (take at.base cells)) (sym size) r.callers)))
         refl r.deep
 
     pub replaced : 1 ≤ at.fuel → SwitchesTo bound l u (loop_at w cells' callers (position_replaced at f))
-    replaced some = (callee-there w m h r.runs op top operand address f found b, replaced-in some)
+    replaced some = ((found.instance, found.loaded), replaced-in some)

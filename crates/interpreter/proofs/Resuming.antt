@@ -22,7 +22,8 @@ use Rattle.simulation.specs.Settling.{in_frame}
 use Rattle.simulation.specs.Standing.{StandsIn, values_under}
 use Rattle.simulation.proofs.Steps.{within}
 use Rattle.cells.specs.Cells.{cell_of}
-use Rattle.store.specs.Contents.{Contents}
+use Rattle.sidetable.specs.FlatModules.{operations_of}
+use Rattle.store.specs.Contents.{Contents, IsLoaded}
 use Rattle.interpreter.specs.Callers.{Caller, CallerStands, CallersStand, layers_around}
 use Rattle.interpreter.specs.Calling.{position_resumed}
 use Rattle.interpreter.specs.Layout.{AreMoved, put_back}
@@ -30,6 +31,7 @@ use Rattle.interpreter.specs.Looping.{loop_at, machine_at}
 use Rattle.interpreter.specs.Running.{Machine, RunsAt}
 use Rattle.interpreter.specs.Whole.{IsOver, IsSeenFrom, Loop, Reaches, RunsWhole, SwitchesTo, Whole, whole}
 use Rattle.interpreter.specs.Worlds.{IsInstance, World, store_in}
+use Rattle.interpreter.proofs.Worlds.{flat-seen}
 use Rattle.interpreter.specs.declared.machine.Frame.{Frame}
 use Rattle.interpreter.specs.declared.machine.Position.{Position}
 use Rattle.interpreter.proofs.Cells.{frame-length}
@@ -75,22 +77,22 @@ module _ (code : Contents) (size : ℕ) (frame : Frame) (c : Caller) (arity : �
     (its_types : (context_at store (inside_frame (Some c.instance) types given)).types ≡ c.code.signatures.types) (its_functions : (context_at store (inside_frame (Some c.instance) types given)).functions ≡ c.code.signatures.functions)
     (values : List Val) (many : length values ≡ arity) (typed : ConfigurationHasType store (inside_frame (Some c.instance) types given) (in_frame (values ++ c.values) c.labels c.rest) given) where
   abbrev locals : ℕ
-  locals = frame.function.now.locals
+  locals = c.code.locals
 
   stands-on : StandsIn c.code frame.place (values ++ c.values) c.labels c.rest
   stands-on = subst (λ (p : ℕ). StandsIn c.code p (values ++ c.values) c.labels c.rest) (sym stands.place) (stands.stands values many)
 
   -- Its operands are within the room of its frame.
-  pub caller-room : frame.base + locals + 1 + held_values c + length values ≤ size
+  pub caller-room : frame.base + locals + held_values c + length values < size
   caller-room =
       let high = within c.code stands-on.entries _ _ _ _ _ stands-on.here in
       omega (arith, high, length-append values c.values, stands.room)
 
   pub caller-runs : (cells' : List ℕ) (top operand : ℕ) → length cells' ≡ size → top ≡ frame.base + locals + held_values c + length values
       → take (locals + held_values c + length values) (put_back locals frame.base cells' top operand) ≡ map cell_of c.locals ++ cells_of ((values ++ c.values) ++ values_under c.labels)
-      → (other : World) → store_in other ≡ store → other.number ≡ frame.instance → IsInstance other
-      → RunsAt other (machine_at cells' (record { frame = frame; top = top; operand = operand; fuel = 0 })) (ghost_resumed c store types given values)
-  caller-runs cells' top operand same_size top_is held other store_is number instance =
+      → (other : World) → store_in other ≡ store → other.code ≡ code → other.number ≡ frame.instance → IsInstance other
+      → RunsAt other (record { base = frame.base; cells = cells'; place = frame.place; top = top; operand = operand }) (ghost_resumed c store types given values)
+  caller-runs cells' top operand same_size top_is held other store_is code_is number instance =
       let joined = length-append values c.values in
       let room = caller-room in
       let scrap : frame.base + locals < length cells' = omega (arith, room, same_size) in
@@ -102,15 +104,14 @@ module _ (code : Contents) (size : ℕ) (frame : Frame) (c : Caller) (arity : �
           holds = record {
             held = subst (λ (q : ℕ). take q (put_back locals frame.base cells' top operand) ≡ map cell_of c.locals ++ cells_of ((values ++ c.values) ++ values_under c.labels)) height_is held;
             top_is = omega (arith, top_is, stands.count, joined);
-            room = omega (arith, stands.room, whole_size, written, same_size, stands.count);
+            count = stands.count;
+            room = omega (arith, stands.room, whole_size, written, same_size);
           };
           typed = record { valid = valid; own = own; typed = typed; types = its_types; functions = its_functions };
         };
         low = omega (arith, top_is);
         scrap = scrap;
-        count = stands.count;
-        packed = stands.packed;
-        within = stands.within;
+        operations = stands.operations ∙ ap operations_of (sym (flat-seen code.instances c.instance stands.instance stands.loaded other (ap (λ (k : Contents). k.instances) code_is) (number ∙ stands.number) instance));
         store = sym store_is;
         number = sym stands.number ∙ sym number;
         instance = instance;
@@ -148,43 +149,43 @@ module _ (bound : ℕ) (w : World) (cells : List ℕ) (at : Position) (fuel cost
     steps : Steps NoHosts bound no_frame (record { store = store_in w; hosts = []; fuel = fuel }) (whole (whole_of (c ∷ cs))) (record { store = store_in w; hosts = []; fuel = at.fuel }) (plug (layers_around cs c.code.outermost.kept) outer then_runs)
     steps = one_more none (goes goes-back paid left_is refl)
 
-    pub back-fits : (1 ≤ at.frame.base) × (at.frame.base - 1 + n ≤ at.top)
+    pub back-fits : (1 ≤ at.base) × (at.base - 1 + n ≤ at.top)
     back-fits =
         let base = base-is w m h r.runs n many w.code frame c h.code.outermost.kept r.callers.0 in
         let low = results-low w m h r.runs n many in
         (omega (arith, base), omega (arith, low))
 
-    module _ (cells' : List ℕ) (operand' : ℕ) (moved : AreMoved (set cells at.top at.operand) at.top (at.frame.base - 1) n cells' operand') where
-      abbrev stands : CallerStands w.code (length cells) frame c h.code.outermost.kept (take at.frame.base cells)
+    module _ (cells' : List ℕ) (operand' : ℕ) (moved : AreMoved (set cells at.top at.operand) at.top (at.base - 1) n cells' operand') where
+      abbrev stands : CallerStands w.code (length cells) frame c h.code.outermost.kept (take at.base cells)
       stands = r.callers.0
 
       size : length cells' ≡ length cells
       size = same-size w m h r.runs n many w.code frame c h.code.outermost.kept stands cells' operand' moved
 
-      base : at.frame.base ≡ suc (frame.base + frame.function.now.locals) + held_values c
+      base : at.base ≡ suc (frame.base + c.code.locals) + held_values c
       base = base-is w m h r.runs n many w.code frame c h.code.outermost.kept stands
 
       abbrev top' : ℕ
-      top' = at.frame.base - 1 + n
+      top' = at.base - 1 + n
 
       resumed-in : (other : World) → IsSeenFrom frame.instance w other → Reaches bound (before (frame ∷ others)) (whole_of (c ∷ cs)) (record (loop_at w cells' others (position_resumed at frame n operand')) { world = other })
       resumed-in other seen =
           let (valid, all_typed) = steps-typed bound all_results (subst StoreIsValid r.runs.store r.runs.runs.typed.valid, r.typed) steps in
           let (given, types, arity_is, own, typed) = frame-typed (store_in w) cs c.code.outermost.kept outer then_runs all_results all_typed in
           let taken : length (take n h.values) ≡ n = length-take-le n h.values many in
-          let top_is : top' ≡ frame.base + frame.function.now.locals + held_values c + length (take n h.values) = omega (arith, base, taken) in
-          let held : take (frame.function.now.locals + held_values c + length (take n h.values)) (put_back frame.function.now.locals frame.base cells' top' operand') ≡ map cell_of c.locals ++ cells_of ((take n h.values ++ c.values) ++ values_under c.labels) =
-          subst (λ (k : ℕ). take (frame.function.now.locals + held_values c + k) (put_back frame.function.now.locals frame.base cells' top' operand') ≡ map cell_of c.locals ++ cells_of ((take n h.values ++ c.values) ++ values_under c.labels)) (sym taken)
-          (subst (λ (q : ℕ). take (frame.function.now.locals + held_values c + n) (put_back frame.function.now.locals frame.base cells' q operand') ≡ map cell_of c.locals ++ cells_of ((take n h.values ++ c.values) ++ values_under c.labels)) (omega (arith, base))
+          let top_is : top' ≡ frame.base + c.code.locals + held_values c + length (take n h.values) = omega (arith, base, taken) in
+          let held : take (c.code.locals + held_values c + length (take n h.values)) (put_back c.code.locals frame.base cells' top' operand') ≡ map cell_of c.locals ++ cells_of ((take n h.values ++ c.values) ++ values_under c.labels) =
+          subst (λ (k : ℕ). take (c.code.locals + held_values c + k) (put_back c.code.locals frame.base cells' top' operand') ≡ map cell_of c.locals ++ cells_of ((take n h.values ++ c.values) ++ values_under c.labels)) (sym taken)
+          (subst (λ (q : ℕ). take (c.code.locals + held_values c + n) (put_back c.code.locals frame.base cells' q operand') ≡ map cell_of c.locals ++ cells_of ((take n h.values ++ c.values) ++ values_under c.labels)) (omega (arith, base))
           (results-land w m h r.runs n many w.code frame c h.code.outermost.kept stands cells' operand' moved)) in
           switched bound (before (frame ∷ others)) (loop_at w cells' others (position_resumed at frame n operand')) (whole_of (c ∷ cs)) (record { ghost = ghost_resumed c (store_in w) types given (take n h.values); callers = cs; results = all_results }) other seen r refl steps
-          (caller-runs w.code (length cells) frame c h.code.outermost.kept (take at.frame.base cells) stands (store_in w) valid types given own stands.signatures.types stands.signatures.functions (take n h.values) (taken ∙ n_is) typed cells' top' operand' size top_is held other seen.store seen.seen_from seen.instance)
+          (caller-runs w.code (length cells) frame c h.code.outermost.kept (take at.base cells) stands (store_in w) valid types given own stands.signatures.types stands.signatures.functions (take n h.values) (taken ∙ n_is) typed cells' top' operand' size top_is held other seen.store seen.code seen.seen_from seen.instance)
           (subst (λ (z : List ℕ). CallersStand w.code (length cells') others cs c.code.outermost.kept z) (sym (under-kept w m h r.runs n many w.code frame c h.code.outermost.kept stands cells' operand' moved))
-          (subst (λ (q : ℕ). CallersStand w.code q others cs c.code.outermost.kept (take frame.base (take at.frame.base cells))) (sym size) r.callers.1))
+          (subst (λ (q : ℕ). CallersStand w.code q others cs c.code.outermost.kept (take frame.base (take at.base cells))) (sym size) r.callers.1))
           arity_is (let deep = r.deep in omega (arith, deep))
 
       pub resumed : SwitchesTo bound (before (frame ∷ others)) (whole_of (c ∷ cs)) (loop_at w cells' others (position_resumed at frame n operand'))
-      resumed = (let there = stands.there in omega (arith, there, stands.number), resumed-in)
+      resumed = ((stands.instance, subst (λ (q : ℕ). IsLoaded w.code.instances q stands.instance) (sym stands.number) stands.loaded), resumed-in)
 
   -- ---- none waits
 

@@ -63,8 +63,8 @@ module _ (bound : ℕ) (w : World) (cells : List ℕ) (callers : List Frame) (at
 
   -- The whole, once labels were left.
   module _ (u : Whole) (r : RunsWhole bound l u) where
-    abbrev s : Settled u.ghost (cells_in m) m.place (height_in m)
-    s = settled u.ghost (cells_in m) m.place (height_in m) r.runs.runs
+    abbrev s : Settled u.ghost (cells_in u.ghost m) m.place (height_in m)
+    s = settled u.ghost (cells_in u.ghost m) m.place (height_in m) r.runs.runs
 
     abbrev settles : Reaches bound l u l
     settles = lifted-there bound l u r at.fuel
@@ -78,11 +78,11 @@ module _ (bound : ℕ) (w : World) (cells : List ℕ) (callers : List Frame) (at
 
   -- ---- the end of the code
 
-  module _ (n : ℕ) (turns : Turns w m (op.Transfer transfer.Leave n)) where
+  module _ (n : ℕ) (turns : Turns w m (op.Leave n)) where
     ends : CanLeave bound w cells at at.fuel callers 0 n
     ends u r =
-        let (none, n_is) = turns u.ghost r.runs in
-        let (no_labels, no_rest, count) = at-end u.ghost.code m.place none (s u r).values (s u r).labels (s u r).rest (s u r).runs.stands (s u r).settled in
+        let (more, there) = turns u.ghost r.runs in
+        let (no_labels, no_rest, count, n_is) = at-end u.ghost.code m.place n more there (s u r).values (s u r).labels (s u r).rest (s u r).runs.stands (s u r).settled in
         (settles u r, left-over (settles u r).new.ghost no_labels no_rest count, n_is)
 
     pub end-leaves : RunsSomeWhole bound l → Leaves bound w cells callers at at.fuel n
@@ -92,12 +92,12 @@ module _ (bound : ℕ) (w : World) (cells : List ℕ) (callers : List Frame) (at
 
   module _ (n : ℕ) (turns : Turns w m (op.Transfer transfer.Return n)) where
     abbrev e : Entry
-    e = entry_of_number at.frame.tables.now n
+    e = entry_of_number w.flat.tables n
 
     returns : CanLeave bound w cells at at.fuel callers 1 e.kept
     returns u r =
         let (more, there) = turns u.ghost r.runs in
-        let z : Settled u.ghost (cells_in m) m.place (height_in m) = s u r in
+        let z : Settled u.ghost (cells_in u.ghost m) m.place (height_in m) = s u r in
         let (rest, rest_is, e_is) = begins u.ghost.code m.place (Return e) more there z.values z.labels z.rest z.runs.stands z.settled in
         let h : Ghost = on u.ghost u.ghost.locals z.values z.labels z.rest in
         let enough = enough-values h rest (inner h z.runs.typed) rest_is in

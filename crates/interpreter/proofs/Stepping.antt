@@ -44,14 +44,14 @@ module _ (w : World) (cells : List ℕ) (at : Position) (kind : OtherInstruction
     pub pushes : (result : Option Position) (why : Stop) (cell cell' : ℕ) (cells' : List ℕ) → IsPaid at result why (position_pushed at cell) → OnSome result (cells' ≡ set cells at.top at.operand) → IfNone result (cells' ≡ cells) → cell ≡ cell'
         → ((g : Ghost) → OtherLeads w m g kind' n → Costs w m g (pushed m cell')) → Steps w cells at result why w cells'
     pushes (Some to) why cell cell' cells' (paid, there) put kept same costs =
-        rw (there, put, same) (record { frame = refl; falls = omega (arith, paid); leads = λ g r. (costs g (leads-as g r)).0 at.fuel (at.fuel - 1) paid refl })
+        rw (there, put, same) (record { there = refl; falls = omega (arith, paid); leads = λ g r. (costs g (leads-as g r)).0 at.fuel (at.fuel - 1) paid refl })
     pushes None why cell cell' cells' (there, none) put kept same costs = rw kept (stops why there none (λ g leads. (costs g leads).1))
 
     -- A topmost one in the place of so many.
     pub lowers : (result : Option Position) (why : Stop) (by cell : ℕ) → IsPaid at result why (position_lowered at by cell)
         → ((g : Ghost) → OtherLeads w m g kind' n → Costs w m g (lowered m by cell)) → Steps w cells at result why w cells
     lowers (Some to) why by cell (paid, there) costs =
-        rw there (record { frame = refl; falls = omega (arith, paid); leads = λ g r. (costs g (leads-as g r)).0 at.fuel (at.fuel - 1) paid refl })
+        rw there (record { there = refl; falls = omega (arith, paid); leads = λ g r. (costs g (leads-as g r)).0 at.fuel (at.fuel - 1) paid refl })
     lowers None why by cell (there, none) costs = stops why there none (λ g leads. (costs g leads).1)
 
   -- In the place of none.
@@ -72,4 +72,4 @@ module _ (w : World) (cells : List ℕ) (at : Position) (kind : OtherInstruction
   pub sets : kind ≡ other.GlobalSet → (to : Position) (state' : StateContents) → (1 ≤ at.fuel) × (to ≡ position_lowered at 1 (get_or cells (at.top - 1) 0)) → state' ≡ (with_global_cell w (global_address w n) at.operand).state
       → StepsTo w cells at (record w { state = state' }) cells to
   sets is to state' (paid, there) same =
-      rw (there, same) (record { frame = refl; falls = omega (arith, paid); leads = λ g r. (leads-as other.GlobalSet is g r).0 at.fuel (at.fuel - 1) paid refl })
+      rw (there, same) (record { there = refl; falls = omega (arith, paid); leads = λ g r. (leads-as other.GlobalSet is g r).0 at.fuel (at.fuel - 1) paid refl })

@@ -21,7 +21,7 @@ use Rattle.interpreter.specs.Running.{RunsAt}
 use Rattle.interpreter.specs.Whole.{IsSeenFrom, Loop, Reaches, RunsSomeWhole, RunsWhole, Whole, left_to_do, whole}
 use Rattle.interpreter.specs.Worlds.{World, store_in}
 use Rattle.interpreter.specs.declared.machine.Crossing.{Crossing}
-use Rattle.interpreter.specs.declared.machine.Crossing.TheVariants.{Enters, Goes, Stops, Switches}
+use Rattle.interpreter.specs.declared.machine.Crossing.TheVariants.{Goes, Stops, Switches}
 use Rattle.interpreter.specs.declared.machine.Frame.{Frame}
 use Rattle.interpreter.specs.declared.machine.Position.{Position}
 use Rattle.interpreter.specs.declared.machine.Stop.{Stop}
@@ -79,10 +79,9 @@ switched bound l l' u new other seen r results steps runs callers arity deep =
     }
 
 -- Code of the same instance is gone on with, and code of another one is next.
-pub crosses : (bound : ℕ) (l : Loop) (cells' : List ℕ) (callers' : List Frame) (result : Crossing) (to : Position) → RunsSomeWhole bound l → IsCrossed l.world.number result to.frame.instance
+pub crosses : (bound : ℕ) (l : Loop) (cells' : List ℕ) (callers' : List Frame) (result : Crossing) (to : Position) → RunsSomeWhole bound l → IsCrossed l.world.number result to.instance
     → CrossesTo bound l (loop_at l.world cells' callers' to) → left_to_do (loop_at l.world cells' callers' to) < left_to_do l → (why : Stop) → Crosses bound l result why cells' callers' to
-crosses bound l cells' callers' Goes to some is goes less why = absurd is
-crosses bound l cells' callers' Enters to (u, r) number goes less why = (
+crosses bound l cells' callers' Goes to (u, r) number goes less why = (
   record { from = λ v s. (goes v s).1 l.world (record { store = refl; code = refl; seen_from = sym number; instance = s.runs.instance }); falls = omega (arith, less) },
   number ∙ sym r.number,
   less,

@@ -21,7 +21,7 @@ use Rattle.interpreter.specs.declared.machine.Position.{Position}
 use Rattle.interpreter.specs.declared.machine.Stop.{Stop}
 use Rattle.interpreter.specs.declared.machine.Stop.TheVariants as stop
 use Rattle.interpreter.proofs.Lifting.{ran-turned, stops-failing, stops-lacking}
-use Rattle.interpreter.proofs.Returning.{end-leaves, return-lacks, return-leaves}
+use Rattle.interpreter.proofs.Returning.{return-lacks, return-leaves}
 
 module _ (bound : ℕ) (w : World) (cells : List ℕ) (callers : List Frame) (at : Position) (kind : TransferInstruction) (n : ℕ) (turns : Turns w (machine_at cells at) (op.Transfer kind n)) where
   abbrev m : Machine
@@ -31,7 +31,7 @@ module _ (bound : ℕ) (w : World) (cells : List ℕ) (callers : List Frame) (at
   l = loop_at w cells callers at
 
   abbrev e : Entry
-  e = entry_of_number at.frame.tables.now n
+  e = entry_of_number w.flat.tables n
 
   turns-at : (k : TransferInstruction) → kind ≡ k → Turns w m (op.Transfer k n)
   turns-at k is = subst (λ (q : TransferInstruction). Turns w m (op.Transfer q n)) is turns
@@ -44,9 +44,6 @@ module _ (bound : ℕ) (w : World) (cells : List ℕ) (callers : List Frame) (at
   pub unreachable-lacks : kind ≡ transfer.Unreachable → (s : Stop) → (s ≡ stop.NoFuel) × (at.fuel ≡ 0) → StopsAt bound l s l
   unreachable-lacks is s none = lacks s none (λ g r. (turns-at transfer.Unreachable is g r).1)
 
-  pub if-lacks : kind ≡ transfer.If → (s : Stop) → (s ≡ stop.NoFuel) × (at.fuel ≡ 0) → StopsAt bound l s l
-  if-lacks is s none = lacks s none (λ g r. (turns-at transfer.If is g r).2)
-
   pub br-lacks : kind ≡ transfer.Br → (s : Stop) → (s ≡ stop.NoFuel) × (at.fuel ≡ 0) → StopsAt bound l s l
   br-lacks is s none = lacks s none (λ g r. (turns-at transfer.Br is g r).1)
 
@@ -55,11 +52,6 @@ module _ (bound : ℕ) (w : World) (cells : List ℕ) (callers : List Frame) (at
 
   pub back-lacks : kind ≡ transfer.Return → (s : Stop) → (s ≡ stop.NoFuel) × (at.fuel ≡ 0) → StopsAt bound l s l
   back-lacks is s (is_none, none) = subst (λ (q : Stop). StopsAt bound l q l) (sym is_none) (return-lacks bound w cells callers at n (turns-at transfer.Return is) none)
-
-  -- ---- where the frame is left
-
-  pub end-leaves-so : kind ≡ transfer.Leave → RunsSomeWhole bound l → Leaves bound w cells callers at at.fuel n
-  end-leaves-so is some = end-leaves bound w cells callers at n (turns-at transfer.Leave is) some
 
   -- ---- for one unit of fuel
 
@@ -72,55 +64,41 @@ module _ (bound : ℕ) (w : World) (cells : List ℕ) (callers : List Frame) (at
 
     -- To another place of the frame.
     goes : (cells' : List ℕ) (place top operand : ℕ) → ((g : Ghost) → RunsAt w m g → GoesTo g m at.fuel w (record m { cells = cells'; place = place; top = top; operand = operand }) left)
-        → GoesOn bound l cells' callers (record { frame = record at.frame { place = place }; top = top; operand = operand; fuel = left })
-    goes cells' place top operand step = (ran-turned bound l w.state w.bytes cells' place top operand left step (omega (arith, both)), refl, omega (arith, both), refl)
-
-    pub if-goes : kind ≡ transfer.If → (place : ℕ) → place ≡ e.target → at.operand ≡ 0
-        → GoesOn bound l cells callers (record { frame = record at.frame { place = place }; top = at.top - 1; operand = get_or cells (at.top - 1) 0; fuel = left })
-    if-goes is place place_is zero =
-        goes cells place (at.top - 1) (get_or cells (at.top - 1) 0)
-        (λ g r. subst (λ (p : ℕ). GoesTo g m at.fuel w (record m { place = p; top = at.top - 1; operand = get_or cells (at.top - 1) 0 }) left) (sym place_is) ((turns-at transfer.If is g r).0 zero at.fuel left both.0 both.1))
-
-    pub if-goes-on : kind ≡ transfer.If → (place : ℕ) → place ≡ at.frame.place + 1 → (at.operand ≡ 0 → ⊥)
-        → GoesOn bound l cells callers (record { frame = record at.frame { place = place }; top = at.top - 1; operand = get_or cells (at.top - 1) 0; fuel = left })
-    if-goes-on is place place_is other =
-        goes cells place (at.top - 1) (get_or cells (at.top - 1) 0)
-        (λ g r. subst (λ (p : ℕ). GoesTo g m at.fuel w (record m { place = p; top = at.top - 1; operand = get_or cells (at.top - 1) 0 }) left) (sym place_is) ((turns-at transfer.If is g r).1 other at.fuel left both.0 both.1))
+        → GoesOn bound l cells' callers (record at { place = place; top = top; operand = operand; fuel = left })
+    goes cells' place top operand step = (ran-turned bound l w.state w.bytes cells' place top operand left step (omega (arith, both)), refl, omega (arith, both))
 
     -- To where a branch landed.
-    lands : (held : List ℕ) (top : ℕ) (x : Entry) → ((g : Ghost) → RunsAt w m g → (cells' : List ℕ) (operand' : ℕ) → AreMoved held top (at.frame.base + at.frame.function.now.locals + x.height) x.kept cells' operand'
-        → GoesTo g m at.fuel w (record m { cells = cells'; place = x.target; top = at.frame.base + at.frame.function.now.locals + x.height + x.kept; operand = operand' }) left)
-        → (cells' : List ℕ) (to from : Position) → AreMoved held top (at.frame.base + at.frame.function.now.locals + x.height) x.kept cells' to.operand → from.frame ≡ at.frame → from.fuel ≡ left → to ≡ position_landed from x to.operand
+    lands : (held : List ℕ) (top : ℕ) (x : Entry) → ((g : Ghost) → RunsAt w m g → (cells' : List ℕ) (operand' : ℕ) → AreMoved held top (at.base + x.height) x.kept cells' operand'
+        → GoesTo g m at.fuel w (record m { cells = cells'; place = x.target; top = at.base + x.height + x.kept; operand = operand' }) left)
+        → (cells' : List ℕ) (to : Position) → AreMoved held top (at.base + x.height) x.kept cells' to.operand → to ≡ position_landed (record at { fuel = left }) x to.operand
         → GoesOn bound l cells' callers to
-    lands held top x step cells' to from moved same_frame same_fuel to_is =
+    lands held top x step cells' to moved to_is =
         subst (λ (p : Position). GoesOn bound l cells' callers p) (sym to_is)
-        (subst (λ (f : Frame). GoesOn bound l cells' callers (position_landed (record from { frame = f }) x to.operand)) (sym same_frame)
-        (subst (λ (k : ℕ). GoesOn bound l cells' callers (record { frame = record at.frame { place = x.target }; top = at.frame.base + at.frame.function.now.locals + x.height + x.kept; operand = to.operand; fuel = k })) (sym same_fuel)
-        (goes cells' x.target (at.frame.base + at.frame.function.now.locals + x.height + x.kept) to.operand (λ g r. step g r cells' to.operand moved))))
+        (goes cells' x.target (at.base + x.height + x.kept) to.operand (λ g r. step g r cells' to.operand moved))
 
-    pub br-lands : kind ≡ transfer.Br → (x : Entry) → x ≡ e → (cells' : List ℕ) (to : Position) → AreMoved (set cells at.top at.operand) at.top (at.frame.base + at.frame.function.now.locals + x.height) x.kept cells' to.operand
+    pub br-lands : kind ≡ transfer.Br → (x : Entry) → x ≡ e → (cells' : List ℕ) (to : Position) → AreMoved (set cells at.top at.operand) at.top (at.base + x.height) x.kept cells' to.operand
         → to ≡ position_landed (record at { fuel = left }) x to.operand → GoesOn bound l cells' callers to
     br-lands is x x_is cells' to moved to_is =
         lands (set cells at.top at.operand) at.top x
-        (λ g r held' operand' there. subst (λ (y : Entry). AreMoved (set cells at.top at.operand) at.top (at.frame.base + at.frame.function.now.locals + y.height) y.kept held' operand' → GoesTo g m at.fuel w (record m { cells = held'; place = y.target; top = at.frame.base + at.frame.function.now.locals + y.height + y.kept; operand = operand' }) left)
+        (λ g r held' operand' there. subst (λ (y : Entry). AreMoved (set cells at.top at.operand) at.top (at.base + y.height) y.kept held' operand' → GoesTo g m at.fuel w (record m { cells = held'; place = y.target; top = at.base + y.height + y.kept; operand = operand' }) left)
         (sym x_is) (λ landed. (turns-at transfer.Br is g r).0 held' operand' landed at.fuel left both.0 both.1) there)
-        cells' to (record at { fuel = left }) moved refl refl to_is
+        cells' to moved to_is
 
     abbrev chosen_entry : Entry
-    chosen_entry = get_or (branch_entries at.frame.tables.now (branch_range_of at.frame.tables.now n)) at.operand (entry_of_number at.frame.tables.now (branch_range_of at.frame.tables.now n).default)
+    chosen_entry = get_or (branch_entries w.flat.tables (branch_range_of w.flat.tables n)) at.operand (entry_of_number w.flat.tables (branch_range_of w.flat.tables n).default)
 
-    pub br-table-lands : kind ≡ transfer.BrTable → (x : Entry) → x ≡ chosen_entry → (cells' : List ℕ) (to : Position) (operand : ℕ) → AreMoved cells (at.top - 1) (at.frame.base + at.frame.function.now.locals + x.height) x.kept cells' to.operand
-        → to ≡ position_landed (record { frame = at.frame; top = at.top - 1; operand = operand; fuel = left }) x to.operand → GoesOn bound l cells' callers to
+    pub br-table-lands : kind ≡ transfer.BrTable → (x : Entry) → x ≡ chosen_entry → (cells' : List ℕ) (to : Position) (operand : ℕ) → AreMoved cells (at.top - 1) (at.base + x.height) x.kept cells' to.operand
+        → to ≡ position_landed (record at { top = at.top - 1; operand = operand; fuel = left }) x to.operand → GoesOn bound l cells' callers to
     br-table-lands is x x_is cells' to operand moved to_is =
         lands cells (at.top - 1) x
-        (λ g r held' operand' there. subst (λ (y : Entry). AreMoved cells (at.top - 1) (at.frame.base + at.frame.function.now.locals + y.height) y.kept held' operand' → GoesTo g m at.fuel w (record m { cells = held'; place = y.target; top = at.frame.base + at.frame.function.now.locals + y.height + y.kept; operand = operand' }) left)
+        (λ g r held' operand' there. subst (λ (y : Entry). AreMoved cells (at.top - 1) (at.base + y.height) y.kept held' operand' → GoesTo g m at.fuel w (record m { cells = held'; place = y.target; top = at.base + y.height + y.kept; operand = operand' }) left)
         (sym x_is) (λ landed. (turns-at transfer.BrTable is g r).0 held' operand' landed at.fuel left both.0 both.1) there)
-        cells' to (record { frame = at.frame; top = at.top - 1; operand = operand; fuel = left }) moved refl refl to_is
+        cells' to moved to_is
 
   -- ---- for nothing
 
-  pub jumps : kind ≡ transfer.Jump → at.frame.place + 1 < 2 ^ 64 → Fits w m (op.Transfer kind n) → (x : Entry) → x ≡ e → GoesOn bound l cells callers (record at { frame = record at.frame { place = x.target } })
+  pub jumps : kind ≡ transfer.Jump → at.place + 1 < 2 ^ 32 → Fits w m (op.Transfer kind n) → (x : Entry) → x ≡ e → GoesOn bound l cells callers (record at { place = x.target })
   jumps is next fits x x_is =
-      let later : at.frame.place < e.target = (subst (λ (k : TransferInstruction). Fits w m (op.Transfer k n)) is fits).1 in
-      subst (λ (y : Entry). GoesOn bound l cells callers (record at { frame = record at.frame { place = y.target } })) (sym x_is)
-      (ran-turned bound l w.state w.bytes cells e.target at.top at.operand at.fuel (λ g r. turns-at transfer.Jump is g r at.fuel) (omega (arith, later)), refl, omega (arith, later, next), refl)
+      let later : at.place < e.target = (subst (λ (k : TransferInstruction). Fits w m (op.Transfer k n)) is fits).1 in
+      subst (λ (y : Entry). GoesOn bound l cells callers (record at { place = y.target })) (sym x_is)
+      (ran-turned bound l w.state w.bytes cells e.target at.top at.operand at.fuel (λ g r. turns-at transfer.Jump is g r at.fuel) (omega (arith, later)), refl, omega (arith, later, next))

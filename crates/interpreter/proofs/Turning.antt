@@ -1,12 +1,16 @@
 -- What each operation needs and leads to, where the machine runs.
-use Rattle.std.proofs.Common.{◌≡◌, List, [], ◌∷◌, drop, get_or, refl, ap, sym, subst, ◌∙◌}
-use Rattle.std.specs.Prelude.{ℕ}
-use Rattle.core_types.specs.declared.op.LoadOp.TheVariants.{Bits8, Whole}
-use Rattle.core_types.specs.declared.op.Sign.TheVariants.{Unsigned}
-use Rattle.core_types.specs.declared.op.StoreOp.TheVariants as into
+use Rattle.std.proofs.Common.{ℕ, ◌+◌, ◌<◌, ◌^◌, get_or, sym, subst, arith}
+use Rattle.core_types.specs.declared.op.LoadOp.{LoadOp}
+use Rattle.core_types.specs.declared.op.LoadOp.TheVariants.{Whole}
+use Rattle.core_types.specs.declared.op.MemoryOp.TheVariants as memory
+use Rattle.core_types.specs.declared.op.PlainOp.TheVariants as plain
 use Rattle.core_types.specs.declared.op.Width.TheVariants.{W32}
 use Rattle.core_types.specs.declared.types.RefType.TheVariants as ref
-use Rattle.sidetable.specs.Flat.{FlatOp, Plain}
+use Rattle.core_types.specs.declared.types.ValType.TheVariants.{I32}
+use Rattle.cells.specs.Cells.{IsCellOf}
+use Rattle.sidetable.specs.Flat.{Plain, at_offset}
+use Rattle.sidetable.specs.FlatModules.{IsFlatModule}
+use Rattle.sidetable.specs.declared.flat_module.FlatModule.{FlatModule}
 use Rattle.sidetable.specs.Packing.{IsOtherWithin, IsTransferWithin, IsWithin, branch_entries, load_op, other_op, store_op, transfer_op, unpacked}
 use Rattle.sidetable.specs.SideTables.{branch_range_of, constant_of, entry_of_number, pair_of}
 use Rattle.sidetable.specs.declared.operations.OtherInstruction.{OtherInstruction}
@@ -17,45 +21,43 @@ use Rattle.sidetable.specs.declared.operations.TransferInstruction.{TransferInst
 use Rattle.sidetable.specs.declared.operations.TransferInstruction.TheVariants as transfer
 use Rattle.simulation.specs.Runs.{Ghost}
 use Rattle.interpreter.specs.Running.{Machine, RunsAt, cells_in, height_in}
-use Rattle.interpreter.specs.Turns.{Fits, LeadsOn, OperationsTurn, OtherFits, OtherLeads, TransferFits, TransferLeads}
+use Rattle.interpreter.specs.Turns.{Fits, HasOperands, LeadsOn, OperationsTurn, OtherFits, OtherLeads, Reads, TransferFits, TransferLeads}
 use Rattle.interpreter.specs.Worlds.{World}
 use Rattle.interpreter.specs.declared.machine.CallKind.TheVariants.{Nested, Tail}
 use Rattle.interpreter.proofs.Calling.{calls-there, calls-through-there}
 use Rattle.interpreter.proofs.Control.{branches-by-table-there, branches-if-there, branches-there, chooses-there, enters-there, jumps-there}
-use Rattle.interpreter.proofs.Forms.{IsAt}
+use Rattle.interpreter.proofs.Forms.{IsAt, own-operands}
 use Rattle.interpreter.proofs.Instructions.{does-nothing-there, drops-there, fails-there, gets-local-there, puts-i32-there, puts-i64-there, puts-null-there, selects-there, sets-local-there, tees-local-there, tests-null-there}
 use Rattle.interpreter.proofs.Memories.{gets-global-there, loads-there, measures-there, refers-there, sets-global-there, stores-there}
 use Rattle.interpreter.proofs.Numbers.{adds-there, binary-there, unary-there}
-use Rattle.interpreter.proofs.Placing.{StandsBefore, stands-there}
+use Rattle.interpreter.proofs.Placing.{stands-there}
 
 module _ (w : World) (m : Machine) (g : Ghost) (r : RunsAt w m g) where
-  transfers : (kind : TransferInstruction) (n : ℕ) → IsAt m g (transfer_op m.tables kind n) → IsTransferWithin m.tables kind n → TransferFits w m kind n × TransferLeads w m g kind n
+  transfers : (kind : TransferInstruction) (n : ℕ) → IsAt m g (transfer_op w.flat.tables kind n) → IsTransferWithin w.flat.tables kind n → TransferFits w m kind n × TransferLeads w m g kind n
   transfers transfer.Unreachable n b within = (tt, fails-there w m g r b)
-  transfers transfer.If n b within = let (some, leads) = chooses-there w m g r (entry_of_number m.tables n) b in ((some, within), leads)
-  transfers transfer.Jump n b within = let (later, leads) = jumps-there w m g r (entry_of_number m.tables n) b in ((within, later), leads)
-  transfers transfer.Br n b within = let (needs, leads) = branches-there w m g r (entry_of_number m.tables n) b in ((needs.0, within, needs.1), leads)
+  transfers transfer.Jump n b within = let (later, leads) = jumps-there w m g r (entry_of_number w.flat.tables n) b in ((within, later), leads)
+  transfers transfer.Br n b within = let (needs, leads) = branches-there w m g r (entry_of_number w.flat.tables n) b in ((needs.0, within, needs.1), leads)
   transfers transfer.BrTable n b within =
-      let range = branch_range_of m.tables n in
-      let (needs, leads) = branches-by-table-there w m g r (branch_entries m.tables range) (entry_of_number m.tables range.default) b in
-      ((needs.0, within.0, within.1, within.2, needs.1), leads)
+      let range = branch_range_of w.flat.tables n in
+      let (needs, leads) = branches-by-table-there w m g r (branch_entries w.flat.tables range) (entry_of_number w.flat.tables range.default) b in
+      ((own-operands g m 1 needs.0, within.0, within.1, within.2, needs.1), leads)
   transfers transfer.Return n b within = (within, (b.more, b.there))
-  transfers transfer.Call n b within = calls-there w m g r Nested n b
   transfers transfer.CallIndirect n b within =
-      let (needs, leads) = calls-through-there w m g r Nested (pair_of m.tables n).first (pair_of m.tables n).second b in
-      ((needs.0, within, needs.1, needs.2, needs.3), leads)
+      let (needs, leads) = calls-through-there w m g r Nested (pair_of w.flat.tables n).first (pair_of w.flat.tables n).second b in
+      ((own-operands g m 1 needs.0, within, needs.1, needs.2, needs.3), leads)
   transfers transfer.ReturnCall n b within = calls-there w m g r Tail n b
   transfers transfer.ReturnCallIndirect n b within =
-      let (needs, leads) = calls-through-there w m g r Tail (pair_of m.tables n).first (pair_of m.tables n).second b in
-      ((needs.0, within, needs.1, needs.2, needs.3), leads)
-  transfers transfer.Leave n b within = absurd within
+      let (needs, leads) = calls-through-there w m g r Tail (pair_of w.flat.tables n).first (pair_of w.flat.tables n).second b in
+      ((own-operands g m 1 needs.0, within, needs.1, needs.2, needs.3), leads)
 
-  others : (kind : OtherInstruction) (n : ℕ) → IsAt m g (Plain (other_op m.tables kind n)) → IsOtherWithin m.tables kind n → OtherFits w m kind n × OtherLeads w m g kind n
+  others : (kind : OtherInstruction) (n : ℕ) → IsAt m g (Plain (other_op w.flat.tables kind n)) → IsOtherWithin w.flat.tables kind n → OtherFits w m kind n × OtherLeads w m g kind n
   others other.Nop n b within = (tt, does-nothing-there w m g r b)
-  others other.DropOperand n b within = drops-there w m g r b
-  others other.Select n b within = selects-there w m g r b
+  others other.DropOperand n b within = let (own, leads) = drops-there w m g r b in (own-operands g m 1 own, leads)
+  others other.Select n b within = let (own, leads) = selects-there w m g r b in (own-operands g m 3 own, leads)
+  others (other.Unary i) n b within = let (needs, leads) = unary-there w m g r i b in ((own-operands g m 1 needs.0, needs.1), leads)
   others other.GlobalGet n b within = gets-global-there w m g r n b
-  others other.GlobalSet n b within = sets-global-there w m g r n b
-  others other.I64Const n b within = let (room, leads) = puts-i64-there w m g r (constant_of m.tables n) b in ((room, within), leads)
+  others other.GlobalSet n b within = let (needs, leads) = sets-global-there w m g r n b in ((own-operands g m 1 needs.0, needs.1, needs.2, needs.3, needs.4), leads)
+  others other.I64Const n b within = let (room, leads) = puts-i64-there w m g r (constant_of w.flat.tables n) b in ((room, within), leads)
   others other.RefNullFunc n b within = puts-null-there w m g r ref.FuncRef b
   others other.RefNullExtern n b within = puts-null-there w m g r ref.ExternRef b
   others other.RefIsNull n b within = (tt, tests-null-there w m g r b)
@@ -63,31 +65,36 @@ module _ (w : World) (m : Machine) (g : Ghost) (r : RunsAt w m g) where
   others other.MemorySize n b within = measures-there w m g r b
   others kind n b within = (within, (b.more, b.there))
 
-  turned : (o : PackedOp) → IsAt m g (unpacked m.tables o) → IsWithin m.tables o → Fits w m o × LeadsOn w m g o
+  loads : (op : LoadOp) (offset : ℕ) → IsAt m g (Plain (plain.Memory (memory.Load op (at_offset offset)))) → (HasOperands m 1 × IsCellOf I32 m.operand) × Reads w m g op offset
+  loads op offset b = let (needs, leads) = loads-there w m g r op offset b in ((own-operands g m 1 needs.0, needs.1), leads)
+
+  turned : (o : PackedOp) → IsAt m g (unpacked w.flat.tables o) → IsWithin w.flat.tables o → Fits w m o × LeadsOn w m g o
   turned (op.LocalGet x) b within = gets-local-there w m g r x b
-  turned (op.LocalSet x) b within = sets-local-there w m g r x b
-  turned (op.LocalTee x) b within = tees-local-there w m g r x b
+  turned (op.LocalSet x) b within = let (needs, leads) = sets-local-there w m g r x b in ((own-operands g m 1 needs.0, omega (arith, needs.0.0, needs.1)), leads)
+  turned (op.LocalTee x) b within = let (needs, leads) = tees-local-there w m g r x b in ((own-operands g m 1 needs.0, omega (arith, needs.0.0, needs.1)), leads)
   turned (op.I32Const n) b within = puts-i32-there w m g r n b
-  turned op.I32Add b within = adds-there w m g r b
+  turned op.I32Add b within = let (own, leads) = adds-there w m g r b in (own-operands g m 2 own, leads)
   turned op.Enter b within = (tt, enters-there w m g r b)
-  turned (op.BrIf n) b within = let (needs, leads) = branches-if-there w m g r (entry_of_number m.tables n) b in ((needs.0, within, needs.1), leads)
-  turned (op.I32Load offset) b within = loads-there w m g r (Whole W32) offset b
-  turned (op.I32Load8U offset) b within = loads-there w m g r (Bits8 W32 Unsigned) offset b
-  turned (op.I32Store8 offset) b within = stores-there w m g r (into.Bits8 W32) offset b
-  turned (op.Binary i) b within = binary-there w m g r i b
-  turned (op.Unary i) b within = unary-there w m g r i b
-  turned (op.Load i offset) b within = loads-there w m g r (load_op i) offset b
-  turned (op.Store i offset) b within = stores-there w m g r (store_op i) offset b
+  turned (op.If n) b within = let (some, leads) = chooses-there w m g r (entry_of_number w.flat.tables n) b in ((own-operands g m 1 some, within), leads)
+  turned (op.BrIf n) b within = let (needs, leads) = branches-if-there w m g r (entry_of_number w.flat.tables n) b in ((own-operands g m 1 needs.0, within, needs.1), leads)
+  turned (op.Call n) b within = calls-there w m g r Nested n b
+  turned (op.Leave n) b within = (tt, (b.more, b.there))
+  turned (op.I32Load offset) b within = loads (Whole W32) offset b
+  turned (op.Binary i) b within = let (needs, leads) = binary-there w m g r i b in ((own-operands g m 2 needs.0, needs.1, needs.2), leads)
+  turned (op.Load i offset) b within = loads (load_op i) offset b
+  turned (op.Store i offset) b within = let (needs, leads) = stores-there w m g r (store_op i) offset b in ((own-operands g m 2 needs.0, needs.1), leads)
   turned (op.Transfer kind n) b within = transfers kind n b within
   turned (op.Other kind n) b within = others kind n b within
 
-  standing-turns : (o : PackedOp) (rest : List FlatOp) → drop m.place g.code.operations ≡ rest → StandsBefore m.tables g.code.outermost.kept o rest → Fits w m o × LeadsOn w m g o
-  standing-turns o [] there is =
-      subst (λ (p : PackedOp). Fits w m p × LeadsOn w m g p) (sym is) (tt, (there, refl))
-  standing-turns o (first ∷ more) there (is, within) =
-      turned o (record { runs = r.runs; more = more; there = there ∙ ap (λ (f : FlatOp). f ∷ more) is }) within
+-- The flat code is that of the instance's module.
+code-there : (w : World) (m : Machine) (g : Ghost) → RunsAt w m g → IsFlatModule w.instance.loaded.value.source w.flat
+code-there w m g r = subst (λ (flat : FlatModule). IsFlatModule w.instance.loaded.value.source flat) (sym r.instance.flat) r.instance.loaded.flat
 
 pub operations-turn : OperationsTurn
 operations-turn w m g r =
-    let (inside, standing) = stands-there m.tables m.operations g (cells_in m) m.place (height_in m) r.packed r.within r.runs in
-    (inside, λ d. standing-turns w m g r (get_or m.operations m.place d) (drop m.place g.code.operations) refl (standing d))
+    let p = stands-there w.flat.tables w.flat.operations.items (code-there w m g r).within g (cells_in g m) m.place (height_in m) r.operations r.runs in
+    (p.inside, λ d. turned w m g r (get_or w.flat.operations.items m.place d) (record { runs = r.runs; more = p.more; there = p.there d }) (p.within d))
+
+-- Places have 32 bits.
+pub place-fits : (w : World) (m : Machine) (g : Ghost) → RunsAt w m g → m.place + 1 < 2 ^ 32
+place-fits w m g r = let few = (code-there w m g r).few in let inside = (operations-turn w m g r).0 in omega (arith, few, inside)

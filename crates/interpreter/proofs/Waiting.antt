@@ -1,7 +1,6 @@
 -- A call of a function of a module: its frame is opened, and the one that called it waits.
 use Rattle.std.proofs.Common.{◌≡◌, ℕ, suc, ◌+◌, ◌-◌, ◌<◌, ◌≤◌, List, ◌∷◌, ◌++◌, length, take, drop, set, replicate, Some, slice_get, refl, ap, sym, subst, ◌∙◌, arith}
-use Rattle.std.proofs.lemmas.List.{length-drop, length-map, length-set, length-take-le}
-use Rattle.std.proofs.lemmas.Option.{slice_get_within}
+use Rattle.std.proofs.lemmas.List.{length-drop, length-set, length-take-le}
 use Rattle.core_types.specs.declared.op.PlainOp.{PlainOp}
 use Rattle.meaning.specs.structure.Bodies.{Body, Then}
 use Rattle.meaning.specs.execution.Configurations.{Frame as Activated, depth, no_frame}
@@ -11,21 +10,18 @@ use Rattle.meaning.specs.execution.Modules.{code_of}
 use Rattle.meaning.specs.execution.Runs.{none, one_more, opens}
 use Rattle.meaning.specs.execution.Store.{Store, instance_of}
 use Rattle.soundness.specs.Places.{context_at, instance_context}
-use Rattle.soundness.specs.Stores.{body_place}
 use Rattle.sidetable.specs.Counts.{Signatures, counts, counts_of}
-use Rattle.sidetable.specs.Flat.{FlatFunction}
-use Rattle.sidetable.specs.FlatModules.{AreWithin}
+use Rattle.sidetable.specs.FlatModules.{operations_of}
 use Rattle.simulation.specs.Entries.{callee}
-use Rattle.simulation.specs.Runs.{Ghost, Runs, frame_of, place_of}
+use Rattle.simulation.specs.Runs.{Ghost, frame_of, place_of}
 use Rattle.simulation.specs.Settling.{in_frame}
 use Rattle.simulation.specs.Standing.{StandsIn}
 use Rattle.simulation.proofs.Calls.{frames-come-and-go}
 use Rattle.simulation.proofs.Frames.{callers-on}
-use Rattle.store.specs.Contents.{AreOfContext, code_store, function_of, module_instance_of, signatures_of_instance}
+use Rattle.store.specs.Contents.{AreOfContext, IsLoaded, code_store, function_of, signatures_of_instance}
 use Rattle.store.specs.declared.instances.ModuleFunction.{ModuleFunction}
 use Rattle.interpreter.specs.Callers.{Caller, CallerStands, CallersStand}
 use Rattle.interpreter.specs.Calling.{declared_locals, frame_waiting, position_opened}
-use Rattle.interpreter.specs.Layout.{put_back}
 use Rattle.interpreter.specs.Looping.{loop_at, machine_at}
 use Rattle.interpreter.specs.Running.{Machine, RunsAt}
 use Rattle.interpreter.specs.Whole.{IsSeenFrom, Loop, Reaches, RunsWhole, SwitchesTo, Whole, layers_of, whole}
@@ -33,10 +29,10 @@ use Rattle.interpreter.specs.Worlds.{World, store_in}
 use Rattle.interpreter.specs.declared.machine.Frame.{Frame}
 use Rattle.interpreter.specs.declared.machine.Position.{Position}
 use Rattle.interpreter.proofs.Cells.{frame-length}
-use Rattle.interpreter.proofs.Entering.{callee-there, declared, declared-is, entered-runs, fits, machine_entered}
+use Rattle.interpreter.proofs.Entering.{declared, declared-is, entered-runs, fits, machine_entered}
 use Rattle.interpreter.proofs.Finding.{IsAtAddress}
 use Rattle.interpreter.proofs.Lifting.{layers-out}
-use Rattle.interpreter.proofs.Opening.{ArgumentsLie, arguments-fit, callee-own, callee-runs, caller-cells, outer-below, top-inside}
+use Rattle.interpreter.proofs.Opening.{ArgumentsLie, callee-own, caller-cells, outer-below, top-inside}
 use Rattle.interpreter.proofs.Switching.{callers-count, switched, whole-depth}
 
 module _ (bound : ℕ) (w : World) (cells : List ℕ) (callers : List Frame) (at : Position) (u : Whole) (r : RunsWhole bound (loop_at w cells callers at) u)
@@ -65,7 +61,7 @@ module _ (bound : ℕ) (w : World) (cells : List ℕ) (callers : List Frame) (at
   abbrev pub waiting : Caller
   waiting = record {
     code = h.code;
-    at = at.frame.place + 1;
+    at = at.place + 1;
     instance = h.instance;
     locals = h.locals;
     values = drop n b.values;
@@ -74,7 +70,7 @@ module _ (bound : ℕ) (w : World) (cells : List ℕ) (callers : List Frame) (at
   }
 
   abbrev pub called : Whole
-  called = record { ghost = callee h s f.ty.now f.instance (code_of f.func.now) b.values; callers = waiting ∷ u.callers; results = u.results }
+  called = record { ghost = callee h s (operations_of found.instance.loaded.value.flat) f.flat.now.place f.ty.now f.instance (code_of f.func.now) b.values; callers = waiting ∷ u.callers; results = u.results }
 
   -- ---- the step
 
@@ -88,17 +84,17 @@ module _ (bound : ℕ) (w : World) (cells : List ℕ) (callers : List Frame) (at
   pub depth-is : depth (whole u) ≡ suc (length callers)
   depth-is =
       whole-depth u.callers h.code.outermost.kept (frame_of h) h.values h.labels h.rest
-      ∙ ap suc (sym (callers-count w.code (length cells) callers u.callers h.code.outermost.kept (take at.frame.base cells) r.callers))
+      ∙ ap suc (sym (callers-count w.code (length cells) callers u.callers h.code.outermost.kept (take at.base cells) r.callers))
 
   -- ---- what is there
 
   abbrev base' : ℕ
-  base' = top + 1 - f.flat.function.now.params
+  base' = top + 1 - f.flat.now.params
 
-  its-fit : at.frame.base + at.frame.function.now.locals + f.flat.function.now.params ≤ top
+  its-fit : at.base + f.flat.now.params ≤ top
   its-fit = fits w m h r.runs op top operand address f found b
 
-  its-declared : f.flat.function.now.params ≤ f.flat.function.now.locals
+  its-declared : f.flat.now.params ≤ f.flat.now.locals
   its-declared = declared w m h r.runs op top operand address f found b
 
   base-is : base' + n ≡ top + 1
@@ -113,7 +109,7 @@ module _ (bound : ℕ) (w : World) (cells : List ℕ) (callers : List Frame) (at
   -- ---- with the cells behind the arguments cleared
 
   module _ (cells' : List ℕ) (filled : take (top + 1 + declared_locals f) cells' ≡ take (top + 1) (set cells top operand) ++ replicate (declared_locals f) 0) (size : length cells' ≡ length cells)
-      (room : top + 1 + declared_locals f + f.flat.function.now.greatest < length cells) where
+      (room : base' + f.flat.now.greatest < length cells) where
     filled-all : take (top + 1 + k) cells' ≡ take (top + 1) (set cells top operand) ++ replicate k 0
     filled-all = subst (λ (q : ℕ). take (top + 1 + q) cells' ≡ take (top + 1) (set cells top operand) ++ replicate q 0) (declared-is w m h r.runs op top operand address f found b) filled
 
@@ -123,31 +119,31 @@ module _ (bound : ℕ) (w : World) (cells : List ℕ) (callers : List Frame) (at
         let taken_size = length-take-le base' cells' (omega (arith, size, in_cells)) in
         let dropped_size = length-drop n b.values in
         let many : length h.values ≡ length b.values + b.over = omega (arith, r.runs.runs.holds.top_is, b.holds.top_is, b.above) in
-        let next_place : suc at.frame.place ≡ at.frame.place + 1 = omega arith in
+        let next_place : suc at.place ≡ at.place + 1 = omega arith in
         let written = length-set cells top operand in
-        let whole_size = frame-length at.frame.function.now.locals at.frame.base (set cells top operand) (omega (arith, written, r.runs.scrap)) in record {
+        let whole_size = frame-length h.code.locals at.base (set cells top operand) (omega (arith, written, r.runs.scrap)) in record {
           place = refl;
-          packed = r.runs.packed;
-          within = r.runs.within;
           number = r.number ∙ sym r.runs.number;
-          there = let within = slice_get_within w.code.instances w.number w.instance r.runs.instance.there in omega (arith, within, r.runs.number);
-          count = r.runs.count;
+          instance = w.instance;
+          loaded = subst (λ (q : ℕ). IsLoaded w.code.instances q w.instance) (sym r.runs.number) r.runs.instance.loaded;
+          operations = r.runs.operations ∙ ap operations_of r.runs.instance.flat;
+          count = r.runs.runs.holds.count;
           signatures = context;
           held = caller-cells w m h r.runs op top operand f.ty.now f.instance (code_of f.func.now) b cells' filled-all size base' base-is;
-          high = omega (arith, taken_size, dropped_size, b.holds.top_is, b.top_is, r.runs.count, its-fit, found.flat.params, b.enough);
-          room = omega (arith, r.runs.runs.holds.room, whole_size, written, r.runs.count, r.runs.scrap, size);
+          high = omega (arith, taken_size, dropped_size, b.holds.top_is, b.top_is, r.runs.runs.holds.count, its-fit, found.flat.params, b.enough);
+          room = omega (arith, r.runs.runs.holds.room, whole_size, written, r.runs.scrap, size);
           stands = λ results is.
               subst (λ (p : ℕ). StandsIn h.code p (results ++ drop n b.values) h.labels b.rest) next_place
-              (callers-on h.code at.frame.place h.values (drop n b.values) results h.labels op b.rest (b.over + n) (length f.ty.now.results) counted (omega (arith, many, b.enough)) (omega (arith, many, dropped_size)) is
-              (subst (λ (z : Body). StandsIn h.code at.frame.place h.values h.labels z) b.rest_is r.runs.runs.stands));
+              (callers-on h.code at.place h.values (drop n b.values) results h.labels op b.rest (b.over + n) (length f.ty.now.results) counted (omega (arith, many, b.enough)) (omega (arith, many, dropped_size)) is
+              (subst (λ (z : Body). StandsIn h.code at.place h.values h.labels z) b.rest_is r.runs.runs.stands));
         }
 
     opened-runs : (other : World) → IsSeenFrom f.instance w other → RunsAt other (machine_at cells' (position_opened at top f)) called.ghost
     opened-runs other seen =
         let own = callee-own w m h r.runs op top operand f.ty.now f.instance (code_of f.func.now) b cells' filled-all size base' base-is in
-        let top_is : base' + f.flat.function.now.locals ≡ top + 1 + declared_locals f = omega (arith, its-fit, its-declared) in
+        let top_is : base' + f.flat.now.locals ≡ top + 1 + declared_locals f = omega (arith, its-fit, its-declared) in
         subst (λ (q : ℕ). RunsAt other (machine_entered f cells' base' q) called.ghost) top_is
-        (entered-runs w m h r.runs op top operand address f found b cells' base' own (omega (arith, room, size, top_is)) other seen)
+        (entered-runs w m h r.runs op top operand address f found b cells' base' own (omega (arith, room, size)) other seen)
 
     opened-in : 1 ≤ at.fuel → suc (length callers) < bound → (other : World) → IsSeenFrom f.instance w other
         → Reaches bound l u (record (loop_at w cells' (frame_waiting at ∷ callers) (position_opened at top f)) { world = other })
@@ -157,9 +153,9 @@ module _ (bound : ℕ) (w : World) (cells : List ℕ) (callers : List Frame) (at
         (opened-runs other seen) (
           waits,
           subst (λ (z : List ℕ). CallersStand w.code (length cells') callers u.callers h.code.outermost.kept z) (sym (outer-below w m h r.runs op top operand f.ty.now f.instance (code_of f.func.now) b cells' filled-all size base' base-is))
-              (subst (λ (q : ℕ). CallersStand w.code q callers u.callers h.code.outermost.kept (take at.frame.base cells)) (sym size) r.callers),
+              (subst (λ (q : ℕ). CallersStand w.code q callers u.callers h.code.outermost.kept (take at.base cells)) (sym size) r.callers),
         )
         refl (omega (arith, shallow))
 
     pub opened : 1 ≤ at.fuel → suc (length callers) < bound → SwitchesTo bound l u (loop_at w cells' (frame_waiting at ∷ callers) (position_opened at top f))
-    opened some shallow = (callee-there w m h r.runs op top operand address f found b, opened-in some shallow)
+    opened some shallow = ((found.instance, found.loaded), opened-in some shallow)

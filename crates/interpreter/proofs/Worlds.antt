@@ -1,7 +1,7 @@
 -- What an instance has in a store whose memory was taken out of the state.
-use Rattle.std.proofs.Common.{◌≡◌, ℕ, ◌<◌, List, length, set, slice_get, refl, ap, sym, ◌∙◌, arith}
+use Rattle.std.proofs.Common.{◌≡◌, ℕ, ◌<◌, List, length, set, slice_get, refl, ap, sym, subst, ◌∙◌, arith}
 use Rattle.std.proofs.lemmas.List.{get_or-set_same, length-set, set-set}
-use Rattle.std.proofs.lemmas.Option.{get_or_from_slice_get, slice_get-map, slice_get_within}
+use Rattle.std.proofs.lemmas.Option.{get_or_from_slice_get, same_Some, slice_get-map, slice_get_within}
 use Rattle.std.specs.Prelude.{Option, Some, None, option_map, unwrap_or}
 use Rattle.core_types.specs.declared.outcome.Val.{Val}
 use Rattle.core_types.specs.declared.types.FuncType.{FuncType}
@@ -9,7 +9,8 @@ use Rattle.meaning.specs.execution.Memories.{MemoryInstance}
 use Rattle.meaning.specs.execution.Store.{GlobalInstance, ModuleInstance, Store, instance_of, locate, locate_at, no_instance, with_global, with_memory}
 use Rattle.meaning.specs.execution.Tables.{TableInstance}
 use Rattle.cells.specs.Cells.{value_of}
-use Rattle.store.specs.Contents.{Contents, module_instance_of, store_with}
+use Rattle.store.specs.Contents.{Contents, IsLoaded, module_instance_of, store_with}
+use Rattle.store.specs.declared.instances.Instance.{Instance}
 use Rattle.store.specs.State.{StateContents, global_of, put_global, table_of}
 use Rattle.simulation.specs.Memories.{HasMemory}
 use Rattle.simulation.specs.Runs.{Ghost}
@@ -17,7 +18,7 @@ use Rattle.simulation.specs.Tables.{HasTable}
 use Rattle.simulation.specs.Variables.{HasGlobal}
 use Rattle.interpreter.specs.Running.{Machine, RunsAt}
 use Rattle.interpreter.specs.Turns.{entry_through, function_address, global_address, table_address, type_of, with_global_cell}
-use Rattle.interpreter.specs.Worlds.{World, memory_in, store_in, with_memory_back}
+use Rattle.interpreter.specs.Worlds.{IsInstance, World, memory_in, store_in, with_memory_back}
 
 -- ---- objects by address
 
@@ -64,6 +65,14 @@ module _ (code : Contents) (s : StateContents) (memory : MemoryInstance) where
   other-global None address value = refl
   other-global (Some a) address value = refl
 
+-- ---- an instance of a number
+
+-- Whoever sees the store from an instance sees its flat code.
+pub flat-seen : (instances : List Instance) (number : ℕ) (i : Instance) → IsLoaded instances number i → (other : World) → other.code.instances ≡ instances → other.number ≡ number → IsInstance other → other.flat ≡ i.loaded.value.flat
+flat-seen instances number i loaded other code_is number_is has =
+    let same : other.instance ≡ i = same_Some other.instance i (sym (subst (λ (n : ℕ). slice_get instances n ≡ Some other.instance) number_is (subst (λ (is : List Instance). slice_get is other.number ≡ Some other.instance) code_is has.loaded.there)) ∙ loaded.there) in
+    has.flat ∙ ap (λ (x : Instance). x.loaded.value.flat) same
+
 -- ---- what the instance has
 
 module _ (w : World) (m : Machine) (g : Ghost) (r : RunsAt w m g) where
@@ -74,7 +83,7 @@ module _ (w : World) (m : Machine) (g : Ghost) (r : RunsAt w m g) where
   there =
       ap (λ (s : Store). instance_of s (Some g.instance)) r.store
       ∙ ap (λ (n : ℕ). unwrap_or (slice_get (store_in w).instances n) no_instance) r.number
-      ∙ ap (λ (i : Option ModuleInstance). unwrap_or i no_instance) (slice_get-map module_instance_of w.code.instances w.number ∙ ap (option_map module_instance_of) r.instance.there)
+      ∙ ap (λ (i : Option ModuleInstance). unwrap_or i no_instance) (slice_get-map module_instance_of w.code.instances w.number ∙ ap (option_map module_instance_of) r.instance.loaded.there)
 
   -- Its memory is the one that was taken out.
   pub memory-there : (address : ℕ) (memory : MemoryInstance) → HasMemory g address memory → (w.address ≡ Some address) × (memory ≡ memory_in w)
@@ -121,10 +130,10 @@ module _ (w : World) (m : Machine) (g : Ghost) (r : RunsAt w m g) where
       let named : slice_get w.instance.addresses.functions.items x ≡ Some address = ap (λ (i : ModuleInstance). slice_get i.functions x) (sym there) ∙ at in
       (slice_get_within w.instance.addresses.functions.items x address named, get_or_from_slice_get w.instance.addresses.functions.items x address 0 named)
 
-  pub type-there : (x : ℕ) (t : FuncType) → slice_get (instance_of g.store (Some g.instance)).types x ≡ Some t → (x < length w.instance.loaded.value.types) × (type_of w.instance x ≡ t)
+  pub type-there : (x : ℕ) (t : FuncType) → slice_get (instance_of g.store (Some g.instance)).types x ≡ Some t → (x < length w.instance.loaded.value.source.types) × (type_of w.instance x ≡ t)
   type-there x t at =
-      let named : slice_get w.instance.loaded.value.types x ≡ Some t = ap (λ (i : ModuleInstance). slice_get i.types x) (sym there) ∙ at in
-      (slice_get_within w.instance.loaded.value.types x t named, get_or_from_slice_get w.instance.loaded.value.types x t _ named)
+      let named : slice_get w.instance.loaded.value.source.types x ≡ Some t = ap (λ (i : ModuleInstance). slice_get i.types x) (sym there) ∙ at in
+      (slice_get_within w.instance.loaded.value.source.types x t named, get_or_from_slice_get w.instance.loaded.value.source.types x t _ named)
 
   -- Its tables are those of the state.
   pub record TableThere (x : ℕ) (table : TableInstance) : Type 0 where

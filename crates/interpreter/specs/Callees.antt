@@ -9,6 +9,8 @@ use Rattle.core_types.specs.declared.outcome.Val.{Val}
 use Rattle.core_types.specs.declared.outcome.Val.TheVariants.{FuncRef}
 use Rattle.core_types.specs.declared.types.FuncType.{FuncType}
 use Rattle.meaning.specs.execution.Store.{FunctionInstance}
+use Rattle.sidetable.specs.declared.operations.PackedOp.{PackedOp}
+use Rattle.sidetable.specs.declared.operations.PackedOp.TheVariants as packed
 use Rattle.sidetable.specs.declared.operations.TransferInstruction.{TransferInstruction}
 use Rattle.sidetable.specs.declared.operations.TransferInstruction.TheVariants as transfer
 use Rattle.simulation.specs.Callees.{IsCalling, IsTailCalling}
@@ -49,9 +51,9 @@ abbrev pub through_table : CallKind → (type x : ℕ) → PlainOp
 through_table Nested type x = Control (CallIndirect type x)
 through_table Tail type x = Control (ReturnCallIndirect type x)
 
-abbrev pub transfer_by_name : CallKind → TransferInstruction
-transfer_by_name Nested = transfer.Call
-transfer_by_name Tail = transfer.ReturnCall
+abbrev pub operation_by_name : CallKind → (x : ℕ) → PackedOp
+operation_by_name Nested x = packed.Call x
+operation_by_name Tail x = packed.Transfer transfer.ReturnCall x
 
 abbrev pub transfer_through : CallKind → TransferInstruction
 transfer_through Nested = transfer.CallIndirect

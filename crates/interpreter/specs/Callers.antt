@@ -1,5 +1,5 @@
 -- The frames that wait for results.
-use Rattle.std.specs.Prelude.{◌≡◌, ℕ, ◌+◌, ◌<◌, ◌≤◌, List, [], ◌∷◌, ◌++◌, length, map, take, Some}
+use Rattle.std.specs.Prelude.{◌≡◌, ℕ, ◌+◌, ◌<◌, List, [], ◌∷◌, ◌++◌, length, map, take, Some}
 use Rattle.core_types.specs.declared.outcome.Val.{Val}
 use Rattle.meaning.specs.structure.Bodies.{Body, Empty}
 use Rattle.meaning.specs.execution.Configurations.{Label, no_frame}
@@ -7,12 +7,12 @@ use Rattle.meaning.specs.execution.Layers.{AroundFrame, Layer}
 use Rattle.meaning.specs.execution.Store.{instance_of}
 use Rattle.soundness.specs.Places.{instance_context}
 use Rattle.cells.specs.Cells.{cell_of}
-use Rattle.sidetable.specs.FlatModules.{AreWithin, before_leave}
-use Rattle.sidetable.specs.Packing.{made}
+use Rattle.sidetable.specs.FlatModules.{operations_of}
 use Rattle.simulation.specs.Calls.{activation_of, around}
 use Rattle.simulation.specs.Piles.{cells_of}
 use Rattle.simulation.specs.Standing.{FrameCode, StandsIn, under, values_under}
-use Rattle.store.specs.Contents.{AreOfContext, Contents, code_store}
+use Rattle.store.specs.Contents.{AreOfContext, Contents, IsLoaded, code_store}
+use Rattle.store.specs.declared.instances.Instance.{Instance}
 use Rattle.interpreter.specs.declared.machine.Frame.{Frame}
 use Rattle.interpreter.specs.Layout.{without_scrap}
 
@@ -34,23 +34,21 @@ layers_around (c ∷ cs) arity =
     (record { instance = Some c.instance; locals = c.locals })
     ∷ around c.labels (layers_around cs c.code.outermost.kept)
 
--- A frame that waits for so many results. Its cells end where those of the frame that it called begin.
+-- A frame that waits for so many results, of an instance of its module. Its cells end where those of the frame that it called begin.
 pub record CallerStands (code : Contents) (size : ℕ) (frame : Frame) (c : Caller) (arity : ℕ)
     (below : List ℕ) : Type 0 where
   pub place : frame.place ≡ c.at
-  pub packed : c.code.operations ≡ made frame.tables.now
-      (before_leave frame.function.now.operations.items)
-  pub within : AreWithin frame.tables.now frame.function.now.operations.items
-      c.code.outermost.kept
   pub number : frame.instance ≡ c.instance
-  pub there : c.instance < length code.instances
-  pub count : frame.function.now.locals ≡ length c.locals
+  pub instance : Instance
+  pub loaded : IsLoaded code.instances c.instance instance
+  pub operations : c.code.operations ≡ operations_of instance.loaded.value.flat
+  pub count : length c.locals ≡ c.code.locals
   pub signatures : AreOfContext c.code.signatures
       (instance_context (code_store code) (instance_of (code_store code) (Some c.instance)))
-  pub held : without_scrap frame.function.now.locals frame.base below ≡
+  pub held : without_scrap c.code.locals frame.base below ≡
       map cell_of c.locals ++ cells_of (c.values ++ values_under c.labels)
-  pub high : length below ≡ frame.base + frame.function.now.locals + 1 + (length c.values + under c.labels)
-  pub room : frame.base + frame.function.now.locals + 1 + c.code.greatest ≤ size
+  pub high : length below ≡ frame.base + c.code.locals + 1 + (length c.values + under c.labels)
+  pub room : frame.base + c.code.greatest < size
   pub stands : (results : List Val) → length results ≡ arity
       → StandsIn c.code c.at (results ++ c.values) c.labels c.rest
 

@@ -11,7 +11,7 @@ use Rattle.interpreter.specs.Worlds.{World}
 use Rattle.interpreter.specs.declared.machine.CallKind.{CallKind}
 use Rattle.interpreter.specs.declared.machine.CallKind.TheVariants.{Nested, Tail}
 use Rattle.interpreter.specs.declared.machine.Crossing.{Crossing}
-use Rattle.interpreter.specs.declared.machine.Crossing.TheVariants.{Enters, Goes, Stops, Switches}
+use Rattle.interpreter.specs.declared.machine.Crossing.TheVariants.{Goes, Stops, Switches}
 use Rattle.interpreter.specs.declared.machine.Frame.{Frame}
 use Rattle.interpreter.specs.declared.machine.Position.{Position}
 use Rattle.interpreter.specs.declared.machine.Stop.TheVariants as stop
@@ -22,42 +22,37 @@ CrossesTo bound l l' = (w : Whole) → RunsWhole bound l w → SwitchesTo bound 
 
 -- It goes on in a frame of an instance: of that whose code runs, or of another one.
 abbrev pub IsCrossed : (number : ℕ) → Crossing → (instance : ℕ) → Type 0
-IsCrossed number Goes instance = ⊥
-IsCrossed number Enters instance = instance ≡ number
+IsCrossed number Goes instance = instance ≡ number
 IsCrossed number Switches instance = Unit {0}
 IsCrossed number Stops instance = ⊥
+
+-- The same position, in an instance.
+abbrev pub with_instance : Position → (instance : ℕ) → Position
+with_instance at instance = record at { instance = instance }
 
 -- ---- branches
 
 -- Where a branch goes on, with a topmost operand.
 abbrev pub position_landed : Position → Entry → (operand : ℕ) → Position
-position_landed at e operand = record {
-  frame = record at.frame { place = e.target };
-  top = at.frame.base + at.frame.function.now.locals + e.height + e.kept;
-  operand = operand;
-  fuel = at.fuel;
-}
+position_landed at e operand =
+    record at { place = e.target; top = at.base + e.height + e.kept; operand = operand }
 
 -- ---- calls
 
 -- The frame that calls waits behind the call.
 abbrev pub frame_waiting : Position → Frame
-frame_waiting at = record at.frame { place = at.frame.place + 1 }
+frame_waiting at = record { base = at.base; place = at.place + 1; instance = at.instance }
 
 -- How many locals there are behind the arguments.
 abbrev pub declared_locals : ModuleFunction → ℕ
-declared_locals f = f.flat.function.now.locals - f.flat.function.now.params
+declared_locals f = f.flat.now.locals - f.flat.now.params
 
 -- The first place of a function that is called at a position, where its last argument lies.
 abbrev pub position_opened : Position → (top : ℕ) → ModuleFunction → Position
 position_opened at top f = record {
-  frame = record {
-    function = f.flat.function;
-    tables = f.flat.tables;
-    instance = f.instance;
-    base = top + 1 - f.flat.function.now.params;
-    place = 0;
-  };
+  instance = f.instance;
+  base = top + 1 - f.flat.now.params;
+  place = f.flat.now.place;
   top = top + 1 + declared_locals f;
   operand = 0;
   fuel = at.fuel - 1;
@@ -67,8 +62,9 @@ position_opened at top f = record {
 pub record CallsModule (bound : ℕ) (w : World) (cells : List ℕ) (callers : List Frame)
     (at from : Position) (f : ModuleFunction) : Type 0 where
   pub room : from.top < length cells
-  pub arguments : at.frame.base + at.frame.function.now.locals + f.flat.function.now.params ≤ from.top
-  pub declared : f.flat.function.now.params ≤ f.flat.function.now.locals
+  pub arguments : at.base + f.flat.now.params ≤ from.top
+  pub declared : f.flat.now.params ≤ f.flat.now.locals
+  pub high : f.flat.now.locals ≤ f.flat.now.greatest
   pub no_depth : 1 ≤ at.fuel → bound ≤ suc (length callers)
       → StopsAt bound (loop_at w cells callers at) stop.NoDepth (loop_at w cells callers at)
   pub no_room : 1 ≤ at.fuel → suc (length callers) < bound
@@ -77,7 +73,7 @@ pub record CallsModule (bound : ℕ) (w : World) (cells : List ℕ) (callers : L
       → StopsAt bound (loop_at w cells callers at) stop.NoMemory (loop_at w cells callers at)
   -- with the cells behind the arguments cleared
   pub opens : 1 ≤ at.fuel → suc (length callers) < bound
-      → from.top + 1 + declared_locals f + f.flat.function.now.greatest < length cells → (cells' : List ℕ)
+      → from.top + 1 - f.flat.now.params + f.flat.now.greatest < length cells → (cells' : List ℕ)
       → take (from.top + 1 + declared_locals f) cells' ≡
       take (from.top + 1) (set cells from.top from.operand) ++ replicate (declared_locals f) 0
       → length cells' ≡ length cells
@@ -87,14 +83,10 @@ pub record CallsModule (bound : ℕ) (w : World) (cells : List ℕ) (callers : L
 -- The first place of a function whose frame takes the place of the one at a position.
 abbrev pub position_replaced : Position → ModuleFunction → Position
 position_replaced at f = record {
-  frame = record {
-    function = f.flat.function;
-    tables = f.flat.tables;
-    instance = f.instance;
-    base = at.frame.base;
-    place = 0;
-  };
-  top = at.frame.base + f.flat.function.now.locals;
+  instance = f.instance;
+  base = at.base;
+  place = f.flat.now.place;
+  top = at.base + f.flat.now.locals;
   operand = 0;
   fuel = at.fuel - 1;
 }
@@ -103,10 +95,10 @@ position_replaced at f = record {
 abbrev pub AreReplaced : (cells : List ℕ) → (base : ℕ) → (from : Position) → ModuleFunction
     → (cells' : List ℕ) → Type 0
 AreReplaced cells base from f cells' =
-    (take (base + f.flat.function.now.locals) cells' ≡
+    (take (base + f.flat.now.locals) cells' ≡
     take base cells
-    ++ (take f.flat.function.now.params
-    (drop (from.top + 1 - f.flat.function.now.params) (set cells from.top from.operand))
+    ++ (take f.flat.now.params
+    (drop (from.top + 1 - f.flat.now.params) (set cells from.top from.operand))
     ++ replicate (declared_locals f) 0))
     × (length cells' ≡ length cells)
 
@@ -114,13 +106,14 @@ AreReplaced cells base from f cells' =
 pub record ReplacesModule (bound : ℕ) (w : World) (cells : List ℕ) (callers : List Frame)
     (at from : Position) (f : ModuleFunction) : Type 0 where
   pub room : from.top < length cells
-  pub arguments : at.frame.base + at.frame.function.now.locals + f.flat.function.now.params ≤ from.top
-  pub declared : f.flat.function.now.params ≤ f.flat.function.now.locals
+  pub arguments : at.base + f.flat.now.params ≤ from.top
+  pub declared : f.flat.now.params ≤ f.flat.now.locals
+  pub high : f.flat.now.locals ≤ f.flat.now.greatest
   pub no_room : 1 ≤ at.fuel
       → StopsAt bound (loop_at w cells callers at) stop.NoRoom (loop_at w cells callers at)
   pub replaces : 1 ≤ at.fuel
-      → at.frame.base + f.flat.function.now.locals + f.flat.function.now.greatest < length cells
-      → (cells' : List ℕ) → AreReplaced cells at.frame.base from f cells'
+      → at.base + f.flat.now.greatest < length cells
+      → (cells' : List ℕ) → AreReplaced cells at.base from f cells'
       → CrossesTo bound (loop_at w cells callers at)
       (loop_at w cells' callers (position_replaced at f))
 
@@ -145,8 +138,10 @@ Calls bound w cells callers at from kind address (callee.InHost f) =
 -- Where a frame goes on that waited for so many results, with a topmost operand.
 abbrev pub position_resumed : Position → Frame → (results operand : ℕ) → Position
 position_resumed at frame results operand = record {
-  frame = frame;
-  top = at.frame.base - 1 + results;
+  instance = frame.instance;
+  base = frame.base;
+  place = frame.place;
+  top = at.base - 1 + results;
   operand = operand;
   fuel = at.fuel;
 }
@@ -162,9 +157,9 @@ pub record Leaves (bound : ℕ) (w : World) (cells : List ℕ) (callers : List F
       → IsOver bound (loop_at w cells callers (record at { fuel = fuel })) u
       (loop_at w cells callers at)
   pub fits : (frame : Frame) (others : List Frame) → callers ≡ frame ∷ others
-      → (1 ≤ at.frame.base) × (at.frame.base - 1 + results ≤ at.top)
+      → (1 ≤ at.base) × (at.base - 1 + results ≤ at.top)
   pub back : (frame : Frame) (others : List Frame) → callers ≡ frame ∷ others
       → (cells' : List ℕ) (operand' : ℕ)
-      → AreMoved (set cells at.top at.operand) at.top (at.frame.base - 1) results cells' operand'
+      → AreMoved (set cells at.top at.operand) at.top (at.base - 1) results cells' operand'
       → CrossesTo bound (loop_at w cells callers (record at { fuel = fuel }))
       (loop_at w cells' others (position_resumed at frame results operand'))

@@ -3,26 +3,22 @@ use Rattle.std.specs.Prelude.{◌≡◌, ℕ, ◌<◌, List}
 use Rattle.interpreter.specs.Looping.{loop_at}
 use Rattle.interpreter.specs.Whole.{Loop, Ran, RunsWhole, StopsAt, SwitchesTo, Whole, left_to_do}
 use Rattle.interpreter.specs.declared.machine.Crossing.{Crossing}
-use Rattle.interpreter.specs.declared.machine.Crossing.TheVariants.{Enters, Goes, Stops, Switches}
+use Rattle.interpreter.specs.declared.machine.Crossing.TheVariants.{Goes, Stops, Switches}
 use Rattle.interpreter.specs.declared.machine.Frame.{Frame}
 use Rattle.interpreter.specs.declared.machine.Position.{Position}
 use Rattle.interpreter.specs.declared.machine.Stop.{Stop}
 
--- It goes on in the same frame.
+-- It goes on in a frame of code of the same instance.
 abbrev pub GoesOn : (bound : ℕ) → Loop → (cells' : List ℕ) → (callers' : List Frame)
     → (to : Position) → Type 0
 GoesOn bound l cells' callers' to =
-    Ran bound l (loop_at l.world cells' callers' to) × (to.frame.instance ≡ l.number)
+    Ran bound l (loop_at l.world cells' callers' to) × (to.instance ≡ l.number)
     × (left_to_do (loop_at l.world cells' callers' to) < left_to_do l)
-    × (to.frame.function.now.operations.items ≡ l.machine.operations)
 
 -- With why it stops, if it does, and the cells, the callers and the position afterwards.
 abbrev pub Crosses : (bound : ℕ) → Loop → Crossing → (why : Stop) → (cells' : List ℕ)
     → (callers' : List Frame) → (to : Position) → Type 0
 Crosses bound l Goes why cells' callers' to = GoesOn bound l cells' callers' to
-Crosses bound l Enters why cells' callers' to =
-    Ran bound l (loop_at l.world cells' callers' to) × (to.frame.instance ≡ l.number)
-    × (left_to_do (loop_at l.world cells' callers' to) < left_to_do l)
 Crosses bound l Switches why cells' callers' to =
     ((w : Whole) → RunsWhole bound l w → SwitchesTo bound l w (loop_at l.world cells' callers' to))
     × (left_to_do (loop_at l.world cells' callers' to) < left_to_do l)

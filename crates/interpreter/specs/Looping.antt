@@ -14,6 +14,7 @@ world_at s state bytes = record {
   state = state;
   number = s.number;
   instance = s.instance.now;
+  flat = s.flat.now;
   address = s.address;
   limits = s.limits;
   bytes = bytes;
@@ -21,12 +22,9 @@ world_at s state bytes = record {
 
 abbrev pub machine_at : (cells : List ℕ) → Position → Machine
 machine_at cells at = record {
-  operations = at.frame.function.now.operations.items;
-  tables = at.frame.tables.now;
-  locals = at.frame.function.now.locals;
-  base = at.frame.base;
+  base = at.base;
   cells = cells;
-  place = at.frame.place;
+  place = at.place;
   top = at.top;
   operand = at.operand;
 }
@@ -34,7 +32,7 @@ machine_at cells at = record {
 abbrev pub loop_at : World → (cells : List ℕ) → (callers : List Frame) → Position → Loop
 loop_at w cells callers at = record {
   world = w;
-  number = at.frame.instance;
+  number = at.instance;
   machine = machine_at cells at;
   callers = callers;
   fuel = at.fuel;

@@ -1,20 +1,14 @@
 -- What the loop knows of a frame, and the configuration that runs there.
 use Rattle.std.specs.Prelude.{◌≡◌, ℕ, ◌+◌, ◌-◌, ◌<◌, ◌≤◌, List, length, take}
 use Rattle.core_types.specs.declared.outcome.Trap.{Trap}
-use Rattle.sidetable.specs.FlatModules.{AreWithin, before_leave}
-use Rattle.sidetable.specs.Packing.{made}
-use Rattle.sidetable.specs.declared.side_tables.SideTables.{SideTables}
-use Rattle.sidetable.specs.declared.operations.PackedOp.{PackedOp}
+use Rattle.sidetable.specs.FlatModules.{operations_of}
 use Rattle.simulation.specs.Runs.{Fails, Ghost, Lacks, Leads, Runs}
 use Rattle.interpreter.specs.Layout.{put_back}
 use Rattle.interpreter.specs.Worlds.{IsInstance, World, store_in}
 
--- The code that runs, how many locals its frame has and where they begin, the place in the code, where the topmost operand would
--- lie among the cells, and that operand.
+-- Where the locals of the frame begin among the cells, the place in the code, where the topmost operand would lie among the cells,
+-- and that operand.
 pub record Machine : Type 0 where
-  pub operations : List PackedOp
-  pub tables : SideTables
-  pub locals : ℕ
   pub base : ℕ
   pub cells : List ℕ
   pub place : ℕ
@@ -22,20 +16,18 @@ pub record Machine : Type 0 where
   pub operand : ℕ
 
 -- The frame's locals and operands, and how many of both there are.
-abbrev pub cells_in : Machine → List ℕ
-cells_in m = put_back m.locals m.base m.cells m.top m.operand
+abbrev pub cells_in : Ghost → Machine → List ℕ
+cells_in g m = put_back g.code.locals m.base m.cells m.top m.operand
 
 abbrev pub height_in : Machine → ℕ
 height_in m = m.top - m.base
 
 -- The machine runs this.
 pub record RunsAt (w : World) (m : Machine) (g : Ghost) : Type 0 where
-  pub runs : Runs g (cells_in m) m.place (height_in m)
-  pub low : m.base + m.locals ≤ m.top
-  pub scrap : m.base + m.locals < length m.cells
-  pub count : m.locals ≡ length g.locals
-  pub packed : g.code.operations ≡ made m.tables (before_leave m.operations)
-  pub within : AreWithin m.tables m.operations g.code.outermost.kept
+  pub runs : Runs g (cells_in g m) m.place (height_in m)
+  pub low : m.base + g.code.locals ≤ m.top
+  pub scrap : m.base + g.code.locals < length m.cells
+  pub operations : g.code.operations ≡ operations_of w.flat
   pub store : g.store ≡ store_in w
   pub number : g.instance ≡ w.number
   pub instance : IsInstance w
@@ -43,8 +35,8 @@ pub record RunsAt (w : World) (m : Machine) (g : Ghost) : Type 0 where
 -- What runs leads, with this fuel, to what the machine runs then; the cells below the frame are as they were.
 pub record GoesTo (g : Ghost) (m : Machine) (fuel : ℕ) (w' : World) (m' : Machine) (left : ℕ)
     : Type 0 where
-  pub leads : Leads g fuel (store_in w') (cells_in m') m'.place (height_in m') left
-  pub low : m'.base + m'.locals ≤ m'.top
+  pub leads : Leads g fuel (store_in w') (cells_in g m') m'.place (height_in m') left
+  pub low : m'.base + g.code.locals ≤ m'.top
   pub size : length m'.cells ≡ length m.cells
   pub below : take m.base m'.cells ≡ take m.base m.cells
 
@@ -58,16 +50,16 @@ GoesFree g m w' m' = (fuel : ℕ) → GoesTo g m fuel w' m' fuel
 
 -- It lacks fuel where there is none.
 abbrev pub IsDear : Ghost → Machine → Type 0
-IsDear g m = (fuel : ℕ) → fuel < 1 → Lacks g fuel (cells_in m) m.place (height_in m) fuel
+IsDear g m = (fuel : ℕ) → fuel < 1 → Lacks g fuel (cells_in g m) m.place (height_in m) fuel
 
 -- It traps, for one unit of fuel.
 abbrev pub Traps : Ghost → Machine → Trap → Type 0
 Traps g m trap =
     (fuel left : ℕ) → 1 ≤ fuel → left ≡ fuel - 1
-    → Fails g fuel (cells_in m) m.place (height_in m) left trap
+    → Fails g fuel (cells_in g m) m.place (height_in m) left trap
 
--- No frame has more operands above its locals than the greatest height of its code.
+-- No frame has more locals and operands than the greatest height of its code.
 abbrev pub OperandsFit : Type 0
 OperandsFit =
     (w : World) (m : Machine) (g : Ghost) → RunsAt w m g
-    → height_in m ≤ m.locals + g.code.greatest
+    → height_in m ≤ g.code.greatest

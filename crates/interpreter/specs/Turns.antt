@@ -1,10 +1,8 @@
 -- What an operation needs, and what it leads to.
 use Rattle.std.specs.Prelude.{◌≡◌, ℕ, suc, ◌+◌, ◌-◌, ◌%◌, ◌^◌, ◌<◌, ◌≤◌, List, [], ◌∷◌, length, drop, set, get_or, slice_get, Option, Some, Result, Ok, Err}
 use Rattle.core_types.specs.declared.op.LoadOp.{LoadOp}
-use Rattle.core_types.specs.declared.op.LoadOp.TheVariants.{Bits8, Whole}
-use Rattle.core_types.specs.declared.op.Sign.TheVariants.{Unsigned}
+use Rattle.core_types.specs.declared.op.LoadOp.TheVariants.{Whole}
 use Rattle.core_types.specs.declared.op.StoreOp.{StoreOp}
-use Rattle.core_types.specs.declared.op.StoreOp.TheVariants as into
 use Rattle.core_types.specs.declared.op.Width.TheVariants.{W32}
 use Rattle.core_types.specs.declared.outcome.Trap.{Trap}
 use Rattle.core_types.specs.declared.outcome.Trap.TheVariants.{Unreachable}
@@ -18,7 +16,7 @@ use Rattle.meaning.specs.validation.Instructions.{load_type}
 use Rattle.meaning.specs.validation.Types.{function_type}
 use Rattle.cells.specs.Cells.{IsCellOf, cell_of, value_of, value_of_result}
 use Rattle.effects.specs.Numeric.{GivesBinary, GivesUnary, operand_type}
-use Rattle.sidetable.specs.Flat.{FlatOp, Plain, Return}
+use Rattle.sidetable.specs.Flat.{FlatOp, Leave, Plain, Return}
 use Rattle.sidetable.specs.Packing.{IsOtherWithin, IsTransferWithin, binary_op, branch_entries, load_op, other_op, store_op, unary_op}
 use Rattle.sidetable.specs.SideTables.{branch_range_of, constant_of, entry_of_number, pair_of}
 use Rattle.sidetable.specs.declared.operations.Entry.{Entry}
@@ -72,7 +70,7 @@ abbrev pub landed : Machine → Entry → (cells' : List ℕ) → (operand' : �
 landed m e cells' operand' = record m {
   cells = cells';
   place = e.target;
-  top = m.base + m.locals + e.height + e.kept;
+  top = m.base + e.height + e.kept;
   operand = operand';
 }
 
@@ -95,7 +93,7 @@ table_address i x = get_or i.addresses.tables.items x 0
 
 -- The type that it has under one.
 abbrev pub type_of : Instance → ℕ → FuncType
-type_of i x = get_or i.loaded.value.types x (function_type [] [])
+type_of i x = get_or i.loaded.value.source.types x (function_type [] [])
 
 -- The entry at an offset of the table that it has under one.
 abbrev pub entry_through : Instance → StateContents → (x offset : ℕ) → Option Val
@@ -112,46 +110,45 @@ with_global_cell w address cell =
 
 -- So many operands are there, and there is room for one more.
 abbrev pub HasOperands : Machine → (count : ℕ) → Type 0
-HasOperands m count = (m.base + m.locals + count ≤ m.top) × (m.top < length m.cells)
+HasOperands m count = (m.base + count ≤ m.top) × (m.top < length m.cells)
 
 -- The entry's operands lie below a place.
 abbrev pub HasKept : Machine → (top : ℕ) → Entry → Type 0
-HasKept m top e = m.base + m.locals + e.height + e.kept ≤ top
+HasKept m top e = m.base + e.height + e.kept ≤ top
 
 -- The type and the table of a pair of indices are there, and so is the offset of an entry.
 abbrev pub FitsTable : World → Machine → (number : ℕ) → Type 0
 FitsTable w m n =
-    HasOperands m 1 × (n < length m.tables.pairs.items)
-    × ((pair_of m.tables n).first < length w.instance.loaded.value.types)
-    × ((pair_of m.tables n).second < length w.instance.addresses.tables.items)
-    × (table_address w.instance (pair_of m.tables n).second < length w.state.contents.tables)
+    HasOperands m 1 × (n < length w.flat.tables.pairs.items)
+    × ((pair_of w.flat.tables n).first < length w.instance.loaded.value.source.types)
+    × ((pair_of w.flat.tables n).second < length w.instance.addresses.tables.items)
+    × (table_address w.instance (pair_of w.flat.tables n).second < length w.state.contents.tables)
 
 -- What a transfer names is there, and so are the operands that it takes and keeps.
 abbrev pub TransferFits : World → Machine → TransferInstruction → (number : ℕ) → Type 0
-TransferFits w m transfer.If n = HasOperands m 1 × (n < length m.tables.entries.items)
 TransferFits w m transfer.Jump n =
-    (n < length m.tables.entries.items) × (m.place < (entry_of_number m.tables n).target)
+    (n < length w.flat.tables.entries.items) × (m.place < (entry_of_number w.flat.tables n).target)
 TransferFits w m transfer.Br n =
-    (m.top < length m.cells) × (n < length m.tables.entries.items)
-    × HasKept m m.top (entry_of_number m.tables n)
+    (m.top < length m.cells) × (n < length w.flat.tables.entries.items)
+    × HasKept m m.top (entry_of_number w.flat.tables n)
 TransferFits w m transfer.BrTable n =
-    HasOperands m 1 × (n < length m.tables.branch_ranges.items)
-    × ((branch_range_of m.tables n).first + (branch_range_of m.tables n).count
-    < suc (length m.tables.entries.items))
-    × ((branch_range_of m.tables n).default < length m.tables.entries.items)
-    × HasKept m (m.top - 1) (get_or (branch_entries m.tables (branch_range_of m.tables n))
-    m.operand (entry_of_number m.tables (branch_range_of m.tables n).default))
-TransferFits w m transfer.Call n = n < length w.instance.addresses.functions.items
+    HasOperands m 1 × (n < length w.flat.tables.branch_ranges.items)
+    × ((branch_range_of w.flat.tables n).first + (branch_range_of w.flat.tables n).count
+    < suc (length w.flat.tables.entries.items))
+    × ((branch_range_of w.flat.tables n).default < length w.flat.tables.entries.items)
+    × HasKept m (m.top - 1) (get_or (branch_entries w.flat.tables (branch_range_of w.flat.tables n))
+    m.operand (entry_of_number w.flat.tables (branch_range_of w.flat.tables n).default))
 TransferFits w m transfer.CallIndirect n = FitsTable w m n
 TransferFits w m transfer.ReturnCall n = n < length w.instance.addresses.functions.items
 TransferFits w m transfer.ReturnCallIndirect n = FitsTable w m n
-TransferFits w m transfer.Leave n = Unit {0}
-TransferFits w m kind n = IsTransferWithin m.tables kind n
+TransferFits w m kind n = IsTransferWithin w.flat.tables kind n
 
 -- The same of the others.
 abbrev pub OtherFits : World → Machine → OtherInstruction → (number : ℕ) → Type 0
 OtherFits w m other.DropOperand n = HasOperands m 1
 OtherFits w m other.Select n = HasOperands m 3
+OtherFits w m (other.Unary instruction) n =
+    HasOperands m 1 × IsCellOf (operand_type (unary_op instruction)) m.operand
 OtherFits w m other.GlobalGet n =
     (m.top < length m.cells) × (n < length w.instance.addresses.globals.items)
     × (global_address w n < length w.state.contents.globals)
@@ -160,32 +157,31 @@ OtherFits w m other.GlobalSet n =
     × (global_address w n < length w.state.contents.globals)
     × ((global_of w.state (global_address w n)).ty.mutability ≡ Var)
     × IsCellOf (global_of w.state (global_address w n)).ty.value m.operand
-OtherFits w m other.I64Const n = (m.top < length m.cells) × (n < length m.tables.constants.items)
+OtherFits w m other.I64Const n = (m.top < length m.cells) × (n < length w.flat.tables.constants.items)
 OtherFits w m other.RefNullFunc n = m.top < length m.cells
 OtherFits w m other.RefNullExtern n = m.top < length m.cells
 OtherFits w m other.RefFunc n =
     (m.top < length m.cells) × (n < length w.instance.addresses.functions.items)
 OtherFits w m other.MemorySize n = m.top < length m.cells
-OtherFits w m kind n = IsOtherWithin m.tables kind n
+OtherFits w m kind n = IsOtherWithin w.flat.tables kind n
 
 abbrev pub Fits : World → Machine → PackedOp → Type 0
 Fits w m (op.LocalGet x) = (m.top < length m.cells) × (m.base + x < length m.cells)
-Fits w m (op.LocalSet x) = HasOperands m 1 × (x < m.locals)
-Fits w m (op.LocalTee x) = HasOperands m 1 × (x < m.locals)
+Fits w m (op.LocalSet x) = HasOperands m 1 × (m.base + x < m.top)
+Fits w m (op.LocalTee x) = HasOperands m 1 × (m.base + x < m.top)
 Fits w m (op.I32Const n) = m.top < length m.cells
 Fits w m op.I32Add = HasOperands m 2
 Fits w m op.Enter = Unit {0}
+Fits w m (op.If n) = HasOperands m 1 × (n < length w.flat.tables.entries.items)
 Fits w m (op.BrIf n) =
-    HasOperands m 1 × (n < length m.tables.entries.items)
-    × ((m.operand ≡ 0 → ⊥) → HasKept m (m.top - 1) (entry_of_number m.tables n))
+    HasOperands m 1 × (n < length w.flat.tables.entries.items)
+    × ((m.operand ≡ 0 → ⊥) → HasKept m (m.top - 1) (entry_of_number w.flat.tables n))
+Fits w m (op.Call n) = n < length w.instance.addresses.functions.items
+Fits w m (op.Leave n) = Unit {0}
 Fits w m (op.I32Load offset) = HasOperands m 1 × IsCellOf I32 m.operand
-Fits w m (op.I32Load8U offset) = HasOperands m 1 × IsCellOf I32 m.operand
-Fits w m (op.I32Store8 offset) = HasOperands m 2 × IsCellOf I32 (second_of m)
 Fits w m (op.Binary instruction) =
     HasOperands m 2 × IsCellOf (operand_type (binary_op instruction)) (second_of m)
     × IsCellOf (operand_type (binary_op instruction)) m.operand
-Fits w m (op.Unary instruction) =
-    HasOperands m 1 × IsCellOf (operand_type (unary_op instruction)) m.operand
 Fits w m (op.Load instruction offset) = HasOperands m 1 × IsCellOf I32 m.operand
 Fits w m (op.Store instruction offset) = HasOperands m 2 × IsCellOf I32 (second_of m)
 Fits w m (op.Transfer kind n) = TransferFits w m kind n
@@ -206,7 +202,7 @@ Answers w m g to (Err trap) = Traps g m trap
 abbrev pub Lands : World → Machine → Ghost → (cells : List ℕ) → (top : ℕ) → Entry → Type 0
 Lands w m g cells top e =
     (cells' : List ℕ) (operand' : ℕ)
-    → AreMoved cells top (m.base + m.locals + e.height) e.kept cells' operand'
+    → AreMoved cells top (m.base + e.height) e.kept cells' operand'
     → Pays g m w (landed m e cells' operand')
 
 -- A load: the number that is read takes the address's place.
@@ -234,20 +230,20 @@ abbrev pub CallsByName : CallKind → World → Machine → Ghost → (x : ℕ) 
 CallsByName kind w m g x =
     (function : FunctionInstance)
     × (slice_get (functions_in w.code) (function_address w x) ≡ Some function)
-    × IsCalled kind (by_name kind x) (function_address w x) function g (cells_in m) m.place
+    × IsCalled kind (by_name kind x) (function_address w x) function g (cells_in g m) m.place
     (height_in m) (height_in m)
 
 -- A call of a function of a type through a table, by the entry at the offset that is the topmost operand.
 abbrev pub CallsThrough : CallKind → World → Machine → Ghost → (type x : ℕ) → Type 0
 CallsThrough kind w m g type x =
     (entry : Option Val) → entry_through w.instance w.state x m.operand ≡ entry
-    → CallsEntry g (cells_in m) m.place (height_in m)
-    (λ address function. IsCalled kind (through_table kind type x) address function g (cells_in m)
+    → CallsEntry g (cells_in g m) m.place (height_in m)
+    (λ address function. IsCalled kind (through_table kind type x) address function g (cells_in g m)
     m.place (height_in m) (height_in m - 1)) (type_of w.instance type) entry
 
 -- Whatever waits around the frame, the next step costs one unit of fuel.
 abbrev pub CostsOne : Ghost → Machine → Type 0
-CostsOne g m = CostsAround g (cells_in m) m.place (height_in m)
+CostsOne g m = CostsAround g (cells_in g m) m.place (height_in m)
 
 -- This operation stands there.
 abbrev pub StandsThere : Machine → Ghost → FlatOp → Type 0
@@ -255,35 +251,28 @@ StandsThere m g o = (more : List FlatOp) × (drop m.place g.code.operations ≡ 
 
 abbrev pub TransferLeads : World → Machine → Ghost → TransferInstruction → (number : ℕ) → Type 0
 TransferLeads w m g transfer.Unreachable n = Traps g m Unreachable × IsDear g m
-TransferLeads w m g transfer.If n =
-    (m.operand ≡ 0 → Pays g m w
-    (record (popped m 1) { place = (entry_of_number m.tables n).target }))
-    × ((m.operand ≡ 0 → ⊥) → Pays g m w (popped m 1))
-    × IsDear g m
 TransferLeads w m g transfer.Jump n =
-    GoesFree g m w (record m { place = (entry_of_number m.tables n).target })
+    GoesFree g m w (record m { place = (entry_of_number w.flat.tables n).target })
 TransferLeads w m g transfer.Br n =
-    Lands w m g (set m.cells m.top m.operand) m.top (entry_of_number m.tables n) × IsDear g m
+    Lands w m g (set m.cells m.top m.operand) m.top (entry_of_number w.flat.tables n) × IsDear g m
 TransferLeads w m g transfer.BrTable n =
     Lands w m g m.cells (m.top - 1)
-    (get_or (branch_entries m.tables (branch_range_of m.tables n)) m.operand
-    (entry_of_number m.tables (branch_range_of m.tables n).default))
+    (get_or (branch_entries w.flat.tables (branch_range_of w.flat.tables n)) m.operand
+    (entry_of_number w.flat.tables (branch_range_of w.flat.tables n).default))
     × IsDear g m
-TransferLeads w m g transfer.Return n = StandsThere m g (Return (entry_of_number m.tables n))
-TransferLeads w m g transfer.Call n = CallsByName Nested w m g n × CostsOne g m
+TransferLeads w m g transfer.Return n = StandsThere m g (Return (entry_of_number w.flat.tables n))
 TransferLeads w m g transfer.CallIndirect n =
-    CallsThrough Nested w m g (pair_of m.tables n).first (pair_of m.tables n).second × CostsOne g m
+    CallsThrough Nested w m g (pair_of w.flat.tables n).first (pair_of w.flat.tables n).second × CostsOne g m
 TransferLeads w m g transfer.ReturnCall n = CallsByName Tail w m g n × CostsOne g m
 TransferLeads w m g transfer.ReturnCallIndirect n =
-    CallsThrough Tail w m g (pair_of m.tables n).first (pair_of m.tables n).second × CostsOne g m
-TransferLeads w m g transfer.Leave n =
-    (drop m.place g.code.operations ≡ []) × (n ≡ g.code.outermost.kept)
+    CallsThrough Tail w m g (pair_of w.flat.tables n).first (pair_of w.flat.tables n).second × CostsOne g m
 
 -- What the loop does not do itself: instructions on tables, bulk instructions and growth.
 abbrev pub IsLeft : OtherInstruction → Type 0
 IsLeft other.Nop = ⊥
 IsLeft other.DropOperand = ⊥
 IsLeft other.Select = ⊥
+IsLeft (other.Unary instruction) = ⊥
 IsLeft other.GlobalGet = ⊥
 IsLeft other.GlobalSet = ⊥
 IsLeft other.I64Const = ⊥
@@ -301,11 +290,15 @@ OtherLeads w m g other.Select n =
     (m.operand ≡ 0 → Pays g m w (lowered m 2 (second_of m)))
     × ((m.operand ≡ 0 → ⊥) → Pays g m w (lowered m 2 (third_of m)))
     × IsDear g m
+OtherLeads w m g (other.Unary instruction) n =
+    ((result : ℕ) → GivesUnary (unary_op instruction) m.operand result
+    → Pays g m w (replaced m result))
+    × IsDear g m
 OtherLeads w m g other.GlobalGet n =
     Costs w m g (pushed m (cell_of (global_of w.state (global_address w n)).value))
 OtherLeads w m g other.GlobalSet n =
     Pays g m (with_global_cell w (global_address w n) m.operand) (popped m 1) × IsDear g m
-OtherLeads w m g other.I64Const n = Costs w m g (pushed m (constant_of m.tables n))
+OtherLeads w m g other.I64Const n = Costs w m g (pushed m (constant_of w.flat.tables n))
 OtherLeads w m g other.RefNullFunc n = Costs w m g (pushed m 0)
 OtherLeads w m g other.RefNullExtern n = Costs w m g (pushed m 0)
 OtherLeads w m g other.RefIsNull n =
@@ -315,7 +308,7 @@ OtherLeads w m g other.RefIsNull n =
 OtherLeads w m g other.RefFunc n = Costs w m g (pushed m (function_address w n + 1))
 OtherLeads w m g other.MemorySize n = Costs w m g (pushed m w.limits.min)
 -- what is left to others
-OtherLeads w m g kind n = StandsThere m g (Plain (other_op m.tables kind n))
+OtherLeads w m g kind n = StandsThere m g (Plain (other_op w.flat.tables kind n))
 
 abbrev pub LeadsOn : World → Machine → Ghost → PackedOp → Type 0
 LeadsOn w m g (op.LocalGet x) =
@@ -325,19 +318,21 @@ LeadsOn w m g (op.LocalTee x) = Costs w m g (record (with_local m x) { place = m
 LeadsOn w m g (op.I32Const n) = Costs w m g (pushed m n)
 LeadsOn w m g op.I32Add = Costs w m g (lowered m 1 ((second_of m + m.operand) % 2 ^ 32))
 LeadsOn w m g op.Enter = Costs w m g (record m { place = m.place + 1 })
+LeadsOn w m g (op.If n) =
+    (m.operand ≡ 0 → Pays g m w
+    (record (popped m 1) { place = (entry_of_number w.flat.tables n).target }))
+    × ((m.operand ≡ 0 → ⊥) → Pays g m w (popped m 1))
+    × IsDear g m
 LeadsOn w m g (op.BrIf n) =
     (m.operand ≡ 0 → Pays g m w (popped m 1))
-    × ((m.operand ≡ 0 → ⊥) → Lands w m g m.cells (m.top - 1) (entry_of_number m.tables n))
+    × ((m.operand ≡ 0 → ⊥) → Lands w m g m.cells (m.top - 1) (entry_of_number w.flat.tables n))
     × IsDear g m
+LeadsOn w m g (op.Call n) = CallsByName Nested w m g n × CostsOne g m
+LeadsOn w m g (op.Leave n) = StandsThere m g (Leave n)
 LeadsOn w m g (op.I32Load offset) = Reads w m g (Whole W32) offset
-LeadsOn w m g (op.I32Load8U offset) = Reads w m g (Bits8 W32 Unsigned) offset
-LeadsOn w m g (op.I32Store8 offset) = Writes w m g (into.Bits8 W32) offset
 LeadsOn w m g (op.Binary instruction) =
     ((result : Result ℕ Trap) → GivesBinary (binary_op instruction) (second_of m) m.operand result
     → Answers w m g (lowered m 1) result)
-    × IsDear g m
-LeadsOn w m g (op.Unary instruction) =
-    ((n : ℕ) → GivesUnary (unary_op instruction) m.operand n → Pays g m w (replaced m n))
     × IsDear g m
 LeadsOn w m g (op.Load instruction offset) = Reads w m g (load_op instruction) offset
 LeadsOn w m g (op.Store instruction offset) = Writes w m g (store_op instruction) offset
@@ -352,6 +347,6 @@ Turns w m o = (g : Ghost) → RunsAt w m g → LeadsOn w m g o
 abbrev pub OperationsTurn : Type 0
 OperationsTurn =
     (w : World) (m : Machine) (g : Ghost) → RunsAt w m g
-    → (m.place < length m.operations)
-    × ((d : PackedOp) → Fits w m (get_or m.operations m.place d)
-    × LeadsOn w m g (get_or m.operations m.place d))
+    → (m.place < length w.flat.operations.items)
+    × ((d : PackedOp) → Fits w m (get_or w.flat.operations.items m.place d)
+    × LeadsOn w m g (get_or w.flat.operations.items m.place d))

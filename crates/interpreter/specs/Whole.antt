@@ -15,6 +15,9 @@ use Rattle.soundness.specs.Places.{outermost}
 use Rattle.soundness.specs.Stores.{StoreIsValid}
 use Rattle.sidetable.specs.Flat.{Plain}
 use Rattle.sidetable.specs.Packing.{other_op}
+use Rattle.sidetable.specs.declared.side_tables.SideTables.{SideTables}
+use Rattle.store.specs.Contents.{IsLoaded}
+use Rattle.store.specs.declared.instances.Instance.{Instance}
 use Rattle.simulation.specs.Piles.{cells_of}
 use Rattle.simulation.specs.Runs.{Ghost, config_of, frame_of}
 use Rattle.interpreter.specs.Callees.{IsCalled}
@@ -114,22 +117,22 @@ pub record CallsHostNext (fuel : ℕ) (m : Machine) (w : Whole) (kind : CallKind
   pub is_host : function.implementation ≡ InHost number
   pub height : ℕ
   pub lies : behind ≡ m.base + height + 1
-  pub calls : IsCalled kind op address function w.ghost (cells_in m) m.place (height_in m) height
+  pub calls : IsCalled kind op address function w.ghost (cells_in w.ghost m) m.place (height_in m) height
   pub paid : 1 ≤ fuel
 
 -- What runs next, by the reason to stop.
-abbrev pub StopsBy : (bound : ℕ) → Stop → Store → (fuel : ℕ) → Machine → Whole → Type 0
-StopsBy bound (stop.Traps trap) store fuel m w =
+abbrev pub StopsBy : (bound : ℕ) → Stop → SideTables → Store → (fuel : ℕ) → Machine → Whole → Type 0
+StopsBy bound (stop.Traps trap) tables store fuel m w =
     (next store no_frame (whole w) ≡ Traps 1 trap) × (1 ≤ fuel)
-StopsBy bound stop.NoFuel store fuel m w = fuel < price (next store no_frame (whole w))
-StopsBy bound stop.NoDepth store fuel m w = OpensNext store fuel w × (bound ≤ depth (whole w))
-StopsBy bound stop.NoRoom store fuel m w = AsksNext bound store fuel w
-StopsBy bound stop.NoMemory store fuel m w = AsksNext bound store fuel w
-StopsBy bound (stop.CallsHost kind address behind) store fuel m w =
+StopsBy bound stop.NoFuel tables store fuel m w = fuel < price (next store no_frame (whole w))
+StopsBy bound stop.NoDepth tables store fuel m w = OpensNext store fuel w × (bound ≤ depth (whole w))
+StopsBy bound stop.NoRoom tables store fuel m w = AsksNext bound store fuel w
+StopsBy bound stop.NoMemory tables store fuel m w = AsksNext bound store fuel w
+StopsBy bound (stop.CallsHost kind address behind) tables store fuel m w =
     CallsHostNext fuel m w kind address behind
-StopsBy bound (stop.LeavesOther kind n) store fuel m w =
-    IsLeft kind × StandsThere m w.ghost (Plain (other_op m.tables kind n))
-StopsBy bound other store fuel m w = Unit {0}
+StopsBy bound (stop.LeavesOther kind n) tables store fuel m w =
+    IsLeft kind × StandsThere m w.ghost (Plain (other_op tables kind n))
+StopsBy bound other tables store fuel m w = Unit {0}
 
 -- The loop with so much more fuel.
 abbrev pub with_more_fuel : Loop → (more : ℕ) → Loop
@@ -143,7 +146,8 @@ paid_for other = 0
 -- It reached where it stops.
 pub record StopsWhole (bound : ℕ) (l : Loop) (w : Whole) (s : Stop) (l' : Loop) : Type 0 where
   pub there : Reaches bound l w (with_more_fuel l' (paid_for s))
-  pub by : StopsBy bound s (store_in l'.world) (l'.fuel + paid_for s) l'.machine there.new
+  pub by : StopsBy bound s l'.world.flat.tables (store_in l'.world) (l'.fuel + paid_for s) l'.machine
+      there.new
 
 -- The topmost cells are those of values of these types, the last one on top.
 pub record HasResults (store : Store) (m : Machine) (results : List ValType) (values : List Val)
@@ -151,7 +155,7 @@ pub record HasResults (store : Store) (m : Machine) (results : List ValType) (va
   pub valid : StoreIsValid store
   pub typed : ValuesHaveTypes store values (reverse results)
   pub room : m.top < length m.cells
-  pub low : m.base + m.locals + length values ≤ m.top
+  pub low : m.base + length values ≤ m.top
   pub lie : take (length values) (drop (m.top + 1 - length values) (set m.cells m.top m.operand))
       ≡ cells_of values
 
@@ -168,7 +172,7 @@ IsSeenFrom number old new = Sees old.code (store_in old) number new
 -- Code of another instance, which is there, is next.
 abbrev pub SwitchesTo : (bound : ℕ) → Loop → Whole → Loop → Type 0
 SwitchesTo bound l w l' =
-    (l'.number < length l'.world.code.instances)
+    ((i : Instance) × IsLoaded l'.world.code.instances l'.number i)
     × ((other : World) → IsSeenFrom l'.number l'.world other
     → Reaches bound l w (record l' { world = other }))
 

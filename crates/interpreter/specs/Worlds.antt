@@ -3,17 +3,19 @@ use Rattle.std.specs.Prelude.{◌≡◌, ℕ, List, Option, Some, None, slice_ge
 use Rattle.core_types.specs.declared.types.Limits.{Limits}
 use Rattle.meaning.specs.execution.Memories.{MemoryInstance}
 use Rattle.meaning.specs.execution.Store.{Store}
-use Rattle.store.specs.Contents.{Contents, store_with}
+use Rattle.sidetable.specs.declared.flat_module.FlatModule.{FlatModule}
+use Rattle.store.specs.Contents.{Contents, IsLoaded, store_with}
 use Rattle.store.specs.State.{StateContents, put_memory}
 use Rattle.store.specs.declared.instances.Instance.{Instance}
 
--- The parts of a store while code of an instance runs: the instance, the address of its memory, if it has one, that memory's
--- limits and bytes, and the state, in which another memory lies at that address.
+-- The parts of a store while code of an instance runs: the instance, its module's flat code, the address of its memory, if it has
+-- one, that memory's limits and bytes, and the state, in which another memory lies at that address.
 pub record World : Type 0 where
   pub code : Contents
   pub state : StateContents
   pub number : ℕ
   pub instance : Instance
+  pub flat : FlatModule
   pub address : Option ℕ
   pub limits : Limits
   pub bytes : List ℕ
@@ -29,9 +31,10 @@ with_memory_back s (Some address) memory = put_memory s address memory
 abbrev pub store_in : World → Store
 store_in w = store_with w.code (with_memory_back w.state w.address (memory_in w))
 
--- The instance is that of this number, and has this memory.
+-- The instance is that of this number, has this flat code, and this memory.
 pub record IsInstance (w : World) : Type 0 where
-  pub there : slice_get w.code.instances w.number ≡ Some w.instance
+  pub loaded : IsLoaded w.code.instances w.number w.instance
+  pub flat : w.flat ≡ w.instance.loaded.value.flat
   pub memory : slice_get w.instance.addresses.memories.items 0 ≡ w.address
 
 -- A store of this code, seen from the instance of a number.

@@ -44,7 +44,7 @@ pub fn find_through<'a>(
     indices: IndexPair,
     offset: u64,
 ) -> Result<Found<'a>, Trap>
-    requires ty { indices.first < length instance.now.loaded.value.types }
+    requires ty { indices.first < length instance.now.loaded.value.source.types }
     requires table { indices.second < length instance.now.addresses.tables.items }
     requires there { table_address instance.now indices.second < length
         state.now.contents.tables }

@@ -1,6 +1,6 @@
-ghost use Rattle.std.specs.Prelude.{◌+◌, ◌<◌, ◌≤◌, ◌^◌, ℕ, length, suc};
-ghost use Rattle.interpreter.specs.Calling.{Calls, CallsModule, IsCrossed, Leaves, ReplacesModule};
-ghost use Rattle.interpreter.specs.Callees.{transfer_by_name, transfer_through};
+ghost use Rattle.std.specs.Prelude.{◌≡◌, ◌+◌, ◌<◌, ◌≤◌, ◌^◌, ℕ, length, suc};
+ghost use Rattle.interpreter.specs.Calling.{Calls, CallsModule, IsCrossed, Leaves, ReplacesModule, with_instance};
+ghost use Rattle.interpreter.specs.Callees.{operation_by_name, transfer_through};
 ghost use Rattle.interpreter.specs.Crossing.{Crosses};
 ghost use Rattle.interpreter.specs.Looping.{loop_at, machine_at, world_at};
 ghost use Rattle.interpreter.specs.Turns.{Fits, Turns};
@@ -16,12 +16,15 @@ use store::{Callee, ModuleFunction, State};
 
 // Goes on in a frame of an instance: of that whose code runs, or of another one.
 #[inline(always)]
-fn cross<'a>(around: Surroundings<'a>, instance: u32) -> Crossing
-    ensures { IsCrossed around.entry.number result instance }
+fn cross(around: Surroundings<'_>, instance: u32, at: &mut Position) -> Crossing
+    requires { at.old.instance ≡ around.number }
+    ensures crossed { IsCrossed around.entry.number result instance }
+    ensures there { at.new ≡ with_instance at.old instance }
 {
     if instance == around.number {
-        Crossing::Enters
+        Crossing::Goes
     } else {
+        at.instance = instance;
         Crossing::Switches
     }
 }
@@ -33,10 +36,10 @@ fn open<'a>(
     state: &State,
     memory: &[u8],
     cells: &mut [u64],
-    callers: &mut Stack<Frame<'a>>,
+    callers: &mut Stack<Frame>,
     function: &ModuleFunction<'a>,
-    from: Position<'a>,
-    at: &mut Position<'a>,
+    from: Position,
+    at: &mut Position,
     why: &mut Stop,
 ) -> Crossing
     requires sound { RunsSomeWhole around.bound
@@ -45,46 +48,36 @@ fn open<'a>(
         callers.old at.old from function.now }
     requires paid { 1 ≤ at.old.fuel }
     requires shallow { suc (length callers.old) < around.bound }
-    requires next { at.old.frame.place + 1 < 2 ^ 64 }
+    requires next { at.old.place + 1 < 2 ^ 32 }
     ensures { Crosses around.entry.bound
         (loop_at (world_at around.entry state.now memory.now) cells.old callers.old at.old)
         result why.new cells.new callers.new at.new }
 {
-    let flat = function.flat.function;
-    let (locals, params) = (flat.locals, flat.params);
+    let flat = function.flat;
     let behind = from.top + 1;
-    let base = behind - params;
-    let room = cells.len() - base;
-    if locals > room || flat.greatest >= (room - locals) as u64 {
+    let base = behind - flat.params as usize;
+    if flat.greatest >= (cells.len() - base) as u64 {
         *why = Stop::NoRoom;
         return Crossing::Stops;
     }
     let waiting = Frame {
-        function: at.frame.function,
-        tables: at.frame.tables,
-        instance: at.frame.instance,
-        base: at.frame.base,
-        place: at.frame.place + 1,
+        base: at.base,
+        place: at.place as u32 + 1,
+        instance: around.number,
     };
     let Ok(()) = callers.push(waiting) else {
         *why = Stop::NoMemory;
         return Crossing::Stops;
     };
     cells[from.top] = from.operand;
-    clear(cells, behind, locals - params);
-    *at = Position {
-        frame: Frame {
-            function: flat,
-            tables: function.flat.tables,
-            instance: function.instance,
-            base,
-            place: 0,
-        },
-        top: base + locals,
-        operand: 0,
-        fuel: at.fuel - 1,
-    };
-    cross(around, function.instance)
+    let declared = (flat.locals - flat.params) as usize;
+    clear(cells, behind, declared);
+    at.base = base;
+    at.place = flat.place as usize;
+    at.top = behind + declared;
+    at.operand = 0;
+    at.fuel -= 1;
+    cross(around, function.instance, at)
 }
 
 // Puts a frame for a function of a module in the place of the one at a position. Its arguments are on top at `from`, in the same frame.
@@ -95,10 +88,10 @@ fn replace<'a>(
     state: &State,
     memory: &[u8],
     cells: &mut [u64],
-    callers: &Stack<Frame<'a>>,
+    callers: &Stack<Frame>,
     function: &ModuleFunction<'a>,
-    from: Position<'a>,
-    at: &mut Position<'a>,
+    from: Position,
+    at: &mut Position,
     why: &mut Stop,
 ) -> Crossing
     requires sound { RunsSomeWhole around.bound
@@ -106,35 +99,25 @@ fn replace<'a>(
     requires replaces { ReplacesModule around.bound (world_at around state.now memory.now) cells.old
         callers.now at.old from function.now }
     requires paid { 1 ≤ at.old.fuel }
-    requires next { at.old.frame.place + 1 < 2 ^ 64 }
     ensures { Crosses around.entry.bound
         (loop_at (world_at around.entry state.now memory.now) cells.old callers.now at.old)
         result why.new cells.new callers.now at.new }
 {
-    let flat = function.flat.function;
-    let (locals, params) = (flat.locals, flat.params);
-    let base = at.frame.base;
-    let room = cells.len() - base;
-    if locals > room || flat.greatest >= (room - locals) as u64 {
+    let flat = function.flat;
+    let base = at.base;
+    if flat.greatest >= (cells.len() - base) as u64 {
         *why = Stop::NoRoom;
         return Crossing::Stops;
     }
+    let (params, locals) = (flat.params as usize, flat.locals as usize);
     cells[from.top] = from.operand;
     move_down(cells, from.top + 1 - params, base, params);
     clear(cells, base + params, locals - params);
-    *at = Position {
-        frame: Frame {
-            function: flat,
-            tables: function.flat.tables,
-            instance: function.instance,
-            base,
-            place: 0,
-        },
-        top: base + locals,
-        operand: 0,
-        fuel: at.fuel - 1,
-    };
-    cross(around, function.instance)
+    at.place = flat.place as usize;
+    at.top = base + locals;
+    at.operand = 0;
+    at.fuel -= 1;
+    cross(around, function.instance, at)
 }
 
 // Calls what was found, once there is fuel for it. Its arguments are on top at `from`, in the same frame.
@@ -144,11 +127,11 @@ fn enter<'a>(
     state: &State,
     memory: &[u8],
     cells: &mut [u64],
-    callers: &mut Stack<Frame<'a>>,
+    callers: &mut Stack<Frame>,
     kind: CallKind,
     found: Found<'a>,
-    from: Position<'a>,
-    at: &mut Position<'a>,
+    from: Position,
+    at: &mut Position,
     why: &mut Stop,
 ) -> Crossing
     requires sound { RunsSomeWhole around.bound
@@ -156,7 +139,7 @@ fn enter<'a>(
     requires calls { Calls around.bound (world_at around state.now memory.now) cells.old
         callers.old at.old from kind found.address found.callee }
     requires paid { 1 ≤ at.old.fuel }
-    requires next { at.old.frame.place + 1 < 2 ^ 64 }
+    requires next { at.old.place + 1 < 2 ^ 32 }
     ensures { Crosses around.entry.bound
         (loop_at (world_at around.entry state.now memory.now) cells.old callers.old at.old)
         result why.new cells.new callers.new at.new }
@@ -195,19 +178,19 @@ pub fn call<'a>(
     state: &State,
     memory: &[u8],
     cells: &mut [u64],
-    callers: &mut Stack<Frame<'a>>,
+    callers: &mut Stack<Frame>,
     kind: CallKind,
     index: u32,
-    at: &mut Position<'a>,
+    at: &mut Position,
     why: &mut Stop,
 ) -> Crossing
     requires sound { RunsSomeWhole around.bound
         (loop_at (world_at around state.now memory.now) cells.old callers.old at.old) }
     requires fits { Fits (world_at around state.now memory.now) (machine_at cells.old at.old)
-        (op.Transfer (transfer_by_name kind) index) }
+        (operation_by_name kind index) }
     requires turns { Turns (world_at around state.now memory.now) (machine_at cells.old at.old)
-        (op.Transfer (transfer_by_name kind) index) }
-    requires next { at.old.frame.place + 1 < 2 ^ 64 }
+        (operation_by_name kind index) }
+    requires next { at.old.place + 1 < 2 ^ 32 }
     ensures { Crosses around.entry.bound
         (loop_at (world_at around.entry state.now memory.now) cells.old callers.old at.old)
         result why.new cells.new callers.new at.new }
@@ -233,10 +216,10 @@ pub fn call_indirect<'a>(
     state: &State,
     memory: &[u8],
     cells: &mut [u64],
-    callers: &mut Stack<Frame<'a>>,
+    callers: &mut Stack<Frame>,
     kind: CallKind,
     number: u32,
-    at: &mut Position<'a>,
+    at: &mut Position,
     why: &mut Stop,
 ) -> Crossing
     requires sound { RunsSomeWhole around.bound
@@ -245,7 +228,7 @@ pub fn call_indirect<'a>(
         (op.Transfer (transfer_through kind) number) }
     requires turns { Turns (world_at around state.now memory.now) (machine_at cells.old at.old)
         (op.Transfer (transfer_through kind) number) }
-    requires next { at.old.frame.place + 1 < 2 ^ 64 }
+    requires next { at.old.place + 1 < 2 ^ 32 }
     ensures { Crosses around.entry.bound
         (loop_at (world_at around.entry state.now memory.now) cells.old callers.old at.old)
         result why.new cells.new callers.new at.new }
@@ -253,7 +236,7 @@ pub fn call_indirect<'a>(
     let Some(left) = pay(at.fuel, why) else {
         return Crossing::Stops;
     };
-    let indices = at.frame.tables.pairs[number as usize];
+    let indices = around.flat.tables.pairs[number as usize];
     match find_through(around.code, around.instance, state, indices, at.operand) {
         Ok(found) => {
             let mut from = *at;
@@ -278,14 +261,14 @@ pub fn leave<'a>(
     state: &State,
     memory: &[u8],
     cells: &mut [u64],
-    callers: &mut Stack<Frame<'a>>,
+    callers: &mut Stack<Frame>,
     results: usize,
-    at: &mut Position<'a>,
+    at: &mut Position,
     why: &mut Stop,
 ) -> Crossing
     requires leaves { (fuel : ℕ) × Leaves around.bound
         (world_at around state.now memory.now) cells.old callers.old at.old fuel results }
-    requires next { at.old.frame.place + 1 < 2 ^ 64 }
+    requires next { at.old.place + 1 < 2 ^ 32 }
     ensures { (fuel : ℕ)
         → Leaves around.entry.bound (world_at around.entry state.now memory.now) cells.old
         callers.old at.old fuel results
@@ -298,14 +281,11 @@ pub fn leave<'a>(
         *why = Stop::Over;
         return Crossing::Stops;
     };
-    let to = at.frame.base - 1;
+    let to = at.base - 1;
     cells[at.top] = at.operand;
     at.operand = land(cells, at.top, to, results, at.operand);
-    at.frame.function = frame.function;
-    at.frame.tables = frame.tables;
-    at.frame.instance = frame.instance;
-    at.frame.base = frame.base;
-    at.frame.place = frame.place;
+    at.base = frame.base;
+    at.place = frame.place as usize;
     at.top = to + results;
-    cross(around, frame.instance)
+    cross(around, frame.instance, at)
 }

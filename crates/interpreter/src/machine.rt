@@ -1,33 +1,35 @@
 use core_types::{Limits, Trap};
-use sidetable::{OtherInstruction, PackedFunction, SideTables};
+use sidetable::{FlatModule, OtherInstruction};
 use store::{Code, Instance};
 
-/// A frame: the flat code that runs in it, with the side tables that it names numbers of, the number of its instance, where its locals
-/// begin among the cells, and the place of the next operation.
+/// A frame that waits: where its locals begin among the cells, the place of the operation behind the call, and the number of its
+/// instance.
 #[derive(Clone, Copy)]
-pub struct Frame<'a> {
-    pub function: &'a PackedFunction,
-    pub tables: &'a SideTables,
+pub struct Frame {
+    pub base: usize,
+    pub place: u32,
+    pub instance: u32,
+}
+
+/// Where a run is: the number of the instance whose code runs, where the locals of the innermost frame begin among the cells, the place
+/// of the next operation, where the topmost operand would lie among the cells, that operand, and the fuel that is left.
+#[derive(Clone, Copy)]
+pub struct Position {
     pub instance: u32,
     pub base: usize,
     pub place: usize,
-}
-
-/// Where a run is: the innermost frame, the topmost operand, where it would lie among the cells, and the fuel that is left.
-#[derive(Clone, Copy)]
-pub struct Position<'a> {
-    pub frame: Frame<'a>,
     pub top: usize,
     pub operand: u64,
     pub fuel: u64,
 }
 
-/// What stays while code of one instance runs: the store's code, the instance and its number, the address of its memory, if it has
-/// one, and that memory's limits, and how many frames may be open.
+/// What stays while code of one instance runs: the store's code, the instance, its module's flat code and its number, the address of
+/// its memory, if it has one, and that memory's limits, and how many frames may be open.
 #[derive(Clone, Copy)]
 pub struct Surroundings<'a> {
     pub code: &'a Code,
     pub instance: &'a Instance,
+    pub flat: &'a FlatModule,
     pub number: u32,
     pub address: Option<u32>,
     pub limits: Limits,
@@ -67,10 +69,8 @@ pub enum Stop {
 /// Where the machine goes on, from the position that an operation led to, which may be in another frame.
 #[derive(Clone, Copy)]
 pub enum Crossing {
-    /// In the same frame.
+    /// In code of the same instance.
     Goes,
-    /// In another frame, of code of the same instance.
-    Enters,
     /// In code of another instance.
     Switches,
     /// Nowhere. Why lies elsewhere, so that the loop carries no reason to stop from turn to turn.

@@ -8,16 +8,17 @@ ghost use Rattle.sidetable.specs.declared.operations.PackedOp.TheVariants as op;
 use crate::machine::{Position, Stop, Surroundings};
 use crate::payment::pay;
 use cells::{cell_of, value_of};
+use effects::compute_unary;
 use sidetable::OtherInstruction;
 use store::State;
 
 // With one operand more.
 #[inline(always)]
-fn push<'a>(cells: &mut [u64], at: Position<'a>, cell: u64, why: &mut Stop) -> Option<Position<'a>>
+fn push(cells: &mut [u64], at: Position, cell: u64, why: &mut Stop) -> Option<Position>
     requires room { at.top < length cells.old }
-    requires next { at.frame.place + 1 < 2 ^ 64 }
-    ensures paid { IsPaid at.entry result why.new (position_pushed at.entry cell) }
-    ensures pushed { OnSome result (cells.new ≡ set cells.old at.entry.top at.entry.operand) }
+    requires next { at.place + 1 < 2 ^ 32 }
+    ensures paid { IsPaid at result why.new (position_pushed at cell) }
+    ensures pushed { OnSome result (cells.new ≡ set cells.old at.top at.operand) }
     ensures kept { IfNone result (cells.new ≡ cells.old) }
 {
     let mut to = at;
@@ -25,45 +26,45 @@ fn push<'a>(cells: &mut [u64], at: Position<'a>, cell: u64, why: &mut Stop) -> O
     cells[at.top] = at.operand;
     to.top += 1;
     to.operand = cell;
-    to.frame.place += 1;
+    to.place += 1;
     Some(to)
 }
 
 // With the topmost operand in the place of so many.
 #[inline(always)]
-fn lower<'a>(at: Position<'a>, by: usize, cell: u64, why: &mut Stop) -> Option<Position<'a>>
+fn lower(at: Position, by: usize, cell: u64, why: &mut Stop) -> Option<Position>
     requires enough { by ≤ at.top }
-    requires next { at.frame.place + 1 < 2 ^ 64 }
-    ensures { IsPaid at.entry result why.new (position_lowered at.entry by cell) }
+    requires next { at.place + 1 < 2 ^ 32 }
+    ensures { IsPaid at result why.new (position_lowered at by cell) }
 {
     let mut to = at;
     to.fuel = pay(at.fuel, why)?;
     to.top -= by;
     to.operand = cell;
-    to.frame.place += 1;
+    to.place += 1;
     Some(to)
 }
 
 /// Does an instruction that is rarer, or leaves it to others.
 #[inline(always)]
-pub fn step_other<'a>(
-    around: Surroundings<'a>,
+pub fn step_other(
+    around: Surroundings<'_>,
     state: &mut State,
     cells: &mut [u64],
     kind: OtherInstruction,
     n: u32,
-    at: Position<'a>,
+    at: Position,
     why: &mut Stop,
-) -> Option<Position<'a>>
-    requires next { at.frame.place + 1 < 2 ^ 64 }
+) -> Option<Position>
+    requires next { at.place + 1 < 2 ^ 32 }
     requires fits { (bytes : List ℕ) × Fits (world_at around state.old bytes)
         (machine_at cells.old at) (op.Other kind n) }
     ensures { (bytes : List ℕ)
-        → Fits (world_at around.entry state.old bytes) (machine_at cells.old at.entry)
+        → Fits (world_at around.entry state.old bytes) (machine_at cells.old at)
         (op.Other kind n)
-        → Turns (world_at around.entry state.old bytes) (machine_at cells.old at.entry)
+        → Turns (world_at around.entry state.old bytes) (machine_at cells.old at)
         (op.Other kind n)
-        → Steps (world_at around.entry state.old bytes) cells.old at.entry result why.new
+        → Steps (world_at around.entry state.old bytes) cells.old at result why.new
         (world_at around.entry state.new bytes) cells.new }
 {
     let addresses = &around.instance.addresses;
@@ -77,6 +78,9 @@ pub fn step_other<'a>(
                 at.top - 2
             };
             lower(at, 2, cells[chosen], why)
+        }
+        OtherInstruction::Unary(instruction) => {
+            lower(at, 0, compute_unary(instruction, at.operand), why)
         }
         OtherInstruction::GlobalGet => {
             let address = addresses.globals[n as usize];
@@ -95,7 +99,12 @@ pub fn step_other<'a>(
             state.set_global(address, value);
             Some(to)
         }
-        OtherInstruction::I64Const => push(cells, at, at.frame.tables.constants[n as usize], why),
+        OtherInstruction::I64Const => push(
+            cells,
+            at,
+            around.flat.tables.constants[n as usize],
+            why,
+        ),
         OtherInstruction::RefNullFunc | OtherInstruction::RefNullExtern => push(cells, at, 0, why),
         OtherInstruction::RefIsNull => lower(at, 0, u64::from(at.operand == 0), why),
         OtherInstruction::RefFunc => {

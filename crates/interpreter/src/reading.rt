@@ -17,19 +17,19 @@ pub fn fetch<'a>(
     memory: &[u8],
     cells: &[u64],
     operations: &'a [PackedOp],
-    at: Position<'a>,
+    at: Position,
 ) -> &'a PackedOp
-    requires code { operations.now ≡ at.frame.function.now.operations.items }
+    requires code { operations.now ≡ around.flat.now.operations.items }
     requires sound { (g : Ghost) × RunsAt (world_at around state.now memory.now)
         (machine_at cells.now at) g }
-    ensures inside { at.entry.frame.place < length operations.now }
-    ensures next { at.entry.frame.place + 1 < 2 ^ 64 }
+    ensures inside { at.place < length operations.now }
+    ensures next { at.place + 1 < 2 ^ 32 }
     ensures fits { Fits (world_at around.entry state.now memory.now)
-        (machine_at cells.now at.entry) result.now }
+        (machine_at cells.now at) result.now }
     ensures turns { Turns (world_at around.entry state.now memory.now)
-        (machine_at cells.now at.entry) result.now }
+        (machine_at cells.now at) result.now }
 {
-    &operations[at.frame.place]
+    &operations[at.place]
 }
 
 /// The entry of a number.

@@ -40,32 +40,32 @@ fn chosen(tables: &SideTables, number: u32, operand: u64) -> Entry
 
 /// Branches to an entry, where the topmost operand lies at the top, too, and was paid for.
 #[inline(always)]
-pub fn branch<'a>(cells: &mut [u64], e: Entry, at: &mut Position<'a>)
-    requires low { at.old.frame.base + at.old.frame.function.now.locals + e.height + e.kept ≤ at.old.top }
+pub fn branch(cells: &mut [u64], e: Entry, at: &mut Position)
+    requires low { at.old.base + e.height + e.kept ≤ at.old.top }
     requires within { at.old.top < length cells.old }
     requires there { get_or cells.old at.old.top 0 ≡ at.old.operand }
     ensures moved { AreMoved cells.old at.old.top
-        (at.old.frame.base + at.old.frame.function.now.locals + e.height) e.kept cells.new at.new.operand }
+        (at.old.base + e.height) e.kept cells.new at.new.operand }
     ensures landed { at.new ≡ position_landed at.old e at.new.operand }
 {
     let kept = e.kept as usize;
-    let to = at.frame.base + at.frame.function.locals + e.height as usize;
+    let to = at.base + e.height as usize;
     at.operand = land(cells, at.top, to, kept, at.operand);
     at.top = to + kept;
-    at.frame.place = e.target as usize;
+    at.place = e.target as usize;
 }
 
-/// Does an operation that does not go on with the next one, or calls.
+/// Does an operation that does not go on with the next one, or calls, and is rarer.
 #[inline(always)]
 pub fn transfer<'a>(
     around: Surroundings<'a>,
     state: &State,
     memory: &[u8],
     cells: &mut [u64],
-    callers: &mut Stack<Frame<'a>>,
+    callers: &mut Stack<Frame>,
     kind: TransferInstruction,
     n: u32,
-    at: &mut Position<'a>,
+    at: &mut Position,
     why: &mut Stop,
 ) -> Crossing
     requires sound { RunsSomeWhole around.bound
@@ -74,12 +74,12 @@ pub fn transfer<'a>(
         (op.Transfer kind n) }
     requires turns { Turns (world_at around state.now memory.now) (machine_at cells.old at.old)
         (op.Transfer kind n) }
-    requires next { at.old.frame.place + 1 < 2 ^ 64 }
+    requires next { at.old.place + 1 < 2 ^ 32 }
     ensures { Crosses around.entry.bound
         (loop_at (world_at around.entry state.now memory.now) cells.old callers.old at.old)
         result why.new cells.new callers.new at.new }
 {
-    let tables = at.frame.tables;
+    let tables = &around.flat.tables;
     match kind {
         TransferInstruction::Unreachable => {
             let Some(fuel) = pay(at.fuel, why) else {
@@ -89,23 +89,8 @@ pub fn transfer<'a>(
             *why = Stop::Traps(Trap::Unreachable);
             Crossing::Stops
         }
-        TransferInstruction::If => {
-            let Some(fuel) = pay(at.fuel, why) else {
-                return Crossing::Stops;
-            };
-            let condition = at.operand;
-            at.fuel = fuel;
-            at.top -= 1;
-            at.operand = cells[at.top];
-            at.frame.place = if condition == 0 {
-                entry(tables, n).target as usize
-            } else {
-                at.frame.place + 1
-            };
-            Crossing::Goes
-        }
         TransferInstruction::Jump => {
-            at.frame.place = entry(tables, n).target as usize;
+            at.place = entry(tables, n).target as usize;
             Crossing::Goes
         }
         TransferInstruction::Br => {
@@ -135,19 +120,6 @@ pub fn transfer<'a>(
             at.fuel = fuel;
             let results = entry(tables, n).kept as usize;
             leave(around, state, memory, cells, callers, results, at, why)
-        }
-        TransferInstruction::Call => {
-            call(
-                around,
-                state,
-                memory,
-                cells,
-                callers,
-                CallKind::Nested,
-                n,
-                at,
-                why,
-            )
         }
         TransferInstruction::CallIndirect => {
             call_indirect(
@@ -187,9 +159,6 @@ pub fn transfer<'a>(
                 at,
                 why,
             )
-        }
-        TransferInstruction::Leave => {
-            leave(around, state, memory, cells, callers, n as usize, at, why)
         }
     }
 }

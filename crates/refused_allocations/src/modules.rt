@@ -118,7 +118,7 @@ impl Flattening {
 impl Attempt for Flattening {
     fn attempt(&mut self) -> Answer {
         match flatten(self.alloc, &self.module) {
-            Ok(flat) if flat.function_count() == 3 => Answer::Ample,
+            Ok(flat) if flat.functions.len() == 3 => Answer::Ample,
             Ok(_) => Answer::Wrong,
             Err(_) => Answer::Wanting,
         }

@@ -1,23 +1,29 @@
 -- The functions of a module: their types, and their flat code in order.
-use Rattle.std.proofs.Common.{◌≡◌, ℕ, ◌-◌, ◌<◌, List, [], ◌∷◌, ◌++◌, length, map, get_or, refl, ap, ap₂, sym, arith, length-append, subst}
-use Rattle.std.proofs.Math.Seq.{take-append_seam}
-use Rattle.std.proofs.lemmas.List.Elements.{All-head, All-tail}
+use Rattle.std.proofs.Common.{◌≡◌, ℕ, ◌+◌, ◌-◌, ◌<◌, ◌≤◌, List, [], ◌∷◌, ◌++◌, length, drop, get_or, refl, ap, sym, arith, length-append, length-drop, append_assoc, subst, ◌∙◌}
+use Rattle.std.proofs.Math.Seq.{drop-append_seam}
+use Rattle.std.proofs.lemmas.List.{append-nil, drop-append-le, length-map, map-append}
+use Rattle.std.proofs.lemmas.List.Elements.{All-append, All-cons, All-nil}
 use Rattle.std.specs.List.{All}
+use Rattle.std.specs.Prelude.{Some}
 use Rattle.std.proofs.lemmas.Option.{slice_get-get_or}
 use Rattle.core_types.specs.declared.module.Func.{Func}
 use Rattle.core_types.specs.declared.types.FuncType.{FuncType}
 use Rattle.core_types.specs.declared.module.Import.{Import}
 use Rattle.core_types.specs.declared.module.ImportDesc.{ImportDesc}
 use Rattle.core_types.specs.declared.module.ImportDesc.TheVariants as import
+use Rattle.meaning.specs.structure.Bodies.{Body}
 use Rattle.meaning.specs.validation.Modules.{imported_functions, type_at}
 use Rattle.sidetable.specs.Counts.{Signatures}
-use Rattle.sidetable.specs.Flat.{FlatOp}
-use Rattle.sidetable.specs.FlatModules.{AreFlat, AreWithin, FunctionCode, IsFlat, IsFunctionWithin, before_leave, code_of, leave}
-use Rattle.sidetable.specs.Packing.{IsWithin}
-use Rattle.sidetable.specs.SideTables.{Grows, SideTables}
+use Rattle.sidetable.specs.Flat.{FlatOp, Leave, flat, function_entry, function_operations}
+use Rattle.sidetable.specs.FlatModules.{AreFlat, AreWithin, IsFlat, IsFlatBody, operations_of}
+use Rattle.sidetable.specs.Flattening.{ArePushed, IsMade, IsPushed}
+use Rattle.sidetable.specs.Packing.{IsWithin, made, unpacked}
+use Rattle.sidetable.specs.SideTables.{Continues, SideTables}
+use Rattle.sidetable.specs.declared.flat_module.FlatModule.{FlatModule}
 use Rattle.sidetable.specs.declared.flat_module.PackedFunction.{PackedFunction}
+use Rattle.sidetable.specs.declared.flattening.FlatBody.{FlatBody}
 use Rattle.sidetable.specs.declared.operations.PackedOp.{PackedOp}
-use Rattle.sidetable.proofs.Growth.{all-within-kept, made-kept}
+use Rattle.sidetable.specs.declared.operations.PackedOp.TheVariants as packed
 
 -- The functions of some imports, and those of others behind them.
 pub imported-append : (is js : List Import) → imported_functions (is ++ js) ≡ imported_functions is ++ imported_functions js
@@ -32,45 +38,77 @@ imported-append (i ∷ is) js = first i.desc (imported_functions (is ++ js)) (im
     first (import.Memory l) xs ys zs e = e
     first (import.Global g) xs ys zs e = e
 
--- ---- flat code
+-- ---- operations behind others
 
-module _ (s : Signatures) where
-  pub flat-more : (fs : List Func) (codes : List FunctionCode) (f : Func) (code : FunctionCode) → AreFlat s fs codes → IsFlat s f code → AreFlat s (fs ++ (f ∷ [])) (codes ++ (code ∷ []))
-  flat-more [] [] f code are is = (is, tt {0})
-  flat-more [] (c ∷ codes) f code are is = absurd are
-  flat-more (g ∷ fs) [] f code are is = absurd are
-  flat-more (g ∷ fs) (c ∷ codes) f code are is = (are.0, flat-more fs codes f code are.1 is)
+inside : (n : ℕ) (xs front more : List FlatOp) (o : FlatOp) → drop n xs ≡ (front ++ (o ∷ [])) ++ more → n ≤ length xs
+inside n xs front more o e =
+    let sizes : length xs - n ≡ length (front ++ (o ∷ [])) + length more = sym (length-drop n xs) ∙ ap length e ∙ length-append (front ++ (o ∷ [])) more in
+    omega (arith, sizes, length-append front (o ∷ []))
 
--- ---- what stands behind operations
+module _ (s : Signatures) (old new : List FlatOp) (continues : Continues old new) where
+  -- What begins at a place begins there, too, where more stands behind.
+  flat-continued : (f : Func) (p : PackedFunction) → IsFlat s old f p → IsFlat s new f p
+  flat-continued f p is = record {
+    flat = λ body e.
+        let b = is.flat body e in record {
+          more = b.more ++ continues.0;
+          placed = ap (drop p.place) continues.1 ∙ drop-append-le p.place old continues.0 (inside p.place old _ b.more _ b.placed) ∙ ap (λ (os : List FlatOp). os ++ continues.0) b.placed ∙ append_assoc _ b.more continues.0;
+          greatest = b.greatest;
+        };
+    params = is.params;
+    locals = is.locals;
+    results = is.results;
+  }
 
--- Before it are the operations.
-pub before-leave : (ops : List PackedOp) (results : ℕ) → before_leave (ops ++ (leave results ∷ [])) ≡ ops
-before-leave ops results =
-    let more = length-append ops (leave results ∷ []) in
-    let size : length (ops ++ (leave results ∷ [])) - 1 ≡ length ops = omega (arith, more) in
-    rw size (take-append_seam ops (leave results ∷ []))
+  pub all-continued : (fs : List Func) (ps : List PackedFunction) → AreFlat s old fs ps → AreFlat s new fs ps
+  all-continued [] [] are = tt {0}
+  all-continued [] (p ∷ ps) are = absurd are
+  all-continued (f ∷ fs) [] are = absurd are
+  all-continued (f ∷ fs) (p ∷ ps) are = (flat-continued f p are.0, all-continued fs ps are.1)
 
-pub are-within : (t : SideTables) (ops : List PackedOp) (results : ℕ) → All (IsWithin t) ops → AreWithin t (ops ++ (leave results ∷ [])) results
-are-within t ops results within = record {
-  ends = ap (λ (os : List PackedOp). os ++ (leave results ∷ [])) (sym (before-leave ops results));
-  within = subst (All (IsWithin t)) (sym (before-leave ops results)) within;
+-- One function more.
+pub flat-more : (s : Signatures) (ops : List FlatOp) (fs : List Func) (ps : List PackedFunction) (f : Func) (p : PackedFunction) → AreFlat s ops fs ps → IsFlat s ops f p → AreFlat s ops (fs ++ (f ∷ [])) (ps ++ (p ∷ []))
+flat-more s ops [] [] f p are is = (is, tt {0})
+flat-more s ops [] (q ∷ ps) f p are is = absurd are
+flat-more s ops (g ∷ fs) [] f p are is = absurd are
+flat-more s ops (g ∷ fs) (q ∷ ps) f p are is = (are.0, flat-more s ops fs ps f p are.1 is)
+
+pub all-more : (s : Signatures) (fs : List Func) (old new : FlatModule) (f : Func) → ArePushed s fs old → IsPushed s old f new → ArePushed s (fs ++ (f ∷ [])) new
+all-more s fs old new f all one = record {
+  within = one.within;
+  few = one.few;
+  functions = subst (AreFlat s (operations_of new) (fs ++ (f ∷ []))) (sym one.functions)
+      (flat-more s (operations_of new) fs old.functions.items f one.packed (all-continued s (operations_of old) (operations_of new) one.operations fs old.functions.items all.functions) one.flat);
 }
 
--- ---- where the side tables grow
+-- ---- a function that was flattened
 
-module _ (t u : SideTables) (g : Grows t u) where
-  code-kept : (f : PackedFunction) → IsFunctionWithin t f → code_of u f ≡ code_of t f
-  code-kept f within =
-      ap (λ (ops : List FlatOp). let c : FunctionCode = record { flat = record { operations = ops; greatest = f.greatest }; params = f.params; locals = f.locals; results = f.results } in c)
-      (made-kept t u g (before_leave f.operations.items) within.within)
+-- Its operations begin where those before end.
+pub placed-behind : (s : Signatures) (before : List PackedOp) (tables : SideTables) (p : PackedFunction) (body : Body) (b : FlatBody) (m : FlatModule) → IsMade s before tables p.locals p.results body b → p.place ≡ length before → p.greatest ≡ b.greatest
+    → m.operations.items ≡ b.operations.items ++ (packed.Leave p.results ∷ []) → m.tables ≡ b.tables
+    → (operations_of m ≡ made tables before ++ function_operations s p.locals p.results p.place body) × IsFlatBody s (operations_of m) p body
+placed-behind s before tables p body b m made_so place_is greatest_is ops_are tables_are = (whole, record { more = []; placed = there; greatest = greatest_is ∙ made_so.greatest })
+  where
+    code : List FlatOp
+    code = flat s (function_entry p.locals p.results p.place body) (function_entry p.locals p.results p.place body ∷ []) (Some p.locals) p.place body
 
-  pub codes-kept : (fs : List PackedFunction) → All (IsFunctionWithin t) fs → map (code_of u) fs ≡ map (code_of t) fs
-  codes-kept [] within = refl
-  codes-kept (f ∷ fs) within = ap₂ (λ (c : FunctionCode) (cs : List FunctionCode). c ∷ cs) (code-kept f (All-head (IsFunctionWithin t) f fs within)) (codes-kept fs (All-tail (IsFunctionWithin t) f fs within))
+    made_is : made b.tables b.operations.items ≡ made tables before ++ code
+    made_is = rw place_is made_so.operations
 
-  pub functions-within : (fs : List PackedFunction) → All (IsFunctionWithin t) fs → All (IsFunctionWithin u) fs
-  functions-within fs within = λ k d lt. let w : AreWithin t (get_or fs k d).operations.items (get_or fs k d).results = within k d lt in
-      record { ends = w.ends; within = all-within-kept t u g (before_leave (get_or fs k d).operations.items) w.within }
+    whole : operations_of m ≡ made tables before ++ function_operations s p.locals p.results p.place body
+    whole = rw (ops_are, tables_are) (map-append (unpacked b.tables) b.operations.items (packed.Leave p.results ∷ []) ∙ ap (λ (os : List FlatOp). os ++ (Leave p.results ∷ [])) made_is ∙ append_assoc (made tables before) code (Leave p.results ∷ []))
+
+    at : p.place ≡ length (made tables before)
+    at = place_is ∙ sym (length-map before (unpacked tables))
+
+    there : drop p.place (operations_of m) ≡ function_operations s p.locals p.results p.place body ++ []
+    there = ap (drop p.place) whole ∙ ap (λ (n : ℕ). drop n (made tables before ++ function_operations s p.locals p.results p.place body)) at ∙ drop-append_seam (made tables before) (function_operations s p.locals p.results p.place body)
+        ∙ sym (append-nil (function_operations s p.locals p.results p.place body))
+
+-- What it names by number is there.
+pub within-behind : (m : FlatModule) (b : FlatBody) (results : ℕ) → All (IsWithin b.tables) b.operations.items → m.operations.items ≡ b.operations.items ++ (packed.Leave results ∷ []) → m.tables ≡ b.tables → AreWithin m
+within-behind m b results within ops_are tables_are =
+    rw (ops_are, tables_are) (All-append (IsWithin b.tables) b.operations.items (packed.Leave results ∷ []) within (All-cons (IsWithin b.tables) (packed.Leave results) [] (tt {0}) (All-nil (IsWithin b.tables))))
 
 -- ---- types
 

@@ -86,20 +86,16 @@ module _ (t u : SideTables) (g : Grows t u) where
 
   transfer-kept : (op : TransferInstruction) (n : ℕ) → IsTransferWithin t op n → transfer_op u op n ≡ transfer_op t op n
   transfer-kept transfer.Unreachable n within = refl
-  transfer-kept transfer.If n within = rw (entry-kept n within) refl
   transfer-kept transfer.Jump n within = rw (entry-kept n within) refl
   transfer-kept transfer.Br n within = rw (entry-kept n within) refl
   transfer-kept transfer.BrTable n within = table-kept n within
   transfer-kept transfer.Return n within = rw (entry-kept n within) refl
-  transfer-kept transfer.Call n within = refl
   transfer-kept transfer.CallIndirect n within = rw (pair-kept n within) refl
   transfer-kept transfer.ReturnCall n within = refl
   transfer-kept transfer.ReturnCallIndirect n within = rw (pair-kept n within) refl
-  transfer-kept transfer.Leave n within = absurd within
 
   transfer-within : (op : TransferInstruction) (n : ℕ) → IsTransferWithin t op n → IsTransferWithin u op n
   transfer-within transfer.Unreachable n within = within
-  transfer-within transfer.If n within = entry-within n within
   transfer-within transfer.Jump n within = entry-within n within
   transfer-within transfer.Br n within = entry-within n within
   transfer-within transfer.BrTable n (range, entries, default) =
@@ -109,16 +105,15 @@ module _ (t u : SideTables) (g : Grows t u) where
         entry-within (branch_range_of t n).default default,
       )
   transfer-within transfer.Return n within = entry-within n within
-  transfer-within transfer.Call n within = within
   transfer-within transfer.CallIndirect n within = continued-within t.pairs.items u.pairs.items n g.pairs within
   transfer-within transfer.ReturnCall n within = within
   transfer-within transfer.ReturnCallIndirect n within = continued-within t.pairs.items u.pairs.items n g.pairs within
-  transfer-within transfer.Leave n within = absurd within
 
   other-kept : (op : OtherInstruction) (n : ℕ) → IsOtherWithin t op n → other_op u op n ≡ other_op t op n
   other-kept other.Nop n within = refl
   other-kept other.DropOperand n within = refl
   other-kept other.Select n within = refl
+  other-kept (other.Unary op) n within = refl
   other-kept other.GlobalGet n within = refl
   other-kept other.GlobalSet n within = refl
   other-kept other.I64Const n within = rw (constant-kept n within) refl
@@ -145,6 +140,7 @@ module _ (t u : SideTables) (g : Grows t u) where
   other-within other.Nop n within = within
   other-within other.DropOperand n within = within
   other-within other.Select n within = within
+  other-within (other.Unary op) n within = within
   other-within other.GlobalGet n within = within
   other-within other.GlobalSet n within = within
   other-within other.I64Const n within = continued-within t.constants.items u.constants.items n g.constants within
@@ -174,12 +170,12 @@ module _ (t u : SideTables) (g : Grows t u) where
   unpacked-kept (packed.I32Const n) within = refl
   unpacked-kept packed.I32Add within = refl
   unpacked-kept packed.Enter within = refl
+  unpacked-kept (packed.If n) within = rw (entry-kept n within) refl
   unpacked-kept (packed.BrIf n) within = rw (entry-kept n within) refl
+  unpacked-kept (packed.Call n) within = refl
+  unpacked-kept (packed.Leave n) within = refl
   unpacked-kept (packed.I32Load n) within = refl
-  unpacked-kept (packed.I32Load8U n) within = refl
-  unpacked-kept (packed.I32Store8 n) within = refl
   unpacked-kept (packed.Binary op) within = refl
-  unpacked-kept (packed.Unary op) within = refl
   unpacked-kept (packed.Load op n) within = refl
   unpacked-kept (packed.Store op n) within = refl
   unpacked-kept (packed.Transfer op n) within = transfer-kept op n within
@@ -192,12 +188,12 @@ module _ (t u : SideTables) (g : Grows t u) where
   within-kept (packed.I32Const n) within = within
   within-kept packed.I32Add within = within
   within-kept packed.Enter within = within
+  within-kept (packed.If n) within = entry-within n within
   within-kept (packed.BrIf n) within = entry-within n within
+  within-kept (packed.Call n) within = within
+  within-kept (packed.Leave n) within = within
   within-kept (packed.I32Load n) within = within
-  within-kept (packed.I32Load8U n) within = within
-  within-kept (packed.I32Store8 n) within = within
   within-kept (packed.Binary op) within = within
-  within-kept (packed.Unary op) within = within
   within-kept (packed.Load op n) within = within
   within-kept (packed.Store op n) within = within
   within-kept (packed.Transfer op n) within = transfer-within op n within

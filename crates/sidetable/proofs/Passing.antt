@@ -129,7 +129,7 @@ module _ (s : Signatures) (outermost : Label) (old pushed : Flattening) (levels 
         }) (pushes.openings ∙ opened-rest (rests ops) part openings (openings_of ops) e) (stand m.stand) m);
   }
 
-  module _ (second : Label) (p_is : p ≡ packed.Transfer transfer.If second.number) (second_stands : LabelStands tables second)
+  module _ (second : Label) (p_is : p ≡ packed.If second.number) (second_stands : LabelStands tables second)
       (second_is : second.entry ≡ entry_of (if_second at part.here part.other) c.takes (height_or_zero (less 1 old.height) - c.takes))
       (entry_is : label.entry ≡ entry_of (if_end at part.here part.other) c.gives (height_or_zero (less 1 old.height) - c.takes))
       (inside_is : level.inside ≡ less 1 old.height) (after_is : level.after ≡ changed c (less 1 old.height)) where

@@ -13,7 +13,8 @@ use Rattle.meaning.specs.structure.Bodies.{Kind, BlockKind, LoopKind, IfKind, Bo
 use Rattle.sidetable.specs.declared.counts.Counts.{Counts}
 use Rattle.sidetable.specs.Counts.{Signatures, block_counts, behind, counts_of, changed, less, height_or_zero}
 
--- Where it goes on, how many values are kept, and the height below them. A label is known by the entry of the branches to it.
+-- Where it goes on, how many values are kept, and the height below them, which counts the locals too. A label is known by the
+-- entry of the branches to it.
 abbrev pub entry_of : (target kept height : ℕ) → Entry
 entry_of target kept height = record { target = target; kept = kept; height = height }
 
@@ -30,6 +31,8 @@ pub data FlatOp : Type 0 where
   BrIf : (entry : Entry) → FlatOp
   BrTable : (entries : List Entry) (default : Entry) → FlatOp
   Return : (entry : Entry) → FlatOp
+  -- behind the operations of a function: its frame is left with so many results
+  Leave : (results : ℕ) → FlatOp
 
 -- ---- what no run asks for: alignments, and the types of a select (Memory Instructions, Parametric Instructions)
 
@@ -137,17 +140,17 @@ greatest s h (IfElse type inner other rest) =
 
 -- ---- functions
 
--- The label around a function's body: as a return it leaves the function, with the results.
-abbrev pub function_entry : (results : ℕ) → Body → Entry
-function_entry results body = entry_of (size body) results 0
+-- The label around a function's body, which begins at a place: as a return it leaves the function, with the results.
+abbrev pub function_entry : (locals results at : ℕ) → Body → Entry
+function_entry locals results at body = entry_of (at + size body) results locals
 
-pub record FlatFunction : Type 0 where
-  pub operations : List FlatOp
-  pub greatest : ℕ
+-- The operations of a function from a place on: those of its body, and the one that leaves its frame.
+abbrev pub function_operations : Signatures → (locals results at : ℕ) → Body → List FlatOp
+function_operations s locals results at body =
+    flat s (function_entry locals results at body) (function_entry locals results at body ∷ [])
+    (Some locals) at body
+    ++ Leave results ∷ []
 
-abbrev pub flat_function : Signatures → (results : ℕ) → Body → FlatFunction
-flat_function s results body = record {
-  operations =
-      flat s (function_entry results body) (function_entry results body ∷ []) (Some 0) 0 body;
-  greatest = max results (greatest s (Some 0) body);
-}
+-- The greatest height in its frame: the results may lie above all that its body reaches.
+abbrev pub function_greatest : Signatures → (locals results : ℕ) → Body → ℕ
+function_greatest s locals results body = max (locals + results) (greatest s (Some locals) body)

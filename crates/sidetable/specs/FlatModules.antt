@@ -1,61 +1,23 @@
--- The flat code of a module's functions.
-use Rattle.std.specs.Prelude.{◌≡◌, ℕ, ◌+◌, ◌-◌, List, [], ◌∷◌, ◌++◌, length, take}
+-- The flat code of a module: that of its functions, one behind the other.
+use Rattle.std.specs.Prelude.{◌≡◌, ◌+◌, ◌<◌, ◌^◌, List, [], ◌∷◌, ◌++◌, length, drop}
 use Rattle.std.specs.List.{All}
 use Rattle.core_types.specs.declared.module.Func.{Func}
 use Rattle.core_types.specs.declared.module.Module.{Module}
 use Rattle.meaning.specs.structure.Bodies.{Body, writing}
 use Rattle.meaning.specs.validation.Modules.{functions_of, type_at}
 use Rattle.sidetable.specs.Counts.{Signatures}
-use Rattle.sidetable.specs.Flat.{FlatFunction, flat_function}
+use Rattle.sidetable.specs.Flat.{FlatOp, function_greatest, function_operations}
 use Rattle.sidetable.specs.Packing.{IsWithin, made}
-use Rattle.sidetable.specs.SideTables.{SideTables}
-use Rattle.sidetable.specs.declared.flat_module.FlatCode.{FlatCode}
+use Rattle.sidetable.specs.declared.flat_module.FlatModule.{FlatModule}
 use Rattle.sidetable.specs.declared.flat_module.PackedFunction.{PackedFunction}
-use Rattle.sidetable.specs.declared.operations.PackedOp.{PackedOp}
-use Rattle.sidetable.specs.declared.operations.PackedOp.TheVariants as packed
-use Rattle.sidetable.specs.declared.operations.TransferInstruction.TheVariants as transfer
 
--- ---- what is packed
+-- The operations of all functions.
+abbrev pub operations_of : FlatModule → List FlatOp
+operations_of m = made m.tables m.operations.items
 
-abbrev pub flat_function_of : SideTables → List PackedOp → (greatest : ℕ) → FlatFunction
-flat_function_of t ops greatest = record { operations = made t ops; greatest = greatest }
-
--- What stands behind a function's operations: there its frame is left with so many results.
-abbrev pub leave : (results : ℕ) → PackedOp
-leave results = packed.Transfer transfer.Leave results
-
--- The operations before it.
-abbrev pub before_leave : List PackedOp → List PackedOp
-before_leave ops = take (length ops - 1) ops
-
--- It stands behind operations whose places in the side tables are there.
-pub record AreWithin (t : SideTables) (ops : List PackedOp) (results : ℕ) : Type 0 where
-  pub ends : ops ≡ before_leave ops ++ leave results ∷ []
-  pub within : All (IsWithin t) (before_leave ops)
-
--- A function's flat code, and how many parameters, locals with these, and results it has.
-pub record FunctionCode : Type 0 where
-  pub flat : FlatFunction
-  pub params : ℕ
-  pub locals : ℕ
-  pub results : ℕ
-
-abbrev pub code_of : SideTables → PackedFunction → FunctionCode
-code_of t f = record {
-  flat = flat_function_of t (before_leave f.operations.items) f.greatest;
-  params = f.params;
-  locals = f.locals;
-  results = f.results;
-}
-
--- What a function's flat code that was lent is seen as.
-abbrev pub seen : FlatCode → FunctionCode
-seen c = code_of c.tables.now c.function.now
-
-abbrev pub IsFunctionWithin : SideTables → PackedFunction → Type 0
-IsFunctionWithin t f = AreWithin t f.operations.items f.results
-
--- ---- what a module's flat code is
+-- What its operations name by number is there.
+abbrev pub AreWithin : FlatModule → Type 0
+AreWithin m = All (IsWithin m.tables) m.operations.items
 
 -- The types that the bodies of a module's functions refer to.
 abbrev pub module_signatures : Module → Signatures
@@ -65,17 +27,29 @@ module_signatures m = record { types = m.types; functions = functions_of m }
 abbrev pub HasBody : Func → Type 0
 HasBody f = (body : Body) × (f.body ≡ writing body)
 
--- This is the flat code of a function.
-pub record IsFlat (s : Signatures) (f : Func) (code : FunctionCode) : Type 0 where
-  pub flat : (body : Body) → f.body ≡ writing body
-      → code.flat ≡ flat_function s (length (type_at s.types f.ty).results) body
-  pub params : code.params ≡ length (type_at s.types f.ty).params
-  pub locals : code.locals ≡ length (type_at s.types f.ty).params + length f.locals
-  pub results : code.results ≡ length (type_at s.types f.ty).results
+-- The flat code of this body begins at the function's place among operations.
+pub record IsFlatBody (s : Signatures) (ops : List FlatOp) (p : PackedFunction) (body : Body)
+    : Type 0 where
+  pub more : List FlatOp
+  pub placed : drop p.place ops ≡ function_operations s p.locals p.results p.place body ++ more
+  pub greatest : p.greatest ≡ function_greatest s p.locals p.results body
+
+-- This is a function, packed, whose flat code is among these operations.
+pub record IsFlat (s : Signatures) (ops : List FlatOp) (f : Func) (p : PackedFunction) : Type 0 where
+  pub flat : (body : Body) → f.body ≡ writing body → IsFlatBody s ops p body
+  pub params : p.params ≡ length (type_at s.types f.ty).params
+  pub locals : p.locals ≡ length (type_at s.types f.ty).params + length f.locals
+  pub results : p.results ≡ length (type_at s.types f.ty).results
 
 -- The same for functions in their order.
-abbrev pub AreFlat : Signatures → List Func → List FunctionCode → Type 0
-AreFlat s [] [] = Unit {0}
-AreFlat s [] (code ∷ codes) = ⊥
-AreFlat s (f ∷ fs) [] = ⊥
-AreFlat s (f ∷ fs) (code ∷ codes) = IsFlat s f code × AreFlat s fs codes
+abbrev pub AreFlat : Signatures → List FlatOp → List Func → List PackedFunction → Type 0
+AreFlat s ops [] [] = Unit {0}
+AreFlat s ops [] (p ∷ ps) = ⊥
+AreFlat s ops (f ∷ fs) [] = ⊥
+AreFlat s ops (f ∷ fs) (p ∷ ps) = IsFlat s ops f p × AreFlat s ops fs ps
+
+-- This is the flat code of a module.
+pub record IsFlatModule (m : Module) (flat : FlatModule) : Type 0 where
+  pub within : AreWithin flat
+  pub few : length flat.operations.items < 2 ^ 32
+  pub functions : AreFlat (module_signatures m) (operations_of flat) m.funcs flat.functions.items

@@ -1,14 +1,19 @@
 -- Flattening, from the first operation with its marks to the last.
-use Rattle.std.specs.Prelude.{◌≡◌, ℕ, suc, ◌+◌, Bool, List, [], ◌∷◌, ◌++◌, length, max, Option, Some, None}
+use Rattle.std.specs.Prelude.{◌≡◌, ℕ, suc, ◌+◌, ◌<◌, ◌^◌, Bool, List, [], ◌∷◌, ◌++◌, length, max, Option, Some, None}
 use Rattle.std.specs.List.{All}
 use Rattle.core_types.specs.declared.op.Op.{Op}
 use Rattle.meaning.specs.structure.Bodies.{Body, Part, Rests, first_part, other_parts, rests}
 use Rattle.sidetable.specs.Counts.{Signatures, height_or_zero}
-use Rattle.sidetable.specs.Flat.{FlatOp, Jump, flat, greatest, size}
+use Rattle.core_types.specs.declared.module.Func.{Func}
+use Rattle.sidetable.specs.Flat.{FlatOp, Jump, flat, function_entry, function_greatest, greatest, size}
+use Rattle.sidetable.specs.FlatModules.{AreFlat, AreWithin, IsFlat, operations_of}
 use Rattle.sidetable.specs.Labels.{AllStand, all_entries}
 use Rattle.sidetable.specs.Packing.{IsWithin, made}
 use Rattle.sidetable.specs.Shapes.{Closes}
-use Rattle.sidetable.specs.SideTables.{Grows}
+use Rattle.sidetable.specs.SideTables.{Continues, Grows, SideTables}
+use Rattle.sidetable.specs.declared.flat_module.FlatModule.{FlatModule}
+use Rattle.sidetable.specs.declared.flat_module.PackedFunction.{PackedFunction}
+use Rattle.sidetable.specs.declared.flattening.FlatBody.{FlatBody}
 use Rattle.sidetable.specs.Sizes.{openings_of}
 use Rattle.sidetable.specs.declared.flattening.Flattening.{Flattening}
 use Rattle.sidetable.specs.declared.labels.Label.{Label}
@@ -118,3 +123,31 @@ if_second at here (Some other) = at + 1 + here + 1
 abbrev pub if_end : (at here : ℕ) → (other : Option ℕ) → ℕ
 if_end at here None = at + 1 + here
 if_end at here (Some other) = at + 1 + here + 1 + other
+
+-- ---- functions
+
+-- The operations of a body were put behind others, and this is the greatest height in its function's frame.
+pub record IsMade (s : Signatures) (before : List PackedOp) (tables : SideTables)
+    (locals results : ℕ) (body : Body) (b : FlatBody)
+    : Type 0 where
+  pub operations : made b.tables b.operations.items ≡ made tables before
+      ++ flat s (function_entry locals results (length before) body)
+      (function_entry locals results (length before) body ∷ []) (Some locals) (length before) body
+  pub greatest : b.greatest ≡ function_greatest s locals results body
+  pub within : All (IsWithin b.tables) b.operations.items
+
+-- One function more is there.
+pub record IsPushed (s : Signatures) (old : FlatModule) (f : Func) (new : FlatModule)
+    : Type 0 where
+  pub within : AreWithin new
+  pub few : length new.operations.items < 2 ^ 32
+  pub operations : Continues (operations_of old) (operations_of new)
+  pub packed : PackedFunction
+  pub functions : new.functions.items ≡ old.functions.items ++ packed ∷ []
+  pub flat : IsFlat s (operations_of new) f packed
+
+-- These are all functions.
+pub record ArePushed (s : Signatures) (fs : List Func) (m : FlatModule) : Type 0 where
+  pub within : AreWithin m
+  pub few : length m.operations.items < 2 ^ 32
+  pub functions : AreFlat s (operations_of m) fs m.functions.items

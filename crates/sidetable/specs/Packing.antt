@@ -21,7 +21,7 @@ use Rattle.core_types.specs.declared.op.UnaryOp.TheVariants.{Clz, Ctz, Popcnt, E
 use Rattle.core_types.specs.declared.op.VariableOp.TheVariants as variable
 use Rattle.core_types.specs.declared.op.Width.TheVariants.{W32, W64}
 use Rattle.core_types.specs.declared.types.RefType.TheVariants as ref
-use Rattle.sidetable.specs.Flat.{FlatOp, Plain, Enter, If, Jump, Br, BrIf, BrTable, Return, at_offset}
+use Rattle.sidetable.specs.Flat.{FlatOp, Plain, Enter, If, Jump, Br, BrIf, BrTable, Return, Leave, at_offset}
 use Rattle.sidetable.specs.SideTables.{SideTables, branch_range_of, constant_of, entry_of_number, pair_of}
 use Rattle.sidetable.specs.declared.operations.BinaryInstruction.{BinaryInstruction}
 use Rattle.sidetable.specs.declared.operations.BinaryInstruction.TheVariants as binary
@@ -114,6 +114,7 @@ unary_op unary.I64Extend32S = Convert I64Extend32S
 abbrev pub load_op : LoadInstruction → LoadOp
 load_op load.I64Load = from.Whole W64
 load_op load.I32Load8S = from.Bits8 W32 Signed
+load_op load.I32Load8U = from.Bits8 W32 Unsigned
 load_op load.I64Load8S = from.Bits8 W64 Signed
 load_op load.I64Load8U = from.Bits8 W64 Unsigned
 load_op load.I32Load16S = from.Bits16 W32 Signed
@@ -126,6 +127,7 @@ load_op load.I64Load32U = from.Bits32 Unsigned
 abbrev pub store_op : StoreInstruction → StoreOp
 store_op store.I32Store = into.Whole W32
 store_op store.I64Store = into.Whole W64
+store_op store.I32Store8 = into.Bits8 W32
 store_op store.I64Store8 = into.Bits8 W64
 store_op store.I32Store16 = into.Bits16 W32
 store_op store.I64Store16 = into.Bits16 W64
@@ -137,28 +139,26 @@ store_op store.I64Store32 = into.Bits32
 abbrev pub branch_entries : SideTables → BranchRange → List Entry
 branch_entries t r = take r.count (drop r.first t.entries.items)
 
--- What does not go on with the next operation, and calls: a number is that of an entry, of a range, of a function or of a pair.
+-- What does not go on with the next operation, and rarer calls: a number is that of an entry, of a range, of a function or of a
+-- pair.
 abbrev pub transfer_op : SideTables → TransferInstruction → (number : ℕ) → FlatOp
 transfer_op t transfer.Unreachable n = Plain (plain.Control control.Unreachable)
-transfer_op t transfer.If n = If (entry_of_number t n)
 transfer_op t transfer.Jump n = Jump (entry_of_number t n)
 transfer_op t transfer.Br n = Br (entry_of_number t n)
 transfer_op t transfer.BrTable n =
     BrTable (branch_entries t (branch_range_of t n)) (entry_of_number t (branch_range_of t n).default)
 transfer_op t transfer.Return n = Return (entry_of_number t n)
-transfer_op t transfer.Call n = Plain (plain.Control (control.Call n))
 transfer_op t transfer.CallIndirect n =
     Plain (plain.Control (control.CallIndirect (pair_of t n).first (pair_of t n).second))
 transfer_op t transfer.ReturnCall n = Plain (plain.Control (control.ReturnCall n))
 transfer_op t transfer.ReturnCallIndirect n =
     Plain (plain.Control (control.ReturnCallIndirect (pair_of t n).first (pair_of t n).second))
--- stands for no operation, and is none within
-transfer_op t transfer.Leave n = Plain (plain.Control control.Nop)
 
 abbrev pub other_op : SideTables → OtherInstruction → (number : ℕ) → PlainOp
 other_op t other.Nop n = plain.Control control.Nop
 other_op t other.DropOperand n = plain.Parametric parametric.DropOperand
 other_op t other.Select n = plain.Parametric parametric.Select
+other_op t (other.Unary op) n = plain.Numeric (unary_op op)
 other_op t other.GlobalGet n = plain.Variable (variable.GlobalGet n)
 other_op t other.GlobalSet n = plain.Variable (variable.GlobalSet n)
 other_op t other.I64Const n = plain.I64Const (constant_of t n)
@@ -190,15 +190,13 @@ unpacked t (packed.LocalTee x) = Plain (plain.Variable (variable.LocalTee x))
 unpacked t (packed.I32Const n) = Plain (plain.I32Const n)
 unpacked t packed.I32Add = Plain (plain.Numeric (Binary W32 Add))
 unpacked t packed.Enter = Enter
+unpacked t (packed.If n) = If (entry_of_number t n)
 unpacked t (packed.BrIf n) = BrIf (entry_of_number t n)
+unpacked t (packed.Call n) = Plain (plain.Control (control.Call n))
+unpacked t (packed.Leave n) = Leave n
 unpacked t (packed.I32Load offset) =
     Plain (plain.Memory (memory.Load (from.Whole W32) (at_offset offset)))
-unpacked t (packed.I32Load8U offset) =
-    Plain (plain.Memory (memory.Load (from.Bits8 W32 Unsigned) (at_offset offset)))
-unpacked t (packed.I32Store8 offset) =
-    Plain (plain.Memory (memory.Store (into.Bits8 W32) (at_offset offset)))
 unpacked t (packed.Binary op) = Plain (plain.Numeric (binary_op op))
-unpacked t (packed.Unary op) = Plain (plain.Numeric (unary_op op))
 unpacked t (packed.Load op offset) =
     Plain (plain.Memory (memory.Load (load_op op) (at_offset offset)))
 unpacked t (packed.Store op offset) =
@@ -211,7 +209,6 @@ unpacked t (packed.Other op n) = Plain (other_op t op n)
 -- The number is one of an entry, of a range whose entries are there, or of a pair, if the operation has one.
 abbrev pub IsTransferWithin : SideTables → TransferInstruction → (number : ℕ) → Type 0
 IsTransferWithin t transfer.Unreachable n = Unit {0}
-IsTransferWithin t transfer.If n = n < length t.entries.items
 IsTransferWithin t transfer.Jump n = n < length t.entries.items
 IsTransferWithin t transfer.Br n = n < length t.entries.items
 IsTransferWithin t transfer.BrTable n =
@@ -219,11 +216,9 @@ IsTransferWithin t transfer.BrTable n =
     × ((branch_range_of t n).first + (branch_range_of t n).count < suc (length t.entries.items))
     × ((branch_range_of t n).default < length t.entries.items)
 IsTransferWithin t transfer.Return n = n < length t.entries.items
-IsTransferWithin t transfer.Call n = Unit {0}
 IsTransferWithin t transfer.CallIndirect n = n < length t.pairs.items
 IsTransferWithin t transfer.ReturnCall n = Unit {0}
 IsTransferWithin t transfer.ReturnCallIndirect n = n < length t.pairs.items
-IsTransferWithin t transfer.Leave n = ⊥
 
 abbrev pub IsOtherWithin : SideTables → OtherInstruction → (number : ℕ) → Type 0
 IsOtherWithin t other.I64Const n = n < length t.constants.items
@@ -232,6 +227,7 @@ IsOtherWithin t other.TableInit n = n < length t.pairs.items
 IsOtherWithin t op n = Unit {0}
 
 abbrev pub IsWithin : SideTables → PackedOp → Type 0
+IsWithin t (packed.If n) = n < length t.entries.items
 IsWithin t (packed.BrIf n) = n < length t.entries.items
 IsWithin t (packed.Transfer op n) = IsTransferWithin t op n
 IsWithin t (packed.Other op n) = IsOtherWithin t op n

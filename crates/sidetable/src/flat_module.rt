@@ -1,77 +1,38 @@
-ghost use Rattle.std.specs.Prelude.{◌≡◌, ◌<◌, ◌++◌, ◌∷◌, [], List, length, slice_get, IfOk, Some};
+ghost use Rattle.std.specs.Prelude.{◌<◌, length, IfOk};
 ghost use Rattle.std.specs.List.{All};
 ghost use Rattle.core_types.specs.declared.module.Func.{Func as AnyFunc};
-ghost use Rattle.sidetable.specs.FlatModules.{AreFlat, FunctionCode, HasBody, IsFlat, IsFunctionWithin, module_signatures, seen};
+ghost use Rattle.sidetable.specs.FlatModules.{AreWithin, HasBody, IsFlatModule};
+ghost use Rattle.sidetable.specs.Flattening.{ArePushed, IsPushed};
 ghost use Rattle.sidetable.specs.Signatures.{signatures_of};
 
 use crate::counts::ModuleTypes;
 use crate::flattening::flatten_body;
 use crate::module_types::indices_of_types;
-use crate::operations::{PackedOp, TransferInstruction};
+use crate::operations::PackedOp;
 use crate::side_tables::{SideTables, number};
 use crate::sizes::sum;
 use core_types::Func;
 use std::alloc::{AllocError, Global};
-use std::marker::Model;
 use validator::ValidModule;
 
-/// A function's flat code, packed: its operations, with one behind them that leaves the frame, the greatest height that its operands
-/// reach, and how many parameters, locals with these, and results it has.
-#[derive(Drop)]
+/// A function of a module: the place of its first operation, how many parameters, locals with these, and results it has, and the
+/// greatest height in its frame, which counts the locals.
+#[derive(Clone, Copy)]
 pub struct PackedFunction {
-    pub operations: Vec<PackedOp>,
-    pub greatest: u64,
-    pub params: usize,
-    pub locals: usize,
+    pub place: u32,
+    pub params: u32,
+    pub locals: u32,
     pub results: u32,
+    pub greatest: u64,
 }
 
-/// The flat code of a module's functions, in their order, which contracts see as such.
+/// The flat code of a module: its functions, in their order, the operations of all, each function's with one behind them that leaves
+/// its frame, and what they name by number.
 #[derive(Drop)]
 pub struct FlatModule {
-    functions: Vec<PackedFunction>,
-    tables: SideTables,
-}
-
-impl Model for FlatModule {
-    ghost use Rattle.std.specs.Prelude.{List, map};
-    ghost use Rattle.std.specs.List.{All};
-    ghost use Rattle.sidetable.specs.FlatModules.{FunctionCode, IsFunctionWithin, code_of};
-
-    ghost Value = { List FunctionCode };
-
-    ghost view = { λ m. map (code_of m.tables) m.functions.items };
-
-    ghost invariant = { λ m. All (IsFunctionWithin m.tables) m.functions.items };
-}
-
-/// A function's flat code, for reading, with the side tables that have what its operations name by number.
-#[derive(Clone, Copy)]
-pub struct FlatCode<'a> {
-    pub function: &'a PackedFunction,
-    pub tables: &'a SideTables,
-}
-
-impl FlatModule {
-    /// How many functions the module has of its own.
-    pub fn function_count(&self) -> usize
-        ensures { result ≡ length self.now }
-    {
-        self.functions.len()
-    }
-
-    /// The flat code of the function of an index among the module's own.
-    #[inline(always)]
-    pub fn function(&self, index: u32) -> FlatCode<'_>
-        requires { index < length self.now }
-        ensures code { slice_get self.now index ≡ Some (seen result) }
-        ensures within { IsFunctionWithin result.tables.now result.function.now }
-    {
-        FlatCode {
-            function: &self.functions[index as usize],
-            tables: &self.tables,
-        }
-    }
+    pub functions: Vec<PackedFunction>,
+    pub operations: Vec<PackedOp>,
+    pub tables: SideTables,
 }
 
 // Flattens one function more, which has a body and whose type there is.
@@ -83,27 +44,42 @@ fn flatten_function(
 ) -> Result<FlatModule, AllocError>
     requires body { HasBody func.now }
     requires ty { func.now.ty < length s.now.types.now }
-    ensures { IfOk result (λ m. (code : FunctionCode) × (m ≡ flat ++ code ∷ [])
-        × IsFlat (signatures_of s.now) func.now code) }
+    requires within { AreWithin flat }
+    ensures { IfOk result (λ m. IsPushed (signatures_of s.now) flat func.now m) }
 {
     let ty = &s.types[func.ty as usize];
-    let params = ty.params.len();
+    let params = number(ty.params.len())?;
     let results = number(ty.results.len())?;
-    let FlatModule { functions, tables } = flat;
-    let mut functions = functions;
-    let made = flatten_body(alloc, s, tables, results, func.body.as_slice())?;
-    let locals = sum(params, func.locals.len() as usize)?;
-    let mut operations = made.operations;
-    operations.push(PackedOp::Transfer(TransferInstruction::Leave, results))?;
-    functions.push(PackedFunction {
+    let locals = number(sum(ty.params.len(), func.locals.len() as usize)?)?;
+    let FlatModule {
+        functions,
         operations,
-        greatest: made.greatest,
+        tables,
+    } = flat;
+    let mut functions = functions;
+    let place = number(operations.len())?;
+    let made = flatten_body(
+        alloc,
+        s,
+        operations,
+        tables,
+        locals,
+        results,
+        func.body.as_slice(),
+    )?;
+    let mut operations = made.operations;
+    operations.push(PackedOp::Leave(results))?;
+    let _end = number(operations.len())?;
+    functions.push(PackedFunction {
+        place,
         params,
         locals,
         results,
+        greatest: made.greatest,
     })?;
     Ok(FlatModule {
         functions,
+        operations,
         tables: made.tables,
     })
 }
@@ -116,10 +92,11 @@ fn flatten_functions(
 ) -> Result<FlatModule, AllocError>
     requires bodies { All HasBody funcs.now }
     requires types { All (λ (f : AnyFunc). f.ty < length s.now.types.now) funcs.now }
-    ensures { IfOk result (λ m. AreFlat (signatures_of s.now) funcs.now m) }
+    ensures { IfOk result (λ m. ArePushed (signatures_of s.now) funcs.now m) }
 {
     let mut flat = FlatModule {
         functions: Vec::new(alloc),
+        operations: Vec::new(alloc),
         tables: SideTables::new(alloc),
     };
     for index in 0..funcs.len() {
@@ -131,10 +108,10 @@ fn flatten_functions(
 /// Flattens a valid module: each function's operations, in their order and without marks, with what a branch, a return, an `if` and
 /// a jump need, and the greatest height of its operands.
 ///
-/// Fails where there is no memory, where a body or all bodies together have more than 2^32 - 1 operations, entries, branches by
+/// Fails where there is no memory, where all bodies together have more than 2^32 - 1 operations, entries, branches by
 /// number, 64-bit constants or pairs of indices, and where a height has more than 64 bits.
 pub fn flatten(alloc: Global, validated: &ValidModule) -> Result<FlatModule, AllocError>
-    ensures { IfOk result (λ m. AreFlat (module_signatures validated.now) validated.now.funcs m) }
+    ensures { IfOk result (IsFlatModule validated.now) }
 {
     let wanted = validated.module();
     let functions = indices_of_types(alloc, wanted)?;

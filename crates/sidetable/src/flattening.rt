@@ -3,9 +3,7 @@ ghost use Rattle.std.specs.List.{All};
 ghost use Rattle.core_types.specs.declared.op.Op.TheVariants.{Block, Else, End, If, Loop, Plain};
 ghost use Rattle.meaning.specs.structure.Bodies.{Body, writing};
 ghost use Rattle.sidetable.specs.Counts.{changed as changed_height};
-ghost use Rattle.sidetable.specs.Flat.{flat_function};
-ghost use Rattle.sidetable.specs.FlatModules.{flat_function_of};
-ghost use Rattle.sidetable.specs.Flattening.{CanMake, CanMakeAll, Passes, PassesTo, Pushes, if_end, if_second};
+ghost use Rattle.sidetable.specs.Flattening.{CanMake, CanMakeAll, IsMade, Passes, PassesTo, Pushes, if_end, if_second};
 ghost use Rattle.sidetable.specs.Packing.{IsWithin};
 ghost use Rattle.sidetable.specs.Signatures.{signatures_of};
 ghost use Rattle.sidetable.specs.SideTables.{Grows};
@@ -210,11 +208,7 @@ fn step_if(
         },
     )?;
     let level = make_level(c, label, inside)?;
-    push_operation(
-        f,
-        PackedOp::Transfer(TransferInstruction::If, second.number),
-        level.inside,
-    )?;
+    push_operation(f, PackedOp::If(second.number), level.inside)?;
     f.levels.push(level)?;
     Ok(())
 }
@@ -285,54 +279,55 @@ fn run(
     Ok(())
 }
 
-/// A function's flat code, packed: its operations, with room for one more, the greatest height that its operands reach, and the side
-/// tables with what it names.
+/// What was made of a function's body, too: all operations so far, the side tables with what they name, and the greatest height in the
+/// function's frame.
 #[derive(Drop)]
 pub struct FlatBody {
     pub operations: Vec<PackedOp>,
-    pub greatest: u64,
     pub tables: SideTables,
+    pub greatest: u64,
 }
 
-/// Flattens a function's code, with so many results, behind others that these side tables are for.
+/// Flattens a body, whose operations are put behind others. Its function has so many locals, with its parameters, and results.
 pub fn flatten_body(
     alloc: Global,
     s: &ModuleTypes<'_>,
+    operations: Vec<PackedOp>,
     tables: SideTables,
+    locals: u32,
     results: u32,
     code: &[Op],
 ) -> Result<FlatBody, AllocError>
     requires written { (body : Body) × (code.now ≡ writing body) }
-    ensures grows { IfOk result (λ b. Grows tables b.tables) }
-    ensures flat { IfOk result (λ b. (body : Body) → code.now ≡ writing body
-        → flat_function_of b.tables b.operations.items b.greatest
-        ≡ flat_function (signatures_of s.now) results body) }
-    ensures within { IfOk result (λ b. All (IsWithin b.tables) b.operations.items) }
+    requires within { All (IsWithin tables) operations.items }
+    ensures { IfOk result (λ b. (body : Body) → code.now ≡ writing body
+        → IsMade (signatures_of s.now) operations.items tables locals results body b) }
 {
     writing_is_read();
     let measured = measure(alloc, code)?;
     let mut tables = tables;
+    let end = sum(operations.len(), measured.size)?;
     let outermost = push_label(
         &mut tables,
         Entry {
-            target: number(measured.size)?,
+            target: number(end)?,
             kept: results,
-            height: 0,
+            height: locals as u64,
         },
     )?;
     let mut f = Flattening {
         tables,
-        operations: Vec::with_capacity(alloc, measured.size + 1)?,
+        operations,
         levels: Stack::new(alloc),
         openings: measured.openings,
-        height: Some(0),
-        greatest: results as u64,
+        height: Some(locals as u64),
+        greatest: locals as u64 + results as u64,
     };
     run(s, outermost, &mut f, code)?;
     let greatest = f.greatest.max(known(f.height));
     Ok(FlatBody {
         operations: f.operations,
-        greatest,
         tables: f.tables,
+        greatest,
     })
 }

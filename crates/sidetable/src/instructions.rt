@@ -33,7 +33,7 @@ fn control(
         }
         ControlOp::BrIf(index) => PackedOp::BrIf(label_at(tables, outermost, levels, index).number),
         ControlOp::Return => PackedOp::Transfer(TransferInstruction::Return, outermost.number),
-        ControlOp::Call(function) => PackedOp::Transfer(TransferInstruction::Call, function),
+        ControlOp::Call(function) => PackedOp::Call(function),
         ControlOp::CallIndirect { ty, table } => {
             PackedOp::Transfer(
                 TransferInstruction::CallIndirect,

@@ -1,6 +1,6 @@
 //! Worked rows and laws of flat code.
 
-ghost use Rattle.std.specs.Prelude.{◌≡◌, ◌≤◌, List, length, ℕ, Option, Some};
+ghost use Rattle.std.specs.Prelude.{◌≡◌, ◌+◌, ◌≤◌, List, length, ℕ, Some};
 ghost use Rattle.core_types.specs.declared.op.ControlOp.{ControlOp as AnyControlOp};
 ghost use Rattle.core_types.specs.declared.op.PlainOp.{PlainOp as AnyPlainOp};
 ghost use Rattle.core_types.specs.declared.outcome.Val.{Val};
@@ -9,7 +9,7 @@ ghost use Rattle.meaning.specs.execution.Effects.{effect};
 ghost use Rattle.meaning.specs.execution.Store.{Store};
 ghost use Rattle.meaning.specs.structure.Bodies.{Body};
 ghost use Rattle.sidetable.specs.Counts.{Signatures};
-ghost use Rattle.sidetable.specs.Flat.{flat_function, size, without_annotations};
+ghost use Rattle.sidetable.specs.Flat.{function_greatest, function_operations, size, without_annotations};
 ghost use Rattle.sidetable.specs.Heights.{IsReached};
 ghost use Rattle.sidetable.specs.Rows.{BlockLeaves, BranchLeaves, BranchOverThree, IfElseLeaves, IfLeaves, LoopLeaves, ReturnLeaves, SevenOrEight, Sum};
 
@@ -30,18 +30,19 @@ pub fn each_form_leaves_its_operations()
     ensures returns { ReturnLeaves }
 {}
 
-/// Law: operations stand one for one; an end leaves none.
+/// Law: operations stand one for one; an end leaves none, and one more leaves the frame.
 pub fn operations_are_as_many_as_the_size()
-    ensures { (s : Signatures) (results : ℕ) (body : Body) → length (flat_function s results
-        body).operations ≡ size body }
+    ensures { (s : Signatures) (locals results at : ℕ) (body : Body)
+        → length (function_operations s locals results at body) ≡ size body + 1 }
 {}
 
-/// Law: the greatest height of a function is at least its number of results, and no height that is reached is over it.
+/// Law: the greatest height of a function is at least that of its results, and no height that is reached is over it.
 pub fn no_height_is_over_the_greatest()
-    ensures results { (s : Signatures) (results : ℕ) (body : Body) → results ≤ (flat_function s
-        results body).greatest }
-    ensures reached { (s : Signatures) (results : ℕ) (body : Body) (height : ℕ) → IsReached s (Some
-        0) body height → height ≤ (flat_function s results body).greatest }
+    ensures results { (s : Signatures) (locals results : ℕ) (body : Body)
+        → locals + results ≤ function_greatest s locals results body }
+    ensures reached { (s : Signatures) (locals results : ℕ) (body : Body) (height : ℕ)
+        → IsReached s (Some locals) body height
+        → height ≤ function_greatest s locals results body }
 {}
 
 /// Law: an alignment and the types of a select change nothing of what an instruction does.

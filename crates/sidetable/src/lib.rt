@@ -14,7 +14,7 @@ mod packing;
 mod side_tables;
 mod sizes;
 
-pub use flat_module::{FlatCode, FlatModule, PackedFunction, flatten};
+pub use flat_module::{FlatModule, PackedFunction, flatten};
 pub use laws::{
     annotations_change_nothing, bodies_are_flattened, each_form_leaves_its_operations,
     no_height_is_over_the_greatest, operations_are_as_many_as_the_size,

@@ -82,11 +82,12 @@ pub enum UnaryInstruction {
     I64Extend32S,
 }
 
-/// A load: all but `i32.load` and `i32.load8_u`.
+/// A load: all but `i32.load`.
 #[derive(Clone, Copy)]
 pub enum LoadInstruction {
     I64Load,
     I32Load8S,
+    I32Load8U,
     I64Load8S,
     I64Load8U,
     I32Load16S,
@@ -97,32 +98,29 @@ pub enum LoadInstruction {
     I64Load32U,
 }
 
-/// A store: all but `i32.store8`.
+/// A store.
 #[derive(Clone, Copy)]
 pub enum StoreInstruction {
     I32Store,
     I64Store,
+    I32Store8,
     I64Store8,
     I32Store16,
     I64Store16,
     I64Store32,
 }
 
-/// An operation that does not go on with the next one, or calls.
+/// An operation that does not go on with the next one, or calls, and is rarer.
 #[derive(Clone, Copy)]
 pub enum TransferInstruction {
     Unreachable,
-    If,
     Jump,
     Br,
     BrTable,
     Return,
-    Call,
     CallIndirect,
     ReturnCall,
     ReturnCallIndirect,
-    /// Behind the last operation: the frame is left with so many results.
-    Leave,
 }
 
 /// An instruction that is rarer.
@@ -131,6 +129,7 @@ pub enum OtherInstruction {
     Nop,
     DropOperand,
     Select,
+    Unary(UnaryInstruction),
     GlobalGet,
     GlobalSet,
     I64Const,
@@ -164,12 +163,13 @@ pub enum PackedOp {
     I32Const(u32),
     I32Add,
     Enter,
+    If(u32),
     BrIf(u32),
+    Call(u32),
+    /// Behind the last operation of a function: the frame is left with so many results.
+    Leave(u32),
     I32Load(u32),
-    I32Load8U(u32),
-    I32Store8(u32),
     Binary(BinaryInstruction),
-    Unary(UnaryInstruction),
     Load(LoadInstruction, u32),
     Store(StoreInstruction, u32),
     Transfer(TransferInstruction, u32),

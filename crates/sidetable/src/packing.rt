@@ -1,10 +1,10 @@
-ghost use Rattle.std.specs.Prelude.{IfOk, OnOk};
+ghost use Rattle.std.specs.Prelude.{◌≡◌, IfOk, OnOk};
 ghost use Rattle.core_types.specs.declared.op.NumericOp.TheVariants.{Binary, Compare, Convert, Eqz, Unary};
 ghost use Rattle.core_types.specs.declared.op.PlainOp.TheVariants as plain;
 ghost use Rattle.core_types.specs.declared.op.MemoryOp.TheVariants.{Load, Store};
 ghost use Rattle.core_types.specs.declared.op.Width.TheVariants.{W32, W64};
 ghost use Rattle.sidetable.specs.Flat.{Plain, at_offset, without_alignment};
-ghost use Rattle.sidetable.specs.Packing.{Packs, PacksAlone};
+ghost use Rattle.sidetable.specs.Packing.{Packs, PacksAlone, unary_op};
 ghost use Rattle.sidetable.specs.SideTables.{Grows};
 
 use crate::operations::{
@@ -101,51 +101,50 @@ fn i64_comparison(op: Comparison) -> PackedOp
 }
 
 // An operator on a 32-bit integer.
-fn i32_unary(op: UnaryOp) -> PackedOp
-    ensures { PacksAlone result (plain.Numeric (Unary W32 op)) }
+fn i32_unary(op: UnaryOp) -> UnaryInstruction
+    ensures { unary_op result ≡ (Unary W32 op) }
 {
     match op {
-        UnaryOp::Clz => PackedOp::Unary(UnaryInstruction::I32Clz),
-        UnaryOp::Ctz => PackedOp::Unary(UnaryInstruction::I32Ctz),
-        UnaryOp::Popcnt => PackedOp::Unary(UnaryInstruction::I32Popcnt),
-        UnaryOp::Extend8S => PackedOp::Unary(UnaryInstruction::I32Extend8S),
-        UnaryOp::Extend16S => PackedOp::Unary(UnaryInstruction::I32Extend16S),
+        UnaryOp::Clz => UnaryInstruction::I32Clz,
+        UnaryOp::Ctz => UnaryInstruction::I32Ctz,
+        UnaryOp::Popcnt => UnaryInstruction::I32Popcnt,
+        UnaryOp::Extend8S => UnaryInstruction::I32Extend8S,
+        UnaryOp::Extend16S => UnaryInstruction::I32Extend16S,
     }
 }
 
 // An operator on a 64-bit integer.
-fn i64_unary(op: UnaryOp) -> PackedOp
-    ensures { PacksAlone result (plain.Numeric (Unary W64 op)) }
+fn i64_unary(op: UnaryOp) -> UnaryInstruction
+    ensures { unary_op result ≡ (Unary W64 op) }
 {
     match op {
-        UnaryOp::Clz => PackedOp::Unary(UnaryInstruction::I64Clz),
-        UnaryOp::Ctz => PackedOp::Unary(UnaryInstruction::I64Ctz),
-        UnaryOp::Popcnt => PackedOp::Unary(UnaryInstruction::I64Popcnt),
-        UnaryOp::Extend8S => PackedOp::Unary(UnaryInstruction::I64Extend8S),
-        UnaryOp::Extend16S => PackedOp::Unary(UnaryInstruction::I64Extend16S),
+        UnaryOp::Clz => UnaryInstruction::I64Clz,
+        UnaryOp::Ctz => UnaryInstruction::I64Ctz,
+        UnaryOp::Popcnt => UnaryInstruction::I64Popcnt,
+        UnaryOp::Extend8S => UnaryInstruction::I64Extend8S,
+        UnaryOp::Extend16S => UnaryInstruction::I64Extend16S,
     }
 }
 
 // An operator on an integer that exists for one width alone.
-fn conversion(op: Conversion) -> PackedOp
-    ensures { PacksAlone result (plain.Numeric (Convert op)) }
+fn conversion(op: Conversion) -> UnaryInstruction
+    ensures { unary_op result ≡ (Convert op) }
 {
-    let instruction = match op {
+    match op {
         Conversion::I32WrapI64 => UnaryInstruction::I32WrapI64,
         Conversion::I64ExtendI32S => UnaryInstruction::I64ExtendI32S,
         Conversion::I64ExtendI32U => UnaryInstruction::I64ExtendI32U,
         Conversion::I64Extend32S => UnaryInstruction::I64Extend32S,
-    };
-    PackedOp::Unary(instruction)
+    }
 }
 
 // A test on an integer.
-fn eqz(width: Width) -> PackedOp
-    ensures { PacksAlone result (plain.Numeric (Eqz width)) }
+fn eqz(width: Width) -> UnaryInstruction
+    ensures { unary_op result ≡ (Eqz width) }
 {
     match width {
-        Width::W32 => PackedOp::Unary(UnaryInstruction::I32Eqz),
-        Width::W64 => PackedOp::Unary(UnaryInstruction::I64Eqz),
+        Width::W32 => UnaryInstruction::I32Eqz,
+        Width::W64 => UnaryInstruction::I64Eqz,
     }
 }
 
@@ -160,8 +159,8 @@ fn compare(width: Width, op: Comparison) -> PackedOp
 }
 
 // An operator on one integer.
-fn unary(width: Width, op: UnaryOp) -> PackedOp
-    ensures { PacksAlone result (plain.Numeric (Unary width op)) }
+fn unary(width: Width, op: UnaryOp) -> UnaryInstruction
+    ensures { unary_op result ≡ (Unary width op) }
 {
     match width {
         Width::W32 => i32_unary(op),
@@ -179,16 +178,23 @@ fn binary(width: Width, op: BinaryOp) -> PackedOp
     }
 }
 
+// An instruction on one integer.
+fn on_one(instruction: UnaryInstruction) -> PackedOp
+    ensures { PacksAlone result (plain.Numeric (unary_op instruction)) }
+{
+    PackedOp::Other(OtherInstruction::Unary(instruction), 0)
+}
+
 /// Packs a numeric instruction.
 pub fn numeric(op: NumericOp) -> PackedOp
     ensures { PacksAlone result (plain.Numeric op) }
 {
     match op {
-        NumericOp::Eqz(width) => eqz(width),
+        NumericOp::Eqz(width) => on_one(eqz(width)),
         NumericOp::Compare(width, op) => compare(width, op),
-        NumericOp::Unary(width, op) => unary(width, op),
+        NumericOp::Unary(width, op) => on_one(unary(width, op)),
         NumericOp::Binary(width, op) => binary(width, op),
-        NumericOp::Convert(op) => conversion(op),
+        NumericOp::Convert(op) => on_one(conversion(op)),
     }
 }
 
@@ -199,7 +205,10 @@ fn load(op: LoadOp, offset: u32) -> PackedOp
     match op {
         LoadOp::Whole(Width::W32) => PackedOp::I32Load(offset),
         LoadOp::Whole(Width::W64) => PackedOp::Load(LoadInstruction::I64Load, offset),
-        LoadOp::Bits8(Width::W32, Sign::Unsigned) => PackedOp::I32Load8U(offset),
+        LoadOp::Bits8(Width::W32, Sign::Unsigned) => PackedOp::Load(
+            LoadInstruction::I32Load8U,
+            offset,
+        ),
         LoadOp::Bits8(Width::W32, Sign::Signed) => PackedOp::Load(
             LoadInstruction::I32Load8S,
             offset,
@@ -240,7 +249,7 @@ fn store(op: StoreOp, offset: u32) -> PackedOp
     match op {
         StoreOp::Whole(Width::W32) => PackedOp::Store(StoreInstruction::I32Store, offset),
         StoreOp::Whole(Width::W64) => PackedOp::Store(StoreInstruction::I64Store, offset),
-        StoreOp::Bits8(Width::W32) => PackedOp::I32Store8(offset),
+        StoreOp::Bits8(Width::W32) => PackedOp::Store(StoreInstruction::I32Store8, offset),
         StoreOp::Bits8(Width::W64) => PackedOp::Store(StoreInstruction::I64Store8, offset),
         StoreOp::Bits16(Width::W32) => PackedOp::Store(StoreInstruction::I32Store16, offset),
         StoreOp::Bits16(Width::W64) => PackedOp::Store(StoreInstruction::I64Store16, offset),

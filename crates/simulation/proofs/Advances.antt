@@ -62,7 +62,8 @@ module _ (op : PlainOp) (g : Ghost) (cells : List ℕ) (at top : ℕ) (p : AtPla
       let more = high-then op g cells at top p (counts 0 1) counted in
       let top_is = p.runs.holds.top_is in
       let room = p.runs.holds.room in
-      (omega (arith, more, top_is, room), puts 0 top (none-popped op g cells at top p) cell v is counted goes, dear-goes g.store g.locals (v ∷ p.values) goes)
+      let as_many = p.runs.holds.count in
+      (omega (arith, more, top_is, room, as_many), puts 0 top (none-popped op g cells at top p) cell v is counted goes, dear-goes g.store g.locals (v ∷ p.values) goes)
 
 -- The same for instructions that put one value in each state.
 pub puts-one : (op : PlainOp) → HasNoAnnotations op → (cell : ℕ) (v : Val) → cell_of v ≡ cell → ((s : Signatures) → counts_of s op ≡ Some (counts 0 1))

@@ -87,6 +87,7 @@ module _ (g : Ghost) (cells : List ℕ) (at top : ℕ) where
       let of_types : to.label.arity ≡ length types = arity to.inner to.label to.outer to.labels_are to.count in
       let kept = to.kept in
       let height = to.height in
+      let count = r.holds.count in
       let few : to.entry.kept ≤ length values = omega arith in
       let entry_is : entry_at g.code.outermost r.stands.entries l ≡ to.entry = ap (λ (o : Option Entry). unwrap_or o g.code.outermost) to.entry_is in
       let through : next g.store (frame_of g) (in_frame values₀ (to.inner ++ (to.label ∷ to.outer)) rest₀) ≡ Goes 1 g.store (frame_of g) (in_frame (take to.label.arity values ++ to.label.values) to.outer (continue_with to.label.continuation to.label.rest)) =
@@ -103,15 +104,16 @@ module _ (g : Ghost) (cells : List ℕ) (at top : ℕ) where
       let taken : length (take to.label.arity values) ≡ to.label.arity = length-take-le to.label.arity values (omega arith) in
       let joined = length-append (take to.label.arity values) to.label.values in
       rw entry_is (
-        omega (arith, above_is, sums, few, height),
+        omega (arith, above_is, sums, few, height, count),
         le,
         λ cells' fuel left put same_size enough_fuel left_is.
             moved g cells at top values₀ labels rest₀ r leaves 1 (take to.label.arity values ++ to.label.values) to.outer (continue_with to.label.continuation to.label.rest) goes
-            cells' to.entry.target (length g.locals + to.entry.height + to.entry.kept) fuel left (landed g.code l labels r.stands.entries to values few) same_size
-            (pile-land cells (map cell_of g.locals) above to.entry.kept values (values_under to.inner) lower pile few (omega arith) le (length g.locals + to.entry.height) (omega arith) cells' put
+            cells' to.entry.target (to.entry.height + to.entry.kept) fuel left (landed g.code l labels r.stands.entries to values few) same_size
+            (pile-land cells (map cell_of g.locals) above to.entry.kept values (values_under to.inner) lower pile few (omega arith) le to.entry.height (omega arith) cells' put
             ∙ ap (λ (vs : List Val). map cell_of g.locals ++ cells_of vs) (ap (λ (n : ℕ). take n values ++ lower) kept ∙ sym (append_assoc (take to.label.arity values) to.label.values (values_under to.outer))))
             (omega arith) enough_fuel left_is,
         λ fuel few_fuel. dear g cells at top values₀ labels rest₀ r leaves 1 _ _ goes fuel few_fuel,
+        omega (arith, height),
       )
 
   -- br
@@ -155,7 +157,7 @@ module _ (g : Ghost) (cells : List ℕ) (at top : ℕ) where
             top-within _ cells at top r,
             λ is_zero.
                 let goes = labels-go g.store (frame_of g) s.labels 1 g.store (frame_of g) (Running s.values (Then (plain.Control (control.BrIf l)) rest)) (Running c.values rest) (chosen 0 (sym is_zero ∙ c.read)) in
-                let next_height : length s.values + under s.labels - 1 + 0 ≡ length c.values + under s.labels = omega arith in
+                let next_height : g.code.locals + (length s.values + under s.labels) - 1 + 0 ≡ g.code.locals + (length c.values + under s.labels) = omega arith in
                 let stands : StandsIn g.code (suc at) c.values s.labels rest = record {
                   entries = r.stands.entries;
                   end = r.stands.end;

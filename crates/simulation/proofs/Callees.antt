@@ -20,7 +20,7 @@ use Rattle.meaning.proofs.lemmas.Layers.{if-at-most}
 use Rattle.meaning.proofs.lemmas.SameTypes.{types_decided}
 use Rattle.soundness.specs.Configurations.{ConfigurationHasType}
 use Rattle.soundness.specs.Places.{RunsOn, outermost}
-use Rattle.soundness.specs.Stores.{FunctionIsValid, StoreIsValid}
+use Rattle.soundness.specs.Stores.{FunctionIsValid}
 use Rattle.soundness.proofs.Calls.{arguments-typed, enough}
 use Rattle.soundness.proofs.Control.{types-on-top}
 use Rattle.soundness.proofs.Extension.{instance-valid, types-found}

@@ -41,7 +41,7 @@ module _ (g : Ghost) (cells : List ℕ) (at top : ℕ) (values : List Val) (labe
       leads-then g g.store g.locals values' labels' rest' (in_frame values labels rest) (in_frame values' labels' rest') cost fuel left cells' at' top' leaves (inl goes) refl enough left_is
       (record {
         stands = stands;
-        holds = record { held = held; top_is = top_is; room = omega (arith, r.holds.room, size) };
+        holds = record { held = held; top_is = top_is; count = r.holds.count; room = omega (arith, r.holds.room, size) };
         typed = typed-then (on g g.locals values labels rest) r.typed cost g.store g.locals values' labels' rest' refl (inl goes);
       })
 
@@ -118,7 +118,7 @@ module _ (g : Ghost) (cells : List ℕ) (at top : ℕ) where
           let parts : length f.stack ≡ length t.params + length below = ap length stack_is ∙ simp (length-append, length-reverse) in
           let enough : length t.params ≤ length s.values = omega arith in
           let flat_type : block_type g.code.signatures.types type ≡ Some t = rw (r.typed.types) at found in
-          let lasts = block-lasts _ g.code.signatures r.typed.types r.typed.functions t inside typed (length s.values + under s.labels) (omega arith) in
+          let lasts = block-lasts _ g.code.signatures r.typed.types r.typed.functions t inside typed (g.code.locals + (length s.values + under s.labels)) (omega arith) in
           let stands = block-entered g.code at s.values s.labels type t flat_type enough inside rest lasts r.stands in
           let is_next = ap (λ (o : Option FuncType). enter_label g.store (frame_of g) BlockKind type o inside s.values rest) found in (
             λ fuel left enough_fuel left_is. label-entered s.values (Nested BlockKind type inside rest) s.labels r leaves BlockKind type t inside rest s.values enough is_next (suc at) top fuel left stands r.holds.held r.holds.top_is enough_fuel left_is,
@@ -133,7 +133,7 @@ module _ (g : Ghost) (cells : List ℕ) (at top : ℕ) where
           let parts : length f.stack ≡ length t.params + length below = ap length stack_is ∙ simp (length-append, length-reverse) in
           let enough : length t.params ≤ length s.values = omega arith in
           let flat_type : block_type g.code.signatures.types type ≡ Some t = rw (r.typed.types) at found in
-          let lasts = block-lasts _ g.code.signatures r.typed.types r.typed.functions t inside typed (length s.values + under s.labels) (omega arith) in
+          let lasts = block-lasts _ g.code.signatures r.typed.types r.typed.functions t inside typed (g.code.locals + (length s.values + under s.labels)) (omega arith) in
           let stands = loop-entered g.code at s.values s.labels type t flat_type enough inside rest lasts r.stands in
           let is_next = ap (λ (o : Option FuncType). enter_label g.store (frame_of g) LoopKind type o inside s.values rest) found in (
             λ fuel left enough_fuel left_is. label-entered s.values (Nested LoopKind type inside rest) s.labels r leaves LoopKind type t inside rest s.values enough is_next (suc at) top fuel left stands r.holds.held r.holds.top_is enough_fuel left_is,

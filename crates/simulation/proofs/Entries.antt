@@ -14,19 +14,22 @@ use Rattle.soundness.specs.Stores.{ImplementationIsValid, StoreIsValid, body_pla
 use Rattle.soundness.proofs.Calls.{empty-runs}
 use Rattle.soundness.proofs.Values.{defaults-typed, values-joined, values-parts, values-reversed}
 use Rattle.sidetable.specs.Counts.{Signatures}
+use Rattle.sidetable.specs.Flat.{FlatOp}
 use Rattle.cells.specs.Cells.{cell_of}
 use Rattle.simulation.specs.Entries.{callee}
+use Rattle.simulation.specs.Laws.{BeginsAt}
 use Rattle.simulation.specs.Runs.{Ghost, Holds, IsTyped, Runs}
 use Rattle.simulation.specs.Standing.{values_under}
 use Rattle.simulation.proofs.Cells.{argument-cells, first-cells}
 use Rattle.simulation.proofs.Frames.{functions-entered}
 use Rattle.simulation.proofs.Typed.{all-length}
 
-module _ (g : Ghost) (cells : List ℕ) (top : ℕ) (valid : StoreIsValid g.store) (h : Holds g cells top) (inside : top ≤ length cells) (s : Signatures) (t : FuncType) (instance : ℕ) (code : Code)
+module _ (g : Ghost) (cells : List ℕ) (top : ℕ) (valid : StoreIsValid g.store) (h : Holds g cells top) (inside : top ≤ length cells) (s : Signatures) (ops : List FlatOp) (at : ℕ) (t : FuncType) (instance : ℕ) (code : Code)
     (good : ImplementationIsValid g.store t (InCode instance code)) (below : List ValType) (typed : ValuesHaveTypes g.store g.values (reverse t.params ++ below)) (enough : length t.params ≤ length g.values)
-    (types : (context_at g.store (body_place t instance code)).types ≡ s.types) (functions : (context_at g.store (body_place t instance code)).functions ≡ s.functions) where
+    (types : (context_at g.store (body_place t instance code)).types ≡ s.types) (functions : (context_at g.store (body_place t instance code)).functions ≡ s.functions)
+    (begins : BeginsAt s ops (length t.params + length code.locals) (length t.results) at code.body) where
   abbrev new : Ghost
-  new = callee g s t instance code g.values
+  new = callee g s ops at t instance code g.values
 
   arguments : ValuesHaveTypes g.store (topmost t.params g.values) t.params
   arguments =
@@ -53,14 +56,15 @@ module _ (g : Ghost) (cells : List ℕ) (top : ℕ) (valid : StoreIsValid g.stor
 
   -- The callee's frame begins at the arguments, and its other locals are zero.
   pub call-enters : (cells' : List ℕ) → take (length t.params + length code.locals) cells' ≡ take (length t.params) (drop (top - length t.params) cells) ++ replicate (length code.locals) 0
-      → length t.params + length code.locals + new.code.greatest ≤ length cells' → Runs new cells' 0 (length t.params + length code.locals)
+      → new.code.greatest ≤ length cells' → Runs new cells' at (length t.params + length code.locals)
   call-enters cells' filled room = record {
-    stands = functions-entered (context_at g.store (body_place t instance code)) s types functions t code.body good.1;
+    stands = functions-entered (context_at g.store (body_place t instance code)) s types functions t code.body good.1 ops (length t.params + length code.locals) at begins;
     holds = record {
       held = filled ∙ ap (λ (z : List ℕ). z ++ replicate (length code.locals) 0) lies ∙ ap (λ (z : List ℕ). map cell_of (topmost t.params g.values) ++ z) (sym (first-cells code.locals))
           ∙ sym (map-append cell_of (topmost t.params g.values) (map default_of code.locals)) ∙ sym (append-nil (map cell_of (topmost t.params g.values ++ map default_of code.locals)));
       top_is = omega (arith, locals_size);
-      room = omega (arith, room, locals_size);
+      count = locals_size;
+      room = room;
     };
     typed = callee-typed;
   }

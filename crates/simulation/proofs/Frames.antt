@@ -1,6 +1,6 @@
 -- Frames: how their code is entered, and what steps in them are for the whole.
-use Rattle.std.proofs.Common.{◌≡◌, ℕ, suc, ◌+◌, ◌-◌, ◌≤◌, List, [], ◌∷◌, ◌++◌, length, drop, refl, ap, sym, ◌∙◌, arith, length-append, inl, inr}
-use Rattle.std.proofs.lemmas.List.{append-nil, length-map}
+use Rattle.std.proofs.Common.{◌≡◌, ℕ, suc, ◌+◌, ◌-◌, ◌≤◌, List, [], ◌∷◌, ◌++◌, length, drop, refl, subst, ◌∙◌, arith, append_assoc, length-append, inl, inr}
+use Rattle.std.proofs.lemmas.List.{length-map}
 use Rattle.std.specs.Prelude.{Option, Some}
 use Rattle.core_types.specs.declared.op.PlainOp.{PlainOp}
 use Rattle.core_types.specs.declared.outcome.Val.{Val}
@@ -16,52 +16,52 @@ use Rattle.meaning.specs.validation.Instructions.{HasType, known}
 use Rattle.meaning.proofs.lemmas.Layers.{plugged-goes, plugged-grows}
 use Rattle.meaning.proofs.lemmas.Runs.{Steps-join}
 use Rattle.sidetable.specs.Counts.{Signatures, counts, counts_of}
-use Rattle.sidetable.specs.Flat.{function_entry, size}
-use Rattle.simulation.specs.Laws.{code_of, function_label}
+use Rattle.sidetable.specs.Flat.{FlatOp, Leave, flat, function_entry, size}
+use Rattle.sidetable.specs.declared.operations.Entry.{Entry}
+use Rattle.simulation.specs.Laws.{BeginsAt, code_at, function_label}
 use Rattle.simulation.specs.Runs.{GoesOn, StepsIn, none as none-in, then}
 use Rattle.simulation.specs.Standing.{EndsAt, FrameCode, StandsAt, StandsIn, last_height, under}
 use Rattle.simulation.proofs.Heights.{last-typed}
-use Rattle.simulation.proofs.Places.{flat-size, past-flat}
+use Rattle.simulation.proofs.Places.{past-flat}
 use Rattle.simulation.proofs.Steps.{advanced, entered}
 
--- The end of a function's code.
-end-of-code : (s : Signatures) (results : ℕ) (body : Body) → length (code_of s results body).operations ≡ size body
-end-of-code s results body = flat-size s (function_entry results body) body (function_entry results body ∷ []) (Some 0) 0
-
--- Nothing is left there.
-at-end-of-code : (s : Signatures) (results : ℕ) (body : Body) (labels : ℕ) → results ≤ (code_of s results body).greatest
-    → StandsAt (code_of s results body) [] results (size body) Empty (size body) results
-at-end-of-code s results body labels room = record {
-  more = [];
-  placed = ap (λ (n : ℕ). drop n (code_of s results body).operations) zero_on ∙ past-flat s (function_entry results body) body (function_entry results body ∷ []) (Some 0) 0 (code_of s results body).operations [] (sym (append-nil (code_of s results body).operations));
-  ends = omega arith;
-  lasts = refl;
-  room = room;
-}
-  where
-    zero_on : size body ≡ 0 + size body
-    zero_on = omega arith
-
+-- The code of a function is entered inside of its label, behind which its frame is left.
 pub functions-entered : (context : Context) (s : Signatures) → context.types ≡ s.types → context.functions ≡ s.functions → (t : FuncType) (body : Body)
-    → HasType context body [] (known t.results)
-    → StandsIn (code_of s (length t.results) body) 0 [] (function_label (length t.results) ∷ []) body
-functions-entered context s types functions t body typed =
-    let n : ℕ = length t.results in
-    let end : StandsAt (code_of s n body) [] n (size body) Empty (size body) n = at-end-of-code s n body 0 (omega arith) in
-    let results : 0 + length (known t.results) ≡ n = simp length-map (omega arith) in
-    let lasts : EndsAt (last_height s (Some 0) body) n = rw results at (last-typed context s types functions 0 body [] (known t.results) typed 0 (omega arith)) in
-    entered (code_of s n body) (function_entry n body) (function_label n) [] [] 0 (size body) (size body) n (size body) n [] body refl (omega arith) (inl refl)
-    end (rw height-kept end) (sym (end-of-code s n body), refl)
-    (record {
-      more = [];
-      placed = sym (append-nil (code_of s n body).operations);
-      ends = omega arith;
-      lasts = lasts;
-      room = omega arith;
-    })
+    → HasType context body [] (known t.results) → (ops : List FlatOp) (locals at : ℕ) → BeginsAt s ops locals (length t.results) at body
+    → StandsIn (code_at s ops locals (length t.results) at body) at [] (function_label (length t.results) ∷ []) body
+functions-entered context s types functions t body typed ops locals at (more, placed) =
+    entered f e (function_label n) [] [] at (at + size body) (at + size body) (locals + n) (at + size body) (locals + n) [] body refl (omega arith) (inl refl)
+    end end ((more, leaves), refl) (subst (λ (h : ℕ). StandsAt f (e ∷ []) h at body (at + size body) (locals + n)) none_above here)
   where
-    height-kept : 0 + length t.results ≡ length t.results
-    height-kept = omega arith
+    n : ℕ
+    n = length t.results
+
+    e : Entry
+    e = function_entry locals n at body
+
+    f : FrameCode
+    f = code_at s ops locals n at body
+
+    behind : drop at ops ≡ flat s e (e ∷ []) (Some locals) at body ++ (Leave n ∷ more)
+    behind = placed ∙ append_assoc (flat s e (e ∷ []) (Some locals) at body) (Leave n ∷ []) more
+
+    leaves : drop (at + size body) ops ≡ Leave n ∷ more
+    leaves = past-flat s e body (e ∷ []) (Some locals) at ops (Leave n ∷ more) behind
+
+    none_above : locals ≡ locals + (0 + (0 + 0))
+    none_above = omega arith
+
+    results : locals + length (known t.results) ≡ locals + n
+    results = simp length-map
+
+    lasts : EndsAt (last_height s (Some locals) body) (locals + n)
+    lasts = rw results at (last-typed context s types functions locals body [] (known t.results) typed locals (omega arith))
+
+    end : StandsAt f [] (locals + n) (at + size body) Empty (at + size body) (locals + n)
+    end = record { more = Leave n ∷ more; placed = leaves; ends = omega arith; lasts = refl; room = omega arith }
+
+    here : StandsAt f (e ∷ []) locals at body (at + size body) (locals + n)
+    here = record { more = Leave n ∷ more; placed = behind; ends = refl; lasts = lasts; room = omega arith }
 
 -- With whatever host functions there are.
 module _ {H : Type 0} (HostStep : List H → ℕ → Option ℕ → List Val → Store → Answer → Store → List H → Type 0) (hosts : List H) (bound : ℕ) (layers : List Layer) (outside : (f : Frame) → outermost layers f ≡ no_frame) where
@@ -90,11 +90,11 @@ pub callers-on : (f : FrameCode) (at : ℕ) (values rest_values results : List V
     → counts_of f.signatures op ≡ Some (counts takes gives) → takes ≤ length values → length rest_values ≡ length values - takes → length results ≡ gives
     → StandsIn f at values labels (Then op rest) → StandsIn f (suc at) (results ++ rest_values) labels rest
 callers-on f at values rest_values results labels op rest takes gives is enough few many s =
-    let same : length values + under labels - takes + gives ≡ length (results ++ rest_values) + under labels = omega (arith, length-append results rest_values, enough, few, many) in
+    let same : f.locals + (length values + under labels) - takes + gives ≡ f.locals + (length (results ++ rest_values) + under labels) = omega (arith, length-append results rest_values, enough, few, many) in
     record {
       entries = s.entries;
       end = s.end;
       last = s.last;
-      here = rw same at (advanced f s.entries (length values + under labels) at op rest s.end s.last (counts takes gives) is s.here);
+      here = rw same at (advanced f s.entries (f.locals + (length values + under labels)) at op rest s.end s.last (counts takes gives) is s.here);
       around = s.around;
     }

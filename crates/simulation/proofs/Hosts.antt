@@ -168,6 +168,7 @@ module _ (op : PlainOp) (address : ℕ) (function : FunctionInstance) (g : Ghost
             let four = length-drop (length params) c.reached.values in
             let five = c.reached.enough in
             omega (arith, top_is, one, two, three, four, five);
+        count = c.reached.runs.holds.count;
         room = let room = c.reached.runs.holds.room in omega (arith, room, size);
       };
       typed = then-typed;

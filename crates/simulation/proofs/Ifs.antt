@@ -89,7 +89,7 @@ module _ (g : Ghost) (cells : List ℕ) (at top : ℕ) where
           let parts : length f.stack ≡ suc (length t.params + length below) = ap length stack_now ∙ simp (length-append, length-reverse) in
           let enough : length t.params ≤ length c.values = omega arith in
           let flat_type : block_type g.code.signatures.types type ≡ Some t = rw (r.typed.types) at found in
-          let lasts = block-lasts _ g.code.signatures r.typed.types r.typed.functions t inside typed (length c.values + under s.labels) (omega arith) in
+          let lasts = block-lasts _ g.code.signatures r.typed.types r.typed.functions t inside typed (g.code.locals + (length c.values + under s.labels)) (omega arith) in
           let stands₀ : StandsIn g.code at (I32 c.n ∷ c.values) s.labels (Nested IfKind type inside rest) = subst (λ (vs : List Val). StandsIn g.code at vs s.labels (Nested IfKind type inside rest)) c.values_are r.stands in
           let chosen : (n : ℕ) → n ≡ c.n → next g.store (frame_of g) (Running s.values (Nested IfKind type inside rest)) ≡ choose_body g.store (frame_of g) type inside Empty (I32 n ∷ c.values) rest =
           λ n same. ap (λ (vs : List Val). choose_body g.store (frame_of g) type inside Empty vs rest) (c.values_are ∙ ap (λ (m : ℕ). I32 m ∷ c.values) (sym same)) in
@@ -126,8 +126,8 @@ module _ (g : Ghost) (cells : List ℕ) (at top : ℕ) where
           let parts : length f.stack ≡ suc (length t.params + length below) = ap length stack_now ∙ simp (length-append, length-reverse) in
           let enough : length t.params ≤ length c.values = omega arith in
           let flat_type : block_type g.code.signatures.types type ≡ Some t = rw (r.typed.types) at found in
-          let lasts = block-lasts _ g.code.signatures r.typed.types r.typed.functions t inside typed (length c.values + under s.labels) (omega arith) in
-          let other_lasts = block-lasts _ g.code.signatures r.typed.types r.typed.functions t other other_typed (length c.values + under s.labels) (omega arith) in
+          let lasts = block-lasts _ g.code.signatures r.typed.types r.typed.functions t inside typed (g.code.locals + (length c.values + under s.labels)) (omega arith) in
+          let other_lasts = block-lasts _ g.code.signatures r.typed.types r.typed.functions t other other_typed (g.code.locals + (length c.values + under s.labels)) (omega arith) in
           let stands₀ : StandsIn g.code at (I32 c.n ∷ c.values) s.labels (IfElse type inside other rest) = subst (λ (vs : List Val). StandsIn g.code at vs s.labels (IfElse type inside other rest)) c.values_are r.stands in
           let chosen : (n : ℕ) → n ≡ c.n → next g.store (frame_of g) (Running s.values (IfElse type inside other rest)) ≡ choose_body g.store (frame_of g) type inside other (I32 n ∷ c.values) rest =
           λ n same. ap (λ (vs : List Val). choose_body g.store (frame_of g) type inside other vs rest) (c.values_are ∙ ap (λ (m : ℕ). I32 m ∷ c.values) (sym same)) in

@@ -1,5 +1,5 @@
 -- Bodies at places.
-use Rattle.std.proofs.Common.{◌≡◌, ℕ, zero, suc, ◌+◌, List, [], ◌∷◌, ◌++◌, length, drop, refl, ap, sym, ◌∙◌, add-suc, add-zero, suc-add, arith, length-append}
+use Rattle.std.proofs.Common.{◌≡◌, ℕ, zero, suc, ◌+◌, List, [], ◌∷◌, ◌++◌, length, drop, refl, ap, sym, ◌∙◌, add-suc, add-zero, suc-add, length-append}
 use Rattle.std.specs.Prelude.{Option}
 use Rattle.meaning.specs.structure.Bodies.{Body, Empty, Then, Nested, IfElse}
 use Rattle.sidetable.specs.Counts.{Signatures}
@@ -26,9 +26,3 @@ flat-size s outermost (IfElse type inner other rest) labels h at = ap suc (simp 
 -- Behind a body.
 pub past-flat : (s : Signatures) (outermost : Entry) (body : Body) (labels : List Entry) (h : Option ℕ) (at : ℕ) (ops more : List FlatOp) → drop at ops ≡ flat s outermost labels h at body ++ more → drop (at + size body) ops ≡ more
 past-flat s outermost body labels h at ops more e = ap (λ (n : ℕ). drop (at + n) ops) (sym (flat-size s outermost body labels h at)) ∙ drop-past at ops (flat s outermost labels h at body) more e
-
-pub drop-end : {X : Type 0} (at : ℕ) (xs : List X) → at ≡ length xs → drop at xs ≡ []
-drop-end zero [] e = refl
-drop-end (suc at) [] e = refl
-drop-end zero (x ∷ xs) e = absurd (omega (arith, e))
-drop-end (suc at) (x ∷ xs) e = drop-end at xs (omega (arith, e))

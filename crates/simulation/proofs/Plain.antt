@@ -1,5 +1,5 @@
 -- Where an instruction without a body stands, and its step: on values, and on their cells.
-use Rattle.std.proofs.Common.{◌≡◌, ℕ, suc, ◌+◌, ◌-◌, ◌<◌, ◌≤◌, List, [], ◌∷◌, ◌++◌, length, map, take, refl, ap, subst, arith}
+use Rattle.std.proofs.Common.{◌≡◌, ℕ, suc, ◌+◌, ◌-◌, ◌<◌, ◌≤◌, List, [], ◌∷◌, ◌++◌, length, map, take, refl, ap, subst, ◌∙◌, arith}
 use Rattle.std.proofs.lemmas.List.{length-map}
 use Rattle.std.specs.Prelude.{Some}
 use Rattle.core_types.specs.declared.op.PlainOp.{PlainOp}
@@ -102,11 +102,11 @@ at-plain op bare g cells at top b =
 -- ---- the room of a frame
 
 module _ (g : Ghost) (cells : List ℕ) (at top : ℕ) (r : Runs g cells at top) where
-  pub high : length g.values + under g.labels ≤ g.code.greatest
-  high = within g.code r.stands.entries (length g.values + under g.labels) at g.rest r.stands.end r.stands.last r.stands.here
+  pub high : g.code.locals + (length g.values + under g.labels) ≤ g.code.greatest
+  high = within g.code r.stands.entries (g.code.locals + (length g.values + under g.labels)) at g.rest r.stands.end r.stands.last r.stands.here
 
   pub top-within : top ≤ length cells
-  top-within = omega (arith, high, r.holds.top_is, r.holds.room)
+  top-within = omega (arith, high, r.holds.top_is, r.holds.count, r.holds.room)
 
   pub base-length : length (map cell_of g.locals) ≡ length g.locals
   base-length = length-map g.locals cell_of
@@ -128,7 +128,7 @@ module _ (op : PlainOp) (g : Ghost) (cells : List ℕ) (at top : ℕ) (p : AtPla
     goes_here : GoesOn (next g.store (frame_of g) (in_frame p.values p.labels (Then op p.rest))) cost store' (record { instance = Some g.instance; locals = locals }) (in_frame values p.labels p.rest)
     goes_here = labels-go-on g.store (frame_of g) p.labels cost store' (record { instance = Some g.instance; locals = locals }) (Running p.values (Then op p.rest)) (Running values p.rest) goes
 
-    pub advance : store'.instances ≡ g.store.instances → (c : Counts) → counts_of g.code.signatures op ≡ Some c → length values + under p.labels ≡ length p.values + under p.labels - c.takes + c.gives → length locals ≡ length g.locals
+    pub advance : store'.instances ≡ g.store.instances → (c : Counts) → counts_of g.code.signatures op ≡ Some c → g.code.locals + (length values + under p.labels) ≡ g.code.locals + (length p.values + under p.labels) - c.takes + c.gives → length locals ≡ length g.locals
         → (cells' : List ℕ) (at' top' fuel left : ℕ) → length cells' ≡ length cells → at' ≡ suc at → top' ≡ length locals + (length values + under p.labels) → take top' cells' ≡ map cell_of locals ++ cells_of (values ++ values_under p.labels)
         → cost ≤ fuel → left ≡ fuel - cost → Leads g fuel store' cells' at' top' left
     advance instances c is many same cells' at' top' fuel left size at_is top_is held enough left_is =
@@ -141,12 +141,12 @@ module _ (op : PlainOp) (g : Ghost) (cells : List ℕ) (at top : ℕ) (p : AtPla
             here = rw many (advanced g.code p.runs.stands.entries _ at op p.rest p.runs.stands.end p.runs.stands.last c is p.runs.stands.here);
             around = p.runs.stands.around;
           });
-          holds = record { held = held; top_is = top_is; room = omega (arith, p.runs.holds.room, size, same) };
+          holds = record { held = held; top_is = top_is; count = same ∙ p.runs.holds.count; room = omega (arith, p.runs.holds.room, size) };
           typed = typed-then here p.runs.typed cost store' locals values p.labels p.rest instances goes_here;
         })
 
   -- The height behind it is within the room.
-  pub high-then : (c : Counts) → counts_of g.code.signatures op ≡ Some c → length p.values + under p.labels - c.takes + c.gives ≤ g.code.greatest
+  pub high-then : (c : Counts) → counts_of g.code.signatures op ≡ Some c → g.code.locals + (length p.values + under p.labels) - c.takes + c.gives ≤ g.code.greatest
   high-then c is = within g.code p.runs.stands.entries _ (suc at) p.rest p.runs.stands.end p.runs.stands.last (advanced g.code p.runs.stands.entries _ at op p.rest p.runs.stands.end p.runs.stands.last c is p.runs.stands.here)
 
   -- It leads there for nothing.

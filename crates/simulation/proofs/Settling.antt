@@ -10,12 +10,11 @@ use Rattle.meaning.specs.structure.Bodies.{Body, BlockKind, LoopKind, IfKind, Em
 use Rattle.meaning.specs.execution.Configurations.{Configuration, Frame, InLabel, Label, Running}
 use Rattle.meaning.specs.execution.Instructions.{Goes, Grows, next, step_in_label}
 use Rattle.meaning.specs.execution.Store.{Store}
-use Rattle.sidetable.specs.Flat.{FlatOp, Jump, entry_of, flat_op, without_annotations}
+use Rattle.sidetable.specs.Flat.{FlatOp, Jump, Leave, entry_of, flat_op, without_annotations}
 use Rattle.sidetable.specs.declared.operations.Entry.{Entry}
 use Rattle.simulation.specs.Runs.{GoesOn}
-use Rattle.simulation.specs.Standing.{FrameCode, GoesOnAt, StandsIn, values_under}
+use Rattle.simulation.specs.Standing.{FrameCode, GoesOnAt, IsAtEnd, StandsIn, values_under}
 use Rattle.simulation.specs.Settling.{BeginsWith, HasNoAnnotations, IsSettled, leave, stay, Settles, in_frame, inside_labels}
-use Rattle.simulation.proofs.Places.{drop-end}
 use Rattle.simulation.proofs.Steps.{left}
 
 module _ (store : Store) (frame : Frame) where
@@ -119,6 +118,13 @@ written-so op (plain.I64Const n) is h = sym is
 firsts : (x y : FlatOp) (xs ys : List FlatOp) → x ∷ xs ≡ y ∷ ys → x ≡ y
 firsts x y xs ys e = cc
 
+-- Where no label and nothing of the body is left.
+pub at-leave : (f : FrameCode) (at : ℕ) (values : List Val) (s : StandsIn f at values [] Empty) → IsAtEnd f at
+at-leave f at values s =
+    let end = s.here.ends in
+    let same : s.end ≡ at = omega (arith, end) in
+    subst (IsAtEnd f) same s.around.0
+
 module _ (f : FrameCode) (at : ℕ) (o : FlatOp) (os : List FlatOp) (there : drop at f.operations ≡ o ∷ os) where
   same-head : (entries : List Entry) (body : Body) (p : FlatOp) (ps : List FlatOp) → drop at f.operations ≡ p ∷ ps → BeginsWith f.outermost entries at p body → BeginsWith f.outermost entries at o body
   same-head entries body p ps placed begins = subst (λ (q : FlatOp). BeginsWith f.outermost entries at q body) (firsts p o ps os (sym placed ∙ there)) begins
@@ -129,10 +135,7 @@ module _ (f : FrameCode) (at : ℕ) (o : FlatOp) (os : List FlatOp) (there : dro
   begins values labels (Nested LoopKind type inner rest) s settled = same-head s.entries _ _ _ s.here.placed (type, inner, rest, inr refl)
   begins values labels (Nested IfKind type inner rest) s settled = same-head s.entries _ _ _ s.here.placed (type, inner, rest, inl (refl, refl))
   begins values labels (IfElse type inner other rest) s settled = same-head s.entries _ _ _ s.here.placed (type, inner, rest, inr (other, refl, refl))
-  begins values [] Empty s settled =
-      let end = s.here.ends in
-      let none : drop at f.operations ≡ [] = drop-end at f.operations (omega (arith, s.around.0, end)) in
-      absurd (let wrong : [] ≡ o ∷ os = sym none ∙ there in cc)
+  begins values [] Empty s settled = let (more, placed) = at-leave f at values s in same-head s.entries Empty (Leave f.outermost.kept) more placed refl
   begins values (label ∷ labels) Empty s settled = same-head s.entries Empty _ _ settled.placed refl
 
   -- At a jump.
@@ -145,9 +148,8 @@ module _ (f : FrameCode) (at : ℕ) (o : FlatOp) (os : List FlatOp) (there : dro
   jumps kept onward height is values labels (Nested kind type inner rest) s settled = absurd (let wrong : Nested kind type inner rest ≡ Empty = subst (λ (q : FlatOp). BeginsWith f.outermost s.entries at q (Nested kind type inner rest)) is (begins values labels (Nested kind type inner rest) s settled) in cc)
   jumps kept onward height is values labels (IfElse type inner other rest) s settled = absurd (let wrong : IfElse type inner other rest ≡ Empty = subst (λ (q : FlatOp). BeginsWith f.outermost s.entries at q (IfElse type inner other rest)) is (begins values labels (IfElse type inner other rest) s settled) in cc)
   jumps kept onward height is values [] Empty s settled =
-      let end = s.here.ends in
-      let none : drop at f.operations ≡ [] = drop-end at f.operations (omega (arith, s.around.0, end)) in
-      absurd (let wrong : [] ≡ o ∷ os = sym none ∙ there in cc)
+      let (more, placed) = at-leave f at values s in
+      absurd (let wrong : Leave f.outermost.kept ≡ Jump (entry_of onward kept height) = firsts _ _ more os (sym placed ∙ there) ∙ is in cc)
   jumps kept onward height is values (label ∷ labels) Empty s settled =
       let same : Jump (entry_of settled.onward settled.kept settled.height) ≡ Jump (entry_of onward kept height) = firsts _ _ settled.more os (sym settled.placed ∙ there) ∙ is in
       let entries : entry_of settled.onward settled.kept settled.height ≡ entry_of onward kept height = cc in
@@ -155,10 +157,17 @@ module _ (f : FrameCode) (at : ℕ) (o : FlatOp) (os : List FlatOp) (there : dro
       (label, labels, refl, refl, subst (λ (n : ℕ). StandsIn f n (values ++ label.values) labels label.rest) targets settled.stands, rw targets at settled.later)
 
 -- At the end of the code.
-module _ (f : FrameCode) (at : ℕ) (none : drop at f.operations ≡ []) where
-  pub at-end : (values : List Val) (labels : List Label) (rest : Body) → StandsIn f at values labels rest → IsSettled f at values labels rest → (labels ≡ []) × (rest ≡ Empty) × (length values ≡ f.outermost.kept)
-  at-end values labels (Then op rest) s settled = absurd (let wrong = sym s.here.placed ∙ none in cc)
-  at-end values labels (Nested kind type inner rest) s settled = absurd (let wrong = sym s.here.placed ∙ none in cc)
-  at-end values labels (IfElse type inner other rest) s settled = absurd (let wrong = sym s.here.placed ∙ none in cc)
-  at-end values [] Empty s settled = let reached = s.here.lasts in (refl, refl, omega (arith, reached, s.around.1))
-  at-end values (label ∷ labels) Empty s settled = absurd (let wrong = sym settled.placed ∙ none in cc)
+module _ (f : FrameCode) (at results : ℕ) (more : List FlatOp) (there : drop at f.operations ≡ Leave results ∷ more) where
+  pub at-end : (values : List Val) (labels : List Label) (rest : Body) → StandsIn f at values labels rest → IsSettled f at values labels rest
+      → (labels ≡ []) × (rest ≡ Empty) × (length values ≡ f.outermost.kept) × (results ≡ f.outermost.kept)
+  at-end values labels (Then op rest) s settled = absurd (let wrong : Then op rest ≡ Empty = begins f at (Leave results) more there values labels (Then op rest) s settled in cc)
+  at-end values labels (Nested kind type inner rest) s settled = absurd (let wrong : Nested kind type inner rest ≡ Empty = begins f at (Leave results) more there values labels (Nested kind type inner rest) s settled in cc)
+  at-end values labels (IfElse type inner other rest) s settled = absurd (let wrong : IfElse type inner other rest ≡ Empty = begins f at (Leave results) more there values labels (IfElse type inner other rest) s settled in cc)
+  at-end values [] Empty s settled =
+      let reached = s.here.lasts in
+      let (others, placed) = at-leave f at values s in
+      let same : Leave results ≡ Leave f.outermost.kept = firsts _ _ more others (sym there ∙ placed) in
+      let as_many : results ≡ f.outermost.kept = cc in
+      (refl, refl, omega (arith, reached, s.around.1), as_many)
+  at-end values (label ∷ labels) Empty s settled =
+      absurd (let wrong : Leave results ≡ Jump (entry_of settled.onward settled.kept settled.height) = firsts _ _ more settled.more (sym there ∙ settled.placed) in cc)

@@ -151,11 +151,11 @@ module _ (f : FrameCode) where
 
   -- What a label is entered with.
   pub entered : (entry : Entry) (label : Label) (labels : List Label) (entries : List Entry) (at inside_end onward until end last : ℕ) (values : List Val) (body : Body)
-      → entry.kept ≡ label.arity → entry.height ≡ length label.values + under labels → GoesOnAt f inside_end onward
+      → entry.kept ≡ label.arity → entry.height ≡ f.locals + (length label.values + under labels) → GoesOnAt f inside_end onward
       → StandsAt f entries until onward label.rest end last
       → StandsAt f entries (entry.height + entry.kept) entry.target (continue_with label.continuation label.rest) end last
       → LabelsStand f labels entries end last
-      → StandsAt f (entry ∷ entries) (length values + (length label.values + under labels)) at body inside_end until
+      → StandsAt f (entry ∷ entries) (f.locals + (length values + (length label.values + under labels))) at body inside_end until
       → StandsIn f at values (label ∷ labels) body
   entered entry label labels entries at inside_end onward until end last values body kept height on leaving branching further here = record {
     entries = entry ∷ entries;
@@ -184,7 +184,7 @@ module _ (f : FrameCode) where
   module _ (at : ℕ) (values : List Val) (labels : List Label) (type : BlockType) (t : FuncType) (is : block_type f.signatures.types type ≡ Some t) (enough : length t.params ≤ length values) where
     -- The height inside, under the conditions.
     abbrev high : ℕ
-    high = length values + under labels
+    high = f.locals + (length values + under labels)
 
     counted : block_counts f.signatures type ≡ counts (length t.params) (length t.results)
     counted = rw is refl
@@ -232,13 +232,13 @@ module _ (f : FrameCode) where
             → StandsIn f at (v ∷ values) labels (Nested IfKind type inner rest)
             → StandsIn f (suc at) (take (length t.params) values) (label_of IfKind type t inner values rest ∷ labels) inner
         if-entered typed s =
-            let one_off : suc (length values) + under labels - 1 ≡ high = omega arith in
+            let one_off : f.locals + (suc (length values) + under labels) - 1 ≡ high = omega arith in
             let (top, low) = split-length (length t.params) values enough in
-            let from : StandsAt f s.entries (suc (length values) + under labels - 1 - length t.params + length t.results) (suc at + size inner) rest s.end s.last =
-            rw counted at (block-rest s.entries (suc (length values) + under labels) at IfKind type inner rest s.end s.last s.here) in
-            let inside : StandsAt f (entry_of (suc at + size inner) (length t.results) (suc (length values) + under labels - 1 - length t.params) ∷ s.entries) (suc (length values) + under labels - 1) (suc at) inner (suc at + size inner) (high - length t.params + length t.results) =
-            rw counted at (block-inside s.entries (suc (length values) + under labels) at IfKind type inner rest s.end s.last s.here (high - length t.params + length t.results) (rw one_off typed)) in
-            entered (entry_of (suc at + size inner) (length t.results) (suc (length values) + under labels - 1 - length t.params)) (label_of IfKind type t inner values rest) labels s.entries (suc at) (suc at + size inner) (suc at + size inner)
+            let from : StandsAt f s.entries (f.locals + (suc (length values) + under labels) - 1 - length t.params + length t.results) (suc at + size inner) rest s.end s.last =
+            rw counted at (block-rest s.entries (f.locals + (suc (length values) + under labels)) at IfKind type inner rest s.end s.last s.here) in
+            let inside : StandsAt f (entry_of (suc at + size inner) (length t.results) (f.locals + (suc (length values) + under labels) - 1 - length t.params) ∷ s.entries) (f.locals + (suc (length values) + under labels) - 1) (suc at) inner (suc at + size inner) (high - length t.params + length t.results) =
+            rw counted at (block-inside s.entries (f.locals + (suc (length values) + under labels)) at IfKind type inner rest s.end s.last s.here (high - length t.params + length t.results) (rw one_off typed)) in
+            entered (entry_of (suc at + size inner) (length t.results) (f.locals + (suc (length values) + under labels) - 1 - length t.params)) (label_of IfKind type t inner values rest) labels s.entries (suc at) (suc at + size inner) (suc at + size inner)
             (high - length t.params + length t.results) s.end s.last (take (length t.params) values) inner refl (omega arith) (inl refl)
             (at-height s.entries _ _ _ rest s.end s.last (omega arith) from)
             (at-height s.entries _ _ _ rest s.end s.last (omega arith) from)
@@ -251,10 +251,10 @@ module _ (f : FrameCode) where
             → StandsIn f (suc at + size inner) (take (length t.params) values) (label_of IfKind type t Empty values rest ∷ labels) Empty
         if-passed same s =
             let (top, low) = split-length (length t.params) values enough in
-            let from : StandsAt f s.entries (suc (length values) + under labels - 1 - length t.params + length t.results) (suc at + size inner) rest s.end s.last =
-            rw counted at (block-rest s.entries (suc (length values) + under labels) at IfKind type inner rest s.end s.last s.here) in
-            let room = within s.entries (suc (length values) + under labels) at _ s.end s.last s.here in
-            entered (entry_of (suc at + size inner) (length t.results) (suc (length values) + under labels - 1 - length t.params)) (label_of IfKind type t Empty values rest) labels s.entries (suc at + size inner) (suc at + size inner) (suc at + size inner)
+            let from : StandsAt f s.entries (f.locals + (suc (length values) + under labels) - 1 - length t.params + length t.results) (suc at + size inner) rest s.end s.last =
+            rw counted at (block-rest s.entries (f.locals + (suc (length values) + under labels)) at IfKind type inner rest s.end s.last s.here) in
+            let room = within s.entries (f.locals + (suc (length values) + under labels)) at _ s.end s.last s.here in
+            entered (entry_of (suc at + size inner) (length t.results) (f.locals + (suc (length values) + under labels) - 1 - length t.params)) (label_of IfKind type t Empty values rest) labels s.entries (suc at + size inner) (suc at + size inner) (suc at + size inner)
             (high - length t.params + length t.results) s.end s.last (take (length t.params) values) Empty refl (omega arith) (inl refl)
             (at-height s.entries _ _ _ rest s.end s.last (omega arith) from)
             (at-height s.entries _ _ _ rest s.end s.last (omega arith) from)
@@ -263,25 +263,25 @@ module _ (f : FrameCode) where
 
         module _ (other : Body) (s : StandsIn f at (v ∷ values) labels (IfElse type inner other rest)) where
           abbrev base' : ℕ
-          base' = suc (length values) + under labels - 1 - length t.params
+          base' = f.locals + (suc (length values) + under labels) - 1 - length t.params
 
           abbrev past' : ℕ
           past' = suc (suc at + size inner) + size other
 
           from' : StandsAt f s.entries (base' + length t.results) past' rest s.end s.last
-          from' = rw counted at (if-rest s.entries (suc (length values) + under labels) at type inner other rest s.end s.last s.here)
+          from' = rw counted at (if-rest s.entries (f.locals + (suc (length values) + under labels)) at type inner other rest s.end s.last s.here)
 
           -- The first body of an if with a second one, behind which a jump stands.
           pub first-entered : (typed : EndsAt (last_height f.signatures (Some high) inner) (high - length t.params + length t.results))
               → StandsIn f (suc at) (take (length t.params) values) (label_of IfKind type t inner values rest ∷ labels) inner
           first-entered typed =
-              let one_off : suc (length values) + under labels - 1 ≡ high = omega arith in
+              let one_off : f.locals + (suc (length values) + under labels) - 1 ≡ high = omega arith in
               let (top, low) = split-length (length t.params) values enough in
-              let inside : StandsAt f (entry_of past' (length t.results) base' ∷ s.entries) (suc (length values) + under labels - 1) (suc at) inner (suc at + size inner) (high - length t.params + length t.results) =
-              rw counted at (if-first s.entries (suc (length values) + under labels) at type inner other rest s.end s.last s.here (high - length t.params + length t.results) (rw one_off typed)) in
+              let inside : StandsAt f (entry_of past' (length t.results) base' ∷ s.entries) (f.locals + (suc (length values) + under labels) - 1) (suc at) inner (suc at + size inner) (high - length t.params + length t.results) =
+              rw counted at (if-first s.entries (f.locals + (suc (length values) + under labels)) at type inner other rest s.end s.last s.here (high - length t.params + length t.results) (rw one_off typed)) in
               entered (entry_of past' (length t.results) base') (label_of IfKind type t inner values rest) labels s.entries (suc at) (suc at + size inner) past'
               (high - length t.params + length t.results) s.end s.last (take (length t.params) values) inner refl (omega arith)
-              (if-jumps s.entries (suc (length values) + under labels) at type inner other rest s.end s.last s.here)
+              (if-jumps s.entries (f.locals + (suc (length values) + under labels)) at type inner other rest s.end s.last s.here)
               (at-height s.entries _ _ _ rest s.end s.last (omega arith) from')
               (at-height s.entries _ _ _ rest s.end s.last (omega arith) from')
               s.around
@@ -290,10 +290,10 @@ module _ (f : FrameCode) where
           pub second-entered : (typed : EndsAt (last_height f.signatures (Some high) other) (high - length t.params + length t.results))
               → StandsIn f (suc (suc at + size inner)) (take (length t.params) values) (label_of IfKind type t other values rest ∷ labels) other
           second-entered typed =
-              let one_off : suc (length values) + under labels - 1 ≡ high = omega arith in
+              let one_off : f.locals + (suc (length values) + under labels) - 1 ≡ high = omega arith in
               let (top, low) = split-length (length t.params) values enough in
-              let inside : StandsAt f (entry_of past' (length t.results) base' ∷ s.entries) (suc (length values) + under labels - 1) (suc (suc at + size inner)) other past' (high - length t.params + length t.results) =
-              rw counted at (if-second s.entries (suc (length values) + under labels) at type inner other rest s.end s.last s.here (high - length t.params + length t.results) (rw one_off typed)) in
+              let inside : StandsAt f (entry_of past' (length t.results) base' ∷ s.entries) (f.locals + (suc (length values) + under labels) - 1) (suc (suc at + size inner)) other past' (high - length t.params + length t.results) =
+              rw counted at (if-second s.entries (f.locals + (suc (length values) + under labels)) at type inner other rest s.end s.last s.here (high - length t.params + length t.results) (rw one_off typed)) in
               entered (entry_of past' (length t.results) base') (label_of IfKind type t other values rest) labels s.entries (suc (suc at + size inner)) past' past'
               (high - length t.params + length t.results) s.end s.last (take (length t.params) values) other refl (omega arith) (inl refl)
               (at-height s.entries _ _ _ rest s.end s.last (omega arith) from')
@@ -334,7 +334,7 @@ module _ (f : FrameCode) where
     pub count : length inner ≡ l
     pub entry_is : slice_get entries l ≡ Some entry
     pub kept : entry.kept ≡ label.arity
-    pub height : entry.height ≡ length label.values + under outer
+    pub height : entry.height ≡ f.locals + (length label.values + under outer)
     pub branching : StandsAt f others (entry.height + entry.kept) entry.target (continue_with label.continuation label.rest) end last
     pub around : LabelsStand f outer others end last
 

@@ -118,6 +118,7 @@ module _ (op : PlainOp) (type x : ℕ) (call : Calling)
           held = pile-pop cells (map cell_of g.locals) top (I32 (get_or cells (top - 1) 0)) (t.values ++ values_under p.labels)
               (p.runs.holds.held ∙ ap (λ (vs : List Val). map cell_of g.locals ++ cells_of (vs ++ values_under p.labels)) t.values_are) (omega (arith, high, count)) within;
           top_is = omega (arith, size, top_is);
+          count = p.runs.holds.count;
           room = p.runs.holds.room;
         }
 

@@ -151,6 +151,7 @@ settled g cells at top r =
         holds = record {
           held = rw s.same r.holds.held;
           top_is = omega (arith, r.holds.top_is, first, second, same);
+          count = r.holds.count;
           room = r.holds.room;
         };
         typed = record {

@@ -1,22 +1,16 @@
 -- Frames over frames: what a caller keeps while a function that it called runs, and what calls and returns do to the whole.
-use Rattle.std.specs.Prelude.{◌≡◌, ℕ, ◌≤◌, List, [], ◌∷◌, ◌++◌, length, reverse, take, drop, Option, Some, slice_get}
+use Rattle.std.specs.Prelude.{◌≡◌, ℕ, ◌≤◌, List, [], ◌∷◌, ◌++◌, length, take, drop, Option, Some}
 use Rattle.core_types.specs.declared.op.ControlOp.TheVariants as control
 use Rattle.core_types.specs.declared.op.PlainOp.{PlainOp}
 use Rattle.core_types.specs.declared.op.PlainOp.TheVariants as plain
 use Rattle.core_types.specs.declared.outcome.Val.{Val}
 use Rattle.core_types.specs.declared.types.FuncType.{FuncType}
-use Rattle.core_types.specs.declared.types.ValType.{ValType}
 use Rattle.meaning.specs.structure.Bodies.{Body, Empty, Then}
 use Rattle.meaning.specs.execution.Configurations.{Activation, Frame, Label}
 use Rattle.meaning.specs.execution.Instructions.{Goes, Grows, Opens, TailCalls, call_function, frame_of, function_at, next, step_instruction}
 use Rattle.meaning.specs.execution.Layers.{AroundFrame, AroundLabel, Layer, outermost, plug}
-use Rattle.meaning.specs.execution.Store.{Code, FunctionInstance, InCode, Store, instance_of}
-use Rattle.meaning.specs.soundness.Values.{ValuesHaveTypes}
-use Rattle.soundness.specs.Stores.{ImplementationIsValid}
-use Rattle.sidetable.specs.Flat.{Plain}
+use Rattle.meaning.specs.execution.Store.{Code, InCode, Store}
 use Rattle.simulation.specs.Laws.{function_label}
-use Rattle.simulation.specs.Operations.{IsDear}
-use Rattle.simulation.specs.Runs.{Ghost, IsBefore, IsSameFrame, Runs, StepsIn, config_of, frame_of as frame_around}
 use Rattle.simulation.specs.Settling.{in_frame}
 
 -- Layers behind labels, the innermost first.

@@ -12,15 +12,18 @@ use Rattle.meaning.specs.soundness.Values.{ValuesHaveTypes}
 use Rattle.soundness.specs.Places.{context_at}
 use Rattle.soundness.specs.Stores.{ImplementationIsValid, StoreIsValid, body_place}
 use Rattle.sidetable.specs.Counts.{Signatures}
-use Rattle.simulation.specs.Laws.{HasSignatures, code_of, function_label}
+use Rattle.sidetable.specs.Flat.{FlatOp, Leave}
+use Rattle.simulation.specs.Laws.{BeginsAt, HasSignatures, code_at, function_label}
 use Rattle.simulation.specs.Runs.{Ghost, Holds, Runs}
 use Rattle.simulation.specs.Settling.{IsSettled}
 use Rattle.simulation.specs.Standing.{FrameCode, StandsIn}
 
--- What runs in the frame of a function that is called with the topmost of these values.
-abbrev pub callee : Ghost → Signatures → FuncType → (instance : ℕ) → Code → List Val → Ghost
-callee g s t instance code values = record {
-  code = code_of s (length t.results) code.body;
+-- What runs in the frame of a function that is called with the topmost of these values, and whose code begins at a place among
+-- operations.
+abbrev pub callee : Ghost → Signatures → List FlatOp → (at : ℕ) → FuncType → (instance : ℕ) → Code
+    → List Val → Ghost
+callee g s ops at t instance code values = record {
+  code = code_at s ops (length t.params + length code.locals) (length t.results) at code.body;
   store = g.store;
   instance = instance;
   types = t.params ++ code.locals;
@@ -35,22 +38,27 @@ callee g s t instance code values = record {
 abbrev pub CalleesAreEntered : Type 0
 CalleesAreEntered =
     (g : Ghost) (cells : List ℕ) (top : ℕ) → StoreIsValid g.store → Holds g cells top
-    → top ≤ length cells → (s : Signatures) (t : FuncType) (instance : ℕ) (code : Code)
+    → top ≤ length cells → (s : Signatures) (ops : List FlatOp) (at : ℕ) (t : FuncType)
+    (instance : ℕ) (code : Code)
     → ImplementationIsValid g.store t (InCode instance code) → (below : List ValType)
     → ValuesHaveTypes g.store g.values (reverse t.params ++ below)
     → length t.params ≤ length g.values
-    → HasSignatures (context_at g.store (body_place t instance code)) s → (cells' : List ℕ)
+    → HasSignatures (context_at g.store (body_place t instance code)) s
+    → BeginsAt s ops (length t.params + length code.locals) (length t.results) at code.body
+    → (cells' : List ℕ)
     → take (length t.params + length code.locals) cells'
     ≡ take (length t.params) (drop (top - length t.params) cells)
     ++ replicate (length code.locals) 0
-    → length t.params + length code.locals
-    + (callee g s t instance code g.values).code.greatest ≤ length cells'
-    → Runs (callee g s t instance code g.values) cells' 0 (length t.params + length code.locals)
+    → (callee g s ops at t instance code g.values).code.greatest ≤ length cells'
+    → Runs (callee g s ops at t instance code g.values) cells' at
+    (length t.params + length code.locals)
 
--- Behind the last operation, once labels were left, the results alone are left.
+-- Where a frame is left, once labels were left, the results alone are left.
 abbrev pub CodeEnds : Type 0
 CodeEnds =
-    (f : FrameCode) (at : ℕ) → drop at f.operations ≡ []
+    (f : FrameCode) (at results : ℕ) (more : List FlatOp)
+    → drop at f.operations ≡ Leave results ∷ more
     → (values : List Val) (labels : List Label) (rest : Body) → StandsIn f at values labels rest
     → IsSettled f at values labels rest
     → (labels ≡ []) × (rest ≡ Empty) × (length values ≡ f.outermost.kept)
+    × (results ≡ f.outermost.kept)

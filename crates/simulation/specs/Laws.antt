@@ -17,7 +17,7 @@ use Rattle.meaning.specs.validation.Context.{Context}
 use Rattle.meaning.specs.validation.Instructions.{HasType, known}
 use Rattle.cells.specs.Cells.{cell_of, value_of}
 use Rattle.sidetable.specs.Counts.{Signatures, counts, counts_of}
-use Rattle.sidetable.specs.Flat.{flat_function, function_entry}
+use Rattle.sidetable.specs.Flat.{FlatOp, function_entry, function_greatest, function_operations}
 use Rattle.simulation.specs.Piles.{cells_of}
 use Rattle.simulation.specs.Runs.{StepsIn}
 use Rattle.simulation.specs.Standing.{EndsAt, FrameCode, StandsIn, last_height}
@@ -40,21 +40,28 @@ abbrev pub function_label : (results : ℕ) → Label
 function_label results =
     record { arity = results; continuation = Onward; values = []; rest = Empty }
 
--- The flat code of a function.
-abbrev pub code_of : Signatures → (results : ℕ) → Body → FrameCode
-code_of s results body = record {
+-- The code of a function with so many locals and results, which begins at a place among operations.
+abbrev pub code_at : Signatures → List FlatOp → (locals results at : ℕ) → Body → FrameCode
+code_at s ops locals results at body = record {
   signatures = s;
-  operations = (flat_function s results body).operations;
-  outermost = function_entry results body;
-  greatest = (flat_function s results body).greatest;
+  operations = ops;
+  outermost = function_entry locals results at body;
+  locals = locals;
+  greatest = function_greatest s locals results body;
 }
+
+-- It does begin there.
+abbrev pub BeginsAt : Signatures → List FlatOp → (locals results at : ℕ) → Body → Type 0
+BeginsAt s ops locals results at body =
+    (more : List FlatOp) × (drop at ops ≡ function_operations s locals results at body ++ more)
 
 -- A typed body's flat code stands at its first place, inside of the function's label, when its frame is opened.
 abbrev pub FunctionsAreEntered : Type 0
 FunctionsAreEntered =
     (context : Context) (s : Signatures) → HasSignatures context s → (t : FuncType) (body : Body)
-    → HasType context body [] (known t.results)
-    → StandsIn (code_of s (length t.results) body) 0 []
+    → HasType context body [] (known t.results) → (ops : List FlatOp) (locals at : ℕ)
+    → BeginsAt s ops locals (length t.results) at body
+    → StandsIn (code_at s ops locals (length t.results) at body) at []
     (function_label (length t.results) ∷ []) body
 
 -- The state of a run in a store without host functions.

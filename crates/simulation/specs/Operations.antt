@@ -17,16 +17,18 @@ IsCharged g cells at top next_at next_top =
     → Leads g fuel g.store cells next_at next_top left)
     × IsDear g cells at top
 
--- The topmost cells, as many as the entry keeps, are moved down to its height. The entry says where it goes on.
+-- The topmost cells, as many as the entry keeps, are moved down to its height, which is above the locals. The entry says where it
+-- goes on.
 abbrev pub IsLanded : Ghost → List ℕ → (at top : ℕ) → (above : ℕ) → Entry → Type 0
 IsLanded g cells at top above e =
-    (length g.locals + e.height + e.kept ≤ above) × (above ≤ length cells)
+    (e.height + e.kept ≤ above) × (above ≤ length cells)
     × ((cells' : List ℕ) (fuel left : ℕ)
-    → take (length g.locals + e.height + e.kept) cells'
-    ≡ take (length g.locals + e.height) cells ++ take e.kept (drop (above - e.kept) cells)
+    → take (e.height + e.kept) cells'
+    ≡ take e.height cells ++ take e.kept (drop (above - e.kept) cells)
     → length cells' ≡ length cells → 1 ≤ fuel → left ≡ fuel - 1
-    → Leads g fuel g.store cells' e.target (length g.locals + e.height + e.kept) left)
+    → Leads g fuel g.store cells' e.target (e.height + e.kept) left)
     × IsDear g cells at top
+    × (g.code.locals ≤ e.height)
 
 -- The topmost cell is there, and what follows depends on whether it is zero.
 abbrev pub IsChosen : List ℕ → (top : ℕ) → (zero other : Type 0) → Type 0

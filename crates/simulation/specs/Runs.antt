@@ -52,7 +52,8 @@ pub record Holds (g : Ghost) (cells : List ℕ) (top : ℕ) : Type 0 where
   pub held : take top cells ≡
       map cell_of g.locals ++ cells_of (g.values ++ values_under g.labels)
   pub top_is : top ≡ length g.locals + (length g.values + under g.labels)
-  pub room : length g.locals + g.code.greatest ≤ length cells
+  pub count : length g.locals ≡ g.code.locals
+  pub room : g.code.greatest ≤ length cells
 
 -- The machine, at a place with these cells, runs this.
 pub record Runs (g : Ghost) (cells : List ℕ) (at top : ℕ) : Type 0 where

@@ -13,7 +13,7 @@ use Rattle.meaning.specs.structure.Bodies.{Body, BlockKind, LoopKind, IfKind, Em
 use Rattle.meaning.specs.execution.Configurations.{Configuration, Frame, InLabel, Label, Running}
 use Rattle.meaning.specs.execution.Instructions.{Goes, next}
 use Rattle.meaning.specs.execution.Store.{Store}
-use Rattle.sidetable.specs.Flat.{without_annotations, FlatOp, Plain, Enter, If, Jump, Br, BrIf, BrTable, Return, entry_at, entry_of, size}
+use Rattle.sidetable.specs.Flat.{without_annotations, FlatOp, Plain, Enter, If, Jump, Br, BrIf, BrTable, Return, Leave, entry_at, entry_of, size}
 use Rattle.sidetable.specs.declared.operations.Entry.{Entry}
 use Rattle.simulation.specs.Standing.{FrameCode, StandsIn, values_under}
 
@@ -78,6 +78,7 @@ BeginsWith outermost entries at (If e) body =
     ⊎ ((other : Body) × (body ≡ IfElse type inner other rest)
     × (e.target ≡ suc (suc at + size inner))))
 BeginsWith outermost entries at (Jump e) body = body ≡ Empty
+BeginsWith outermost entries at (Leave results) body = body ≡ Empty
 BeginsWith outermost entries at (Br e) body =
     (label : ℕ) × (rest : Body) × (body ≡ Then (plain.Control (control.Br label)) rest)
     × (e ≡ entry_at outermost entries label)

@@ -4,15 +4,16 @@ use Rattle.core_types.specs.declared.outcome.Val.{Val}
 use Rattle.meaning.specs.structure.Bodies.{Body, Kind, BlockKind, LoopKind, IfKind, Empty, Then, Nested, IfElse}
 use Rattle.meaning.specs.execution.Configurations.{Label, continue_with}
 use Rattle.sidetable.specs.Counts.{Signatures, behind, block_counts, counts_of}
-use Rattle.sidetable.specs.Flat.{FlatOp, Jump, behind_height, entry_of, flat, greatest, size}
+use Rattle.sidetable.specs.Flat.{FlatOp, Jump, Leave, behind_height, entry_of, flat, greatest, size}
 use Rattle.sidetable.specs.declared.operations.Entry.{Entry}
 
--- The code of a function: what its body refers to, its operations, the entry of the label around its body, and its greatest
--- height.
+-- The code of a function: what its body refers to, the operations among which it is, the entry of the label around its body, how
+-- many locals it has, and its greatest height.
 pub record FrameCode : Type 0 where
   pub signatures : Signatures
   pub operations : List FlatOp
   pub outermost : Entry
+  pub locals : ℕ
   pub greatest : ℕ
 
 -- The height at the end of a body, if its end is reached.
@@ -74,17 +75,21 @@ pub record LabelStands (f : FrameCode) (label : Label) (outer : List Label) (ent
   pub outer_last : ℕ
   pub entries_are : entries ≡ entry ∷ others
   pub kept : entry.kept ≡ label.arity
-  pub height : entry.height ≡ length label.values + under outer
+  pub height : entry.height ≡ f.locals + (length label.values + under outer)
   pub goes_on : GoesOnAt f at onward
   pub leaving : StandsAt f others last onward label.rest end outer_last
   pub branching : StandsAt f others (entry.height + entry.kept) entry.target
       (continue_with label.continuation label.rest) end outer_last
   pub further : Further others end outer_last
 
+-- What stands where the code of a function is at its end: there its frame is left with its results.
+abbrev pub IsAtEnd : FrameCode → (at : ℕ) → Type 0
+IsAtEnd f at = (more : List FlatOp) × (drop at f.operations ≡ Leave f.outermost.kept ∷ more)
+
 -- The labels around what ends at a place with a height, from the inside out. Behind the outermost one the code is at its end.
 abbrev pub LabelsStand : FrameCode → List Label → List Entry → (at last : ℕ) → Type 0
 LabelsStand f [] entries at last =
-    (at ≡ length f.operations) × (last ≡ f.outermost.kept)
+    IsAtEnd f at × (last ≡ f.locals + f.outermost.kept)
 LabelsStand f (label ∷ labels) entries at last =
     LabelStands f label labels entries at last
     (λ others end outer_last. LabelsStand f labels others end outer_last)
@@ -95,5 +100,5 @@ pub record StandsIn (f : FrameCode) (at : ℕ) (values : List Val) (labels : Lis
   pub entries : List Entry
   pub end : ℕ
   pub last : ℕ
-  pub here : StandsAt f entries (length values + under labels) at rest end last
+  pub here : StandsAt f entries (f.locals + (length values + under labels)) at rest end last
   pub around : LabelsStand f labels entries end last

@@ -19,7 +19,7 @@ use Rattle.store.specs.declared.instances.FunctionInstance.{FunctionInstance}
 use Rattle.store.specs.declared.instances.FunctionInstance.TheVariants.{InModule, InHost}
 use Rattle.store.specs.declared.instances.Instance.{Instance}
 use Rattle.sidetable.specs.Counts.{Signatures}
-use Rattle.sidetable.specs.FlatModules.{IsFlat, IsFunctionWithin, module_signatures, seen}
+use Rattle.sidetable.specs.FlatModules.{IsFlat, IsFlatModule, module_signatures, operations_of}
 use Rattle.store.specs.State.{StateContents}
 
 -- The functions, the instances and the types of the host functions, as they are kept.
@@ -51,7 +51,7 @@ module_function instance m (Some f) = typed_function instance (slice_get m.types
 abbrev pub instance_function : (instance index : ℕ) → Option Instance → Option Function
 instance_function instance index None = None
 instance_function instance index (Some i) =
-    module_function instance i.loaded.value (slice_get i.loaded.value.funcs index)
+    module_function instance i.loaded.value.source (slice_get i.loaded.value.source.funcs index)
 
 -- The function that an entry represents.
 abbrev pub entry_function : List FuncType → List Instance → FunctionInstance → Option Function
@@ -87,13 +87,19 @@ callee_function (callee.InHost f) = host_function f.number f.ty.now
 -- The types that the code of an instance refers to: those of its module.
 abbrev pub signatures_of_instance : Option Instance → Signatures
 signatures_of_instance None = record { types = []; functions = [] }
-signatures_of_instance (Some i) = module_signatures i.loaded.value
+signatures_of_instance (Some i) = module_signatures i.loaded.value.source
 
--- The flat code of a function of a module is that of its body, and what it names by number is there.
+-- An instance of this number is there, and the flat code of its module is that of its functions.
+pub record IsLoaded (instances : List Instance) (number : ℕ) (i : Instance) : Type 0 where
+  pub there : slice_get instances number ≡ Some i
+  pub flat : IsFlatModule i.loaded.value.source i.loaded.value.flat
+
+-- The flat code of a function of a module is that of its body, among the operations of its instance's module.
 abbrev pub HasFlatCode : List Instance → Callee → Type 0
 HasFlatCode instances (callee.InModule f) =
-    IsFlat (signatures_of_instance (slice_get instances f.instance)) f.func.now (seen f.flat)
-    × IsFunctionWithin f.flat.tables.now f.flat.function.now
+    (i : Instance) × IsLoaded instances f.instance i
+    × IsFlat (signatures_of_instance (slice_get instances f.instance))
+    (operations_of i.loaded.value.flat) f.func.now f.flat.now
 HasFlatCode instances (callee.InHost f) = Unit {0}
 
 -- The addresses of what an instance has, a list a kind.
@@ -129,7 +135,7 @@ module_instance addresses m = record {
 }
 
 abbrev pub module_instance_of : Instance → ModuleInstance
-module_instance_of i = module_instance (lists_of i.addresses) i.loaded.value
+module_instance_of i = module_instance (lists_of i.addresses) i.loaded.value.source
 
 -- The functions and the instances that are kept.
 abbrev pub functions_in : Contents → List Function
@@ -151,7 +157,7 @@ pub record HasModuleTypes (functions : List Function) (i : Instance) : Type 0 wh
   pub there : AreThere functions i.addresses.functions.items
   pub types : types_at (λ (f : Function). f.ty) (function_type [] []) functions
       i.addresses.functions.items
-      ≡ functions_of i.loaded.value
+      ≡ functions_of i.loaded.value.source
 
 -- What a store's code keeps to.
 pub record IsSound (c : Contents) : Type 0 where

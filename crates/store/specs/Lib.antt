@@ -1,3 +1,4 @@
+pub mod Loaded
 pub mod Contents
 pub mod Memories
 pub mod Tables

@@ -3,6 +3,7 @@ use Rattle.std.specs.Prelude.{ℕ, List, [], Option, Some, None, slice_get}
 use Rattle.std.specs.declared.rc.Rc.{Rc}
 use Rattle.core_types.specs.declared.module.DataSegment.{DataSegment}
 use Rattle.core_types.specs.declared.module.Module.{Module}
+use Rattle.store.specs.Loaded.{LoadedContents}
 
 abbrev pub segment_bytes : Option DataSegment → List ℕ
 segment_bytes None = []
@@ -13,6 +14,6 @@ abbrev pub bytes_at : Module → (x : ℕ) → List ℕ
 bytes_at m x = segment_bytes (slice_get m.datas x)
 
 -- The bytes of the module that is shared, none where none is.
-abbrev pub bytes_in : {Z : Type 0} → Option (Rc Module Z) → (x : ℕ) → List ℕ
+abbrev pub bytes_in : {Z : Type 0} → Option (Rc LoadedContents Z) → (x : ℕ) → List ℕ
 bytes_in None x = []
-bytes_in (Some loaded) x = bytes_at loaded.value x
+bytes_in (Some loaded) x = bytes_at loaded.value.source x

@@ -8,7 +8,7 @@ use crate::entries::push_entries;
 use crate::loaded_modules::LoadedModule;
 use crate::lookups::item;
 use core_types::{Func, FuncType};
-use sidetable::FlatCode;
+use sidetable::PackedFunction;
 use std::alloc::{AllocError, Global};
 use std::marker::Model;
 use std::rc::Rc;
@@ -45,7 +45,7 @@ pub struct Instance {
 pub struct ModuleFunction<'a> {
     pub ty: &'a FuncType,
     pub func: &'a Func,
-    pub flat: FlatCode<'a>,
+    pub flat: &'a PackedFunction,
     pub instance: u32,
 }
 
@@ -276,18 +276,19 @@ impl Code {
     /// Adds the functions of a module, and an instance of it with these addresses. Where memory runs out, nothing
     /// has changed.
     pub(crate) fn append_instance(&mut self, instance: Instance) -> Result<(), AllocError>
-        requires functions { length self.old.functions + length instance.loaded.value.funcs < 2 ^
-            32 }
+        requires functions { length self.old.functions
+            + length instance.loaded.value.source.funcs < 2 ^ 32 }
         requires instances { length self.old.instances + 1 < 2 ^ 32 }
-        requires types { HasModuleTypes (functions_in self.old ++ map (new_function
-            (length (instances_in self.old)) instance.loaded.value) instance.loaded.value.funcs)
-            instance }
+        requires types { HasModuleTypes (functions_in self.old ++ map
+            (new_function (length (instances_in self.old)) instance.loaded.value.source)
+            instance.loaded.value.source.funcs) instance }
         ensures functions { OnOk result
-            (functions_in self.new ≡ functions_in self.old ++ map (new_function
-            (length (instances_in self.old)) instance.loaded.value) instance.loaded.value.funcs) }
+            (functions_in self.new ≡ functions_in self.old ++ map
+            (new_function (length (instances_in self.old)) instance.loaded.value.source)
+            instance.loaded.value.source.funcs) }
         ensures instances { OnOk result
             (instances_in self.new ≡ instances_in self.old ++ module_instance
-            (lists_of instance.addresses) instance.loaded.value ∷ []) }
+            (lists_of instance.addresses) instance.loaded.value.source ∷ []) }
         ensures unchanged { OnErr result (self.new ≡ self.old) }
     {
         let number = self.instances.len() as u32;

@@ -8,10 +8,10 @@ ghost use Rattle.core_types.specs.declared.types.TableType.{TableType as AnyTabl
 ghost use Rattle.meaning.specs.execution.Tables.{most_entries};
 ghost use Rattle.soundness.specs.Links.{IsSoundModule};
 ghost use Rattle.meaning.specs.execution.Storage.{AreBytes};
-ghost use Rattle.sidetable.specs.FlatModules.{IsFlat, IsFunctionWithin, module_signatures, seen};
+ghost use Rattle.sidetable.specs.FlatModules.{IsFlat, IsFlatModule, module_signatures, operations_of};
 
 use core_types::{DataSegment, Func, FuncType, Limits, Module, TableType};
-use sidetable::{FlatCode, FlatModule, flatten};
+use sidetable::{FlatModule, PackedFunction, flatten};
 use std::alloc::{AllocError, Global};
 use std::marker::Model;
 use validator::ValidModule;
@@ -28,20 +28,19 @@ pub struct LoadedModule {
 pub struct LoadedFunction<'a> {
     pub ty: &'a FuncType,
     pub func: &'a Func,
-    pub flat: FlatCode<'a>,
+    pub flat: &'a PackedFunction,
 }
 
 impl Model for LoadedModule {
-    ghost use Rattle.core_types.specs.declared.module.Module.{Module};
     ghost use Rattle.soundness.specs.Links.{IsSoundModule};
-    ghost use Rattle.sidetable.specs.FlatModules.{AreFlat, module_signatures};
+    ghost use Rattle.sidetable.specs.FlatModules.{IsFlatModule};
+    ghost use Rattle.store.specs.Loaded.{LoadedContents};
 
-    ghost Value = { Module };
+    ghost Value = { LoadedContents };
 
-    ghost view = { λ m. m.validated };
+    ghost view = { λ m. record { source = m.validated; flat = m.flat } };
 
-    ghost invariant = { λ m. AreFlat (module_signatures m.validated) m.validated.funcs m.flat
-        × IsSoundModule m.validated };
+    ghost invariant = { λ m. IsFlatModule m.validated m.flat × IsSoundModule m.validated };
 }
 
 // The calls that show something do nothing: they say what is known by the types of numbers.
@@ -77,7 +76,7 @@ fn show_tables(tables: &[TableType])
 impl LoadedModule {
     /// Loads a module, whose functions are flattened. Fails where there is no memory for their flat code.
     pub fn new(alloc: Global, validated: ValidModule) -> Result<LoadedModule, AllocError>
-        ensures { IfOk result (λ loaded. loaded ≡ validated) }
+        ensures { IfOk result (λ loaded. loaded.source ≡ validated) }
     {
         let wanted = validated.module();
         show_tables(wanted.tables.as_slice());
@@ -88,27 +87,37 @@ impl LoadedModule {
 
     /// The module, for reading.
     pub fn module(&self) -> &Module
-        ensures same { result.now ≡ self.now }
-        ensures valid { IsValid self.now }
-        ensures sound { IsSoundModule self.now }
+        ensures same { result.now ≡ self.now.source }
+        ensures valid { IsValid self.now.source }
+        ensures sound { IsSoundModule self.now.source }
     {
         self.validated.module()
+    }
+
+    /// The flat code of its functions, for reading.
+    #[inline(always)]
+    pub fn flat(&self) -> &FlatModule
+        ensures same { result.now ≡ self.now.flat }
+        ensures flat { IsFlatModule self.now.source self.now.flat }
+    {
+        &self.flat
     }
 
     // The function of an index.
     #[inline(always)]
     pub(crate) fn function(&self, index: u32) -> LoadedFunction<'_>
-        requires { index < length self.now.funcs }
-        ensures func { slice_get self.now.funcs index ≡ Some result.func.now }
-        ensures ty { slice_get self.now.types result.func.now.ty ≡ Some result.ty.now }
-        ensures flat { IsFlat (module_signatures self.now) result.func.now (seen result.flat) }
-        ensures within { IsFunctionWithin result.flat.tables.now result.flat.function.now }
+        requires { index < length self.now.source.funcs }
+        ensures whole { IsFlatModule self.now.source self.now.flat }
+        ensures func { slice_get self.now.source.funcs index ≡ Some result.func.now }
+        ensures ty { slice_get self.now.source.types result.func.now.ty ≡ Some result.ty.now }
+        ensures flat { IsFlat (module_signatures self.now.source) (operations_of self.now.flat)
+            result.func.now result.flat.now }
         ensures body { result.func.now.body ≡ writing (code_of result.func.now).body }
     {
         let module_read = self.validated.module();
         let func = &module_read.funcs.as_slice()[index as usize];
         let ty = &module_read.types.as_slice()[func.ty as usize];
-        let flat = self.flat.function(index);
+        let flat = &self.flat.functions[index as usize];
         LoadedFunction { ty, func, flat }
     }
 }

@@ -76,7 +76,7 @@ impl Model for DataSegment {
 impl DataSegment {
     /// The data segment of this index of a module, none of whose bytes are copied.
     pub fn new(loaded: Rc<LoadedModule>, index: u32) -> DataSegment
-        ensures { result.bytes ≡ bytes_at loaded.value index }
+        ensures { result.bytes ≡ bytes_at loaded.value.source index }
     {
         DataSegment {
             source: Some(loaded),

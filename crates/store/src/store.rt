@@ -90,15 +90,16 @@ impl Store {
         addresses: Addresses,
         objects: Objects,
     ) -> Result<u32, AllocError>
-        requires room { HasRoom (store_of self.old) loaded.value }
+        requires room { HasRoom (store_of self.old) loaded.value.source }
         requires within { AreWithin self.old.state.bounds objects.tables objects.memories }
-        requires linkable { IsAllocation (store_of self.old) loaded.value
-            (module_instance (lists_of addresses) loaded.value) objects }
+        requires linkable { IsAllocation (store_of self.old) loaded.value.source
+            (module_instance (lists_of addresses) loaded.value.source) objects }
         ensures number { IfOk result
             (λ number. number ≡ length (store_of self.old).instances) }
         ensures extends { Extends (store_of self.old) (store_of self.new) }
         ensures appended { OnOk result (store_of self.new ≡ with_module (store_of self.old)
-            (module_instance (lists_of addresses) loaded.value) loaded.value objects) }
+            (module_instance (lists_of addresses) loaded.value.source) loaded.value.source
+            objects) }
         ensures unchanged { OnErr result (store_of self.new ≡ store_of self.old) }
     {
         writing_is_read();

@@ -27,6 +27,7 @@ use Rattle.instantiate.specs.declared.link_end.LinkRefusal.{LinkRefusal}
 use Rattle.instantiate.specs.declared.link_end.LinkRefusal.TheVariants as reason
 use Rattle.embed.specs.Causes.{RefusesBytes, link_refusal}
 use Rattle.embed.specs.Causes as cause
+use Rattle.store.specs.Loaded.{LoadedContents}
 use Rattle.embed.specs.Contents.{modules_in}
 use Rattle.embed.specs.Replies.{refusal_of}
 use Rattle.embed.specs.declared.refusals.Refusal.{Refusal}
@@ -51,11 +52,11 @@ module _ {H : Type 0} where
   abbrev pub with_state : Embedding H → State H → Embedding H
   with_state old state = record old { state = state }
 
-  pub load-next : {Z : Type 0} (old : Embedding H) (shared : List (Rc Module Z)) (next : Rc Module Z) (bytes : List ℕ) → old.modules ≡ modules_in shared → IsDecoded bytes next.value → IsValid next.value
+  pub load-next : {Z : Type 0} (old : Embedding H) (shared : List (Rc LoadedContents Z)) (next : Rc LoadedContents Z) (bytes : List ℕ) → old.modules ≡ modules_in shared → IsDecoded bytes next.value.source → IsValid next.value.source
       → Loads old bytes (machine.Loaded (length shared)) (with_modules old (modules_in (shared ++ next ∷ [])))
   load-next old shared next bytes has decoded valid =
-      let count : length old.modules ≡ length shared = ap length has ∙ length-map shared (λ (r : Rc Module _). r.value) in
-      let more : modules_in (shared ++ next ∷ []) ≡ old.modules ++ next.value ∷ [] = map-append (λ (r : Rc Module _). r.value) shared (next ∷ []) ∙ ap (λ (ms : List Module). ms ++ next.value ∷ []) (sym has) in
+      let count : length old.modules ≡ length shared = ap length has ∙ length-map shared (λ (r : Rc LoadedContents _). r.value.source) in
+      let more : modules_in (shared ++ next ∷ []) ≡ old.modules ++ next.value.source ∷ [] = map-append (λ (r : Rc LoadedContents _). r.value.source) shared (next ∷ []) ∙ ap (λ (ms : List Module). ms ++ next.value.source ∷ []) (sym has) in
       loaded decoded valid (ap machine.Loaded (sym count)) (ap (with_modules old) more)
 
   pub load-refused : (old : Embedding H) (bytes : List ℕ) (refusal : Refusal) → RefusesBytes bytes refusal → Loads old bytes (machine.Refused (refusal_of refusal)) old
@@ -113,5 +114,5 @@ module _ {H : Type 0} (HostStep : List H → ℕ → Option ℕ → List Val →
     link-refused why refused =
         subst (λ (s : State H). Links HostStep old m (machine.Refused (refusal_of (link_refusal why))) (with_state old s)) (sym refused.unchanged) (cause-refuses why refused.cause)
 
-pub module-of : {Z : Type 0} (shared : List (Rc Module Z)) (number : ℕ) (r : Rc Module Z) → slice_get shared number ≡ Some r → slice_get (modules_in shared) number ≡ Some r.value
-module-of shared number r there = slice_get-map (λ (s : Rc Module _). s.value) shared number ∙ ap (option_map (λ (s : Rc Module _). s.value)) there
+pub module-of : {Z : Type 0} (shared : List (Rc LoadedContents Z)) (number : ℕ) (r : Rc LoadedContents Z) → slice_get shared number ≡ Some r → slice_get (modules_in shared) number ≡ Some r.value.source
+module-of shared number r there = slice_get-map (λ (s : Rc LoadedContents _). s.value.source) shared number ∙ ap (option_map (λ (s : Rc LoadedContents _). s.value.source)) there

@@ -74,65 +74,65 @@ module _ (hosts : List FuncType) (instances : List Instance) (t : FuncType) (fun
 
 -- ---- a module more
 
-module _ (hosts : List FuncType) (instances : List Instance) (i : Instance) (valid : IsValid i.loaded.value) where
+module _ (hosts : List FuncType) (instances : List Instance) (i : Instance) (valid : IsValid i.loaded.value.source) where
   abbrev all : List Instance
   all = instances ++ i ∷ []
 
   abbrev named : Func → Function
-  named func = new_function (length instances) i.loaded.value func
+  named func = new_function (length instances) i.loaded.value.source func
 
   abbrev entry : ℕ → FunctionInstance
   entry k = InModule (length instances) k
 
-  module _ (k : ℕ) (func : Func) (there : slice_get i.loaded.value.funcs k ≡ Some func) where
-    entry_function-new : entry_function hosts all (entry k) ≡ typed_function (length instances) (slice_get i.loaded.value.types func.ty) func
-    entry_function-new = ap (instance_function (length instances) k) (slice_get-seam instances i []) ∙ ap (module_function (length instances) i.loaded.value) there
+  module _ (k : ℕ) (func : Func) (there : slice_get i.loaded.value.source.funcs k ≡ Some func) where
+    entry_function-new : entry_function hosts all (entry k) ≡ typed_function (length instances) (slice_get i.loaded.value.source.types func.ty) func
+    entry_function-new = ap (instance_function (length instances) k) (slice_get-seam instances i []) ∙ ap (module_function (length instances) i.loaded.value.source) there
 
     IsFound-new : IsFound hosts all (entry k)
     IsFound-new =
-        let v : IsValidFunction i.loaded.value func = holds-at (IsValidFunction i.loaded.value) i.loaded.value.funcs k func valid.bodies there in
+        let v : IsValidFunction i.loaded.value.source func = holds-at (IsValidFunction i.loaded.value.source) i.loaded.value.source.funcs k func valid.bodies there in
         rw (entry_function-new, v.has_type) refl
 
     function_at-entry : function_at hosts all (entry k) ≡ named func
     function_at-entry =
-        let v : IsValidFunction i.loaded.value func = holds-at (IsValidFunction i.loaded.value) i.loaded.value.funcs k func valid.bodies there in
+        let v : IsValidFunction i.loaded.value.source func = holds-at (IsValidFunction i.loaded.value.source) i.loaded.value.source.funcs k func valid.bodies there in
         rw (entry_function-new, v.has_type) refl
 
   -- The entries of the module's functions from a position on.
-  module _ (before : List Func) (func : Func) (funcs : List Func) (whole : i.loaded.value.funcs ≡ before ++ func ∷ funcs) where
-    here : slice_get i.loaded.value.funcs (length before) ≡ Some func
+  module _ (before : List Func) (func : Func) (funcs : List Func) (whole : i.loaded.value.source.funcs ≡ before ++ func ∷ funcs) where
+    here : slice_get i.loaded.value.source.funcs (length before) ≡ Some func
     here = ap (λ (fs : List Func). slice_get fs (length before)) whole ∙ slice_get-seam before func funcs
 
-    onward : i.loaded.value.funcs ≡ (before ++ func ∷ []) ++ funcs
+    onward : i.loaded.value.source.funcs ≡ (before ++ func ∷ []) ++ funcs
     onward = whole ∙ sym (append_assoc before (func ∷ []) funcs)
 
     next : length (before ++ func ∷ []) ≡ suc (length before)
     next = omega (arith, length-append before (func ∷ []))
 
-  AllFound-new : (before funcs : List Func) → i.loaded.value.funcs ≡ before ++ funcs → AllFound hosts all (entries_of (length instances) (consecutive (length before) (length funcs)))
+  AllFound-new : (before funcs : List Func) → i.loaded.value.source.funcs ≡ before ++ funcs → AllFound hosts all (entries_of (length instances) (consecutive (length before) (length funcs)))
   AllFound-new before [] whole = tt
   AllFound-new before (func ∷ funcs) whole = (IsFound-new (length before) func (here before func funcs whole), rw (next before func funcs whole) at (AllFound-new (before ++ func ∷ []) funcs (onward before func funcs whole)))
 
-  function_at-new : (before funcs : List Func) → i.loaded.value.funcs ≡ before ++ funcs → map (function_at hosts all) (entries_of (length instances) (consecutive (length before) (length funcs))) ≡ map named funcs
+  function_at-new : (before funcs : List Func) → i.loaded.value.source.funcs ≡ before ++ funcs → map (function_at hosts all) (entries_of (length instances) (consecutive (length before) (length funcs))) ≡ map named funcs
   function_at-new before [] whole = refl
   function_at-new before (func ∷ funcs) whole =
       let first : function_at hosts all (entry (length before)) ≡ named func = function_at-entry (length before) func (here before func funcs whole) in
       let others : map (function_at hosts all) (entries_of (length instances) (consecutive (suc (length before)) (length funcs))) ≡ map named funcs = rw (next before func funcs whole) at (function_at-new (before ++ func ∷ []) funcs (onward before func funcs whole)) in
       cc
 
-  module _ (functions after : List FunctionInstance) (found : AllFound hosts instances functions) (behind : after ≡ functions ++ entries_of (length instances) (consecutive 0 (length i.loaded.value.funcs))) where
+  module _ (functions after : List FunctionInstance) (found : AllFound hosts instances functions) (behind : after ≡ functions ++ entries_of (length instances) (consecutive 0 (length i.loaded.value.source.funcs))) where
     abbrev added : List FunctionInstance
-    added = entries_of (length instances) (consecutive 0 (length i.loaded.value.funcs))
+    added = entries_of (length instances) (consecutive 0 (length i.loaded.value.source.funcs))
 
     pub AllFound-added : AllFound hosts all after
     AllFound-added =
         let before : AllFound hosts all functions = rw (append-nil hosts) at (AllFound-behind hosts [] instances (i ∷ []) functions found) in
-        subst (AllFound hosts all) (sym behind) (AllFound-append hosts all functions added before (AllFound-new [] i.loaded.value.funcs refl))
+        subst (AllFound hosts all) (sym behind) (AllFound-append hosts all functions added before (AllFound-new [] i.loaded.value.source.funcs refl))
 
     -- The functions are those before, with those of the module.
-    pub functions-added : functions_in (contents_of after all hosts) ≡ functions_in (contents_of functions instances hosts) ++ map (new_function (length (instances_in (contents_of functions instances hosts))) i.loaded.value) i.loaded.value.funcs
+    pub functions-added : functions_in (contents_of after all hosts) ≡ functions_in (contents_of functions instances hosts) ++ map (new_function (length (instances_in (contents_of functions instances hosts))) i.loaded.value.source) i.loaded.value.source.funcs
     functions-added =
         let old = map-append (function_at hosts all) functions added in
         let before : map (function_at hosts all) functions ≡ map (function_at hosts instances) functions = rw (append-nil hosts) at (function_at-behind hosts [] instances (i ∷ []) functions found) in
-        let new = function_at-new [] i.loaded.value.funcs refl in
+        let new = function_at-new [] i.loaded.value.source.funcs refl in
         rw (behind, old, before, new, length-map instances module_instance_of) refl

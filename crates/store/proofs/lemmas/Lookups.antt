@@ -66,13 +66,23 @@ module _ (instance index : ℕ) where
   holder-there None some = absurd cc
   holder-there (Some i) some = (i, refl)
 
-  pub func-there : (i : Instance) → IsSome (instance_function instance index (Some i)) → (f : Func) × (slice_get i.loaded.value.funcs index ≡ Some f)
-  func-there i some = go (slice_get i.loaded.value.funcs index) refl some
+  pub func-there : (i : Instance) → IsSome (instance_function instance index (Some i)) → (f : Func) × (slice_get i.loaded.value.source.funcs index ≡ Some f)
+  func-there i some = go (slice_get i.loaded.value.source.funcs index) refl some
     where
-      go : (found : Option Func) → slice_get i.loaded.value.funcs index ≡ found → IsSome (module_function instance i.loaded.value found) → (f : Func) × (slice_get i.loaded.value.funcs index ≡ Some f)
+      go : (found : Option Func) → slice_get i.loaded.value.source.funcs index ≡ found → IsSome (module_function instance i.loaded.value.source found) → (f : Func) × (slice_get i.loaded.value.source.funcs index ≡ Some f)
       go None e some = absurd cc
       go (Some f) e some = (f, e)
 
-  pub function-is : (i : Instance) (f : Func) → slice_get i.loaded.value.funcs index ≡ Some f → (t : FuncType) → slice_get i.loaded.value.types f.ty ≡ Some t
+  pub function-is : (i : Instance) (f : Func) → slice_get i.loaded.value.source.funcs index ≡ Some f → (t : FuncType) → slice_get i.loaded.value.source.types f.ty ≡ Some t
       → instance_function instance index (Some i) ≡ Some (function_of t instance f)
-  function-is i f in_module t e = ap (module_function instance i.loaded.value) in_module ∙ ap (λ (o : Option FuncType). typed_function instance o f) e
+  function-is i f in_module t e = ap (module_function instance i.loaded.value.source) in_module ∙ ap (λ (o : Option FuncType). typed_function instance o f) e
+
+-- ---- an instance
+
+instance-found : (instances : List Instance) (n k : ℕ) (found : Option Instance) → slice_get instances n ≡ found → IsSome (instance_function n k found) → n < length instances
+instance-found instances n k None there some = absurd cc
+instance-found instances n k (Some i) there some = slice_get_within instances n i there
+
+-- It is there where it has a function.
+pub instance-within : (instances : List Instance) (n k : ℕ) → IsSome (instance_function n k (slice_get instances n)) → n < length instances
+instance-within instances n k some = instance-found instances n k (slice_get instances n) refl some

@@ -1,6 +1,7 @@
-use Rattle.std.proofs.Common.{◌∙◌}
+use Rattle.std.proofs.Common.{ap, ◌∙◌}
 use Rattle.std.proofs.lemmas.Result.{err_from_is_err_and}
 use Rattle.meaning.specs.embedding.Machine.{IsDecoded}
+use Rattle.store.specs.Loaded.{LoadedContents}
 use Rattle.embed.proofs.lemmas.Causes.{decode-refuses, validate-refuses}
 use Rattle.embed.proofs.modules.load_module.Goals as goal
 
@@ -17,5 +18,5 @@ returns-in_err-validated-clause-refused c =
 
 pub returns-clause-decoded : goal.returns-clause-decoded
 returns-clause-decoded c =
-    let kept = c.in_ok-new.ensures.ok ∙ (c.in_ok-loaded.ensures ∙ c.in_ok-validated.ensures.kept) in
+    let kept = ap (λ (l : LoadedContents). l.source) c.in_ok-new.ensures.ok ∙ (c.in_ok-loaded.ensures ∙ c.in_ok-validated.ensures.kept) in
     rw kept (record { spelt = c.in_ok-decoded.ensures.spelt; small = c.in_ok-decoded.ensures.within_limits })

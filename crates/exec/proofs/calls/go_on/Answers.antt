@@ -1,6 +1,6 @@
 use Rattle.std.proofs.Common.{arith}
 use Rattle.exec.specs.Resting.{at_rest}
-use Rattle.exec.proofs.Going.{came-done, came-first, came-grown, came-switched, concludes-before, concludes-so, concludes-unable, concludes-valid, falls-done, left-before, measure-grows, rests-there, some-before, some-cells, unable-valid, valid-before}
+use Rattle.exec.proofs.Going.{came-done, came-first, came-grown, came-switched, concludes-before, concludes-so, concludes-unable, concludes-valid, falls-done, left-before, left-there, measure-grows, rests-there, some-before, some-cells, unable-valid, valid-before}
 use Rattle.exec.proofs.calls.go_on.Goals as goal
 
 pub loop-call-init : goal.loop-call-init
@@ -27,22 +27,25 @@ returns-in_default-grow c = record {
   valid = unable-valid _ _ _ (at_rest c.args.code.now c.run_code.new.state c.run_code.new.call) c.loop-call.invariant c.in-NoRoom.ensures.runs c.requires.rests;
 }
 
+pub tables_of-requires : goal.tables_of-requires
+tables_of-requires c = left-there _ _ _ (at_rest c.args.code.now c.run_code.new.state c.run_code.new.call) c.loop-call.invariant c.in-LeavesOther.kind c.in-LeavesOther.n c.in-LeavesOther.ensures.runs c.requires.rests
+
 pub step-requires : goal.step-requires
 step-requires c = record {
-  left = left-before _ _ _ _ (at_rest c.args.code.now c.run_code.new.state c.run_code.new.call) c.loop-call.invariant c.in-LeavesOther.kind c.in-LeavesOther.n c.in-LeavesOther.ensures.runs c.requires.rests;
-  rests = some-before _ _ _ _ (at_rest c.args.code.now c.run_code.new.state c.run_code.new.call) c.loop-call.invariant c.in-LeavesOther.kind c.in-LeavesOther.n c.in-LeavesOther.ensures.runs c.requires.rests;
+  left = left-before _ _ _ _ (at_rest c.args.code.now c.run_code.new.state c.run_code.new.call) c.loop-call.invariant c.in-LeavesOther.kind c.in-LeavesOther.n c.in-LeavesOther.ensures.runs c.tables_of.result.now c.tables_of.ensures c.requires.rests;
+  rests = some-before _ _ _ _ (at_rest c.args.code.now c.run_code.new.state c.run_code.new.call) c.loop-call.invariant c.in-LeavesOther.kind c.in-LeavesOther.n c.in-LeavesOther.ensures.runs c.tables_of.result.now c.tables_of.ensures c.requires.rests;
 }
 
 pub loop-call-preserved : goal.loop-call-preserved
-loop-call-preserved c = came-done _ _ _ _ (at_rest c.args.code.now c.step.new.state c.step.new.call) c.loop-call.invariant c.in-LeavesOther.kind c.in-LeavesOther.n c.in-LeavesOther.ensures.runs c.in-Ok-step.ensures
+loop-call-preserved c = came-done _ _ _ _ (at_rest c.args.code.now c.step.new.state c.step.new.call) c.loop-call.invariant c.in-LeavesOther.kind c.in-LeavesOther.n c.in-LeavesOther.ensures.runs c.tables_of.result.now c.tables_of.ensures c.in-Ok-step.ensures
 
 pub loop-call-smaller : goal.loop-call-smaller
-loop-call-smaller c = falls-done _ _ _ _ (at_rest c.args.code.now c.step.new.state c.step.new.call) c.loop-call.invariant c.in-LeavesOther.kind c.in-LeavesOther.n c.in-LeavesOther.ensures.runs c.requires.rests c.ranges.bound.fits c.in-Ok-step.ensures c.run_code.ensures.size
+loop-call-smaller c = falls-done _ _ _ _ (at_rest c.args.code.now c.step.new.state c.step.new.call) c.loop-call.invariant c.in-LeavesOther.kind c.in-LeavesOther.n c.in-LeavesOther.ensures.runs c.tables_of.result.now c.tables_of.ensures c.requires.rests c.ranges.bound.fits c.in-Ok-step.ensures c.run_code.ensures.size
 
 pub returns-in-Err : goal.returns-in-Err
 returns-in-Err c = record {
-  concludes = concludes-before _ _ _ _ (at_rest c.args.code.now c.step.new.state c.step.new.call) c.loop-call.invariant c.in-LeavesOther.kind c.in-LeavesOther.n c.in-LeavesOther.ensures.runs c.in-Err.stop c.in-Err.ensures;
-  valid = valid-before _ _ _ _ (at_rest c.args.code.now c.step.new.state c.step.new.call) c.loop-call.invariant c.in-LeavesOther.kind c.in-LeavesOther.n c.in-LeavesOther.ensures.runs c.in-Err.stop c.in-Err.ensures c.requires.rests;
+  concludes = concludes-before _ _ _ _ (at_rest c.args.code.now c.step.new.state c.step.new.call) c.loop-call.invariant c.in-LeavesOther.kind c.in-LeavesOther.n c.in-LeavesOther.ensures.runs c.tables_of.result.now c.tables_of.ensures c.in-Err.stop c.in-Err.ensures;
+  valid = valid-before _ _ _ _ (at_rest c.args.code.now c.step.new.state c.step.new.call) c.loop-call.invariant c.in-LeavesOther.kind c.in-LeavesOther.n c.in-LeavesOther.ensures.runs c.tables_of.result.now c.tables_of.ensures c.in-Err.stop c.in-Err.ensures c.requires.rests;
 }
 
 pub returns-in_default : goal.returns-in_default

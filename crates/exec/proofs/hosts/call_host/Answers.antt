@@ -14,7 +14,7 @@ use Rattle.interpreter.specs.Calling.{frame_waiting}
 use Rattle.interpreter.specs.declared.machine.CallKind.{CallKind}
 use Rattle.interpreter.specs.declared.machine.Frame.{Frame}
 use Rattle.interpreter.proofs.Forms.{inside}
-use Rattle.interpreter.proofs.Turning.{operations-turn}
+use Rattle.interpreter.proofs.Turning.{place-fits}
 use Rattle.exec.specs.Hosting.{WaitsForHost, position_answered, with_results}
 use Rattle.exec.specs.Resting.{at_rest, machine_of}
 use Rattle.exec.proofs.Answering.{arguments-fit-there, behind-there, cells_held, comes-back-there, comes-behind, ends-there, out-of-memory, room-back-there, room-behind, slice-there, traps-there, types-there}
@@ -49,7 +49,7 @@ call_lent-requires g c =
 
 pub returns-in-Ok-call_lent-clause-hosts : goal.returns-in-Ok-call_lent-clause-hosts
 returns-in-Ok-call_lent-clause-hosts g c =
-    ready-kept type_of_host _ c.args.hosts.now.objects.items c.call_lent.new.hosts.objects.items c.in-Some-InHost.host.number (first_memory (code_store c.args.code.now) c.args.call.now.position.frame.instance) c.deref-2.result.now (store_with c.args.code.now c.args.state.now) (store_with c.args.code.now c.call_lent.new.state) (Results c.in-Ok-call_lent.values.items) c.in-Ok-call_lent.ensures.answered c.requires.hosts
+    ready-kept type_of_host _ c.args.hosts.now.objects.items c.call_lent.new.hosts.objects.items c.in-Some-InHost.host.number (first_memory (code_store c.args.code.now) c.args.call.now.position.instance) c.deref-2.result.now (store_with c.args.code.now c.args.state.now) (store_with c.args.code.now c.call_lent.new.state) (Results c.in-Ok-call_lent.values.items) c.in-Ok-call_lent.ensures.answered c.requires.hosts
 
 pub returns-in-Err-Trap-clause-ended : goal.returns-in-Err-Trap-clause-ended
 returns-in-Err-Trap-clause-ended g c = λ w wait. (
@@ -62,7 +62,7 @@ returns-in-Err-Trap-clause-ended g c = λ w wait. (
 
 pub returns-in-Err-Trap-clause-hosts : goal.returns-in-Err-Trap-clause-hosts
 returns-in-Err-Trap-clause-hosts g c =
-    ready-kept type_of_host _ c.args.hosts.now.objects.items c.call_lent.new.hosts.objects.items c.in-Some-InHost.host.number (first_memory (code_store c.args.code.now) c.args.call.now.position.frame.instance) c.deref-2.result.now (store_with c.args.code.now c.args.state.now) (store_with c.args.code.now c.call_lent.new.state) (HostTrap c.in-Err-Trap.why) (c.in-Err-Trap.ensures.trapped c.in-Err-Trap.why (cc)) c.requires.hosts
+    ready-kept type_of_host _ c.args.hosts.now.objects.items c.call_lent.new.hosts.objects.items c.in-Some-InHost.host.number (first_memory (code_store c.args.code.now) c.args.call.now.position.instance) c.deref-2.result.now (store_with c.args.code.now c.args.state.now) (store_with c.args.code.now c.call_lent.new.state) (HostTrap c.in-Err-Trap.why) (c.in-Err-Trap.ensures.trapped c.in-Err-Trap.why (cc)) c.requires.hosts
 
 pub returns-clause-ended : goal.returns-clause-ended
 returns-clause-ended g c = λ w wait. (
@@ -99,7 +99,7 @@ slice_bounds-values_of-end g c =
     omega (arith, enough, within, size, c.len.ensures, ap (λ (cells : List ℕ). length cells) c.deref.ensures.value)
 
 pub frame_behind-frame-requires : goal.frame_behind-frame-requires
-frame_behind-frame-requires g c = (operations-turn _ _ c.requires.waits.0.ghost c.requires.waits.1.rests.runs.runs).0
+frame_behind-frame-requires g c = place-fits _ _ c.requires.waits.0.ghost c.requires.waits.1.rests.runs.runs
 
 pub put_results-requires-clause-room : goal.put_results-requires-clause-room
 put_results-requires-clause-room g c =
@@ -135,7 +135,7 @@ returns-in-Nested-clause-answered g c = λ w wait. (
 
 pub returns-in-Nested-clause-hosts : goal.returns-in-Nested-clause-hosts
 returns-in-Nested-clause-hosts g c =
-    ready-kept type_of_host _ c.args.hosts.now.objects.items c.call_lent.new.hosts.objects.items c.in-Some-InHost.host.number (first_memory (code_store c.args.code.now) c.args.call.now.position.frame.instance) c.deref-2.result.now (store_with c.args.code.now c.args.state.now) (store_with c.args.code.now c.call_lent.new.state) (Results c.in-Ok-call_lent.values.items) c.in-Ok-call_lent.ensures.answered c.requires.hosts
+    ready-kept type_of_host _ c.args.hosts.now.objects.items c.call_lent.new.hosts.objects.items c.in-Some-InHost.host.number (first_memory (code_store c.args.code.now) c.args.call.now.position.instance) c.deref-2.result.now (store_with c.args.code.now c.args.state.now) (store_with c.args.code.now c.call_lent.new.state) (Results c.in-Ok-call_lent.values.items) c.in-Ok-call_lent.ensures.answered c.requires.hosts
 
 pub return_results-requires-clause-room : goal.return_results-requires-clause-room
 return_results-requires-clause-room g c = λ frame others are. (

@@ -1,8 +1,8 @@
 use Rattle.std.proofs.Common.{ap, inl, inr, ◌∙◌, arith}
 use Rattle.hostfunc.specs.Boxes.{HostStep}
 use Rattle.interpreter.specs.declared.machine.Position.{Position}
-use Rattle.exec.specs.Resting.{at_rest, store_around}
-use Rattle.exec.proofs.Finishing.{came-answered, came-fuel, came-over-first, dear-so, deep-so, ended-so, ends-taken, lacks-so, never-leaves, never-room, never-switches, over-typed, traps-so, waiting, waits-so}
+use Rattle.exec.specs.Resting.{at_rest}
+use Rattle.exec.proofs.Finishing.{came-answered, came-fuel, came-over-first, dear-so, deep-so, ended-so, ends-taken, lacks-so, never-leaves, never-room, never-switches, some-results, traps-so, waiting, waits-so}
 use Rattle.exec.proofs.outside.run_to_end.Goals as goal
 
 pub loop-call-init : goal.loop-call-init
@@ -24,25 +24,25 @@ pub returns-in-NoMemory : goal.returns-in-NoMemory
 returns-in-NoMemory g c = record { run = λ w is. lacks-so (HostStep (λ vtable. (g.dyn-1.0.entry vtable).1)) c.args.bound (at_rest c.args.code.now c.args.state.now c.args.call.now) c.args.hosts.now.objects.items c.args.types.now (at_rest c.args.code.now c.loop-call.state c.loop-call.call) (at_rest c.args.code.now c.go_on.new.state c.go_on.new.call) c.loop-call.hosts.objects.items c.loop-call.invariant.came w is (rw c.in-NoMemory.is at c.go_on.ensures.concludes) }
 
 pub results-requires-clause-over : goal.results-requires-clause-over
-results-requires-clause-over g c =
-    let (w, is) = c.requires.rests in
-    let f = c.loop-call.invariant.came.from w is in
-    (store_around (at_rest c.args.code.now c.go_on.new.state c.go_on.new.call), ((rw c.in-Over.is at c.go_on.ensures.concludes) f.new f.rests).values, over-typed (HostStep (λ vtable. (g.dyn-1.0.entry vtable).1)) c.args.bound (at_rest c.args.code.now c.args.state.now c.args.call.now) c.args.hosts.now.objects.items c.args.types.now (at_rest c.args.code.now c.loop-call.state c.loop-call.call) (at_rest c.args.code.now c.go_on.new.state c.go_on.new.call) c.loop-call.hosts.objects.items c.loop-call.invariant.came w is (rw c.in-Over.is at c.go_on.ensures.concludes))
+results-requires-clause-over g c = let (w, is) = c.requires.rests in some-results (HostStep (λ vtable. (g.dyn-1.0.entry vtable).1)) c.args.bound (at_rest c.args.code.now c.args.state.now c.args.call.now) c.args.hosts.now.objects.items c.args.types.now (at_rest c.args.code.now c.loop-call.state c.loop-call.call) (at_rest c.args.code.now c.go_on.new.state c.go_on.new.call) c.loop-call.hosts.objects.items c.loop-call.invariant.came w is (rw c.in-Over.is at c.go_on.ensures.concludes)
 
 pub returns-in-Over : goal.returns-in-Over
 returns-in-Over g c = record {
-  run = λ w is. (
-      let f = c.loop-call.invariant.came.from w is in
-      ends-taken (HostStep (λ vtable. (g.dyn-1.0.entry vtable).1)) c.args.bound (at_rest c.args.code.now c.args.state.now c.args.call.now) c.args.hosts.now.objects.items c.args.types.now (at_rest c.args.code.now c.loop-call.state c.loop-call.call) (at_rest c.args.code.now c.go_on.new.state c.go_on.new.call) c.loop-call.hosts.objects.items c.loop-call.invariant.came w is (rw c.in-Over.is at c.go_on.ensures.concludes) c.results.new.values c.loop-call.values.items c.loop-call.values.len c.from_vec.result c.results.new.call.position.fuel
-      (c.results.ensures.size ∙ c.deref_mut.ensures.len) (c.results.ensures.read (store_around (at_rest c.args.code.now c.go_on.new.state c.go_on.new.call)) ((rw c.in-Over.is at c.go_on.ensures.concludes) f.new f.rests).values (over-typed (HostStep (λ vtable. (g.dyn-1.0.entry vtable).1)) c.args.bound (at_rest c.args.code.now c.args.state.now c.args.call.now) c.args.hosts.now.objects.items c.args.types.now (at_rest c.args.code.now c.loop-call.state c.loop-call.call) (at_rest c.args.code.now c.go_on.new.state c.go_on.new.call) c.loop-call.hosts.objects.items c.loop-call.invariant.came w is (rw c.in-Over.is at c.go_on.ensures.concludes)))
-      c.from_vec.ensures (ap (λ (p : Position). p.fuel) c.results.ensures.position));
+  run = λ w is.
+      ends-taken (HostStep (λ vtable. (g.dyn-1.0.entry vtable).1)) c.args.bound (at_rest c.args.code.now c.args.state.now c.args.call.now) c.args.hosts.now.objects.items c.args.types.now (at_rest c.args.code.now c.loop-call.state c.loop-call.call) (at_rest c.args.code.now c.go_on.new.state c.go_on.new.call) c.loop-call.hosts.objects.items c.loop-call.invariant.came w is (rw c.in-Over.is at c.go_on.ensures.concludes)
+      c.results.new.values c.loop-call.values.items c.loop-call.values.len c.from_vec.result c.results.new.call.position.fuel
+      (c.results.ensures.size ∙ c.deref_mut.ensures.len) c.results.ensures.read c.from_vec.ensures (ap (λ (p : Position). p.fuel) c.results.ensures.position);
 }
 
 pub call_host-requires-clause-waits : goal.call_host-requires-clause-waits
 call_host-requires-clause-waits g c = let (w, is) = c.requires.rests in (waiting (HostStep (λ vtable. (g.dyn-1.0.entry vtable).1)) c.args.bound (at_rest c.args.code.now c.args.state.now c.args.call.now) c.args.hosts.now.objects.items c.args.types.now (at_rest c.args.code.now c.loop-call.state c.loop-call.call) (at_rest c.args.code.now c.go_on.new.state c.go_on.new.call) c.loop-call.hosts.objects.items c.loop-call.invariant.came w is c.in-CallsHost.kind c.in-CallsHost.address c.in-CallsHost.behind (rw c.in-CallsHost.is at c.go_on.ensures.concludes), waits-so (HostStep (λ vtable. (g.dyn-1.0.entry vtable).1)) c.args.bound (at_rest c.args.code.now c.args.state.now c.args.call.now) c.args.hosts.now.objects.items c.args.types.now (at_rest c.args.code.now c.loop-call.state c.loop-call.call) (at_rest c.args.code.now c.go_on.new.state c.go_on.new.call) c.loop-call.hosts.objects.items c.loop-call.invariant.came w is c.in-CallsHost.kind c.in-CallsHost.address c.in-CallsHost.behind (rw c.in-CallsHost.is at c.go_on.ensures.concludes))
 
 pub returns-in-Err : goal.returns-in-Err
-returns-in-Err g c = record { run = λ w is. ended-so (HostStep (λ vtable. (g.dyn-1.0.entry vtable).1)) c.args.bound (at_rest c.args.code.now c.args.state.now c.args.call.now) c.args.hosts.now.objects.items c.args.types.now (at_rest c.args.code.now c.loop-call.state c.loop-call.call) (at_rest c.args.code.now c.go_on.new.state c.go_on.new.call) c.loop-call.hosts.objects.items c.loop-call.invariant.came w is c.in-CallsHost.kind c.in-CallsHost.address c.in-CallsHost.behind (rw c.in-CallsHost.is at c.go_on.ensures.concludes) (at_rest c.args.code.now c.call_host.new.state c.call_host.new.call) c.call_host.new.hosts.objects.items _ (c.in-Err.ensures.ended (waiting (HostStep (λ vtable. (g.dyn-1.0.entry vtable).1)) c.args.bound (at_rest c.args.code.now c.args.state.now c.args.call.now) c.args.hosts.now.objects.items c.args.types.now (at_rest c.args.code.now c.loop-call.state c.loop-call.call) (at_rest c.args.code.now c.go_on.new.state c.go_on.new.call) c.loop-call.hosts.objects.items c.loop-call.invariant.came w is c.in-CallsHost.kind c.in-CallsHost.address c.in-CallsHost.behind (rw c.in-CallsHost.is at c.go_on.ensures.concludes)) (waits-so (HostStep (λ vtable. (g.dyn-1.0.entry vtable).1)) c.args.bound (at_rest c.args.code.now c.args.state.now c.args.call.now) c.args.hosts.now.objects.items c.args.types.now (at_rest c.args.code.now c.loop-call.state c.loop-call.call) (at_rest c.args.code.now c.go_on.new.state c.go_on.new.call) c.loop-call.hosts.objects.items c.loop-call.invariant.came w is c.in-CallsHost.kind c.in-CallsHost.address c.in-CallsHost.behind (rw c.in-CallsHost.is at c.go_on.ensures.concludes))) }
+returns-in-Err g c = record {
+  run = λ w is.
+      ended-so (HostStep (λ vtable. (g.dyn-1.0.entry vtable).1)) c.args.bound (at_rest c.args.code.now c.args.state.now c.args.call.now) c.args.hosts.now.objects.items c.args.types.now (at_rest c.args.code.now c.loop-call.state c.loop-call.call) (at_rest c.args.code.now c.go_on.new.state c.go_on.new.call) c.loop-call.hosts.objects.items c.loop-call.invariant.came w is c.in-CallsHost.kind c.in-CallsHost.address c.in-CallsHost.behind (rw c.in-CallsHost.is at c.go_on.ensures.concludes)
+      (at_rest c.args.code.now c.call_host.new.state c.call_host.new.call) c.call_host.new.hosts.objects.items _ c.in-Err.ensures.ended;
+}
 
 pub loop-call-smaller : goal.loop-call-smaller
 loop-call-smaller g c =

@@ -19,6 +19,6 @@ returns c bound u b =
       outcome = _;
       has = rw (at, c.integer-offset.ensures) k.has;
       low = k.low;
-      room = room-taken (machine_of (at_rest c.args.code.now c.args.state.now c.args.call.now)) 1 (omega arith) k.low k.has_operands.inside _;
+      room = room-taken (machine_of (at_rest c.args.code.now c.args.state.now c.args.call.now)) 1 (omega arith) _ k.low k.has_operands.inside _;
       gives = c.get_entry.ensures c.args.code.now;
     }

@@ -22,6 +22,6 @@ returns c bound u b =
       outcome = _;
       has = rw (at, c.integer-count.ensures, c.operand-cell.ensures) k.has;
       low = k.low;
-      room = room-taken (machine_of (at_rest c.args.code.now c.args.state.now c.args.call.now)) 2 (omega arith) k.low k.has_operands.inside _;
+      room = room-taken (machine_of (at_rest c.args.code.now c.args.state.now c.args.call.now)) 2 (omega arith) _ k.low k.has_operands.inside _;
       gives = c.grow_table.ensures c.args.code.now;
     }

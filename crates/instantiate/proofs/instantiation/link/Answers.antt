@@ -1,8 +1,9 @@
-use Rattle.std.proofs.Common.{length, refl, sym, take, ◌∙◌}
+use Rattle.std.proofs.Common.{length, refl, sym, take, ap, ◌∙◌}
 use Rattle.std.proofs.lemmas.List.{length-take-le}
 use Rattle.meaning.specs.execution.Modules.{tasks_of}
 use Rattle.exec.specs.Endings.{run_state}
 use Rattle.store.specs.Contents.{store_of}
+use Rattle.store.specs.Loaded.{LoadedContents}
 use Rattle.hostfunc.specs.Boxes.{type_of_host}
 use Rattle.instantiate.specs.declared.link_end.TaskEnd.TheVariants as end
 use Rattle.instantiate.proofs.lemmas.Validity.{is-linkable, never-stuck-tasks}
@@ -17,13 +18,13 @@ slice_bounds-given-end g c =
 
 pub run_tasks-requires-clause-instance : goal.run_tasks-requires-clause-instance
 run_tasks-requires-clause-instance g c =
-    let m = c.args.loaded.now.value in
+    let m = c.args.loaded.now.value.source in
     rw (c.module-wanted.ensures.same, c.as_ref.ensures) (allocated-instance c.in_ok-instance.instance m (take c.len.result c.args.externs.now) (store_of c.args.store.now) c.allocate.new.store.code c.allocate.new.store.state c.in_ok-instance.ensures)
 
 pub returns-in-Ok-clause-linked : goal.returns-in-Ok-clause-linked
 returns-in-Ok-clause-linked g c =
-    let m = c.args.loaded.now.value in
-    let module_is = c.module-wanted.ensures.same ∙ c.as_ref.ensures in
+    let m = c.args.loaded.now.value.source in
+    let module_is = c.module-wanted.ensures.same ∙ ap (λ (l : LoadedContents). l.source) c.as_ref.ensures in
     let count_is = rw module_is at c.len.ensures in
     let allocated = rw count_is at c.in_ok-instance.ensures in
     record {
@@ -34,8 +35,8 @@ returns-in-Ok-clause-linked g c =
 
 pub returns-in-Err-Ended-clause-linked : goal.returns-in-Err-Ended-clause-linked
 returns-in-Err-Ended-clause-linked g c =
-    let m = c.args.loaded.now.value in
-    let module_is = c.module-wanted.ensures.same ∙ c.as_ref.ensures in
+    let m = c.args.loaded.now.value.source in
+    let module_is = c.module-wanted.ensures.same ∙ ap (λ (l : LoadedContents). l.source) c.as_ref.ensures in
     let count_is = rw module_is at c.len.ensures in
     let allocated = rw count_is at c.in_ok-instance.ensures in
     let ran = rw (module_is, c.in-Err-Ended.field-0-is) at c.in-Err-Ended.ensures.ran in
@@ -47,27 +48,27 @@ returns-in-Err-Ended-clause-linked g c =
 
 pub allocate-requires-clause-linkable : goal.allocate-requires-clause-linkable
 allocate-requires-clause-linkable g c =
-    let m = c.args.loaded.now.value in
-    let module_is = c.module-wanted.ensures.same ∙ c.as_ref.ensures in
+    let m = c.args.loaded.now.value.source in
+    let module_is = c.module-wanted.ensures.same ∙ ap (λ (l : LoadedContents). l.source) c.as_ref.ensures in
     let allowed = rw module_is at c.in_default.ensures in
     is-linkable (store_of c.args.store.now) m c.args.externs.now c.len.result (rw module_is at c.len.ensures) (rw c.as_ref.ensures at c.module-wanted.ensures.sound) allowed
 
 pub run_tasks-requires-clause-good : goal.run_tasks-requires-clause-good
 run_tasks-requires-clause-good g c =
-    let m = c.args.loaded.now.value in
-    let module_is = c.module-wanted.ensures.same ∙ c.as_ref.ensures in
+    let m = c.args.loaded.now.value.source in
+    let module_is = c.module-wanted.ensures.same ∙ ap (λ (l : LoadedContents). l.source) c.as_ref.ensures in
     let allowed = rw module_is at c.in_default.ensures in
     let linkable = is-linkable (store_of c.args.store.now) m c.args.externs.now c.len.result (rw module_is at c.len.ensures) (rw c.as_ref.ensures at c.module-wanted.ensures.sound) allowed in
     rw module_is (allocated-good c.in_ok-instance.instance m (take c.len.result c.args.externs.now) (store_of c.args.store.now) c.allocate.new.store.code c.allocate.new.store.state c.in_ok-instance.ensures c.writing_is_read.ensures.whole c.state.ensures.valid linkable)
 
 pub run_tasks-requires-clause-hosts : goal.run_tasks-requires-clause-hosts
 run_tasks-requires-clause-hosts g c =
-    allocated-ready c.in_ok-instance.instance c.args.loaded.now.value (take c.len.result c.args.externs.now) (store_of c.args.store.now) c.allocate.new.store.code c.allocate.new.store.state c.in_ok-instance.ensures type_of_host c.args.hosts.now.objects.items c.requires.hosts
+    allocated-ready c.in_ok-instance.instance c.args.loaded.now.value.source (take c.len.result c.args.externs.now) (store_of c.args.store.now) c.allocate.new.store.code c.allocate.new.store.state c.in_ok-instance.ensures type_of_host c.args.hosts.now.objects.items c.requires.hosts
 
 pub unreachable-requires : goal.unreachable-requires
 unreachable-requires g c =
-    let m = c.args.loaded.now.value in
-    let module_is = c.module-wanted.ensures.same ∙ c.as_ref.ensures in
+    let m = c.args.loaded.now.value.source in
+    let module_is = c.module-wanted.ensures.same ∙ ap (λ (l : LoadedContents). l.source) c.as_ref.ensures in
     let allowed = rw module_is at c.in_default.ensures in
     let linkable = is-linkable (store_of c.args.store.now) m c.args.externs.now c.len.result (rw module_is at c.len.ensures) (rw c.as_ref.ensures at c.module-wanted.ensures.sound) allowed in
     let good = allocated-good c.in_ok-instance.instance m (take c.len.result c.args.externs.now) (store_of c.args.store.now) c.allocate.new.store.code c.allocate.new.store.state c.in_ok-instance.ensures c.writing_is_read.ensures.whole c.state.ensures.valid linkable in

@@ -7,7 +7,7 @@ use Rattle.instantiate.proofs.objects.new_objects.Goals as goal
 pub returns-in_err-globals-clause-none : goal.returns-in_err-globals-clause-none
 returns-in_err-globals-clause-none c =
     let store = store_of c.args.store.now in
-    let wanted = c.args.loaded.now.value in
+    let wanted = c.args.loaded.now.value.source in
     let instance = module_instance (lists_of c.args.addresses.now) wanted in
     let passed = err_from_is_err_and c.from_residual.result c.from_residual.ensures.1 in
     let missing = rw (c.state-state.ensures.same, c.as_slice.ensures, c.module-wanted.ensures.same, c.as_ref.ensures) at (c.in_err-globals.ensures.none c.args.store.now.code wanted) in
@@ -16,7 +16,7 @@ returns-in_err-globals-clause-none c =
 pub returns-in_err-elements-clause-none : goal.returns-in_err-elements-clause-none
 returns-in_err-elements-clause-none c =
     let store = store_of c.args.store.now in
-    let wanted = c.args.loaded.now.value in
+    let wanted = c.args.loaded.now.value.source in
     let instance = module_instance (lists_of c.args.addresses.now) wanted in
     let passed = err_from_is_err_and c.from_residual-in_err-elements.result c.from_residual-in_err-elements.ensures.1 in
     let missing = rw (c.state-state.ensures.same, c.as_slice-2.ensures, c.module-wanted.ensures.same, c.as_ref.ensures) at (c.in_err-elements.ensures.none c.args.store.now.code wanted) in
@@ -24,12 +24,12 @@ returns-in_err-elements-clause-none c =
 
 pub new_memories-requires : goal.new_memories-requires
 new_memories-requires c =
-    rw (c.as_slice-4.ensures, c.module-wanted.ensures.same, c.as_ref.ensures) (few_pages-valid c.args.loaded.now.value (rw c.as_ref.ensures at c.module-wanted.ensures.valid))
+    rw (c.as_slice-4.ensures, c.module-wanted.ensures.same, c.as_ref.ensures) (few_pages-valid c.args.loaded.now.value.source (rw c.as_ref.ensures at c.module-wanted.ensures.valid))
 
 pub returns-clause-values : goal.returns-clause-values
 returns-clause-values c =
     let store = store_of c.args.store.now in
-    let wanted = c.args.loaded.now.value in
+    let wanted = c.args.loaded.now.value.source in
     let instance = module_instance (lists_of c.args.addresses.now) wanted in
     let globals = rw (c.state-state.ensures.same, c.as_slice.ensures, c.module-wanted.ensures.same, c.as_ref.ensures) at (c.in_ok-globals.ensures.values c.args.store.now.code wanted) in
     let elements = rw (c.state-state.ensures.same, c.as_slice-2.ensures, c.module-wanted.ensures.same, c.as_ref.ensures) at (c.in_ok-elements.ensures.values c.args.store.now.code wanted) in

@@ -7,4 +7,4 @@ returns c w m g r =
     let s = r.runs.stands in
     let few = within g.code s.entries _ _ _ _ _ s.here in
     let top = r.runs.holds.top_is in
-    omega (arith, few, top, r.count)
+    omega (arith, few, top, r.runs.holds.count)

@@ -9,9 +9,24 @@ use Rattle.interpreter.specs.Looping.{machine_at, world_at}
 use Rattle.interpreter.specs.Stepping.{IsPaid, position_lowered}
 use Rattle.interpreter.proofs.Stepping.{fits-as, global-read, lowers, pushes, pushes-null, replaced-here, sets, tests-null}
 use Rattle.interpreter.proofs.others.step_other.Goals as goal
+use Rattle.interpreter.proofs.others.step_other.Goals.{then-at-eq0, else-at-eq0}
 
 pub returns-in-Nop : goal.returns-in-Nop
 returns-in-Nop c bytes fits turns = lowers (world_at c.args.around c.args.state.now bytes) c.args.cells.now c.args.at c.args.kind c.args.n turns other.Nop c.in-Nop.is _ _ _ _ c.lower.ensures (λ g leads. replaced-here (world_at c.args.around c.args.state.now bytes) c.args.cells.now c.args.at c.args.kind c.args.n turns g _ leads)
+
+pub returns-in-DropOperand : goal.returns-in-DropOperand
+returns-in-DropOperand c bytes fits turns = lowers (world_at c.args.around c.args.state.now bytes) c.args.cells.now c.args.at c.args.kind c.args.n turns other.DropOperand c.in-DropOperand.is _ _ _ _ c.lower-in-DropOperand.ensures (λ g leads. leads)
+
+pub returns-after-at-eq0 : goal.returns-after-at-eq0
+returns-after-at-eq0 c bytes fits turns = elim c.if-at-eq0.branch [
+  | then-at-eq0 v ↦ lowers (world_at c.args.around c.args.state.now bytes) c.args.cells.now c.args.at c.args.kind c.args.n turns other.Select c.in-Select.is _ _ _ _ c.lower-in-Select.ensures (λ g leads. rw v.chosen-is (leads.0 v.if-at-eq0.true, leads.2))
+  | else-at-eq0 v ↦ lowers (world_at c.args.around c.args.state.now bytes) c.args.cells.now c.args.at c.args.kind c.args.n turns other.Select c.in-Select.is _ _ _ _ c.lower-in-Select.ensures (λ g leads. rw v.chosen-is (leads.1 v.if-at-eq0.false, leads.2))
+]
+
+pub returns-in-Unary : goal.returns-in-Unary
+returns-in-Unary c bytes fits turns =
+    lowers (world_at c.args.around c.args.state.now bytes) c.args.cells.now c.args.at c.args.kind c.args.n turns (other.Unary c.in-Unary.instruction) c.in-Unary.is _ _ _ _ c.lower-in-Unary.ensures
+    (λ g leads. replaced-here (world_at c.args.around c.args.state.now bytes) c.args.cells.now c.args.at c.args.kind c.args.n turns g _ (leads.0 c.compute_unary.result c.compute_unary.ensures, leads.1))
 
 pub returns-in-Some : goal.returns-in-Some
 returns-in-Some c bytes fits turns =

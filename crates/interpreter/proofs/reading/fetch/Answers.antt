@@ -1,5 +1,5 @@
 use Rattle.std.proofs.Common.{◌<◌, length, rules}
-use Rattle.interpreter.proofs.Turning.{operations-turn}
+use Rattle.interpreter.proofs.Turning.{operations-turn, place-fits}
 use Rattle.interpreter.proofs.reading.fetch.Goals as goal
 
 pub bounds-operations-at : goal.bounds-operations-at
@@ -8,14 +8,14 @@ bounds-operations-at c = let (g, r) = c.requires.sound in rw c.requires.code (op
 pub offset_bounds-operations-at : goal.offset_bounds-operations-at
 offset_bounds-operations-at c =
     let (g, r) = c.requires.sound in
-    let inside : c.args.at.frame.place < length c.args.operations.now = rw c.requires.code (operations-turn _ _ g r).0 in
+    let inside : c.args.at.place < length c.args.operations.now = rw c.requires.code (operations-turn _ _ g r).0 in
     search (rules, inside)
 
 pub returns-clause-inside : goal.returns-clause-inside
 returns-clause-inside c = let (g, r) = c.requires.sound in rw c.requires.code (operations-turn _ _ g r).0
 
 pub returns-clause-next : goal.returns-clause-next
-returns-clause-next c = let inside = (operations-turn _ _ c.requires.sound.0 c.requires.sound.1).0 in search (rules, inside)
+returns-clause-next c = let (g, r) = c.requires.sound in place-fits _ _ g r
 
 pub returns-clause-fits : goal.returns-clause-fits
 returns-clause-fits c = let (g, r) = c.requires.sound in rw c.requires.code ((operations-turn _ _ g r).1 _).0

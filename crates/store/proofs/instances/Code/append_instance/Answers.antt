@@ -7,8 +7,8 @@ use Rattle.store.proofs.instances.Code.append_instance.Goals as goal
 pub invariant_of-self-in-Ok : goal.invariant_of-self-in-Ok
 invariant_of-self-in-Ok c =
     let number : c.len-number.result ≡ length c.self.inside.instances.items = search rules in
-    let count : c.len-count.result ≡ length c.args.instance.loaded.value.funcs = search rules in
-    let valid : IsValid c.args.instance.loaded.value = rw c.as_ref.ensures at c.module.ensures.valid in
+    let count : c.len-count.result ≡ length c.args.instance.loaded.value.source.funcs = search rules in
+    let valid : IsValid c.args.instance.loaded.value.source = rw c.as_ref.ensures at c.module.ensures.valid in
     let added = rw (number, count) at c.in_ok-push_entries.ensures.pushed in
     let inside = c.self.inside in
     let functions = functions-added inside.hosts.items inside.instances.items c.args.instance valid inside.functions.items c.push_entries.new.functions.items c.self.invariant.found added in
@@ -20,8 +20,8 @@ invariant_of-self-in-Ok c =
 pub returns-in-Ok-clause-functions : goal.returns-in-Ok-clause-functions
 returns-in-Ok-clause-functions c =
     let number : c.len-number.result ≡ length c.self.inside.instances.items = search rules in
-    let count : c.len-count.result ≡ length c.args.instance.loaded.value.funcs = search rules in
-    let valid : IsValid c.args.instance.loaded.value = rw c.as_ref.ensures at c.module.ensures.valid in
+    let count : c.len-count.result ≡ length c.args.instance.loaded.value.source.funcs = search rules in
+    let valid : IsValid c.args.instance.loaded.value.source = rw c.as_ref.ensures at c.module.ensures.valid in
     let added = rw (number, count) at c.in_ok-push_entries.ensures.pushed in
     rw (c.in-Ok.ensures.pushed, ← c.self.view_is)
     (functions-added c.self.inside.hosts.items c.self.inside.instances.items c.args.instance valid c.self.inside.functions.items c.push_entries.new.functions.items c.self.invariant.found added)

@@ -19,10 +19,10 @@ append_instance-requires-clause-types c =
 
 pub invariant_of-self-2 : goal.invariant_of-self-2
 invariant_of-self-2 c =
-    rw (module-appended c.self.inside.code c.append_instance.new.self c.self.inside.state c.reserve_all.new.self c.append_all.new.self c.args.loaded.value (lists_of c.args.addresses) c.args.objects c.in_ok-append_instance.ensures.functions c.in_ok-append_instance.ensures.instances c.reserve_all.ensures.contents c.reserve_all.ensures.bounds c.append_all.ensures.contents c.append_all.ensures.bounds)
+    rw (module-appended c.self.inside.code c.append_instance.new.self c.self.inside.state c.reserve_all.new.self c.append_all.new.self c.args.loaded.value.source (lists_of c.args.addresses) c.args.objects c.in_ok-append_instance.ensures.functions c.in_ok-append_instance.ensures.instances c.reserve_all.ensures.contents c.reserve_all.ensures.bounds c.append_all.ensures.contents c.append_all.ensures.bounds)
     (allocation-grows c.writing_is_read.ensures.whole _ _ _ _ c.self.invariant (rw (← c.self.view_is) at c.requires.linkable)).1
 
 pub returns-clause-extends : goal.returns-clause-extends
 returns-clause-extends c =
-    rw (← c.self.view_is, module-appended c.self.inside.code c.append_instance.new.self c.self.inside.state c.reserve_all.new.self c.append_all.new.self c.args.loaded.value (lists_of c.args.addresses) c.args.objects c.in_ok-append_instance.ensures.functions c.in_ok-append_instance.ensures.instances c.reserve_all.ensures.contents c.reserve_all.ensures.bounds c.append_all.ensures.contents c.append_all.ensures.bounds)
+    rw (← c.self.view_is, module-appended c.self.inside.code c.append_instance.new.self c.self.inside.state c.reserve_all.new.self c.append_all.new.self c.args.loaded.value.source (lists_of c.args.addresses) c.args.objects c.in_ok-append_instance.ensures.functions c.in_ok-append_instance.ensures.instances c.reserve_all.ensures.contents c.reserve_all.ensures.bounds c.append_all.ensures.contents c.append_all.ensures.bounds)
     (allocation-grows c.writing_is_read.ensures.whole _ _ _ _ c.self.invariant (rw (← c.self.view_is) at c.requires.linkable)).0
