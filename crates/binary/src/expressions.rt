@@ -61,8 +61,20 @@ impl Readable for Items<Op> {
     }
 }
 
-// Begins and ends bodies as an operation does.
+// Begins and ends bodies as an operation does; most have none.
+#[inline(always)]
 fn update_bodies(bodies: &mut Stack<OpenBody>, op: &Op) -> Result<Next, AllocError>
+    ensures { IfOk result (λ next. next_bodies bodies.old op.now ≡ (next, bodies.new)) }
+{
+    if let Op::Plain(_) = op {
+        return Ok(Next::Onward);
+    }
+    update_marked_bodies(bodies, op)
+}
+
+// The same, of one that begins or ends bodies.
+#[inline(never)]
+fn update_marked_bodies(bodies: &mut Stack<OpenBody>, op: &Op) -> Result<Next, AllocError>
     ensures { IfOk result (λ next. next_bodies bodies.old op.now ≡ (next, bodies.new)) }
 {
     match op {

@@ -8,9 +8,12 @@ pub mod reference;
 pub mod table;
 pub mod variable;
 
-ghost use Rattle.binary.specs.Conventions.{Gives, chosen_at};
-ghost use Rattle.binary.specs.Values.{unsigned_at};
-ghost use Rattle.binary.specs.Instructions.{group_at, op_at, plain_at, prefixed_at};
+ghost use Rattle.core_types.specs.declared.op.Op.TheVariants.{Block, If, Loop};
+ghost use Rattle.core_types.specs.declared.op.PlainOp.TheVariants.{BrTable, I32Const, I64Const, SelectTyped};
+ghost use Rattle.binary.specs.Conventions.{Gives, chosen_at, mapped_at};
+ghost use Rattle.binary.specs.Types.{block_type_at, val_type_at};
+ghost use Rattle.binary.specs.Values.{unsigned_at, vector_at};
+ghost use Rattle.binary.specs.Instructions.{branch_table_at, group_at, op_at, plain_at, prefixed_at, stored_at};
 
 use crate::errors::DecodeError;
 use crate::instructions::control::{read_branch_table, read_control};
@@ -26,6 +29,27 @@ use crate::values::read_vector;
 use core_types::{Boxed, Op, PlainOp, ValType};
 use std::alloc::Global;
 
+// The start of a block, behind its opcode.
+fn read_block(reader: &mut Reader<'_>) -> Result<Op, DecodeError>
+    ensures { Gives result reader.new (mapped_at Block block_type_at reader.old) }
+{
+    Ok(Op::Block(read_block_type(reader)?))
+}
+
+// The start of a loop, behind its opcode.
+fn read_loop(reader: &mut Reader<'_>) -> Result<Op, DecodeError>
+    ensures { Gives result reader.new (mapped_at Loop block_type_at reader.old) }
+{
+    Ok(Op::Loop(read_block_type(reader)?))
+}
+
+// The start of an if, behind its opcode.
+fn read_if(reader: &mut Reader<'_>) -> Result<Op, DecodeError>
+    ensures { Gives result reader.new (mapped_at If block_type_at reader.old) }
+{
+    Ok(Op::If(read_block_type(reader)?))
+}
+
 // A flat operation.
 #[tactic(auto, unfolding(crate::specs::Instructions::op_at, crate::specs::Instructions::operation_at))]
 pub fn read_op(alloc: Global, reader: &mut Reader<'_>) -> Result<Op, DecodeError>
@@ -33,13 +57,41 @@ pub fn read_op(alloc: Global, reader: &mut Reader<'_>) -> Result<Op, DecodeError
 {
     let offset = reader.offset();
     match reader.byte()? {
-        0x02 => Ok(Op::Block(read_block_type(reader)?)),
-        0x03 => Ok(Op::Loop(read_block_type(reader)?)),
-        0x04 => Ok(Op::If(read_block_type(reader)?)),
+        0x02 => read_block(reader),
+        0x03 => read_loop(reader),
+        0x04 => read_if(reader),
         0x05 => Ok(Op::Else),
         0x0B => Ok(Op::End),
         code => Ok(Op::Plain(read_plain(alloc, reader, code, offset)?)),
     }
+}
+
+// A branch by number, behind its opcode.
+fn read_br_table(alloc: Global, reader: &mut Reader<'_>) -> Result<PlainOp, DecodeError>
+    ensures { Gives result reader.new (mapped_at BrTable branch_table_at reader.old) }
+{
+    Ok(PlainOp::BrTable(Boxed::new(alloc, read_branch_table(alloc, reader)?)?))
+}
+
+// A select with types, behind its opcode.
+fn read_typed_select(alloc: Global, reader: &mut Reader<'_>) -> Result<PlainOp, DecodeError>
+    ensures { Gives result reader.new (mapped_at SelectTyped (vector_at val_type_at) reader.old) }
+{
+    Ok(PlainOp::SelectTyped(Boxed::new(alloc, read_vector::<ValType>(alloc, reader)?)?))
+}
+
+// A constant of 32 bits, behind its opcode.
+fn read_i32_const(reader: &mut Reader<'_>) -> Result<PlainOp, DecodeError>
+    ensures { Gives result reader.new (mapped_at I32Const (stored_at 32) reader.old) }
+{
+    Ok(PlainOp::I32Const(reader.s32()?.cast_unsigned()))
+}
+
+// A constant of 64 bits, behind its opcode.
+fn read_i64_const(reader: &mut Reader<'_>) -> Result<PlainOp, DecodeError>
+    ensures { Gives result reader.new (mapped_at I64Const (stored_at 64) reader.old) }
+{
+    Ok(PlainOp::I64Const(reader.s64()?.cast_unsigned()))
 }
 
 // An instruction without a body, behind its opcode, which is at the offset.
@@ -53,13 +105,10 @@ fn read_plain(
     ensures { Gives result reader.new (plain_at code reader.old) }
 {
     match code {
-        0x0E => Ok(PlainOp::BrTable(Boxed::new(alloc, read_branch_table(alloc, reader)?)?)),
-        0x1C => Ok(PlainOp::SelectTyped(Boxed::new(
-            alloc,
-            read_vector::<ValType>(alloc, reader)?,
-        )?)),
-        0x41 => Ok(PlainOp::I32Const(reader.s32()?.cast_unsigned())),
-        0x42 => Ok(PlainOp::I64Const(reader.s64()?.cast_unsigned())),
+        0x0E => read_br_table(alloc, reader),
+        0x1C => read_typed_select(alloc, reader),
+        0x41 => read_i32_const(reader),
+        0x42 => read_i64_const(reader),
         0xFC => read_prefixed(reader, offset),
         _ => read_group(reader, code, offset),
     }

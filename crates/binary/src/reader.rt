@@ -33,6 +33,7 @@ impl<'a> Reader<'a> {
     }
 
     // Whether all bytes are read.
+    #[inline(always)]
     pub fn is_empty(&self) -> bool
         ensures { result ≡ (length self.now == 0) }
     {
@@ -40,6 +41,7 @@ impl<'a> Reader<'a> {
     }
 
     // The offset in the whole input.
+    #[inline(always)]
     pub fn offset(&self) -> usize {
         self.offset
     }
@@ -75,6 +77,7 @@ impl<'a> Reader<'a> {
     }
 
     // Reads a byte.
+    #[inline(always)]
     pub fn byte(&mut self) -> Result<u8, DecodeError>
         ensures { Gives result self.new (byte_at self.old) }
     {
@@ -87,6 +90,7 @@ impl<'a> Reader<'a> {
     }
 
     // Reads an unsigned integer of 32 bits.
+    #[inline(always)]
     pub fn u32(&mut self) -> Result<u32, DecodeError>
         ensures { Gives result self.new (unsigned_at 32 self.old) }
     {
@@ -98,6 +102,7 @@ impl<'a> Reader<'a> {
     }
 
     // Reads a signed integer of 32 bits.
+    #[inline(always)]
     pub fn s32(&mut self) -> Result<i32, DecodeError>
         ensures { Gives result self.new (signed_at 32 self.old) }
     {

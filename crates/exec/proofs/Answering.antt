@@ -205,10 +205,10 @@ module _ (bound : ℕ) (r : AtRest) (w : Whole) (rests : Rests bound r w) (op : 
   typed : ConfigurationHasType (store_around r) outermost (whole there.new) w.results
   typed = subst (λ (s : Store). ConfigurationHasType s outermost (whole there.new) w.results) rests.sees.store there.runs.typed
 
-  instance-there : IsLoaded r.code.instances r.call.position.instance rests.world.instance
+  instance-there : IsLoaded r.code r.call.position.instance rests.world.instance
   instance-there =
-      subst (λ (n : ℕ). IsLoaded r.code.instances n rests.world.instance) rests.sees.seen_from
-      (subst (λ (code : Contents). IsLoaded code.instances rests.world.number rests.world.instance) rests.sees.code rests.sees.instance.loaded)
+      subst (λ (n : ℕ). IsLoaded r.code n rests.world.instance) rests.sees.seen_from
+      (subst (λ (code : Contents). IsLoaded code rests.world.number rests.world.instance) rests.sees.code rests.sees.instance.loaded)
 
   -- ---- what comes of it
 
@@ -398,7 +398,7 @@ module _ (bound : ℕ) (r : AtRest) (w : Whole) (rests : Rests bound r w) (op : 
               (cells_in w.ghost m') (m.place + 1) (height_in m') put-there frame-size' (omega arith) height-is);
           low = omega (arith, first-is, above, locals-are);
           scrap = let scrap = rests.runs.runs.scrap in omega (arith, size-is, scrap, locals-are);
-          operations = there.runs.runs.operations ∙ ap operations_of (rests.sees.instance.flat ∙ sym (flat-seen r.code.instances r.call.position.instance rests.world.instance instance-there other (ap (λ (code : Contents). code.instances) sees.code) sees.seen_from sees.instance));
+          operations = there.runs.runs.operations ∙ ap operations_of (rests.sees.instance.flat ∙ sym (flat-seen r.code r.call.position.instance rests.world.instance instance-there other sees.code sees.seen_from sees.instance));
           store = sym sees.store;
           number = instance-is ∙ sym sees.seen_from;
           instance = sees.instance;
@@ -594,10 +594,10 @@ module _ (bound : ℕ) (r : AtRest) (w : Whole) (rests : Rests bound r w) (op : 
               typed = subst (λ (s : Store). ConfigurationHasType s outermost (whole new_back) w.results) (sym sees.store) whole-typed;
             }
 
-            frame-there : IsLoaded r.code.instances frame.instance stands_by.instance
+            frame-there : IsLoaded r.code frame.instance stands_by.instance
             frame-there =
-                subst (λ (n : ℕ). IsLoaded r.code.instances n stands_by.instance) (sym stands_by.number)
-                (subst (λ (code : Contents). IsLoaded code.instances b.instance stands_by.instance) rests.sees.code stands_by.loaded)
+                subst (λ (n : ℕ). IsLoaded r.code n stands_by.instance) (sym stands_by.number)
+                (subst (λ (code : Contents). IsLoaded code b.instance stands_by.instance) rests.sees.code stands_by.loaded)
 
             goes-back : LeadsOn (answered values (waiting_around (b ∷ bs))) → (call' : Call) → call'.cells.items ≡ cells_back → call'.position ≡ position_back → call'.callers ≡ others → ComesOver (IsHostStep host_type Answers) bound r hosts w (at_rest r.code state' call') hosts'
             goes-back steps_all call' cells_is position_is callers_is =

@@ -53,13 +53,13 @@ module _ (bound : ℕ) (r : AtRest) (u : Whole) (rests : Rests bound r u) (state
   there = at_rest r.code state' call'
 
   -- The instance is there.
-  number-there : IsLoaded r.code.instances number rests.world.instance
+  number-there : IsLoaded r.code number rests.world.instance
   number-there =
-      subst (λ (n : ℕ). IsLoaded r.code.instances n rests.world.instance) rests.sees.seen_from
-      (subst (λ (c : Contents). IsLoaded c.instances rests.world.number rests.world.instance) rests.sees.code rests.sees.instance.loaded)
+      subst (λ (n : ℕ). IsLoaded r.code n rests.world.instance) rests.sees.seen_from
+      (subst (λ (c : Contents). IsLoaded c rests.world.number rests.world.instance) rests.sees.code rests.sees.instance.loaded)
 
   flat-same : (w' : World) → Sees r.code (store_with r.code state') number w' → w'.flat ≡ rests.world.flat
-  flat-same w' sees = flat-seen r.code.instances number rests.world.instance number-there w' (ap (λ (c : Contents). c.instances) sees.code) sees.seen_from sees.instance ∙ sym rests.sees.instance.flat
+  flat-same w' sees = flat-seen r.code number rests.world.instance number-there w' sees.code sees.seen_from sees.instance ∙ sym rests.sees.instance.flat
 
   store-is : u.ghost.store ≡ store_around r
   store-is = runs.store ∙ rests.sees.store

@@ -8,7 +8,6 @@ use Rattle.soundness.specs.Places.{outermost}
 use Rattle.cells.specs.Cells.{cell_of}
 use Rattle.sidetable.specs.FlatModules.{operations_of}
 use Rattle.simulation.specs.Runs.{Ghost, Runs}
-use Rattle.store.specs.Contents.{Contents}
 use Rattle.store.specs.declared.instances.ModuleFunction.{ModuleFunction}
 use Rattle.interpreter.specs.Layout.{put_back}
 use Rattle.interpreter.specs.Looping.{loop_at, machine_at}
@@ -66,7 +65,7 @@ module _ (a : FunctionAddress) (f : ModuleFunction) (arguments : List Val) (take
         runs = runs;
         low = omega (arith, locals-are);
         scrap = omega (arith, held, enough);
-        operations = ap operations_of (sym (flat-seen a.code.instances f.instance takes.flat.0 takes.flat.1 w (ap (λ (c : Contents). c.instances) sees.code) sees.seen_from sees.instance));
+        operations = ap operations_of (sym (flat-seen a.code f.instance takes.flat.0 takes.flat.1 w sees.code sees.seen_from sees.instance));
         store = sym sees.store;
         number = sym sees.seen_from;
         instance = sees.instance;

@@ -18,7 +18,7 @@ use Rattle.store.specs.Contents.{Contents}
 use Rattle.store.specs.declared.instances.Instance.{Instance}
 use Rattle.interpreter.specs.Looping.{loop_at}
 use Rattle.interpreter.specs.Turns.{IsLeft, StandsThere}
-use Rattle.exec.specs.Instructions.{GoesOn, RestsBefore, RestsSomeBefore, StopsFor, left_op}
+use Rattle.exec.specs.Instructions.{GoesOn, RestsBefore, RestsSomeBefore, StopsFor}
 use Rattle.exec.specs.Resting.{AtRest, Comes, Concludes, ConcludesFrom, LacksMemory, Rests, RestsSome, RunsFrom, RunsTo, StopsAtRest, fuel_left, left_of, loop_of, machine_of, store_around}
 use Rattle.interpreter.specs.Whole.{AsksNext, HasResults, RunsWhole, Whole, left_at, paid_for}
 use Rattle.interpreter.specs.Worlds.{Sees, World}
@@ -175,7 +175,7 @@ module _ (bound : ℕ) where
   module _ (r r' r'' r3 : AtRest) (came : Came bound r r') (kind : OtherInstruction) (n : ℕ) (runs : RunsFrom bound r' (stop.LeavesOther kind n) r'')
       (tables : SideTables) (are : (i : Instance) → slice_get r''.code.instances r''.call.position.instance ≡ Some i → tables ≡ i.loaded.value.flat.tables) where
     abbrev op : PlainOp
-    op = left_op tables kind n
+    op = other_op tables kind n
 
     -- They are those of the world that is seen.
     tables-seen : (w : World) → Sees r''.code (store_around r'') r''.call.position.instance w → w.flat.tables ≡ tables

@@ -39,7 +39,7 @@ module _ (code : Contents) (state : StateContents) where
   }
 
   -- Each instance sees it.
-  pub seen-from : (number : ℕ) → (i : Instance) × IsLoaded code.instances number i → (w : World) × Sees code store number w
+  pub seen-from : (number : ℕ) → (i : Instance) × IsLoaded code number i → (w : World) × Sees code store number w
   seen-from number (i, loaded) = (
     world_at number i (slice_get i.addresses.memories.items 0),
     record {
@@ -51,7 +51,7 @@ module _ (code : Contents) (state : StateContents) where
   )
 
   -- With its memory taken out.
-  pub seen-taken : (number : ℕ) (i : Instance) → IsLoaded code.instances number i → (a : ℕ) → slice_get i.addresses.memories.items 0 ≡ Some a
+  pub seen-taken : (number : ℕ) (i : Instance) → IsLoaded code number i → (a : ℕ) → slice_get i.addresses.memories.items 0 ≡ Some a
       → Sees code store number (record {
         code = code;
         state = put_memory state a no_memory;

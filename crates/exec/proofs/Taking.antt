@@ -25,15 +25,15 @@ pub written-over : (n : ℕ) (xs ys : List ℕ) → length ys ≡ n → take n (
 written-over n xs ys size = take-append-le n ys (drop (length ys) xs) (omega (arith, size)) ∙ take_all n ys (omega (arith, size))
 
 -- The instance whose code rests is loaded.
-pub loaded-there : (bound : ℕ) (r : AtRest) → RestsSome bound r → (i : Instance) → slice_get r.code.instances r.call.position.instance ≡ Some i → IsLoaded r.code.instances r.call.position.instance i
+pub loaded-there : (bound : ℕ) (r : AtRest) → RestsSome bound r → (i : Instance) → slice_get r.code.instances r.call.position.instance ≡ Some i → IsLoaded r.code r.call.position.instance i
 loaded-there bound r (u, rests) i there =
     let seen = rests.sees.instance.loaded in
-    let its : IsLoaded r.code.instances r.call.position.instance rests.world.instance =
-    subst (λ (n : ℕ). IsLoaded r.code.instances n rests.world.instance) rests.sees.seen_from
-    (subst (λ (c : Contents). IsLoaded c.instances rests.world.number rests.world.instance) rests.sees.code seen) in
-    subst (λ (j : Instance). IsLoaded r.code.instances r.call.position.instance j) (same_Some rests.world.instance i (sym its.there ∙ there)) its
+    let its : IsLoaded r.code r.call.position.instance rests.world.instance =
+    subst (λ (n : ℕ). IsLoaded r.code n rests.world.instance) rests.sees.seen_from
+    (subst (λ (c : Contents). IsLoaded c rests.world.number rests.world.instance) rests.sees.code seen) in
+    subst (λ (j : Instance). IsLoaded r.code r.call.position.instance j) (same_Some rests.world.instance i (sym its.there ∙ there)) its
 
-module _ (bound : ℕ) (r : AtRest) (i : Instance) (loaded : IsLoaded r.code.instances r.call.position.instance i) (flat : FlatModule) (flat_is : flat ≡ i.loaded.value.flat) where
+module _ (bound : ℕ) (r : AtRest) (i : Instance) (loaded : IsLoaded r.code r.call.position.instance i) (flat : FlatModule) (flat_is : flat ≡ i.loaded.value.flat) where
   abbrev pub world : Option ℕ → Limits → StateContents → List ℕ → World
   world o limits state bytes = record {
     code = r.code;

@@ -6,9 +6,7 @@ use Rattle.core_types.specs.declared.types.ValType.TheVariants.{I32}
 use Rattle.meaning.specs.execution.Store.{ModuleInstance, Store, instance_of}
 use Rattle.cells.specs.Cells.{IsCellOf}
 use Rattle.sidetable.specs.Flat.{Plain}
-use Rattle.sidetable.specs.Packing.{other_op}
 use Rattle.sidetable.specs.declared.operations.OtherInstruction.{OtherInstruction}
-use Rattle.sidetable.specs.declared.side_tables.SideTables.{SideTables}
 use Rattle.sidetable.specs.declared.operations.OtherInstruction.TheVariants as other
 use Rattle.simulation.specs.Outcomes.{HasOutcome, Outcome}
 use Rattle.simulation.specs.Runs.{Ghost}
@@ -34,10 +32,6 @@ pub record RestsBefore (bound : ℕ) (r : AtRest) (op : PlainOp) (u : Whole) : T
 
 abbrev pub RestsSomeBefore : AtRest → PlainOp → Type 0
 RestsSomeBefore r op = (bound : ℕ) × (u : Whole) × RestsBefore bound r op u
-
--- The instruction that an operation stands for.
-abbrev pub left_op : SideTables → OtherInstruction → (number : ℕ) → PlainOp
-left_op tables kind n = other_op tables kind n
 
 -- What the instance of the innermost frame has.
 abbrev pub instance_in : Contents → Call → ModuleInstance

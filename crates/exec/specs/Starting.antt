@@ -26,7 +26,7 @@ address_in code state address = record { code = code; state = state; address = a
 pub record Takes (a : FunctionAddress) (f : ModuleFunction) (arguments : List Val) : Type 0 where
   pub valid : StoreIsValid (store_with a.code a.state)
   pub found : slice_get (functions_in a.code) a.address ≡ Some (callee_function (InModule f))
-  pub flat : HasFlatCode a.code.instances (InModule f)
+  pub flat : HasFlatCode a.code (InModule f)
   pub declared : HasDeclaredBody a.code.instances (InModule f)
   pub types : HasContextTypes a.code (InModule f)
   pub accepted : TakesArguments (store_with a.code a.state) a.address arguments

@@ -1,8 +1,9 @@
 ghost use Rattle.std.specs.Prelude.{◌≡◌, ◌+◌, ◌<◌, ◌≤◌, ◌^◌, length};
 ghost use Rattle.sidetable.specs.SideTables.{pair_of as pair_at};
 ghost use Rattle.store.specs.Contents.{store_with};
+ghost use Rattle.sidetable.specs.Packing.{other_op};
 ghost use Rattle.interpreter.specs.Turns.{IsLeft};
-ghost use Rattle.exec.specs.Instructions.{Acts, Does, RestsSomeBefore, cells_behind, left_op, position_behind, taken_by as takes};
+ghost use Rattle.exec.specs.Instructions.{Acts, Does, RestsSomeBefore, cells_behind, position_behind, taken_by as takes};
 ghost use Rattle.exec.specs.Resting.{at_rest};
 
 use crate::call::Call;
@@ -39,9 +40,9 @@ fn act(
 ) -> Result<Paid, Refusal>
     requires left { IsLeft kind }
     requires rests { RestsSomeBefore (at_rest code.now state.old call.now)
-        (left_op tables.now kind n) }
+        (other_op tables.now kind n) }
     ensures { Acts (at_rest code.now state.old call.now)
-        (left_op tables.now kind n) (takes kind)
+        (other_op tables.now kind n) (takes kind)
         (store_with code.now state.new) result }
 {
     let pair = pair_of(tables, n);
@@ -117,9 +118,9 @@ pub fn step(
 ) -> Result<(), Stop>
     requires left { IsLeft kind }
     requires rests { RestsSomeBefore (at_rest code.now state.old call.old)
-        (left_op tables.now kind n) }
+        (other_op tables.now kind n) }
     ensures { Does (at_rest code.now state.old call.old)
-        (left_op tables.now kind n) result
+        (other_op tables.now kind n) result
         (at_rest code.now state.new call.new) }
 {
     match act(code, tables, state, kind, n, call) {

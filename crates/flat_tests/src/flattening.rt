@@ -27,7 +27,7 @@ struct Row {
 }
 
 #[rattlefmt::skip]
-static ROWS: [Row; 20] = [
+static ROWS: [Row; 21] = [
     Row { name: "an empty body", source: "(func)",
         expected: Code(" leave", 0) },
     Row { name: "a branch out of a block over three constants", source: "(func (result i32) block (result i32) i32.const 7 i32.const 8 i32.const 9 br 0 end)",
@@ -66,6 +66,8 @@ static ROWS: [Row; 20] = [
         expected: Code(" plain plain plain plain leave", 2) },
     Row { name: "a call through a table", source: "(type (func (param i32) (result i32 i32 i32))) (table 1 funcref) (func i32.const 1 i32.const 0 call_indirect (type 0) drop drop drop)",
         expected: Code(" plain plain plain plain plain plain leave", 3) },
+    Row { name: "a branch in a second function", source: "(func nop) (func (param i32) block local.get 0 br_if 0 end)",
+        expected: Code(" enter plain br_if(3,0,0) leave", 1) },
     Row { name: "what a function has", source: "(func (param i32 i64) (result i32) (local i32 i64 i64) i32.const 1)",
         expected: Counts(2, 5, 1) },
 ];

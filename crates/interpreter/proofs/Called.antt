@@ -1,28 +1,30 @@
 -- What is called is opened or is of the host, whatever runs.
 use Rattle.std.proofs.Common.{◌≡◌, ℕ, suc, ◌+◌, ◌-◌, ◌<◌, ◌≤◌, List, length, take, set, get_or, slice_get, refl, ap, sym, subst, ◌∙◌, arith}
 use Rattle.std.proofs.lemmas.List.{length-set}
-use Rattle.std.proofs.lemmas.Option.{same_Some}
-use Rattle.std.specs.Prelude.{Option, Ok, Err}
+use Rattle.std.proofs.lemmas.Option.{get_or_from_slice_get, same_Some}
+use Rattle.std.specs.Prelude.{Option, Some, Ok, Err}
 use Rattle.core_types.specs.declared.op.PlainOp.{PlainOp}
 use Rattle.core_types.specs.declared.outcome.Trap.{Trap}
 use Rattle.core_types.specs.declared.outcome.Val.{Val}
 use Rattle.meaning.specs.execution.Configurations.{depth}
 use Rattle.meaning.specs.execution.Instructions.{Next}
+use Rattle.meaning.specs.structure.Bodies.{writing}
 use Rattle.meaning.specs.execution.Modules.{code_of}
 use Rattle.meaning.specs.execution.Runs.{AsksForMemory, IsWithinBound, price}
 use Rattle.meaning.specs.execution.Store.{FunctionInstance, Store}
-use Rattle.sidetable.specs.FlatModules.{operations_of}
+use Rattle.sidetable.specs.FlatModules.{IsFlat, module_signatures, operations_of}
 use Rattle.sidetable.specs.SideTables.{pair_of}
 use Rattle.sidetable.specs.declared.operations.PackedOp.TheVariants as op
 use Rattle.sidetable.specs.declared.side_tables.IndexPair.{IndexPair}
 use Rattle.simulation.specs.Callees.{IsCalling, IsTailCalling, ReachesCall}
 use Rattle.simulation.specs.Runs.{Ghost}
 use Rattle.simulation.specs.Standing.{FrameCode}
-use Rattle.store.specs.Contents.{IsCalleeAt, callee_function, function_of, functions_in, host_function, signatures_of_instance}
+use Rattle.store.specs.Contents.{IsCalleeAt, IsLoaded, IsOwnFunction, callee_function, function_of, functions_in, host_function, signatures_of_instance}
 use Rattle.store.specs.declared.instances.Callee.{Callee}
 use Rattle.store.specs.declared.instances.Callee.TheVariants as callee
 use Rattle.store.specs.declared.instances.HostFunction.{HostFunction}
 use Rattle.store.specs.declared.instances.ModuleFunction.{ModuleFunction}
+use Rattle.store.proofs.lemmas.OwnFunctions.{own-callee}
 use Rattle.interpreter.specs.Callees.{FindsEntry, IsCalled, RefersToFunction, by_name, through_table, operation_by_name, transfer_through}
 use Rattle.interpreter.specs.Calling.{Calls, CallsInModule, CallsModule, ReplacesModule}
 use Rattle.interpreter.specs.Layout.{put_back}
@@ -267,6 +269,28 @@ module _ (bound : ℕ) (w : World) (cells : List ℕ) (callers : List Frame) (at
               subst (λ (a : ℕ). IsCalled kind (by_name kind x) a (callee_function found) g (cells_in g its) its.place (height_in its) (height_in its)) (sym is)
               (subst (λ (i : FunctionInstance). IsCalled kind (by_name kind x) (function_address w x) i g (cells_in g its) its.place (height_in its) (height_in its)) one calls);
         })
+
+    -- One of the instance's own module is called without its address.
+    module _ (some : RunsSomeWhole bound loop) (f : ModuleFunction) (number : f.instance ≡ w.number) (index : ℕ) (index_is : x ≡ w.instance.imported + index) (inside : x < length w.instance.addresses.functions.items) where
+      its-loaded : IsLoaded w.code f.instance w.instance
+      its-loaded = subst (λ (n : ℕ). IsLoaded w.code n w.instance) (sym number) some.1.runs.instance.loaded
+
+      pub own-within : index < length w.instance.loaded.value.source.funcs
+      own-within = omega (arith, index_is, inside, its-loaded.own.count)
+
+      abbrev own : (address : ℕ) × IsOwnFunction w.code.functions f.instance w.instance index address
+      own = its-loaded.own.own index own-within
+
+      own-address : own.0 ≡ function_address w x
+      own-address = sym (ap (λ (n : ℕ). get_or w.instance.addresses.functions.items n 0) index_is ∙ get_or_from_slice_get w.instance.addresses.functions.items (w.instance.imported + index) own.0 0 own.1.named)
+
+      pub own-calls : slice_get w.instance.loaded.value.source.funcs index ≡ Some f.func.now
+          → slice_get w.instance.loaded.value.source.types f.func.now.ty ≡ Some f.ty.now
+          → IsFlat (module_signatures w.instance.loaded.value.source) (operations_of w.instance.loaded.value.flat) f.func.now f.flat.now
+          → f.func.now.body ≡ writing (code_of f.func.now).body
+          → CallsInModule kind bound w cells callers at at f
+      own-calls func ty flat body =
+          call-calls some own.0 own-address (callee.InModule f) (own-callee w.code f w.instance index own.0 its-loaded own.1.there func ty flat body)
 
   -- ---- through a table
 

@@ -10,7 +10,7 @@ use Rattle.sidetable.specs.Flat.{FlatOp}
 use Rattle.sidetable.specs.FlatModules.{operations_of}
 use Rattle.simulation.specs.Entries.{callee}
 use Rattle.simulation.specs.Runs.{Ghost, Runs}
-use Rattle.store.specs.Contents.{Contents, signatures_of_instance}
+use Rattle.store.specs.Contents.{signatures_of_instance}
 use Rattle.store.specs.declared.instances.ModuleFunction.{ModuleFunction}
 use Rattle.interpreter.specs.Calling.{declared_locals}
 use Rattle.interpreter.specs.Layout.{put_back}
@@ -75,7 +75,7 @@ module _ (w : World) (m : Machine) (h : Ghost) (r : RunsAt w m h) (op : PlainOp)
               (subst (λ (q : ℕ). Runs new (put_back (n + k) base' cells' q 0) f.flat.now.place (n + k)) top_is runs);
           low = omega (arith, found.flat.locals);
           scrap = omega (arith, room, high, found.flat.locals);
-          operations = ap operations_of (sym (flat-seen w.code.instances f.instance found.instance found.loaded other (ap (λ (c : Contents). c.instances) seen.code) seen.seen_from seen.instance));
+          operations = ap operations_of (sym (flat-seen w.code f.instance found.instance found.loaded other seen.code seen.seen_from seen.instance));
           store = r.store ∙ sym seen.store;
           number = sym seen.seen_from;
           instance = seen.instance;

@@ -38,6 +38,6 @@ flat-body s ops f is declared written =
 pub record IsAtAddress (code : Contents) (address : ℕ) (f : ModuleFunction) : Type 0 where
   pub found : slice_get (functions_in code) address ≡ Some (callee_function (callee.InModule f))
   pub instance : Instance
-  pub loaded : IsLoaded code.instances f.instance instance
+  pub loaded : IsLoaded code f.instance instance
   pub flat : HasFlatBody (signatures_of_instance (slice_get code.instances f.instance)) (operations_of instance.loaded.value.flat) f
   pub types : HasContextTypes code (callee.InModule f)

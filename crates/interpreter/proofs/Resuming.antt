@@ -111,7 +111,7 @@ module _ (code : Contents) (size : ℕ) (frame : Frame) (c : Caller) (arity : �
         };
         low = omega (arith, top_is);
         scrap = scrap;
-        operations = stands.operations ∙ ap operations_of (sym (flat-seen code.instances c.instance stands.instance stands.loaded other (ap (λ (k : Contents). k.instances) code_is) (number ∙ stands.number) instance));
+        operations = stands.operations ∙ ap operations_of (sym (flat-seen code c.instance stands.instance stands.loaded other code_is (number ∙ stands.number) instance));
         store = sym store_is;
         number = sym stands.number ∙ sym number;
         instance = instance;
@@ -185,7 +185,7 @@ module _ (bound : ℕ) (w : World) (cells : List ℕ) (at : Position) (fuel cost
           arity_is (let deep = r.deep in omega (arith, deep))
 
       pub resumed : SwitchesTo bound (before (frame ∷ others)) (whole_of (c ∷ cs)) (loop_at w cells' others (position_resumed at frame n operand'))
-      resumed = ((stands.instance, subst (λ (q : ℕ). IsLoaded w.code.instances q stands.instance) (sym stands.number) stands.loaded), resumed-in)
+      resumed = ((stands.instance, subst (λ (q : ℕ). IsLoaded w.code q stands.instance) (sym stands.number) stands.loaded), resumed-in)
 
   -- ---- none waits
 

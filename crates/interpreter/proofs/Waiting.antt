@@ -125,7 +125,7 @@ module _ (bound : ℕ) (w : World) (cells : List ℕ) (callers : List Frame) (at
           place = refl;
           number = r.number ∙ sym r.runs.number;
           instance = w.instance;
-          loaded = subst (λ (q : ℕ). IsLoaded w.code.instances q w.instance) (sym r.runs.number) r.runs.instance.loaded;
+          loaded = subst (λ (q : ℕ). IsLoaded w.code q w.instance) (sym r.runs.number) r.runs.instance.loaded;
           operations = r.runs.operations ∙ ap operations_of r.runs.instance.flat;
           count = r.runs.runs.holds.count;
           signatures = context;

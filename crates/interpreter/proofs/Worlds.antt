@@ -68,9 +68,9 @@ module _ (code : Contents) (s : StateContents) (memory : MemoryInstance) where
 -- ---- an instance of a number
 
 -- Whoever sees the store from an instance sees its flat code.
-pub flat-seen : (instances : List Instance) (number : ℕ) (i : Instance) → IsLoaded instances number i → (other : World) → other.code.instances ≡ instances → other.number ≡ number → IsInstance other → other.flat ≡ i.loaded.value.flat
-flat-seen instances number i loaded other code_is number_is has =
-    let same : other.instance ≡ i = same_Some other.instance i (sym (subst (λ (n : ℕ). slice_get instances n ≡ Some other.instance) number_is (subst (λ (is : List Instance). slice_get is other.number ≡ Some other.instance) code_is has.loaded.there)) ∙ loaded.there) in
+pub flat-seen : (code : Contents) (number : ℕ) (i : Instance) → IsLoaded code number i → (other : World) → other.code ≡ code → other.number ≡ number → IsInstance other → other.flat ≡ i.loaded.value.flat
+flat-seen code number i loaded other code_is number_is has =
+    let same : other.instance ≡ i = same_Some other.instance i (sym (subst (λ (n : ℕ). slice_get code.instances n ≡ Some other.instance) number_is (subst (λ (c : Contents). slice_get c.instances other.number ≡ Some other.instance) code_is has.loaded.there)) ∙ loaded.there) in
     has.flat ∙ ap (λ (x : Instance). x.loaded.value.flat) same
 
 -- ---- what the instance has

@@ -40,7 +40,7 @@ pub record CallerStands (code : Contents) (size : ℕ) (frame : Frame) (c : Call
   pub place : frame.place ≡ c.at
   pub number : frame.instance ≡ c.instance
   pub instance : Instance
-  pub loaded : IsLoaded code.instances c.instance instance
+  pub loaded : IsLoaded code c.instance instance
   pub operations : c.code.operations ≡ operations_of instance.loaded.value.flat
   pub count : length c.locals ≡ c.code.locals
   pub signatures : AreOfContext c.code.signatures

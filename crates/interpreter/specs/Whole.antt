@@ -172,7 +172,7 @@ IsSeenFrom number old new = Sees old.code (store_in old) number new
 -- Code of another instance, which is there, is next.
 abbrev pub SwitchesTo : (bound : ℕ) → Loop → Whole → Loop → Type 0
 SwitchesTo bound l w l' =
-    ((i : Instance) × IsLoaded l'.world.code.instances l'.number i)
+    ((i : Instance) × IsLoaded l'.world.code l'.number i)
     × ((other : World) → IsSeenFrom l'.number l'.world other
     → Reaches bound l w (record l' { world = other }))
 

@@ -33,7 +33,7 @@ store_in w = store_with w.code (with_memory_back w.state w.address (memory_in w)
 
 -- The instance is that of this number, has this flat code, and this memory.
 pub record IsInstance (w : World) : Type 0 where
-  pub loaded : IsLoaded w.code.instances w.number w.instance
+  pub loaded : IsLoaded w.code w.number w.instance
   pub flat : w.flat ≡ w.instance.loaded.value.flat
   pub memory : slice_get w.instance.addresses.memories.items 0 ≡ w.address
 

@@ -1,5 +1,5 @@
 ghost use Rattle.std.specs.Prelude.{◌≡◌, ◌+◌, ◌<◌, ◌≤◌, ◌^◌, ℕ, length, suc};
-ghost use Rattle.interpreter.specs.Calling.{Calls, CallsModule, IsCrossed, Leaves, ReplacesModule, with_instance};
+ghost use Rattle.interpreter.specs.Calling.{Calls, CallsInModule, CallsModule, IsCrossed, Leaves, ReplacesModule, with_instance};
 ghost use Rattle.interpreter.specs.Callees.{operation_by_name, transfer_through};
 ghost use Rattle.interpreter.specs.Crossing.{Crosses};
 ghost use Rattle.interpreter.specs.Looping.{loop_at, machine_at, world_at};
@@ -8,7 +8,7 @@ ghost use Rattle.interpreter.specs.Whole.{RunsSomeWhole};
 ghost use Rattle.sidetable.specs.declared.operations.PackedOp.TheVariants as op;
 
 use crate::callees::{Found, find_through};
-use crate::landing::{clear, land, move_down};
+use crate::landing::{clear, land_results, move_down};
 use crate::machine::{CallKind, Crossing, Frame, Position, Stop, Surroundings};
 use crate::payment::pay;
 use core_types::Stack;
@@ -120,6 +120,51 @@ fn replace<'a>(
     cross(around, function.instance, at)
 }
 
+// Calls a function of a module, once there is fuel for it. Its arguments are on top at `from`, in the same frame.
+#[inline(always)]
+fn enter_function<'a>(
+    around: Surroundings<'a>,
+    state: &State,
+    memory: &[u8],
+    cells: &mut [u64],
+    callers: &mut Stack<Frame>,
+    kind: CallKind,
+    function: &ModuleFunction<'a>,
+    from: Position,
+    at: &mut Position,
+    why: &mut Stop,
+) -> Crossing
+    requires sound { RunsSomeWhole around.bound
+        (loop_at (world_at around state.now memory.now) cells.old callers.old at.old) }
+    requires calls { CallsInModule kind around.bound (world_at around state.now memory.now)
+        cells.old callers.old at.old from function.now }
+    requires paid { 1 ≤ at.old.fuel }
+    requires next { at.old.place + 1 < 2 ^ 32 }
+    ensures { Crosses around.entry.bound
+        (loop_at (world_at around.entry state.now memory.now) cells.old callers.old at.old)
+        result why.new cells.new callers.new at.new }
+{
+    match kind {
+        CallKind::Nested => {
+            if callers.len() as u64 + 1 >= around.bound {
+                *why = Stop::NoDepth;
+                return Crossing::Stops;
+            }
+            open(
+                around, state, memory, cells, callers, function, from, at, why,
+            )
+        }
+        CallKind::Tail => {
+            let mut to = *at;
+            let crossing = replace(
+                around, state, memory, cells, callers, function, from, &mut to, why,
+            );
+            *at = to;
+            crossing
+        }
+    }
+}
+
 // Calls what was found, once there is fuel for it. Its arguments are on top at `from`, in the same frame.
 #[inline(always)]
 fn enter<'a>(
@@ -145,25 +190,11 @@ fn enter<'a>(
         result why.new cells.new callers.new at.new }
 {
     match found.callee {
-        Callee::InModule(function) => match kind {
-            CallKind::Nested => {
-                if callers.len() as u64 + 1 >= around.bound {
-                    *why = Stop::NoDepth;
-                    return Crossing::Stops;
-                }
-                open(
-                    around, state, memory, cells, callers, &function, from, at, why,
-                )
-            }
-            CallKind::Tail => {
-                let mut to = *at;
-                let crossing = replace(
-                    around, state, memory, cells, callers, &function, from, &mut to, why,
-                );
-                *at = to;
-                crossing
-            }
-        },
+        Callee::InModule(function) => {
+            enter_function(
+                around, state, memory, cells, callers, kind, &function, from, at, why,
+            )
+        }
         Callee::InHost(_) => {
             *why = Stop::CallsHost(kind, found.address, from.top + 1);
             Crossing::Stops
@@ -171,7 +202,42 @@ fn enter<'a>(
     }
 }
 
-/// Calls the function that the instance has under an index.
+// Calls the function that the instance has under an index, by its address, once there is fuel for it.
+#[cold]
+#[inline(never)]
+fn call_imported<'a>(
+    around: Surroundings<'a>,
+    state: &State,
+    memory: &[u8],
+    cells: &mut [u64],
+    callers: &mut Stack<Frame>,
+    kind: CallKind,
+    index: u32,
+    at: &mut Position,
+    why: &mut Stop,
+) -> Crossing
+    requires sound { RunsSomeWhole around.bound
+        (loop_at (world_at around state.now memory.now) cells.old callers.old at.old) }
+    requires fits { Fits (world_at around state.now memory.now) (machine_at cells.old at.old)
+        (operation_by_name kind index) }
+    requires turns { Turns (world_at around state.now memory.now) (machine_at cells.old at.old)
+        (operation_by_name kind index) }
+    requires paid { 1 ≤ at.old.fuel }
+    requires next { at.old.place + 1 < 2 ^ 32 }
+    ensures { Crosses around.entry.bound
+        (loop_at (world_at around.entry state.now memory.now) cells.old callers.old at.old)
+        result why.new cells.new callers.new at.new }
+{
+    let address = around.instance.addresses.functions[index as usize];
+    let callee = around.code.callee(address);
+    let found = Found { address, callee };
+    let from = *at;
+    enter(
+        around, state, memory, cells, callers, kind, found, from, at, why,
+    )
+}
+
+/// Calls the function that the instance has under an index. One of its own module is found without its address.
 #[inline(always)]
 pub fn call<'a>(
     around: Surroundings<'a>,
@@ -199,12 +265,29 @@ pub fn call<'a>(
         *why = Stop::NoFuel;
         return Crossing::Stops;
     }
-    let address = around.instance.addresses.functions[index as usize];
-    let callee = around.code.callee(address);
-    let found = Found { address, callee };
+    let imported = around.instance.imported;
+    if (index as usize) < imported {
+        let mut to = *at;
+        let crossing = call_imported(
+            around, state, memory, cells, callers, kind, index, &mut to, why,
+        );
+        *at = to;
+        return crossing;
+    }
+    let own = around
+        .instance
+        .loaded
+        .as_ref()
+        .function((index as usize - imported) as u32);
+    let function = ModuleFunction {
+        ty: own.ty,
+        func: own.func,
+        flat: own.flat,
+        instance: around.number,
+    };
     let from = *at;
-    enter(
-        around, state, memory, cells, callers, kind, found, from, at, why,
+    enter_function(
+        around, state, memory, cells, callers, kind, &function, from, at, why,
     )
 }
 
@@ -283,7 +366,7 @@ pub fn leave<'a>(
     };
     let to = at.base - 1;
     cells[at.top] = at.operand;
-    at.operand = land(cells, at.top, to, results, at.operand);
+    at.operand = land_results(cells, at.top, to, results, at.operand);
     at.base = frame.base;
     at.place = frame.place as usize;
     at.top = to + results;

@@ -32,6 +32,20 @@ pub fn land(cells: &mut [u64], top: usize, to: usize, kept: usize, operand: u64)
     operand
 }
 
+/// As `land`, for results, of which there is one most often.
+#[inline(always)]
+pub fn land_results(cells: &mut [u64], top: usize, to: usize, kept: usize, operand: u64) -> u64
+    requires low { to + kept ≤ top }
+    requires within { top < length cells.old }
+    requires there { get_or cells.old top 0 ≡ operand }
+    ensures { AreMoved cells.old top to kept cells.new result }
+{
+    if kept == 1 {
+        return operand;
+    }
+    land(cells, top, to, kept, operand)
+}
+
 // Clears any number of cells.
 #[cold]
 #[inline(never)]

@@ -55,11 +55,23 @@ fn signed_front(bytes: &[u8], bits: u32) -> Option<(i64, usize)>
     Some((joined_value(bits, byte, high), size + 1))
 }
 
-/// Reads the signed integer of 32 bits whose spelling begins at `at`, and says at which offset the spelling ends.
-///
-/// `at` is at most the number of bytes. The answer is `None` where no spelling begins there: the bytes end too early, it
-/// would take more than five, or those spell a number beyond 32 bits (Binary Format, Values, Integers).
-pub fn read_s32(bytes: &[u8], at: usize) -> Option<(i32, usize)>
+// The signed integer that a last byte represents, where there are enough bits for each.
+fn value_of_last(byte: u8) -> i32
+    requires last { byte < 2 ^ 7 }
+    ensures range { IsInRange 32 result }
+    ensures found { EndsSigned 32 byte result }
+{
+    if byte < 0x40 {
+        i32::from(byte)
+    } else {
+        i32::from(byte) - 0x80
+    }
+}
+
+// Reads the signed integer of 32 bits whose spelling begins at `at`, by more than one byte or none.
+#[cold]
+#[inline(never)]
+fn read_long_s32(bytes: &[u8], at: usize) -> Option<(i32, usize)>
     requires { at ≤ length bytes.now }
     ensures within { IfSome result (λ f. (at < f.1) × (f.1 ≤ length bytes.now)) }
     ensures found { IfSome result
@@ -68,6 +80,24 @@ pub fn read_s32(bytes: &[u8], at: usize) -> Option<(i32, usize)>
 {
     let (value, size) = signed_front(&bytes[at..], 32)?;
     Some((value as i32, at + size))
+}
+
+/// Reads the signed integer of 32 bits whose spelling begins at `at`, and says at which offset the spelling ends.
+///
+/// `at` is at most the number of bytes. The answer is `None` where no spelling begins there: the bytes end too early, it
+/// would take more than five, or those spell a number beyond 32 bits (Binary Format, Values, Integers).
+#[inline(always)]
+pub fn read_s32(bytes: &[u8], at: usize) -> Option<(i32, usize)>
+    requires { at ≤ length bytes.now }
+    ensures within { IfSome result (λ f. (at < f.1) × (f.1 ≤ length bytes.now)) }
+    ensures found { IfSome result
+        (λ f. Reads (SpellsSigned 32) (drop at bytes.now) f.0 (drop f.1 bytes.now)) }
+    ensures none { IfNone result (NoFront (SpellsSigned 32) (drop at bytes.now)) }
+{
+    if at < bytes.len() && bytes[at] < 0x80 {
+        return Some((value_of_last(bytes[at]), at + 1));
+    }
+    read_long_s32(bytes, at)
 }
 
 /// Reads the signed integer of 33 bits whose spelling begins at `at`, and says at which offset the spelling ends.

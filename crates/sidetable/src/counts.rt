@@ -1,12 +1,12 @@
 ghost use Rattle.std.specs.Prelude.{◌≡◌, ◌<◌, Some};
-ghost use Rattle.sidetable.specs.Counts.{control_counts, counts_of, memory_counts, numeric_counts, parametric_counts, reference_counts, table_counts, variable_counts, block_counts, counts_of_type, with_i32_counts};
+ghost use Rattle.sidetable.specs.Counts.{block_counts, control_counts as control_counts_of, counts_of_type, memory_counts as memory_counts_of, numeric_counts as numeric_counts_of, parametric_counts as parametric_counts_of, reference_counts as reference_counts_of, table_counts as table_counts_of, variable_counts as variable_counts_of, with_i32_counts};
 ghost use Rattle.sidetable.specs.Signatures.{signatures_of};
 ghost use Rattle.meaning.specs.validation.Modules.{type_at};
 ghost use Rattle.std.specs.Prelude.{slice_get, MatchOption, None};
 
 use core_types::{
-    BlockType, ControlOp, FuncType, MemoryOp, NumericOp, ParametricOp, PlainOp, ReferenceOp,
-    TableOp, VariableOp,
+    BlockType, ControlOp, FuncType, MemoryOp, NumericOp, ParametricOp, ReferenceOp, TableOp,
+    VariableOp,
 };
 
 /// How many operands an instruction takes and gives.
@@ -23,8 +23,9 @@ pub struct ModuleTypes<'a> {
     pub functions: &'a [u32],
 }
 
-fn reference(op: ReferenceOp) -> Counts
-    ensures { result ≡ reference_counts op }
+/// Of an instruction on references.
+pub fn reference_counts(op: ReferenceOp) -> Counts
+    ensures { result ≡ reference_counts_of op }
 {
     match op {
         ReferenceOp::Null(_) => Counts { takes: 0, gives: 1 },
@@ -33,8 +34,9 @@ fn reference(op: ReferenceOp) -> Counts
     }
 }
 
-fn parametric(op: ParametricOp) -> Counts
-    ensures { result ≡ parametric_counts op }
+/// Of an instruction on operands of any type.
+pub fn parametric_counts(op: ParametricOp) -> Counts
+    ensures { result ≡ parametric_counts_of op }
 {
     match op {
         ParametricOp::DropOperand => Counts { takes: 1, gives: 0 },
@@ -42,8 +44,9 @@ fn parametric(op: ParametricOp) -> Counts
     }
 }
 
-fn variable(op: VariableOp) -> Counts
-    ensures { result ≡ variable_counts op }
+/// Of an instruction on a local or a global.
+pub fn variable_counts(op: VariableOp) -> Counts
+    ensures { result ≡ variable_counts_of op }
 {
     match op {
         VariableOp::LocalGet(_) | VariableOp::GlobalGet(_) => Counts { takes: 0, gives: 1 },
@@ -52,8 +55,9 @@ fn variable(op: VariableOp) -> Counts
     }
 }
 
-fn numeric(op: NumericOp) -> Counts
-    ensures { result ≡ numeric_counts op }
+/// Of a numeric instruction.
+pub fn numeric_counts(op: NumericOp) -> Counts
+    ensures { result ≡ numeric_counts_of op }
 {
     match op {
         NumericOp::Eqz(_) | NumericOp::Unary(_, _) | NumericOp::Convert(_) => Counts {
@@ -64,8 +68,9 @@ fn numeric(op: NumericOp) -> Counts
     }
 }
 
-fn table(op: TableOp) -> Counts
-    ensures { result ≡ table_counts op }
+/// Of an instruction on a table or an element segment.
+pub fn table_counts(op: TableOp) -> Counts
+    ensures { result ≡ table_counts_of op }
 {
     match op {
         TableOp::Get(_) => Counts { takes: 1, gives: 1 },
@@ -79,8 +84,9 @@ fn table(op: TableOp) -> Counts
     }
 }
 
-fn memory(op: MemoryOp) -> Counts
-    ensures { result ≡ memory_counts op }
+/// Of an instruction on the memory or a data segment.
+pub fn memory_counts(op: MemoryOp) -> Counts
+    ensures { result ≡ memory_counts_of op }
 {
     match op {
         MemoryOp::Load(_, _) => Counts { takes: 1, gives: 1 },
@@ -134,8 +140,9 @@ fn with_i32(c: Counts) -> Counts
     }
 }
 
-fn control(s: &ModuleTypes<'_>, op: ControlOp) -> Option<Counts>
-    ensures { result ≡ control_counts (signatures_of s.now) op }
+/// Of a control instruction without a body and without a list; none where nothing goes on behind it.
+pub fn control_counts(s: &ModuleTypes<'_>, op: ControlOp) -> Option<Counts>
+    ensures { result ≡ control_counts_of (signatures_of s.now) op }
 {
     match op {
         ControlOp::Unreachable
@@ -148,25 +155,6 @@ fn control(s: &ModuleTypes<'_>, op: ControlOp) -> Option<Counts>
         ControlOp::Call(index) => Some(of_function(s, index)),
         ControlOp::CallIndirect { ty, .. } => Some(with_i32(of_type_index(s, ty))),
     }
-}
-
-/// How many operands an instruction takes and gives; none where nothing goes on behind it.
-pub fn counts_of(s: &ModuleTypes<'_>, op: &PlainOp) -> Option<Counts>
-    ensures { result ≡ counts_of (signatures_of s.now) op.now }
-{
-    let c = match op {
-        PlainOp::Control(op) => return control(s, *op),
-        PlainOp::BrTable(_) => return None,
-        PlainOp::Reference(op) => reference(*op),
-        PlainOp::Parametric(op) => parametric(*op),
-        PlainOp::SelectTyped(_) => Counts { takes: 3, gives: 1 },
-        PlainOp::Variable(op) => variable(*op),
-        PlainOp::Table(op) => table(*op),
-        PlainOp::Memory(op) => memory(*op),
-        PlainOp::Numeric(op) => numeric(*op),
-        PlainOp::I32Const(_) | PlainOp::I64Const(_) => Counts { takes: 0, gives: 1 },
-    };
-    Some(c)
 }
 
 /// How many parameters and results a block has.

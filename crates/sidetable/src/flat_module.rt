@@ -69,7 +69,7 @@ fn flatten_function(
     )?;
     let mut operations = made.operations;
     operations.push(PackedOp::Leave(results))?;
-    let _end = number(operations.len())?;
+    number(operations.len())?;
     functions.push(PackedFunction {
         place,
         params,
@@ -108,8 +108,9 @@ fn flatten_functions(
 /// Flattens a valid module: each function's operations, in their order and without marks, with what a branch, a return, an `if` and
 /// a jump need, and the greatest height of its operands.
 ///
-/// Fails where there is no memory, where all bodies together have more than 2^32 - 1 operations, entries, branches by
-/// number, 64-bit constants or pairs of indices, and where a height has more than 64 bits.
+/// Fails where there is no memory, where a function has more than 2^32 - 1 locals, its parameters among them, or results, where all
+/// bodies together have more than 2^32 - 1 operations, entries, branches by number, 64-bit constants or pairs of indices, and where a
+/// height has more than 64 bits.
 pub fn flatten(alloc: Global, validated: &ValidModule) -> Result<FlatModule, AllocError>
     ensures { IfOk result (IsFlatModule validated.now) }
 {

@@ -9,7 +9,7 @@ ghost use Rattle.sidetable.specs.Signatures.{signatures_of};
 ghost use Rattle.sidetable.specs.SideTables.{Grows};
 ghost use Rattle.sidetable.specs.declared.sizes.PartSize.{PartSize as AnySize};
 
-use crate::counts::{Counts, ModuleTypes, counts_of, counts_of_block};
+use crate::counts::{Counts, ModuleTypes, counts_of_block};
 use crate::instructions::pack;
 use crate::labels::{Label, Level, push_label};
 use crate::operand_heights::{base, behind, changed, known, less_one};
@@ -54,9 +54,9 @@ fn step_plain(
     requires can { CanMake (signatures_of s.now) outermost f.old (Plain op.now) }
     ensures { OnOk result (Passes (signatures_of s.now) outermost f.old (Plain op.now) f.new) }
 {
-    let packed = pack(&mut f.tables, outermost, &f.levels, op)?;
-    let after = behind(counts_of(s, op), f.height)?;
-    push_operation(f, packed, after)?;
+    let packed = pack(s, &mut f.tables, outermost, &f.levels, op)?;
+    let after = behind(packed.counts, f.height)?;
+    push_operation(f, packed.op, after)?;
     Ok(())
 }
 
@@ -264,6 +264,7 @@ fn step(
 }
 
 // All operations.
+#[inline(never)]
 fn run(
     s: &ModuleTypes<'_>,
     outermost: Label,

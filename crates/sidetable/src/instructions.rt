@@ -1,10 +1,16 @@
-ghost use Rattle.std.specs.Prelude.{IfOk, OnOk, map};
+ghost use Rattle.std.specs.Prelude.{◌≡◌, IfOk, OnOk, Some, map};
 ghost use Rattle.core_types.specs.declared.op.PlainOp.TheVariants.{I64Const};
+ghost use Rattle.sidetable.specs.Counts.{counts_of};
 ghost use Rattle.sidetable.specs.Flat.{BrTable, Plain, entry_at, flat_control, flat_op};
 ghost use Rattle.sidetable.specs.Labels.{AllStand, all_entries};
 ghost use Rattle.sidetable.specs.Packing.{Packs};
 ghost use Rattle.sidetable.specs.SideTables.{Grows};
+ghost use Rattle.sidetable.specs.Signatures.{signatures_of};
 
+use crate::counts::{
+    Counts, ModuleTypes, control_counts, memory_counts, numeric_counts, parametric_counts,
+    reference_counts, table_counts, variable_counts,
+};
 use crate::labels::{Label, Level, label_at, push_branch};
 use crate::operations::{OtherInstruction, PackedOp, TransferInstruction};
 use crate::packing::{memory, numeric, parametric, reference, table, variable};
@@ -80,30 +86,60 @@ fn constant(tables: &mut SideTables, n: u64) -> Result<PackedOp, AllocError>
     Ok(PackedOp::Other(OtherInstruction::I64Const, number))
 }
 
+/// An instruction without a body, packed, and how many operands it takes and gives; none where nothing goes on behind it.
+#[derive(Clone, Copy)]
+pub struct PackedInstruction {
+    pub op: PackedOp,
+    pub counts: Option<Counts>,
+}
+
+// An instruction that goes on with the next one.
+fn with_counts(op: PackedOp, counts: Counts) -> PackedInstruction
+    ensures op { result.op ≡ op }
+    ensures counts { result.counts ≡ Some counts }
+{
+    PackedInstruction {
+        op,
+        counts: Some(counts),
+    }
+}
+
 /// Packs an instruction without a body, where these labels are around. Fails where there is no memory for what it names by number.
 pub fn pack(
+    s: &ModuleTypes<'_>,
     tables: &mut SideTables,
     outermost: Label,
     levels: &Stack<Level>,
     op: &PlainOp,
-) -> Result<PackedOp, AllocError>
+) -> Result<PackedInstruction, AllocError>
     requires { AllStand tables.old outermost levels.now }
     ensures grows { OnOk result (Grows tables.old tables.new) }
-    ensures packs { IfOk result (λ p. Packs tables.new p
+    ensures packs { IfOk result (λ p. Packs tables.new p.op
         (flat_op outermost.entry (all_entries outermost levels.now) op.now)) }
+    ensures counts { IfOk result (λ p. p.counts ≡ counts_of (signatures_of s.now) op.now) }
 {
+    let one = Counts { takes: 0, gives: 1 };
     let packed = match op {
-        PlainOp::Control(op) => control(tables, outermost, levels, *op)?,
-        PlainOp::BrTable(branch) => branch_table(tables, outermost, levels, branch.get())?,
-        PlainOp::Reference(op) => reference(*op),
-        PlainOp::Parametric(op) => parametric(*op),
-        PlainOp::SelectTyped(_) => PackedOp::Other(OtherInstruction::Select, 0),
-        PlainOp::Variable(op) => variable(*op),
-        PlainOp::Table(op) => table(tables, *op)?,
-        PlainOp::Memory(op) => memory(*op),
-        PlainOp::Numeric(op) => numeric(*op),
-        PlainOp::I32Const(n) => PackedOp::I32Const(*n),
-        PlainOp::I64Const(n) => constant(tables, *n)?,
+        PlainOp::Control(op) => PackedInstruction {
+            op: control(tables, outermost, levels, *op)?,
+            counts: control_counts(s, *op),
+        },
+        PlainOp::BrTable(branch) => PackedInstruction {
+            op: branch_table(tables, outermost, levels, branch.get())?,
+            counts: None,
+        },
+        PlainOp::Reference(op) => with_counts(reference(*op), reference_counts(*op)),
+        PlainOp::Parametric(op) => with_counts(parametric(*op), parametric_counts(*op)),
+        PlainOp::SelectTyped(_) => with_counts(
+            PackedOp::Other(OtherInstruction::Select, 0),
+            Counts { takes: 3, gives: 1 },
+        ),
+        PlainOp::Variable(op) => with_counts(variable(*op), variable_counts(*op)),
+        PlainOp::Table(op) => with_counts(table(tables, *op)?, table_counts(*op)),
+        PlainOp::Memory(op) => with_counts(memory(*op), memory_counts(*op)),
+        PlainOp::Numeric(op) => with_counts(numeric(*op), numeric_counts(*op)),
+        PlainOp::I32Const(n) => with_counts(PackedOp::I32Const(*n), one),
+        PlainOp::I64Const(n) => with_counts(constant(tables, *n)?, one),
     };
     Ok(packed)
 }

@@ -132,8 +132,21 @@ fn measure_end(sizes: &mut Sizes) -> Result<(), AllocError>
     Ok(())
 }
 
-// One operation more.
+// One operation more, which is most often an instruction.
+#[inline(always)]
 fn step_back(sizes: &mut Sizes, op: &Op) -> Result<(), AllocError>
+    ensures { OnOk result (MeasuresOn op.now sizes.old sizes.new) }
+{
+    if let Op::Plain(_) = op {
+        measure_plain(sizes)?;
+        return Ok(());
+    }
+    measure_mark(sizes, op)
+}
+
+// One mark more.
+#[inline(never)]
+fn measure_mark(sizes: &mut Sizes, op: &Op) -> Result<(), AllocError>
     ensures { OnOk result (MeasuresOn op.now sizes.old sizes.new) }
 {
     match op {
@@ -147,6 +160,7 @@ fn step_back(sizes: &mut Sizes, op: &Op) -> Result<(), AllocError>
 }
 
 /// Measures a function's code, from its last operation to the first.
+#[inline(never)]
 pub fn measure(alloc: Global, code: &[Op]) -> Result<MeasuredCode, AllocError>
     ensures size { IfOk result (λ m. m.size ≡ size (body_of code.now)) }
     ensures openings { IfOk result (λ m. m.openings ≡ openings_of code.now) }

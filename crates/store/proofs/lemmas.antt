@@ -5,5 +5,6 @@ pub mod Entries
 pub mod Instantiation
 pub mod LoadedModules
 pub mod Lookups
+pub mod OwnFunctions
 pub mod Positions
 pub mod Validity

@@ -1,11 +1,11 @@
 -- What the store holds, in the terms of the definitions.
 use Rattle.std.specs.List.{All}
-use Rattle.std.specs.Prelude.{◌≡◌, ℕ, List, [], ◌∷◌, ◌++◌, map, Option, Some, None, IsSome, option_map, unwrap_or, slice_get}
+use Rattle.std.specs.Prelude.{◌≡◌, ℕ, ◌+◌, ◌<◌, List, [], ◌∷◌, ◌++◌, length, map, Option, Some, None, IsSome, option_map, unwrap_or, slice_get}
 use Rattle.core_types.specs.declared.types.FuncType.{FuncType}
 use Rattle.core_types.specs.declared.module.Func.{Func}
 use Rattle.core_types.specs.declared.module.Module.{Module}
 use Rattle.meaning.specs.structure.Bodies.{Empty, writing}
-use Rattle.meaning.specs.execution.Modules.{code_of}
+use Rattle.meaning.specs.execution.Modules.{code_of, consecutive}
 use Rattle.meaning.specs.execution.Store.{FunctionInstance as Function, InCode, InHost as InHostNumber, ModuleInstance, Store, instance_of}
 use Rattle.meaning.specs.validation.Context.{Context}
 use Rattle.meaning.specs.validation.Modules.{functions_of}
@@ -89,19 +89,6 @@ abbrev pub signatures_of_instance : Option Instance → Signatures
 signatures_of_instance None = record { types = []; functions = [] }
 signatures_of_instance (Some i) = module_signatures i.loaded.value.source
 
--- An instance of this number is there, and the flat code of its module is that of its functions.
-pub record IsLoaded (instances : List Instance) (number : ℕ) (i : Instance) : Type 0 where
-  pub there : slice_get instances number ≡ Some i
-  pub flat : IsFlatModule i.loaded.value.source i.loaded.value.flat
-
--- The flat code of a function of a module is that of its body, among the operations of its instance's module.
-abbrev pub HasFlatCode : List Instance → Callee → Type 0
-HasFlatCode instances (callee.InModule f) =
-    (i : Instance) × IsLoaded instances f.instance i
-    × IsFlat (signatures_of_instance (slice_get instances f.instance))
-    (operations_of i.loaded.value.flat) f.func.now f.flat.now
-HasFlatCode instances (callee.InHost f) = Unit {0}
-
 -- The addresses of what an instance has, a list a kind.
 pub record AddressLists : Type 0 where
   pub functions : List ℕ
@@ -159,10 +146,48 @@ pub record HasModuleTypes (functions : List Function) (i : Instance) : Type 0 wh
       i.addresses.functions.items
       ≡ functions_of i.loaded.value.source
 
+-- An instance has the function of an index of its module under the index behind those that it imports, at this address.
+pub record IsOwnFunction (functions : List FunctionInstance) (number : ℕ) (i : Instance)
+    (index address : ℕ) : Type 0 where
+  pub named : slice_get i.addresses.functions.items (i.imported + index) ≡ Some address
+  pub there : slice_get functions address ≡ Some (InModule number index)
+
+-- The functions of an instance of this number are those that it imports, and behind them those of its module.
+pub record HasOwnFunctions (functions : List FunctionInstance) (number : ℕ) (i : Instance)
+    : Type 0 where
+  pub count : length i.addresses.functions.items
+      ≡ i.imported + length i.loaded.value.source.funcs
+  pub own : (index : ℕ) → index < length i.loaded.value.source.funcs
+      → (address : ℕ) × IsOwnFunction functions number i index address
+
+-- An instance to be added has the functions of its module, from this address on, behind those that it imports.
+pub record AddsFunctions (first : ℕ) (i : Instance) : Type 0 where
+  pub given : List ℕ
+  pub imported : i.imported ≡ length given
+  pub behind : i.addresses.functions.items
+      ≡ given ++ consecutive first (length i.loaded.value.source.funcs)
+
+-- An instance of this number is there, the flat code of its module is that of its functions, and its functions are where they belong.
+pub record IsLoaded (code : Contents) (number : ℕ) (i : Instance) : Type 0 where
+  pub there : slice_get code.instances number ≡ Some i
+  pub flat : IsFlatModule i.loaded.value.source i.loaded.value.flat
+  pub types : HasModuleTypes (functions_in code) i
+  pub own : HasOwnFunctions code.functions number i
+
+-- The flat code of a function of a module is that of its body, among the operations of its instance's module.
+abbrev pub HasFlatCode : Contents → Callee → Type 0
+HasFlatCode code (callee.InModule f) =
+    (i : Instance) × IsLoaded code f.instance i
+    × IsFlat (signatures_of_instance (slice_get code.instances f.instance))
+    (operations_of i.loaded.value.flat) f.func.now f.flat.now
+HasFlatCode code (callee.InHost f) = Unit {0}
+
 -- What a store's code keeps to.
 pub record IsSound (c : Contents) : Type 0 where
   pub found : AllFound c.hosts c.instances c.functions
   pub types : All (HasModuleTypes (functions_in c)) c.instances
+  pub own : (number : ℕ) (i : Instance) → slice_get c.instances number ≡ Some i
+      → HasOwnFunctions c.functions number i
 
 -- The store of this code, with these objects.
 abbrev pub store_with : Contents → StateContents → Store
@@ -206,7 +231,7 @@ HasContextTypes code (callee.InHost f) = Unit {0}
 -- The function at an address, with its flat code; its body and the types that it refers to are those of its module.
 pub record IsCalleeAt (code : Contents) (address : ℕ) (f : Callee) : Type 0 where
   pub there : slice_get (functions_in code) address ≡ Some (callee_function f)
-  pub flat : HasFlatCode code.instances f
+  pub flat : HasFlatCode code f
   pub declared : HasDeclaredBody code.instances f
   pub types : HasContextTypes code f
 

@@ -1,7 +1,7 @@
 ghost use Rattle.std.specs.Prelude.{◌≡◌, [], ◌∷◌, ◌++◌, ◌+◌, ◌<◌, ◌^◌, length, map, slice_get, option_copied, IfOk, IfSome, OnOk, OnErr, IsSome, MatchOption, Some, None};
 ghost use Rattle.meaning.specs.execution.Modules.{new_function};
 ghost use Rattle.meaning.specs.execution.Store.{instance_of};
-ghost use Rattle.store.specs.Contents.{callee_function, code_store, contents_of, functions_in, function_of, host_function, HasContextTypes, HasDeclaredBody, HasFlatCode, HasModuleTypes, instance_function, instances_in, IsCalleeAt, lists_of, module_instance};
+ghost use Rattle.store.specs.Contents.{AddsFunctions, callee_function, code_store, contents_of, functions_in, function_of, host_function, HasContextTypes, HasDeclaredBody, HasFlatCode, HasModuleTypes, instance_function, instances_in, IsCalleeAt, lists_of, module_instance};
 ghost use Rattle.store.specs.declared.instances.Callee.TheVariants.{InModule as InModuleForm};
 
 use crate::entries::push_entries;
@@ -33,11 +33,13 @@ pub struct Addresses {
     pub datas: Vec<u32>,
 }
 
-/// An instance of a module: the module, which it shares with other instances of it, and the addresses of what it has.
+/// An instance of a module: the module, which it shares with other instances of it, the addresses of what it has, and how many of its
+/// functions are imported, behind which are those of its module.
 #[derive(Drop)]
 pub struct Instance {
     pub loaded: Rc<LoadedModule>,
     pub addresses: Addresses,
+    pub imported: usize,
 }
 
 /// A function of a module, for reading: its type, its code, its flat code, and the number of its instance.
@@ -205,7 +207,7 @@ impl Code {
         ensures found { instance_function instance index (slice_get self.now.instances instance) ≡
             Some (function_of result.ty.now result.instance result.func.now) }
         ensures instance { result.instance ≡ instance }
-        ensures flat { HasFlatCode self.now.instances (InModuleForm result) }
+        ensures flat { HasFlatCode self.now (InModuleForm result) }
         ensures declared { HasDeclaredBody self.now.instances (InModuleForm result) }
         ensures types { HasContextTypes self.now (InModuleForm result) }
     {
@@ -282,6 +284,7 @@ impl Code {
         requires types { HasModuleTypes (functions_in self.old ++ map
             (new_function (length (instances_in self.old)) instance.loaded.value.source)
             instance.loaded.value.source.funcs) instance }
+        requires own { AddsFunctions (length self.old.functions) instance }
         ensures functions { OnOk result
             (functions_in self.new ≡ functions_in self.old ++ map
             (new_function (length (instances_in self.old)) instance.loaded.value.source)

@@ -103,9 +103,9 @@ impl LoadedModule {
         &self.flat
     }
 
-    // The function of an index.
+    /// The function of an index.
     #[inline(always)]
-    pub(crate) fn function(&self, index: u32) -> LoadedFunction<'_>
+    pub fn function(&self, index: u32) -> LoadedFunction<'_>
         requires { index < length self.now.source.funcs }
         ensures whole { IsFlatModule self.now.source self.now.flat }
         ensures func { slice_get self.now.source.funcs index ≡ Some result.func.now }

@@ -104,8 +104,13 @@ impl Store {
     {
         writing_is_read();
         let number = self.code.instance_count() as u32;
+        let imported = addresses.functions.len() - loaded.as_ref().module().funcs.len();
         self.state.reserve_all(&objects)?;
-        self.code.append_instance(Instance { loaded, addresses })?;
+        self.code.append_instance(Instance {
+            loaded,
+            addresses,
+            imported,
+        })?;
         self.state.append_all(objects);
         Ok(number)
     }

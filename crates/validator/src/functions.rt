@@ -27,6 +27,7 @@ pub fn are_typed(types: usize, funcs: &[Func]) -> bool
 }
 
 // Checks the body of a function, as flat operations without the last `End`.
+#[inline(never)]
 pub fn validate_body(alloc: Global, context: &BodyContext<'_>, ops: &[Op]) -> Result<(), Fault>
     ensures typed { OnOk result (IsTyped context.now ops.now) }
     ensures untyped { IfErr result (OnInvalid (IsUntyped context.now ops.now)) }

@@ -21,18 +21,19 @@ use crate::errors::Fault;
 use crate::instructions::control::blocks::{step_begin, step_else, step_end};
 use crate::instructions::control::branches::step_br_table;
 use crate::instructions::control::step_control;
-use crate::instructions::memory::type_of_memory;
-use crate::instructions::numeric::type_of_numeric;
-use crate::instructions::parametric::{step_drop, step_select, type_of_select};
+use crate::instructions::memory::step_memory;
+use crate::instructions::numeric::{step_i32_const, step_i64_const, step_numeric};
+use crate::instructions::parametric::{step_drop, step_select, step_typed_select};
 use crate::instructions::reference::step_reference;
-use crate::instructions::table::type_of_table;
-use crate::instructions::variable::type_of_variable;
+use crate::instructions::table::step_table;
+use crate::instructions::variable::step_variable;
 use crate::operands::{pop_fitting, pop_types, push_types};
-use crate::types::{InstructionType, once, takes_gives};
+use crate::types::InstructionType;
 use core_types::{Op, OperandType, ParametricOp, PlainOp, ValType};
 use std::alloc::Global;
 
 // Pops an i32, and then operands that fit the types under it.
+#[inline(always)]
 fn pop_under_i32(stacks: &mut Stacks<'_>, wanted: &[ValType]) -> bool
     ensures frames { SameFrames stacks.old stacks.new }
     ensures operands { PopsFrom stacks.old (known (wanted.now ++ I32 ∷ [])) stacks.new result }
@@ -48,6 +49,7 @@ fn pop_under_i32(stacks: &mut Stacks<'_>, wanted: &[ValType]) -> bool
 }
 
 // Pops the operands of an instruction type.
+#[inline(always)]
 pub fn pop_operands(stacks: &mut Stacks<'_>, ty: &InstructionType<'_>) -> bool
     ensures frames { SameFrames stacks.old stacks.new }
     ensures operands { PopsFrom stacks.old (known (lent_type ty.now).params) stacks.new result }
@@ -60,6 +62,7 @@ pub fn pop_operands(stacks: &mut Stacks<'_>, ty: &InstructionType<'_>) -> bool
 }
 
 // Steps over an instruction of this type.
+#[inline(always)]
 pub fn apply(stacks: &mut Stacks<'_>, ty: &InstructionType<'_>) -> Result<(), Fault>
     ensures { StepsByType stacks.old stacks.new (lent_type ty.now) result }
 {
@@ -71,6 +74,7 @@ pub fn apply(stacks: &mut Stacks<'_>, ty: &InstructionType<'_>) -> Result<(), Fa
 }
 
 // Steps over an instruction whose type was looked up.
+#[inline(always)]
 pub fn apply_some(stacks: &mut Stacks<'_>, found: &Option<InstructionType<'_>>) -> Result<(), Fault>
     ensures { StepsByFound stacks.old stacks.new found.now result }
 {
@@ -80,8 +84,7 @@ pub fn apply_some(stacks: &mut Stacks<'_>, found: &Option<InstructionType<'_>>) 
     }
 }
 
-// Steps over an instruction without a body. The value of a constant is read, so that its range is
-// known.
+// Steps over an instruction without a body.
 pub fn step_plain(
     alloc: Global,
     context: &BodyContext<'_>,
@@ -96,21 +99,13 @@ pub fn step_plain(
         PlainOp::Reference(op) => step_reference(context, stacks, *op),
         PlainOp::Parametric(ParametricOp::DropOperand) => step_drop(stacks),
         PlainOp::Parametric(ParametricOp::Select) => step_select(stacks),
-        PlainOp::SelectTyped(types) => {
-            apply_some(stacks, &type_of_select(types.get().as_slice()))
-        }
-        PlainOp::Variable(op) => apply_some(stacks, &type_of_variable(context, *op)),
-        PlainOp::Table(op) => apply_some(stacks, &type_of_table(context, *op)),
-        PlainOp::Memory(op) => apply_some(stacks, &type_of_memory(context, *op)),
-        PlainOp::Numeric(op) => apply(stacks, &type_of_numeric(*op)),
-        PlainOp::I32Const(value) => {
-            let _value = *value;
-            apply(stacks, &takes_gives(&[], once(ValType::I32)))
-        }
-        PlainOp::I64Const(value) => {
-            let _value = *value;
-            apply(stacks, &takes_gives(&[], once(ValType::I64)))
-        }
+        PlainOp::SelectTyped(types) => step_typed_select(stacks, types.get()),
+        PlainOp::Variable(op) => step_variable(context, stacks, *op),
+        PlainOp::Table(op) => step_table(context, stacks, *op),
+        PlainOp::Memory(op) => step_memory(context, stacks, *op),
+        PlainOp::Numeric(op) => step_numeric(stacks, *op),
+        PlainOp::I32Const(value) => step_i32_const(stacks, *value),
+        PlainOp::I64Const(value) => step_i64_const(stacks, *value),
     }
 }
 
@@ -125,9 +120,9 @@ pub fn step<'a>(
 {
     match op {
         Op::Plain(plain) => step_plain(alloc, context, stacks, plain),
-        Op::Block(block) => step_begin(context, stacks, FrameKind::Block, *block),
-        Op::Loop(block) => step_begin(context, stacks, FrameKind::Loop, *block),
-        Op::If(block) => step_begin(context, stacks, FrameKind::If, *block),
+        Op::Block(block) => step_begin(context, stacks, FrameKind::Block, block),
+        Op::Loop(block) => step_begin(context, stacks, FrameKind::Loop, block),
+        Op::If(block) => step_begin(context, stacks, FrameKind::If, block),
         Op::Else => step_else(stacks),
         Op::End => step_end(stacks),
     }

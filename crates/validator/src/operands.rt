@@ -9,6 +9,7 @@ use core_types::{OperandType, ValType};
 use std::alloc::{AllocError, Global};
 
 // Whether an operand fits the type that is wanted.
+#[inline(always)]
 pub fn fits(given: OperandType, wanted: OperandType) -> bool
     ensures { IsTrue result ↔ Fits given wanted }
 {
@@ -19,6 +20,7 @@ pub fn fits(given: OperandType, wanted: OperandType) -> bool
 }
 
 // Pops the topmost operand of the frame, or an unknown one where it has none and is unreachable.
+#[inline(always)]
 pub fn pop(operands: &mut Vec<OperandType>, frame: &ControlFrame<'_>) -> Option<OperandType>
     ensures some { IfSome result (λ t. TakesOff frame.now operands.old.items (t ∷ [])
         operands.new.items) }
@@ -31,6 +33,7 @@ pub fn pop(operands: &mut Vec<OperandType>, frame: &ControlFrame<'_>) -> Option<
 }
 
 // Takes the topmost operand off, where it fits.
+#[inline(always)]
 pub fn pop_fitting(
     operands: &mut Vec<OperandType>,
     frame: &ControlFrame<'_>,
@@ -45,6 +48,7 @@ pub fn pop_fitting(
 }
 
 // Takes operands off that fit the types, the last one first.
+#[inline(always)]
 pub fn pop_types(
     operands: &mut Vec<OperandType>,
     frame: &ControlFrame<'_>,
@@ -63,6 +67,7 @@ pub fn pop_types(
 }
 
 // Puts operands of the types on top.
+#[inline(always)]
 pub fn push_types(operands: &mut Vec<OperandType>, types: &[ValType]) -> Result<(), AllocError>
     ensures { OnOk result (operands.new.items ≡ operands.old.items ++ known types.now) }
 {

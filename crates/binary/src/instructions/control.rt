@@ -11,6 +11,7 @@ use std::alloc::Global;
 
 // A control instruction behind its opcode, which is at the offset.
 #[tactic(auto, unfolding(crate::specs::Instructions::control_at))]
+#[inline(always)]
 pub fn read_control(
     reader: &mut Reader<'_>,
     code: u8,

@@ -52,6 +52,7 @@ fn op_of<T: Copy>(row: &[Option<T>], first: u8, code: u8) -> Option<T>
 }
 
 #[tactic(auto, unfolding(crate::specs::Instructions::mem_arg_at))]
+#[inline(always)]
 fn read_mem_arg(reader: &mut Reader<'_>) -> Result<MemArg, DecodeError>
     ensures { Gives result reader.new (mem_arg_at reader.old) }
 {
@@ -61,6 +62,7 @@ fn read_mem_arg(reader: &mut Reader<'_>) -> Result<MemArg, DecodeError>
 }
 
 #[tactic(auto, unfolding(crate::specs::Instructions::load_at))]
+#[inline(always)]
 fn read_load(reader: &mut Reader<'_>, code: u8, offset: usize) -> Result<MemoryOp, DecodeError>
     requires { 0x28 ≤ code }
     ensures { Gives result reader.new (load_at code reader.old) }
@@ -72,6 +74,7 @@ fn read_load(reader: &mut Reader<'_>, code: u8, offset: usize) -> Result<MemoryO
 }
 
 #[tactic(auto, unfolding(crate::specs::Instructions::store_at))]
+#[inline(always)]
 fn read_store(reader: &mut Reader<'_>, code: u8, offset: usize) -> Result<MemoryOp, DecodeError>
     requires { 0x36 ≤ code }
     ensures { Gives result reader.new (store_at code reader.old) }
@@ -84,6 +87,7 @@ fn read_store(reader: &mut Reader<'_>, code: u8, offset: usize) -> Result<Memory
 
 // A memory instruction behind its opcode, from 28 on, which is at the offset.
 #[tactic(auto, unfolding(crate::specs::Instructions::memory_at))]
+#[inline(always)]
 pub fn read_memory(
     reader: &mut Reader<'_>,
     code: u8,

@@ -76,6 +76,7 @@ fn binary_op(width: Width, index: u8) -> Option<NumericOp>
 
 // The numeric instruction without an immediate of this opcode, if there is one.
 #[tactic(auto, unfolding(crate::specs::Instructions::numeric_of))]
+#[inline(always)]
 pub fn numeric_op(code: u8) -> Option<NumericOp>
     ensures { result ≡ numeric_of code }
 {

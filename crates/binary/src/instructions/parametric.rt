@@ -9,6 +9,7 @@ use core_types::ParametricOp;
 
 // A parametric instruction behind its opcode, which is at the offset.
 #[tactic(auto, unfolding(crate::specs::Instructions::parametric_at))]
+#[inline(always)]
 pub fn read_parametric(
     reader: &mut Reader<'_>,
     code: u8,

@@ -10,6 +10,7 @@ use core_types::ReferenceOp;
 
 // A reference instruction behind its opcode, which is at the offset.
 #[tactic(auto, unfolding(crate::specs::Instructions::reference_at))]
+#[inline(always)]
 pub fn read_reference(
     reader: &mut Reader<'_>,
     code: u8,

@@ -9,6 +9,7 @@ use core_types::TableOp;
 
 // A table instruction behind its opcode, which is at the offset.
 #[tactic(auto, unfolding(crate::specs::Instructions::table_at))]
+#[inline(always)]
 pub fn read_table(reader: &mut Reader<'_>, code: u8, offset: usize) -> Result<TableOp, DecodeError>
     ensures { Gives result reader.new (table_at code reader.old) }
 {

@@ -9,6 +9,7 @@ use core_types::VariableOp;
 
 // A variable instruction behind its opcode, which is at the offset.
 #[tactic(auto, unfolding(crate::specs::Instructions::variable_at))]
+#[inline(always)]
 pub fn read_variable(
     reader: &mut Reader<'_>,
     code: u8,

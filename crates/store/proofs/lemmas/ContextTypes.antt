@@ -51,8 +51,8 @@ allocated read old i objects valid a =
     }
 
 -- The code of an instance refers to the types of its context.
-pub context-types : (c : Contents) (n : ℕ) (i : Instance) → slice_get c.instances n ≡ Some i → All (HasModuleTypes (functions_in c)) c.instances
+pub context-types : (c : Contents) (n : ℕ) (i : Instance) → slice_get c.instances n ≡ Some i → HasModuleTypes (functions_in c) i
     → AreOfContext (signatures_of_instance (slice_get c.instances n)) (instance_context (code_store c) (instance_of (code_store c) (Some n)))
-context-types c n i there all =
+context-types c n i there types =
     let found : slice_get (instances_in c) n ≡ Some (module_instance_of i) = slice_get-map module_instance_of c.instances n ∙ ap (option_map module_instance_of) there in
-    rw (there, found) (record { types = refl; functions = (holds-at (HasModuleTypes (functions_in c)) c.instances n i all there).types })
+    rw (there, found) (record { types = refl; functions = types.types })

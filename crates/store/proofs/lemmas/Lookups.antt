@@ -37,14 +37,14 @@ module _ (hosts : List FuncType) (instances : List Instance) where
   found-at (g ∷ gs) zero f h e = let same : g ≡ f = cc in subst (IsFound hosts instances) same h.0
   found-at (g ∷ gs) (suc k) f h e = found-at gs k f h.1 e
 
-module _ (s : Contents) (found : AllFound s.hosts s.instances s.functions) (address : ℕ) (entry : FunctionInstance) (there : slice_get s.functions address ≡ Some entry) where
+module _ (s : Contents) (address : ℕ) (entry : FunctionInstance) (there : slice_get s.functions address ≡ Some entry) where
   pub function-there : (f : Function) → entry_function s.hosts s.instances entry ≡ Some f → slice_get (functions_in s) address ≡ Some f
   function-there f e =
       slice_get-map (function_at s.hosts s.instances) s.functions address ∙ ap (option_map (function_at s.hosts s.instances)) there ∙ ap (λ (o : Option Function). Some (unwrap_or o no_function)) e
 
   -- The entry finds its function.
-  pub entry-found : IsFound s.hosts s.instances entry
-  entry-found = found-at s.hosts s.instances s.functions address entry found there
+  pub entry-found : AllFound s.hosts s.instances s.functions → IsFound s.hosts s.instances entry
+  entry-found found = found-at s.hosts s.instances s.functions address entry found there
 
 -- ---- the type of a host function
 

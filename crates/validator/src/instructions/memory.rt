@@ -1,10 +1,15 @@
 ghost use Rattle.std.specs.Prelude.{IsTrue, ◌^◌, ◌↔◌, ◌≡◌, ◌≤◌};
 ghost use Rattle.core_types.specs.declared.op.MemoryOp.TheVariants as memory_op;
+ghost use Rattle.core_types.specs.declared.op.Op.TheVariants as flat;
 ghost use Rattle.core_types.specs.declared.op.PlainOp.TheVariants as plain;
 ghost use Rattle.meaning.specs.validation.Instructions.{load_type as type_of_load, load_width as width_of_load, store_type as type_of_store, store_width as width_of_store};
 ghost use Rattle.validator.specs.InstructionTypes.{HasTypeOf};
+ghost use Rattle.validator.specs.Steps.{Steps};
 
 use crate::context::{BodyContext, has_data, memory_type};
+use crate::control_frames::Stacks;
+use crate::errors::Fault;
+use crate::instructions::apply_some;
 use crate::types::{
     InstructionType, integer_type, once, over_i32, takes_gives, takes_i32_gives, twice,
 };
@@ -109,7 +114,7 @@ fn type_of_memory_init(context: &BodyContext<'_>, segment: u32) -> Option<Instru
 }
 
 // The type of an instruction on the memory or a data segment.
-pub fn type_of_memory(context: &BodyContext<'_>, op: MemoryOp) -> Option<InstructionType<'static>>
+fn type_of_memory(context: &BodyContext<'_>, op: MemoryOp) -> Option<InstructionType<'static>>
     ensures { HasTypeOf context.now (plain.Memory op) result }
 {
     match op {
@@ -130,4 +135,15 @@ pub fn type_of_memory(context: &BodyContext<'_>, op: MemoryOp) -> Option<Instruc
         MemoryOp::Init(segment) => type_of_memory_init(context, segment),
         MemoryOp::DataDrop(segment) => has_data(context, segment).then_some(takes_gives(&[], &[])),
     }
+}
+
+// An instruction on the memory or a data segment.
+pub fn step_memory(
+    context: &BodyContext<'_>,
+    stacks: &mut Stacks<'_>,
+    op: MemoryOp,
+) -> Result<(), Fault>
+    ensures { Steps context.now stacks.old stacks.new (flat.Plain (plain.Memory op)) result }
+{
+    apply_some(stacks, &type_of_memory(context, op))
 }

@@ -1,7 +1,12 @@
 ghost use Rattle.std.specs.Prelude.{◌≡◌};
+ghost use Rattle.core_types.specs.declared.op.PlainOp.TheVariants as plain;
 ghost use Rattle.meaning.specs.validation.Instructions.{numeric_instruction_type};
 ghost use Rattle.validator.specs.InstructionTypes.{lent_type};
+ghost use Rattle.validator.specs.Steps.{StepsOver};
 
+use crate::control_frames::Stacks;
+use crate::errors::Fault;
+use crate::instructions::apply;
 use crate::types::{InstructionType, integer_type, once, takes_gives, twice};
 use core_types::{Conversion, NumericOp, ValType};
 
@@ -20,7 +25,7 @@ fn type_of_conversion(op: Conversion) -> InstructionType<'static>
 }
 
 // The type of a numeric instruction.
-pub fn type_of_numeric(op: NumericOp) -> InstructionType<'static>
+fn type_of_numeric(op: NumericOp) -> InstructionType<'static>
     ensures { lent_type result ≡ numeric_instruction_type op }
 {
     match op {
@@ -34,4 +39,25 @@ pub fn type_of_numeric(op: NumericOp) -> InstructionType<'static>
         }
         NumericOp::Convert(op) => type_of_conversion(op),
     }
+}
+
+// A numeric instruction.
+pub fn step_numeric(stacks: &mut Stacks<'_>, op: NumericOp) -> Result<(), Fault>
+    ensures { StepsOver stacks.old stacks.new (plain.Numeric op) result }
+{
+    apply(stacks, &type_of_numeric(op))
+}
+
+// A constant of 32 bits.
+pub fn step_i32_const(stacks: &mut Stacks<'_>, value: u32) -> Result<(), Fault>
+    ensures { StepsOver stacks.old stacks.new (plain.I32Const value) result }
+{
+    apply(stacks, &takes_gives(&[], once(ValType::I32)))
+}
+
+// A constant of 64 bits.
+pub fn step_i64_const(stacks: &mut Stacks<'_>, value: u64) -> Result<(), Fault>
+    ensures { StepsOver stacks.old stacks.new (plain.I64Const value) result }
+{
+    apply(stacks, &takes_gives(&[], once(ValType::I64)))
 }

@@ -10,9 +10,10 @@ ghost use Rattle.validator.specs.Operands.{AreBothNumeric};
 
 use crate::control_frames::Stacks;
 use crate::errors::Fault;
+use crate::instructions::apply_some;
 use crate::operands::{pop, pop_fitting};
 use crate::types::{InstructionType, once, takes_i32_gives, twice};
-use core_types::{OperandType, ValType};
+use core_types::{Items, OperandType, ValType};
 
 // The operand type of numbers of a type, if numbers have it.
 fn numeric_operand(ty: ValType) -> Option<OperandType>
@@ -80,11 +81,18 @@ pub fn step_select(stacks: &mut Stacks<'_>) -> Result<(), Fault>
 }
 
 // A select with types, of which there is one.
-pub fn type_of_select(types: &[ValType]) -> Option<InstructionType<'static>>
+fn type_of_select(types: &[ValType]) -> Option<InstructionType<'static>>
     ensures { (lent : Lent) → HasTypeOf lent (plain.SelectTyped types.now) result }
 {
     if types.len() != 1 {
         return None;
     }
     Some(takes_i32_gives(twice(types[0]), once(types[0])))
+}
+
+// A select with types.
+pub fn step_typed_select(stacks: &mut Stacks<'_>, types: &Items<ValType>) -> Result<(), Fault>
+    ensures { StepsOver stacks.old stacks.new (plain.SelectTyped types.now) result }
+{
+    apply_some(stacks, &type_of_select(types.as_slice()))
 }

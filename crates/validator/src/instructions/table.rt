@@ -1,8 +1,13 @@
+ghost use Rattle.core_types.specs.declared.op.Op.TheVariants as flat;
 ghost use Rattle.core_types.specs.declared.op.PlainOp.TheVariants as plain;
 ghost use Rattle.core_types.specs.declared.op.TableOp.TheVariants as table_op;
 ghost use Rattle.validator.specs.InstructionTypes.{HasTypeOf};
+ghost use Rattle.validator.specs.Steps.{Steps};
 
 use crate::context::{BodyContext, segment_type, table_element};
+use crate::control_frames::Stacks;
+use crate::errors::Fault;
+use crate::instructions::apply_some;
 use crate::types::{
     InstructionType, once, over_i32, reference_type, takes_gives, takes_i32_gives, twice,
 };
@@ -43,7 +48,7 @@ fn type_of_table_init(
 }
 
 // The type of an instruction on a table or an element segment.
-pub fn type_of_table(context: &BodyContext<'_>, op: TableOp) -> Option<InstructionType<'static>>
+fn type_of_table(context: &BodyContext<'_>, op: TableOp) -> Option<InstructionType<'static>>
     ensures { HasTypeOf context.now (plain.Table op) result }
 {
     match op {
@@ -74,4 +79,15 @@ pub fn type_of_table(context: &BodyContext<'_>, op: TableOp) -> Option<Instructi
             Some(takes_gives(&[], &[]))
         }
     }
+}
+
+// An instruction on a table or an element segment.
+pub fn step_table(
+    context: &BodyContext<'_>,
+    stacks: &mut Stacks<'_>,
+    op: TableOp,
+) -> Result<(), Fault>
+    ensures { Steps context.now stacks.old stacks.new (flat.Plain (plain.Table op)) result }
+{
+    apply_some(stacks, &type_of_table(context, op))
 }

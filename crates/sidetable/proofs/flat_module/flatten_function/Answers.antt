@@ -20,7 +20,7 @@ returns c =
     let first = c.in_ok-made.ensures body₀ (c.as_slice.ensures ∙ e₀) in
     let behind = placed-behind s c.args.flat.operations.items c.args.flat.tables p body₀ c.in_ok-made.made m first at refl c.in_ok-push.ensures.items refl in
     record {
-      few = omega (arith, c.in_ok-_end.ensures, c.len-6.ensures);
+      few = omega (arith, c.in_ok-number.ensures, c.len-6.ensures);
       within = within-behind m c.in_ok-made.made c.in_ok-results.results first.within c.in_ok-push.ensures.items refl;
       operations = (_, behind.0);
       packed = p;

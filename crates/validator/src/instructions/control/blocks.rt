@@ -40,11 +40,11 @@ pub fn step_begin<'a>(
     context: &BodyContext<'a>,
     stacks: &mut Stacks<'a>,
     kind: FrameKind,
-    block: BlockType,
+    block: &BlockType,
 ) -> Result<(), Fault>
-    ensures { StepsInto context.now stacks.old stacks.new kind block result }
+    ensures { StepsInto context.now stacks.old stacks.new kind block.now result }
 {
-    let Some(ty) = type_of_block(context.decoded.types.as_slice(), block) else {
+    let Some(ty) = type_of_block(context.decoded.types.as_slice(), *block) else {
         return Err(Fault::Invalid);
     };
     let taken = InstructionType {

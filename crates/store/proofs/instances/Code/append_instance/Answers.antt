@@ -2,6 +2,7 @@ use Rattle.std.proofs.Common.{◌≡◌, length, rules}
 use Rattle.meaning.specs.validation.Modules.{IsValid}
 use Rattle.store.proofs.lemmas.ContextTypes.{all-stay, all-with}
 use Rattle.store.proofs.lemmas.Instantiation.{AllFound-added, functions-added}
+use Rattle.store.proofs.lemmas.OwnFunctions.{all-own-stay, all-own-with, own-added}
 use Rattle.store.proofs.instances.Code.append_instance.Goals as goal
 
 pub invariant_of-self-in-Ok : goal.invariant_of-self-in-Ok
@@ -15,6 +16,8 @@ invariant_of-self-in-Ok c =
     rw c.in-Ok.ensures.pushed (record {
       found = AllFound-added inside.hosts.items inside.instances.items c.args.instance valid inside.functions.items c.push_entries.new.functions.items c.self.invariant.found added;
       types = rw functions (all-with _ inside.instances.items c.args.instance (all-stay _ _ inside.instances.items c.self.invariant.types) (rw (← c.self.view_is) at c.requires.types));
+      own = rw added (all-own-with _ inside.instances.items c.args.instance (all-own-stay inside.functions.items _ inside.instances.items c.self.invariant.own)
+          (own-added inside.functions.items (length inside.instances.items) c.args.instance (rw (← c.self.view_is) at c.requires.own)));
     })
 
 pub returns-in-Ok-clause-functions : goal.returns-in-Ok-clause-functions

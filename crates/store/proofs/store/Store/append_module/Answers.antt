@@ -1,6 +1,7 @@
-use Rattle.std.proofs.Common.{ap, ◌∙◌}
+use Rattle.std.proofs.Common.{◌≡◌, ℕ, ◌-◌, length, ap, ap₂, ◌∙◌, arith, rules}
 use Rattle.store.specs.Contents.{Contents, lists_of, store_with}
 use Rattle.store.proofs.lemmas.ContextTypes.{allocated}
+use Rattle.store.proofs.lemmas.OwnFunctions.{adds-functions, own-within}
 use Rattle.store.proofs.lemmas.Validity.{allocation-grows, grows-same, module-appended, equal-stores}
 use Rattle.store.proofs.store.Store.append_module.Goals as goal
 
@@ -26,3 +27,16 @@ pub returns-clause-extends : goal.returns-clause-extends
 returns-clause-extends c =
     rw (← c.self.view_is, module-appended c.self.inside.code c.append_instance.new.self c.self.inside.state c.reserve_all.new.self c.append_all.new.self c.args.loaded.value.source (lists_of c.args.addresses) c.args.objects c.in_ok-append_instance.ensures.functions c.in_ok-append_instance.ensures.instances c.reserve_all.ensures.contents c.reserve_all.ensures.bounds c.append_all.ensures.contents c.append_all.ensures.bounds)
     (allocation-grows c.writing_is_read.ensures.whole _ _ _ _ c.self.invariant (rw (← c.self.view_is) at c.requires.linkable)).0
+
+pub overflow_sub-imported : goal.overflow_sub-imported
+overflow_sub-imported c =
+    let own : c.len-2.result ≡ length c.args.loaded.value.source.funcs = search rules in
+    let within = own-within c.self.inside.code c.self.inside.state (record { loaded = c.args.loaded; addresses = c.args.addresses; imported = 0 }) c.args.objects (rw (← c.self.view_is) at c.requires.linkable) in
+    omega (arith, own, within, c.len.ensures)
+
+pub append_instance-requires-clause-own : goal.append_instance-requires-clause-own
+append_instance-requires-clause-own c =
+    let all : c.len.result ≡ length c.args.addresses.functions.items = search rules in
+    let own : c.len-2.result ≡ length c.args.loaded.value.source.funcs = search rules in
+    adds-functions c.self.inside.code c.self.inside.state (record { loaded = c.args.loaded; addresses = c.args.addresses; imported = c.len.result - c.len-2.result }) c.args.objects (rw (← c.self.view_is) at c.requires.linkable)
+    (ap₂ (λ (n k : ℕ). n - k) all own)
