@@ -1,5 +1,5 @@
 -- Reading functions, and ways to put them together.
-use Rattle.std.specs.Prelude.{Err, List, None, Ok, Option, Result, Some, if◌then◌else◌, nat_le, ℕ, ◌==◌, ◌≡◌}
+use Rattle.std.specs.Prelude.{Err, List, [], ◌∷◌, ◌++◌, None, Ok, Option, Result, Some, if◌then◌else◌, nat_le, ℕ, ◌==◌, ◌≡◌}
 use Rattle.binary.specs.Errors.{OnRefused}
 use Rattle.binary.specs.declared.errors.DecodeError.{DecodeError}
 
@@ -26,6 +26,18 @@ abbrev pub GivesSeen : {X V : Type 0}
     → (X → V) → Result X DecodeError → List ℕ → Option (V × List ℕ) → Type 0
 GivesSeen view (Ok x) rest read = read ≡ Some (view x, rest)
 GivesSeen view (Err error) rest read = OnRefused error (read ≡ None)
+
+-- Something is read, of which this holds.
+abbrev pub OnRead : {V : Type 0} → Option (V × List ℕ) → (V → (rest : List ℕ) → Type 0) → Type 0
+OnRead None P = ⊥
+OnRead (Some read) P = P read.0 read.1
+
+-- A reader puts the value behind others and leaves the rest, or refuses where there is no value; unless it is out of memory.
+abbrev pub Appends : {V : Type 0} → Result (Unit {0}) DecodeError → (others after : List V)
+    → List ℕ → Option (V × List ℕ) → Type 0
+Appends (Ok done) others after rest read =
+    OnRead read (λ v left. (left ≡ rest) × (after ≡ others ++ v ∷ []))
+Appends (Err error) others after rest read = OnRefused error (read ≡ None)
 
 -- A value that takes no bytes.
 abbrev pub bare_at : {V : Type 0} → V → Reading V

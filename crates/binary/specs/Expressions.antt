@@ -1,8 +1,10 @@
 -- Reading expressions.
-use Rattle.std.specs.Prelude.{List, None, Option, Some, [], length, suc, zero, ℕ, ◌++◌, ◌∷◌}
+use Rattle.std.specs.Prelude.{◌≡◌, Err, List, None, Ok, Option, Result, Some, [], length, suc, zero, ℕ, ◌++◌, ◌∷◌}
 use Rattle.core_types.specs.declared.op.Op.{Op}
 use Rattle.core_types.specs.declared.op.Op.TheVariants.{Block, Else, End, If, Loop, Plain}
-use Rattle.binary.specs.Conventions.{Reading, ◌>>=◌}
+use Rattle.binary.specs.Conventions.{OnRead, Reading, ◌>>=◌}
+use Rattle.binary.specs.Errors.{OnRefused}
+use Rattle.binary.specs.declared.errors.DecodeError.{DecodeError}
 use Rattle.binary.specs.Instructions.{op_at}
 use Rattle.binary.specs.declared.expressions.Next.{Next}
 use Rattle.binary.specs.declared.expressions.Next.TheVariants.{Ended, Misplaced, Onward}
@@ -20,6 +22,20 @@ next_bodies (InBlock ∷ bodies) Else = (Misplaced, InBlock ∷ bodies)
 next_bodies (InIf ∷ bodies) Else = (Onward, InBlock ∷ bodies)
 next_bodies [] End = (Ended, [])
 next_bodies (body ∷ bodies) End = (Onward, bodies)
+
+-- The operations, once another one was read, of which the last end is none.
+abbrev pub after_next : Next → List Op → Op → List Op
+after_next Onward ops op = ops ++ op ∷ []
+after_next Ended ops op = ops
+after_next Misplaced ops op = ops
+
+-- What is read is an operation that does this to the expression, its open bodies and its operations.
+abbrev pub ReadsNext : Result Next DecodeError → (bodies bodies' : List OpenBody)
+    → (ops ops' : List Op) → (rest : List ℕ) → Option (Op × List ℕ) → Type 0
+ReadsNext (Ok next) bodies bodies' ops ops' rest read =
+    OnRead read (λ op left. (left ≡ rest) × (next_bodies bodies op ≡ (next, bodies'))
+    × (ops' ≡ after_next next ops op))
+ReadsNext (Err error) bodies bodies' ops ops' rest read = OnRefused error (read ≡ None)
 
 -- The value of the answer to what is next.
 abbrev pub on_next : {V : Type 0} → Next → Option V → Option V → Option V

@@ -8,12 +8,14 @@ pub mod reference;
 pub mod table;
 pub mod variable;
 
-ghost use Rattle.core_types.specs.declared.op.Op.TheVariants.{Block, If, Loop};
+ghost use Rattle.std.specs.Prelude.{◌≡◌, ◌<◌, ◌++◌, ◌∷◌, [], length, OnOk};
+ghost use Rattle.std.specs.Vec.{vec_capacity};
+ghost use Rattle.core_types.specs.declared.op.Op.TheVariants.{Block, If, Loop, Plain};
 ghost use Rattle.core_types.specs.declared.op.PlainOp.TheVariants.{BrTable, I32Const, I64Const, SelectTyped};
-ghost use Rattle.binary.specs.Conventions.{Gives, chosen_at, mapped_at};
+ghost use Rattle.binary.specs.Conventions.{Appends, Gives, chosen_at, mapped_at};
 ghost use Rattle.binary.specs.Types.{block_type_at, val_type_at};
 ghost use Rattle.binary.specs.Values.{unsigned_at, vector_at};
-ghost use Rattle.binary.specs.Instructions.{branch_table_at, group_at, op_at, plain_at, prefixed_at, stored_at};
+ghost use Rattle.binary.specs.Instructions.{branch_table_at, group_at, plain_at, prefixed_at, stored_at};
 
 use crate::errors::DecodeError;
 use crate::instructions::control::{read_branch_table, read_control};
@@ -24,47 +26,9 @@ use crate::instructions::reference::read_reference;
 use crate::instructions::table::{read_prefixed_table, read_table};
 use crate::instructions::variable::read_variable;
 use crate::reader::Reader;
-use crate::types::read_block_type;
 use crate::values::read_vector;
 use core_types::{Boxed, Op, PlainOp, ValType};
-use std::alloc::Global;
-
-// The start of a block, behind its opcode.
-fn read_block(reader: &mut Reader<'_>) -> Result<Op, DecodeError>
-    ensures { Gives result reader.new (mapped_at Block block_type_at reader.old) }
-{
-    Ok(Op::Block(read_block_type(reader)?))
-}
-
-// The start of a loop, behind its opcode.
-fn read_loop(reader: &mut Reader<'_>) -> Result<Op, DecodeError>
-    ensures { Gives result reader.new (mapped_at Loop block_type_at reader.old) }
-{
-    Ok(Op::Loop(read_block_type(reader)?))
-}
-
-// The start of an if, behind its opcode.
-fn read_if(reader: &mut Reader<'_>) -> Result<Op, DecodeError>
-    ensures { Gives result reader.new (mapped_at If block_type_at reader.old) }
-{
-    Ok(Op::If(read_block_type(reader)?))
-}
-
-// A flat operation.
-#[tactic(auto, unfolding(crate::specs::Instructions::op_at, crate::specs::Instructions::operation_at))]
-pub fn read_op(alloc: Global, reader: &mut Reader<'_>) -> Result<Op, DecodeError>
-    ensures { Gives result reader.new (op_at reader.old) }
-{
-    let offset = reader.offset();
-    match reader.byte()? {
-        0x02 => read_block(reader),
-        0x03 => read_loop(reader),
-        0x04 => read_if(reader),
-        0x05 => Ok(Op::Else),
-        0x0B => Ok(Op::End),
-        code => Ok(Op::Plain(read_plain(alloc, reader, code, offset)?)),
-    }
-}
+use std::alloc::{AllocError, Global};
 
 // A branch by number, behind its opcode.
 fn read_br_table(alloc: Global, reader: &mut Reader<'_>) -> Result<PlainOp, DecodeError>
@@ -94,43 +58,93 @@ fn read_i64_const(reader: &mut Reader<'_>) -> Result<PlainOp, DecodeError>
     Ok(PlainOp::I64Const(reader.s64()?.cast_unsigned()))
 }
 
-// An instruction without a body, behind its opcode, which is at the offset.
-#[tactic(auto, unfolding(crate::specs::Instructions::plain_at))]
-fn read_plain(
-    alloc: Global,
-    reader: &mut Reader<'_>,
-    code: u8,
-    offset: usize,
-) -> Result<PlainOp, DecodeError>
-    ensures { Gives result reader.new (plain_at code reader.old) }
+// Reserves room for more operations.
+#[cold]
+#[inline(never)]
+fn grow(ops: &mut Vec<Op>) -> Result<(), AllocError>
+    ensures same { ops.new.items ≡ ops.old.items }
+    ensures room { OnOk result (length ops.new.items < vec_capacity ops.new) }
 {
-    match code {
-        0x0E => read_br_table(alloc, reader),
-        0x1C => read_typed_select(alloc, reader),
-        0x41 => read_i32_const(reader),
-        0x42 => read_i64_const(reader),
-        0xFC => read_prefixed(reader, offset),
-        _ => read_group(reader, code, offset),
-    }
+    ops.reserve(1)
 }
 
-// An instruction of a group whose opcodes are next to each other, behind its opcode, which is at the offset.
-#[tactic(auto, unfolding(crate::specs::Instructions::group_at))]
-fn read_group(reader: &mut Reader<'_>, code: u8, offset: usize) -> Result<PlainOp, DecodeError>
-    ensures { Gives result reader.new (group_at code reader.old) }
+// Puts an operation behind others, in its caller's line, so that it is put together where it lies.
+#[inline(always)]
+pub fn push_op(ops: &mut Vec<Op>, op: Op) -> Result<(), AllocError>
+    ensures { OnOk result (ops.new.items ≡ ops.old.items ++ op ∷ []) }
+{
+    if ops.len() == ops.capacity() {
+        grow(ops)?;
+    }
+    ops.push_reserved(op);
+    Ok(())
+}
+
+// An instruction without a body, behind its opcode, which is at the offset, put behind others.
+#[tactic(auto, unfolding(crate::specs::Instructions::plain_at))]
+pub fn append_plain(
+    alloc: Global,
+    reader: &mut Reader<'_>,
+    ops: &mut Vec<Op>,
+    code: u8,
+    offset: usize,
+) -> Result<(), DecodeError>
+    ensures { Appends result ops.old.items ops.new.items reader.new
+        (mapped_at Plain (plain_at code) reader.old) }
 {
     match code {
-        0x00..=0x13 => Ok(PlainOp::Control(read_control(reader, code, offset)?)),
-        0x14..=0x1B => Ok(PlainOp::Parametric(read_parametric(reader, code, offset)?)),
-        0x1C..=0x24 => Ok(PlainOp::Variable(read_variable(reader, code, offset)?)),
-        0x25..=0x27 => Ok(PlainOp::Table(read_table(reader, code, offset)?)),
-        0x28..=0x40 => Ok(PlainOp::Memory(read_memory(reader, code, offset)?)),
-        0x41..=0xC4 => match numeric_op(code) {
-            Some(op) => Ok(PlainOp::Numeric(op)),
-            None => Err(DecodeError::Unsupported(offset)),
-        },
-        _ => Ok(PlainOp::Reference(read_reference(reader, code, offset)?)),
+        0x0E => push_op(ops, Op::Plain(read_br_table(alloc, reader)?))?,
+        0x1C => push_op(ops, Op::Plain(read_typed_select(alloc, reader)?))?,
+        0x41 => push_op(ops, Op::Plain(read_i32_const(reader)?))?,
+        0x42 => push_op(ops, Op::Plain(read_i64_const(reader)?))?,
+        0xFC => push_op(ops, Op::Plain(read_prefixed(reader, offset)?))?,
+        _ => append_group(reader, ops, code, offset)?,
     }
+    Ok(())
+}
+
+// An instruction of a group whose opcodes are next to each other, behind its opcode, which is at the offset, put behind others.
+#[tactic(auto, unfolding(crate::specs::Instructions::group_at))]
+fn append_group(
+    reader: &mut Reader<'_>,
+    ops: &mut Vec<Op>,
+    code: u8,
+    offset: usize,
+) -> Result<(), DecodeError>
+    ensures { Appends result ops.old.items ops.new.items reader.new
+        (mapped_at Plain (group_at code) reader.old) }
+{
+    match code {
+        0x00..=0x13 => {
+            let op = read_control(reader, code, offset)?;
+            push_op(ops, Op::Plain(PlainOp::Control(op)))?;
+        }
+        0x14..=0x1B => {
+            let op = read_parametric(reader, code, offset)?;
+            push_op(ops, Op::Plain(PlainOp::Parametric(op)))?;
+        }
+        0x1C..=0x24 => {
+            let op = read_variable(reader, code, offset)?;
+            push_op(ops, Op::Plain(PlainOp::Variable(op)))?;
+        }
+        0x25..=0x27 => {
+            let op = read_table(reader, code, offset)?;
+            push_op(ops, Op::Plain(PlainOp::Table(op)))?;
+        }
+        0x28..=0x40 => {
+            let op = read_memory(reader, code, offset)?;
+            push_op(ops, Op::Plain(PlainOp::Memory(op)))?;
+        }
+        0x41..=0xC4 => match numeric_op(code) {
+            Some(op) => push_op(ops, Op::Plain(PlainOp::Numeric(op)))?,
+            None => return Err(DecodeError::Unsupported(offset)),
+        },
+        _ => {
+            let op = read_reference(reader, code, offset)?;
+            push_op(ops, Op::Plain(PlainOp::Reference(op)))?;
+        }
+    }
+    Ok(())
 }
 
 // An instruction behind the byte FC, which is at the offset.

@@ -1,12 +1,14 @@
 -- Reading an expression, as a loop does.
-use Rattle.std.proofs.Common.{List, [], arith, length, refl, suc, sym, zero, ℕ, ◌++◌, ◌<◌, ◌∙◌, ◌∷◌, ◌≡◌, ◌≤◌}
-use Rattle.std.specs.Prelude.{None, Some}
+use Rattle.std.proofs.Common.{List, [], ap, arith, length, refl, suc, sym, zero, ℕ, ◌++◌, ◌<◌, ◌∙◌, ◌∷◌, ◌≡◌, ◌≤◌}
+use Rattle.std.specs.Prelude.{None, Ok, Option, Some}
 use Rattle.std.proofs.lemmas.List.{nil_from_length}
 use Rattle.core_types.specs.declared.op.Op.{Op}
 use Rattle.binary.specs.Errors.{OnRefused}
-use Rattle.binary.specs.Expressions.{expression_at, next_bodies, ops_at}
+use Rattle.binary.specs.Conventions.{OnRead}
+use Rattle.binary.specs.Expressions.{ReadsNext, after_next, expression_at, next_bodies, ops_at}
 use Rattle.binary.specs.Instructions.{op_at}
 use Rattle.binary.specs.declared.errors.DecodeError.{DecodeError}
+use Rattle.binary.specs.declared.expressions.Next.{Next}
 use Rattle.binary.specs.declared.expressions.Next.TheVariants.{Ended, Misplaced, Onward}
 use Rattle.binary.specs.declared.expressions.OpenBody.{OpenBody}
 use Rattle.binary.proofs.Refusals.{OnRefused-map}
@@ -20,6 +22,21 @@ pub record IsReadingExpression (whole rest : List ℕ) (open_bodies : List OpenB
 pub expression_begins : (whole : List ℕ) → IsReadingExpression whole whole [] []
 unfolding expression_at
 expression_begins whole = record { steps = length whole; enough = omega arith; so_far = refl }
+
+-- What was read.
+pub record HasRead (bytes after : List ℕ) (next : Next) (bodies new : List OpenBody) (ops behind : List Op) : Type 0 where
+  pub op : Op
+  pub read_is : op_at bytes ≡ Some (op, after)
+  pub passed : next_bodies bodies op ≡ (next, new)
+  pub behind_is : behind ≡ after_next next ops op
+
+pub has-read : (bytes after : List ℕ) (next : Next) (bodies new : List OpenBody) (ops behind : List Op) → ReadsNext (Ok next) bodies new ops behind after (op_at bytes) → HasRead bytes after next bodies new ops behind
+has-read bytes after next bodies new ops behind h = go (op_at bytes) refl h
+  where
+    go : (read : Option (Op × List ℕ)) → op_at bytes ≡ read → OnRead read (λ op left. (left ≡ after) × (next_bodies bodies op ≡ (next, new)) × (behind ≡ after_next next ops op))
+        → HasRead bytes after next bodies new ops behind
+    go None e h = absurd h
+    go (Some (op, left)) e (same, passed, is) = record { op = op; read_is = e ∙ ap (λ (rest : List ℕ). Some (op, rest)) same; passed = passed; behind_is = is }
 
 module _ (whole bytes : List ℕ) (open_bodies : List OpenBody) (ops : List Op) (inside : IsReadingExpression whole bytes open_bodies ops) where
   module _ (op : Op) (after : List ℕ) (shorter : length after < length bytes) (read_is : op_at bytes ≡ Some (op, after)) (new : List OpenBody) where
