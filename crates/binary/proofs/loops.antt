@@ -2,4 +2,5 @@
 pub mod Values
 pub mod Code
 pub mod Custom
+pub mod DataNames
 pub mod Expressions

@@ -1,5 +1,5 @@
 -- Reading expressions.
-use Rattle.std.specs.Prelude.{◌≡◌, Err, List, None, Ok, Option, Result, Some, [], length, suc, zero, ℕ, ◌++◌, ◌∷◌}
+use Rattle.std.specs.Prelude.{◌≡◌, Bool, true, false, Err, List, None, Ok, Option, Result, Some, [], length, suc, zero, ℕ, ◌++◌, ◌∷◌}
 use Rattle.core_types.specs.declared.op.Op.{Op}
 use Rattle.core_types.specs.declared.op.Op.TheVariants.{Block, Else, End, If, Loop, Plain}
 use Rattle.binary.specs.Conventions.{OnRead, Reading, ◌>>=◌}
@@ -23,9 +23,9 @@ next_bodies (InIf ∷ bodies) Else = (Onward, InBlock ∷ bodies)
 next_bodies [] End = (Ended, [])
 next_bodies (body ∷ bodies) End = (Onward, bodies)
 
--- The operations, once another one was read, of which the last end is none.
+-- The operations, the last one first, once another one was read, of which the last end is none.
 abbrev pub after_next : Next → List Op → Op → List Op
-after_next Onward ops op = ops ++ op ∷ []
+after_next Onward ops op = op ∷ ops
 after_next Ended ops op = ops
 after_next Misplaced ops op = ops
 
@@ -36,6 +36,14 @@ ReadsNext (Ok next) bodies bodies' ops ops' rest read =
     OnRead read (λ op left. (left ≡ rest) × (next_bodies bodies op ≡ (next, bodies'))
     × (ops' ≡ after_next next ops op))
 ReadsNext (Err error) bodies bodies' ops ops' rest read = OnRefused error (read ≡ None)
+
+-- What is read is an operation that is no mark, put on the others, unless it is left to read.
+abbrev pub ReadsFrequent : Result Bool DecodeError → (ops ops' : List Op) → (bytes rest : List ℕ)
+    → Option (Op × List ℕ) → Type 0
+ReadsFrequent (Ok true) ops ops' bytes rest read =
+    (bodies : List OpenBody) → ReadsNext (Ok Onward) bodies bodies ops ops' rest read
+ReadsFrequent (Ok false) ops ops' bytes rest read = (ops' ≡ ops) × (rest ≡ bytes)
+ReadsFrequent (Err error) ops ops' bytes rest read = OnRefused error (read ≡ None)
 
 -- The value of the answer to what is next.
 abbrev pub on_next : {V : Type 0} → Next → Option V → Option V → Option V

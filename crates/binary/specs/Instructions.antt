@@ -1,5 +1,5 @@
 -- Reading instructions.
-use Rattle.std.specs.Prelude.{List, None, Option, Some, [], if◌then◌else◌, length, nat_le, nat_lt, slice_get, ℕ, ◌+◌, ◌-◌, ◌==◌, ◌∷◌}
+use Rattle.std.specs.Prelude.{All, Bool, List, None, Option, Some, [], false, if◌then◌else◌, length, nat_le, nat_lt, slice_get, ℕ, ◌+◌, ◌-◌, ◌==◌, ◌∷◌, ◌≡◌}
 use Rattle.core_types.specs.declared.op.BranchTable.{BranchTable}
 use Rattle.core_types.specs.declared.op.ControlOp.{ControlOp}
 use Rattle.core_types.specs.declared.op.ControlOp.TheVariants.{Br, BrIf, Call, CallIndirect, Nop, Return, ReturnCall, ReturnCallIndirect, Unreachable}
@@ -22,6 +22,7 @@ use Rattle.core_types.specs.declared.op.TableOp.TheVariants as table
 use Rattle.core_types.specs.declared.op.VariableOp.{VariableOp}
 use Rattle.core_types.specs.declared.op.VariableOp.TheVariants.{GlobalGet, GlobalSet, LocalGet, LocalSet, LocalTee}
 use Rattle.core_types.specs.declared.op.Width.TheVariants.{W32, W64}
+use Rattle.meaning.specs.binary.Modules.{names_data}
 use Rattle.meaning.specs.binary.Instructions.{binary_ops, bit_counts, comparisons, loads, sign_extensions, stored, stores}
 use Rattle.binary.specs.Conventions.{Cases, Reading, bare_at, case_at, chosen_at, mapped_at, mapped_case, no_case, pair_at, up_to, ◌>>=◌}
 use Rattle.binary.specs.Types.{block_type_at, ref_type_at, val_type_at}
@@ -213,3 +214,11 @@ operation_at code bytes =
 
 unfoldable pub op_at : Reading Op
 op_at bytes = chosen_at byte_at operation_at bytes
+
+-- No operation names a data segment.
+abbrev pub NameNoData : List Op → Type 0
+NameNoData ops = All (λ op. names_data op ≡ false) ops
+
+-- What is noted of operations: where it is false, none of them names a data segment.
+abbrev pub NotesData : Bool → List Op → Type 0
+NotesData noted ops = noted ≡ false → NameNoData ops

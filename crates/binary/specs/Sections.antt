@@ -1,5 +1,5 @@
 -- Reading sections and what they hold.
-use Rattle.std.specs.Prelude.{List, None, Option, Some, [], drop, if◌then◌else◌, length, nat_lt, replicate, suc, zero, ℕ, ◌++◌, ◌+◌, ◌==◌, ◌^◌, ◌∷◌}
+use Rattle.std.specs.Prelude.{All, Bool, List, None, Option, Some, [], drop, false, if◌then◌else◌, length, nat_lt, replicate, suc, zero, ℕ, ◌++◌, ◌+◌, ◌==◌, ◌^◌, ◌∷◌, ◌≡◌}
 use Rattle.core_types.specs.declared.module.DataMode.TheVariants as data_mode
 use Rattle.core_types.specs.declared.module.DataSegment.{DataSegment}
 use Rattle.core_types.specs.declared.module.ElementItems.TheVariants.{Expressions, Functions}
@@ -21,6 +21,7 @@ use Rattle.core_types.specs.declared.types.ValType.{ValType}
 use Rattle.meaning.specs.binary.Modules.{data_segment, element}
 use Rattle.binary.specs.Conventions.{Cases, Reading, case_at, chosen_at, mapped_at, no_case, pair_at, up_to, ◌>>=◌}
 use Rattle.binary.specs.Expressions.{expression_at}
+use Rattle.binary.specs.Instructions.{NameNoData}
 use Rattle.binary.specs.Types.{global_type_at, limits_at, ref_type_at, table_type_at, val_type_at}
 use Rattle.binary.specs.Values.{begins_with, byte_at, index_at, name_at, part_at, sized_at, unsigned_at, vector_at}
 
@@ -216,3 +217,7 @@ unfoldable pub end_at : Reading (Unit {0})
 end_at bytes = do
   customs ← after_customs bytes
   if length customs.1 == 0 then Some (tt, customs.1) else None
+
+-- What is noted of functions: where it is false, none of their code names a data segment.
+abbrev pub NotesDataOfAll : Bool → List Function → Type 0
+NotesDataOfAll noted funcs = noted ≡ false → All (λ (f : Function). NameNoData f.body) funcs

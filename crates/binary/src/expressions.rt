@@ -1,16 +1,16 @@
 //! Expressions: instructions down to the end of the outermost body (Binary Format, Expressions).
 
-ghost use Rattle.std.specs.Prelude.{◌≡◌, ◌∷◌, IfErr, IfOk, List, [], ℕ};
+ghost use Rattle.std.specs.Prelude.{◌≡◌, ◌≢◌, IfOk, List, OnOk, [], false, ℕ};
 ghost use Rattle.core_types.specs.declared.op.Op.TheVariants.{Block, Else, End, If, Loop};
 ghost use Rattle.binary.specs.Conventions.{Gives, bare_at, mapped_at};
-ghost use Rattle.binary.specs.Instructions.{op_at};
+ghost use Rattle.binary.specs.Instructions.{NameNoData, NotesData, operation_at};
 ghost use Rattle.binary.specs.Types.{block_type_at};
-ghost use Rattle.binary.specs.Expressions.{ReadsNext, after_next, expression_at, next_bodies};
+ghost use Rattle.binary.specs.Expressions.{ReadsFrequent, ReadsNext, expression_at};
 ghost use Rattle.binary.specs.declared.errors.DecodeError.TheVariants.{OutOfMemory};
 ghost use Rattle.binary.specs.declared.expressions.Next.TheVariants.{Onward};
 
 use crate::errors::DecodeError;
-use crate::instructions::append_plain;
+use crate::instructions::{push_i32_const, push_memory, push_numeric, push_plain, push_variable};
 use crate::reader::Reader;
 use crate::types::read_block_type;
 use crate::values::Readable;
@@ -37,117 +37,195 @@ pub enum Next {
     Misplaced,
 }
 
-// Begins and ends bodies as a mark does, and puts it behind the operations unless it is the last end.
-#[inline(never)]
-fn append_mark(bodies: &mut Stack<OpenBody>, ops: &mut Vec<Op>, op: Op) -> Result<Next, DecodeError>
-    ensures next { IfOk result (λ next. next_bodies bodies.old op ≡ (next, bodies.new)) }
-    ensures ops { IfOk result (λ next. ops.new.items ≡ after_next next ops.old.items op) }
-    ensures error { IfErr result (λ error. error ≡ OutOfMemory) }
-{
-    let next = update_bodies(bodies, &op)?;
-    if let Next::Onward = next {
-        ops.push(op)?;
-    }
-    Ok(next)
-}
-
 // A block begins, behind its opcode.
-#[inline(never)]
-fn append_block(
+fn push_block(
     reader: &mut Reader<'_>,
     bodies: &mut Stack<OpenBody>,
-    ops: &mut Vec<Op>,
+    ops: &mut Stack<Op>,
 ) -> Result<Next, DecodeError>
-    ensures { ReadsNext result bodies.old bodies.new ops.old.items ops.new.items
+    ensures reads { ReadsNext result bodies.old bodies.new ops.old ops.new
         reader.new (mapped_at Block block_type_at reader.old) }
+    ensures data { OnOk result (NameNoData ops.old → NameNoData ops.new) }
 {
-    append_mark(bodies, ops, Op::Block(read_block_type(reader)?))
+    let ty = read_block_type(reader)?;
+    bodies.push(OpenBody::InBlock)?;
+    ops.push(Op::Block(ty))?;
+    Ok(Next::Onward)
 }
 
 // A loop begins, behind its opcode.
-#[inline(never)]
-fn append_loop(
+fn push_loop(
     reader: &mut Reader<'_>,
     bodies: &mut Stack<OpenBody>,
-    ops: &mut Vec<Op>,
+    ops: &mut Stack<Op>,
 ) -> Result<Next, DecodeError>
-    ensures { ReadsNext result bodies.old bodies.new ops.old.items ops.new.items
+    ensures reads { ReadsNext result bodies.old bodies.new ops.old ops.new
         reader.new (mapped_at Loop block_type_at reader.old) }
+    ensures data { OnOk result (NameNoData ops.old → NameNoData ops.new) }
 {
-    append_mark(bodies, ops, Op::Loop(read_block_type(reader)?))
+    let ty = read_block_type(reader)?;
+    bodies.push(OpenBody::InBlock)?;
+    ops.push(Op::Loop(ty))?;
+    Ok(Next::Onward)
 }
 
 // An if begins, behind its opcode.
-#[inline(never)]
-fn append_if(
+fn push_if(
     reader: &mut Reader<'_>,
     bodies: &mut Stack<OpenBody>,
-    ops: &mut Vec<Op>,
+    ops: &mut Stack<Op>,
 ) -> Result<Next, DecodeError>
-    ensures { ReadsNext result bodies.old bodies.new ops.old.items ops.new.items
+    ensures reads { ReadsNext result bodies.old bodies.new ops.old ops.new
         reader.new (mapped_at If block_type_at reader.old) }
+    ensures data { OnOk result (NameNoData ops.old → NameNoData ops.new) }
 {
-    append_mark(bodies, ops, Op::If(read_block_type(reader)?))
+    let ty = read_block_type(reader)?;
+    bodies.push(OpenBody::InIf)?;
+    ops.push(Op::If(ty))?;
+    Ok(Next::Onward)
 }
 
-// An else.
+// The first body of an if ends and the second begins.
+fn push_else(bodies: &mut Stack<OpenBody>, ops: &mut Stack<Op>) -> Result<Next, DecodeError>
+    ensures reads { (rest : List ℕ) → ReadsNext result bodies.old bodies.new ops.old
+        ops.new rest (bare_at Else rest) }
+    ensures data { OnOk result (NameNoData ops.old → NameNoData ops.new) }
+{
+    match bodies.pop() {
+        Some(OpenBody::InIf) => {
+            bodies.push(OpenBody::InBlock)?;
+            ops.push(Op::Else)?;
+            Ok(Next::Onward)
+        }
+        Some(OpenBody::InBlock) => {
+            bodies.push(OpenBody::InBlock)?;
+            Ok(Next::Misplaced)
+        }
+        None => Ok(Next::Misplaced),
+    }
+}
+
+// A body ends, or the expression where no body is open.
+#[inline(always)]
+fn push_end(bodies: &mut Stack<OpenBody>, ops: &mut Stack<Op>) -> Result<Next, DecodeError>
+    ensures reads { (rest : List ℕ) → ReadsNext result bodies.old bodies.new ops.old
+        ops.new rest (bare_at End rest) }
+    ensures data { OnOk result (NameNoData ops.old → NameNoData ops.new) }
+{
+    match bodies.pop() {
+        Some(_) => {
+            ops.push(Op::End)?;
+            Ok(Next::Onward)
+        }
+        None => Ok(Next::Ended),
+    }
+}
+
+// An operation, behind its opcode, which is at the offset.
+#[tactic(auto, unfolding(crate::specs::Instructions::operation_at))]
 #[inline(never)]
-fn append_else(bodies: &mut Stack<OpenBody>, ops: &mut Vec<Op>) -> Result<Next, DecodeError>
-    ensures { (rest : List ℕ) → ReadsNext result bodies.old bodies.new ops.old.items
-        ops.new.items rest (bare_at Else rest) }
-{
-    append_mark(bodies, ops, Op::Else)
-}
-
-// An end.
-#[inline(never)]
-fn append_end(bodies: &mut Stack<OpenBody>, ops: &mut Vec<Op>) -> Result<Next, DecodeError>
-    ensures { (rest : List ℕ) → ReadsNext result bodies.old bodies.new ops.old.items
-        ops.new.items rest (bare_at End rest) }
-{
-    append_mark(bodies, ops, Op::End)
-}
-
-// One operation more.
-#[tactic(auto, unfolding(crate::specs::Instructions::op_at, crate::specs::Instructions::operation_at))]
-fn read_next(
+fn read_other(
     alloc: Global,
     reader: &mut Reader<'_>,
     bodies: &mut Stack<OpenBody>,
-    ops: &mut Vec<Op>,
+    ops: &mut Stack<Op>,
+    code: u8,
+    offset: usize,
 ) -> Result<Next, DecodeError>
-    ensures { ReadsNext result bodies.old bodies.new ops.old.items ops.new.items
-        reader.new (op_at reader.old) }
+    ensures reads { ReadsNext result bodies.old bodies.new ops.old ops.new
+        reader.new (operation_at code reader.old) }
+    ensures data { code ≢ 0xFC → OnOk result (NameNoData ops.old → NameNoData ops.new) }
 {
-    let offset = reader.offset();
-    match reader.byte()? {
-        0x02 => append_block(reader, bodies, ops),
-        0x03 => append_loop(reader, bodies, ops),
-        0x04 => append_if(reader, bodies, ops),
-        0x05 => append_else(bodies, ops),
-        0x0B => append_end(bodies, ops),
-        code => {
-            append_plain(alloc, reader, ops, code, offset)?;
+    match code {
+        0x02 => push_block(reader, bodies, ops),
+        0x03 => push_loop(reader, bodies, ops),
+        0x04 => push_if(reader, bodies, ops),
+        0x05 => push_else(bodies, ops),
+        0x0B => push_end(bodies, ops),
+        _ => {
+            push_plain(alloc, reader, ops, code, offset)?;
             Ok(Next::Onward)
         }
     }
 }
 
-// Operations down to the end of the outermost body.
-pub fn read_expression(alloc: Global, reader: &mut Reader<'_>) -> Result<Items<Op>, DecodeError>
-    ensures { Gives result reader.new (expression_at reader.old) }
+// An operation that is frequent, behind its opcode, which is at the offset; answers whether it is. None of them is a mark.
+#[tactic(auto, unfolding(crate::specs::Instructions::operation_at, crate::specs::Instructions::plain_at, crate::specs::Instructions::group_at))]
+#[inline(always)]
+fn read_frequent(
+    reader: &mut Reader<'_>,
+    ops: &mut Stack<Op>,
+    code: u8,
+    offset: usize,
+) -> Result<bool, DecodeError>
+    ensures reads { ReadsFrequent result ops.old ops.new reader.old reader.new
+        (operation_at code reader.old) }
+    ensures data { OnOk result (NameNoData ops.old → NameNoData ops.new) }
+{
+    if matches!(code, 0x20..=0x24) {
+        push_variable(reader, ops, code, offset)?;
+    } else if code == 0x41 {
+        push_i32_const(reader, ops)?;
+    } else if matches!(code, 0x45..=0xC4) {
+        push_numeric(ops, code, offset)?;
+    } else if matches!(code, 0x28..=0x40) {
+        push_memory(reader, ops, code, offset)?;
+    } else {
+        return Ok(false);
+    }
+    Ok(true)
+}
+
+// Operations down to the end of the outermost body, put on a stack that has none. Notes where one of them may name a data segment.
+fn read_operations(
+    alloc: Global,
+    reader: &mut Reader<'_>,
+    ops: Stack<Op>,
+    data_named: &mut bool,
+) -> Result<Items<Op>, DecodeError>
+    requires { ops ≡ [] }
+    ensures reads { Gives result reader.new (expression_at reader.old) }
+    ensures data { IfOk result (NotesData data_named.new) }
+    ensures before { OnOk result (data_named.new ≡ false → data_named.old ≡ false) }
 {
     let mut bodies = Stack::new(alloc);
-    let mut ops = Vec::new(alloc);
+    let mut ops = ops;
     while !reader.is_empty() {
         let offset = reader.offset();
-        match read_next(alloc, reader, &mut bodies, &mut ops)? {
-            Next::Onward => {}
-            Next::Ended => return Ok(Items::from_vec(ops)),
-            Next::Misplaced => return Err(DecodeError::Malformed(offset)),
+        let code = reader.byte()?;
+        if !read_frequent(reader, &mut ops, code, offset)? {
+            *data_named |= code == 0xFC;
+            match read_other(alloc, reader, &mut bodies, &mut ops, code, offset)? {
+                Next::Onward => {}
+                Next::Ended => return Ok(ops.into_items()),
+                Next::Misplaced => return Err(DecodeError::Malformed(offset)),
+            }
         }
     }
     Err(DecodeError::Malformed(reader.offset()))
+}
+
+// An expression.
+pub fn read_expression(alloc: Global, reader: &mut Reader<'_>) -> Result<Items<Op>, DecodeError>
+    ensures { Gives result reader.new (expression_at reader.old) }
+{
+    let mut data_named = false;
+    read_operations(alloc, reader, Stack::new(alloc), &mut data_named)
+}
+
+// An expression that takes most of the bytes that are left. An operation takes two of them or more, mostly. Notes where one of
+// them may name a data segment.
+pub fn read_body(
+    alloc: Global,
+    reader: &mut Reader<'_>,
+    data_named: &mut bool,
+) -> Result<Items<Op>, DecodeError>
+    ensures reads { Gives result reader.new (expression_at reader.old) }
+    ensures data { IfOk result (NotesData data_named.new) }
+    ensures before { OnOk result (data_named.new ≡ false → data_named.old ≡ false) }
+{
+    let room = reader.rest().len() / 2;
+    read_operations(alloc, reader, Stack::with_room(alloc, room), data_named)
 }
 
 impl Readable for Items<Op> {
@@ -157,48 +235,5 @@ impl Readable for Items<Op> {
 
     fn read(alloc: Global, reader: &mut Reader<'_>) -> Result<Items<Op>, DecodeError> {
         read_expression(alloc, reader)
-    }
-}
-
-// Begins and ends bodies as an operation does.
-fn update_bodies(bodies: &mut Stack<OpenBody>, op: &Op) -> Result<Next, AllocError>
-    ensures { IfOk result (λ next. next_bodies bodies.old op.now ≡ (next, bodies.new)) }
-{
-    match op {
-        Op::Plain(_) => Ok(Next::Onward),
-        Op::Block(_) | Op::Loop(_) => begin_body(bodies, OpenBody::InBlock),
-        Op::If(_) => begin_body(bodies, OpenBody::InIf),
-        Op::Else => begin_second_body(bodies),
-        Op::End => Ok(end_body(bodies)),
-    }
-}
-
-fn begin_body(bodies: &mut Stack<OpenBody>, body: OpenBody) -> Result<Next, AllocError>
-    ensures { IfOk result (λ next. (next ≡ Onward) × (bodies.new ≡ body ∷ bodies.old)) }
-{
-    bodies.push(body)?;
-    Ok(Next::Onward)
-}
-
-// The first body of an if ends and the second begins.
-fn begin_second_body(bodies: &mut Stack<OpenBody>) -> Result<Next, AllocError>
-    ensures { IfOk result (λ next. next_bodies bodies.old Else ≡ (next, bodies.new)) }
-{
-    match bodies.pop() {
-        Some(OpenBody::InIf) => begin_body(bodies, OpenBody::InBlock),
-        Some(OpenBody::InBlock) => {
-            bodies.push(OpenBody::InBlock)?;
-            Ok(Next::Misplaced)
-        }
-        None => Ok(Next::Misplaced),
-    }
-}
-
-fn end_body(bodies: &mut Stack<OpenBody>) -> Next
-    ensures { next_bodies bodies.old End ≡ (result, bodies.new) }
-{
-    match bodies.pop() {
-        Some(_) => Next::Onward,
-        None => Next::Ended,
     }
 }

@@ -8,14 +8,13 @@ pub mod reference;
 pub mod table;
 pub mod variable;
 
-ghost use Rattle.std.specs.Prelude.{◌≡◌, ◌<◌, ◌++◌, ◌∷◌, [], length, OnOk};
-ghost use Rattle.std.specs.Vec.{vec_capacity};
-ghost use Rattle.core_types.specs.declared.op.Op.TheVariants.{Block, If, Loop, Plain};
-ghost use Rattle.core_types.specs.declared.op.PlainOp.TheVariants.{BrTable, I32Const, I64Const, SelectTyped};
-ghost use Rattle.binary.specs.Conventions.{Appends, Gives, chosen_at, mapped_at};
-ghost use Rattle.binary.specs.Types.{block_type_at, val_type_at};
+ghost use Rattle.core_types.specs.declared.op.Op.TheVariants.{Plain};
+ghost use Rattle.std.specs.Prelude.{List, OnOk, ℕ, ◌≢◌, ◌≤◌};
+ghost use Rattle.core_types.specs.declared.op.PlainOp.TheVariants.{BrTable, I32Const, I64Const, Memory, Numeric, SelectTyped, Variable};
+ghost use Rattle.binary.specs.Conventions.{Pushes, Gives, chosen_at, mapped_at, mapped_case};
+ghost use Rattle.binary.specs.Types.{val_type_at};
 ghost use Rattle.binary.specs.Values.{unsigned_at, vector_at};
-ghost use Rattle.binary.specs.Instructions.{branch_table_at, group_at, plain_at, prefixed_at, stored_at};
+ghost use Rattle.binary.specs.Instructions.{NameNoData, branch_table_at, group_at, memory_at, numeric_at, plain_at, prefixed_at, stored_at, variable_at};
 
 use crate::errors::DecodeError;
 use crate::instructions::control::{read_branch_table, read_control};
@@ -27,8 +26,8 @@ use crate::instructions::table::{read_prefixed_table, read_table};
 use crate::instructions::variable::read_variable;
 use crate::reader::Reader;
 use crate::values::read_vector;
-use core_types::{Boxed, Op, PlainOp, ValType};
-use std::alloc::{AllocError, Global};
+use core_types::{Boxed, Op, PlainOp, Stack, ValType};
+use std::alloc::Global;
 
 // A branch by number, behind its opcode.
 fn read_br_table(alloc: Global, reader: &mut Reader<'_>) -> Result<PlainOp, DecodeError>
@@ -58,90 +57,122 @@ fn read_i64_const(reader: &mut Reader<'_>) -> Result<PlainOp, DecodeError>
     Ok(PlainOp::I64Const(reader.s64()?.cast_unsigned()))
 }
 
-// Reserves room for more operations.
-#[cold]
-#[inline(never)]
-fn grow(ops: &mut Vec<Op>) -> Result<(), AllocError>
-    ensures same { ops.new.items ≡ ops.old.items }
-    ensures room { OnOk result (length ops.new.items < vec_capacity ops.new) }
-{
-    ops.reserve(1)
-}
-
-// Puts an operation behind others, in its caller's line, so that it is put together where it lies.
+// A 32-bit constant, behind its opcode, put on the others.
 #[inline(always)]
-pub fn push_op(ops: &mut Vec<Op>, op: Op) -> Result<(), AllocError>
-    ensures { OnOk result (ops.new.items ≡ ops.old.items ++ op ∷ []) }
+pub fn push_i32_const(reader: &mut Reader<'_>, ops: &mut Stack<Op>) -> Result<(), DecodeError>
+    ensures pushes { Pushes result ops.old ops.new reader.new
+        (mapped_at Plain (mapped_at I32Const (stored_at 32)) reader.old) }
+    ensures data { OnOk result (NameNoData ops.old → NameNoData ops.new) }
 {
-    if ops.len() == ops.capacity() {
-        grow(ops)?;
-    }
-    ops.push_reserved(op);
+    let op = read_i32_const(reader)?;
+    ops.push(Op::Plain(op))?;
     Ok(())
 }
 
-// An instruction without a body, behind its opcode, which is at the offset, put behind others.
+// An instruction on a local or a global, behind its opcode, which is at the offset, put on the others.
+#[inline(always)]
+pub fn push_variable(
+    reader: &mut Reader<'_>,
+    ops: &mut Stack<Op>,
+    code: u8,
+    offset: usize,
+) -> Result<(), DecodeError>
+    ensures pushes { Pushes result ops.old ops.new reader.new
+        (mapped_at Plain (mapped_case Variable variable_at code) reader.old) }
+    ensures data { OnOk result (NameNoData ops.old → NameNoData ops.new) }
+{
+    let op = read_variable(reader, code, offset)?;
+    ops.push(Op::Plain(PlainOp::Variable(op)))?;
+    Ok(())
+}
+
+// An instruction on the memory, behind its opcode, from 28 on, which is at the offset, put on the others.
+#[inline(always)]
+pub fn push_memory(
+    reader: &mut Reader<'_>,
+    ops: &mut Stack<Op>,
+    code: u8,
+    offset: usize,
+) -> Result<(), DecodeError>
+    requires { 0x28 ≤ code }
+    ensures pushes { Pushes result ops.old ops.new reader.new
+        (mapped_at Plain (mapped_case Memory memory_at code) reader.old) }
+    ensures data { OnOk result (NameNoData ops.old → NameNoData ops.new) }
+{
+    let op = read_memory(reader, code, offset)?;
+    ops.push(Op::Plain(PlainOp::Memory(op)))?;
+    Ok(())
+}
+
+// A numeric instruction without an immediate, whose opcode is at the offset, put on the others.
+#[inline(always)]
+pub fn push_numeric(ops: &mut Stack<Op>, code: u8, offset: usize) -> Result<(), DecodeError>
+    ensures pushes { (rest : List ℕ) → Pushes result ops.old ops.new rest
+        (mapped_at Plain (mapped_case Numeric numeric_at code) rest) }
+    ensures data { OnOk result (NameNoData ops.old → NameNoData ops.new) }
+{
+    let Some(op) = numeric_op(code) else {
+        return Err(DecodeError::Unsupported(offset));
+    };
+    ops.push(Op::Plain(PlainOp::Numeric(op)))?;
+    Ok(())
+}
+
+// An instruction without a body, behind its opcode, which is at the offset, put on the others.
 #[tactic(auto, unfolding(crate::specs::Instructions::plain_at))]
-pub fn append_plain(
+pub fn push_plain(
     alloc: Global,
     reader: &mut Reader<'_>,
-    ops: &mut Vec<Op>,
+    ops: &mut Stack<Op>,
     code: u8,
     offset: usize,
 ) -> Result<(), DecodeError>
-    ensures { Appends result ops.old.items ops.new.items reader.new
+    ensures pushes { Pushes result ops.old ops.new reader.new
         (mapped_at Plain (plain_at code) reader.old) }
+    ensures data { code ≢ 0xFC → OnOk result (NameNoData ops.old → NameNoData ops.new) }
 {
     match code {
-        0x0E => push_op(ops, Op::Plain(read_br_table(alloc, reader)?))?,
-        0x1C => push_op(ops, Op::Plain(read_typed_select(alloc, reader)?))?,
-        0x41 => push_op(ops, Op::Plain(read_i32_const(reader)?))?,
-        0x42 => push_op(ops, Op::Plain(read_i64_const(reader)?))?,
-        0xFC => push_op(ops, Op::Plain(read_prefixed(reader, offset)?))?,
-        _ => append_group(reader, ops, code, offset)?,
+        0x0E => ops.push(Op::Plain(read_br_table(alloc, reader)?))?,
+        0x1C => ops.push(Op::Plain(read_typed_select(alloc, reader)?))?,
+        0x41 => push_i32_const(reader, ops)?,
+        0x42 => ops.push(Op::Plain(read_i64_const(reader)?))?,
+        0xFC => ops.push(Op::Plain(read_prefixed(reader, offset)?))?,
+        _ => push_group(reader, ops, code, offset)?,
     }
     Ok(())
 }
 
-// An instruction of a group whose opcodes are next to each other, behind its opcode, which is at the offset, put behind others.
+// An instruction of a group whose opcodes are next to each other, behind its opcode, which is at the offset, put on the others.
 #[tactic(auto, unfolding(crate::specs::Instructions::group_at))]
-fn append_group(
+fn push_group(
     reader: &mut Reader<'_>,
-    ops: &mut Vec<Op>,
+    ops: &mut Stack<Op>,
     code: u8,
     offset: usize,
 ) -> Result<(), DecodeError>
-    ensures { Appends result ops.old.items ops.new.items reader.new
+    ensures pushes { Pushes result ops.old ops.new reader.new
         (mapped_at Plain (group_at code) reader.old) }
+    ensures data { OnOk result (NameNoData ops.old → NameNoData ops.new) }
 {
     match code {
         0x00..=0x13 => {
             let op = read_control(reader, code, offset)?;
-            push_op(ops, Op::Plain(PlainOp::Control(op)))?;
+            ops.push(Op::Plain(PlainOp::Control(op)))?;
         }
         0x14..=0x1B => {
             let op = read_parametric(reader, code, offset)?;
-            push_op(ops, Op::Plain(PlainOp::Parametric(op)))?;
+            ops.push(Op::Plain(PlainOp::Parametric(op)))?;
         }
-        0x1C..=0x24 => {
-            let op = read_variable(reader, code, offset)?;
-            push_op(ops, Op::Plain(PlainOp::Variable(op)))?;
-        }
+        0x1C..=0x24 => push_variable(reader, ops, code, offset)?,
         0x25..=0x27 => {
             let op = read_table(reader, code, offset)?;
-            push_op(ops, Op::Plain(PlainOp::Table(op)))?;
+            ops.push(Op::Plain(PlainOp::Table(op)))?;
         }
-        0x28..=0x40 => {
-            let op = read_memory(reader, code, offset)?;
-            push_op(ops, Op::Plain(PlainOp::Memory(op)))?;
-        }
-        0x41..=0xC4 => match numeric_op(code) {
-            Some(op) => push_op(ops, Op::Plain(PlainOp::Numeric(op)))?,
-            None => return Err(DecodeError::Unsupported(offset)),
-        },
+        0x28..=0x40 => push_memory(reader, ops, code, offset)?,
+        0x41..=0xC4 => push_numeric(ops, code, offset)?,
         _ => {
             let op = read_reference(reader, code, offset)?;
-            push_op(ops, Op::Plain(PlainOp::Reference(op)))?;
+            ops.push(Op::Plain(PlainOp::Reference(op)))?;
         }
     }
     Ok(())

@@ -1,6 +1,7 @@
 //! Modules (Binary Format, Modules).
 
 ghost use Rattle.std.specs.Prelude.{◌≡◌, IfOk};
+ghost use Rattle.binary.specs.Sections.{NotesDataOfAll};
 ghost use Rattle.binary.specs.Modules.{contents_at, definitions_at, module_at, module_from};
 ghost use Rattle.binary.specs.Conventions.{Gives};
 ghost use Rattle.binary.specs.Errors.{IfRefused, IsNoModule};
@@ -38,8 +39,9 @@ pub fn decode(alloc: Global, bytes: &[u8]) -> Result<Module, DecodeError>
         return Err(DecodeError::Limit);
     }
     let mut reader = Reader::new(bytes);
-    let (decoded, count) = read_module(alloc, &mut reader)?;
-    if !fits_count(count, &decoded) {
+    let mut data_named = false;
+    let (decoded, count) = read_module(alloc, &mut reader, &mut data_named)?;
+    if !fits_count(count, &decoded, data_named) {
         return Err(DecodeError::Malformed(bytes.len()));
     }
     if !has_small_parts(&decoded) {
@@ -68,16 +70,21 @@ struct Definitions {
     contents: Contents,
 }
 
-// A module, and its data count.
+// A module, and its data count. Notes where its code may name a data segment.
 #[tactic(auto, unfolding(crate::specs::Modules::module_at, crate::specs::Modules::sections_at))]
-fn read_module(alloc: Global, reader: &mut Reader<'_>) -> Result<(Module, Option<u32>), DecodeError>
-    ensures { Gives result reader.new (module_at reader.old) }
+fn read_module(
+    alloc: Global,
+    reader: &mut Reader<'_>,
+    data_named: &mut bool,
+) -> Result<(Module, Option<u32>), DecodeError>
+    ensures reads { Gives result reader.new (module_at reader.old) }
+    ensures data { IfOk result (λ read. NotesDataOfAll data_named.new read.0.funcs) }
 {
     read_expected(reader, &HEADER)?;
     let types = read_vector_section::<FuncType>(alloc, reader, 1)?;
     let imports = read_vector_section::<Import>(alloc, reader, 2)?;
     let indices = read_vector_section::<u32>(alloc, reader, 3)?;
-    let definitions = read_definitions(alloc, reader, indices.as_slice())?;
+    let definitions = read_definitions(alloc, reader, indices.as_slice(), data_named)?;
     Ok(make_module(types, imports, definitions))
 }
 
@@ -87,14 +94,16 @@ fn read_definitions(
     alloc: Global,
     reader: &mut Reader<'_>,
     indices: &[u32],
+    data_named: &mut bool,
 ) -> Result<Definitions, DecodeError>
-    ensures { Gives result reader.new (definitions_at indices.now reader.old) }
+    ensures data { IfOk result (λ read. NotesDataOfAll data_named.new read.contents.funcs) }
+    ensures reads { Gives result reader.new (definitions_at indices.now reader.old) }
 {
     let tables = read_vector_section::<TableType>(alloc, reader, 4)?;
     let memories = read_vector_section::<Limits>(alloc, reader, 5)?;
     let globals = read_vector_section::<ModuleGlobal>(alloc, reader, 6)?;
     let exports = read_vector_section::<Export>(alloc, reader, 7)?;
-    let contents = read_contents(alloc, reader, indices)?;
+    let contents = read_contents(alloc, reader, indices, data_named)?;
     Ok(Definitions {
         tables,
         memories,
@@ -110,13 +119,15 @@ fn read_contents(
     alloc: Global,
     reader: &mut Reader<'_>,
     indices: &[u32],
+    data_named: &mut bool,
 ) -> Result<Contents, DecodeError>
-    ensures { Gives result reader.new (contents_at indices.now reader.old) }
+    ensures data { IfOk result (λ read. NotesDataOfAll data_named.new read.funcs) }
+    ensures reads { Gives result reader.new (contents_at indices.now reader.old) }
 {
     let start = read_number_section(reader, 8)?;
     let elements = read_vector_section::<ElementSegment>(alloc, reader, 9)?;
     let count = read_number_section(reader, 12)?;
-    let funcs = read_code_section(alloc, reader, indices)?;
+    let funcs = read_code_section(alloc, reader, indices, data_named)?;
     let datas = read_vector_section::<DataSegment>(alloc, reader, 11)?;
     read_ending(reader)?;
     Ok(Contents {

@@ -3,8 +3,40 @@ ghost use Rattle.core_types.specs.LocalRuns.{start_of};
 
 use crate::locals::LocalRun;
 
+// So many runs at most are looked at in turn, as that is faster.
+const FEW_RUNS: usize = 8;
+
 // The index of the first run that ends behind the index of a local.
 pub fn run_at(runs: &[LocalRun], index: u32) -> usize
+    ensures within { result ≤ length runs.now }
+    ensures begins { start_of 0 runs.now result ≤ index }
+    ensures ends { IfSome (slice_get runs.now result) (λ run. index < run.end) }
+{
+    if runs.len() <= FEW_RUNS {
+        run_in_turn(runs, index)
+    } else {
+        run_by_halving(runs, index)
+    }
+}
+
+// The same, where each run is looked at from the first one on.
+fn run_in_turn(runs: &[LocalRun], index: u32) -> usize
+    ensures within { result ≤ length runs.now }
+    ensures begins { start_of 0 runs.now result ≤ index }
+    ensures ends { IfSome (slice_get runs.now result) (λ run. index < run.end) }
+{
+    let mut found = 0;
+    while found < runs.len() {
+        if index < runs[found].end {
+            return found;
+        }
+        found += 1;
+    }
+    found
+}
+
+// The same, where the runs that may be it are halved.
+fn run_by_halving(runs: &[LocalRun], index: u32) -> usize
     ensures within { result ≤ length runs.now }
     ensures begins { start_of 0 runs.now result ≤ index }
     ensures ends { IfSome (slice_get runs.now result) (λ run. index < run.end) }

@@ -27,6 +27,16 @@ impl<T> Stack<T> {
         }
     }
 
+    /// An empty stack, which has room for `count` elements where there is memory for them.
+    pub fn with_room(alloc: Global, count: usize) -> Stack<T>
+        ensures { result ≡ [] }
+    {
+        match Vec::with_capacity(alloc, count) {
+            Ok(items) => Stack { items },
+            Err(_) => Stack::new(alloc),
+        }
+    }
+
     /// How many elements there are.
     #[inline(always)]
     pub fn len(&self) -> usize
@@ -44,11 +54,13 @@ impl<T> Stack<T> {
         self.items.pop()
     }
 
-    /// The elements from the bottom to the top. Takes no memory.
+    /// The elements from the bottom to the top, in a list that gives back the room for more. Takes no memory.
     pub fn into_items(self) -> Items<T>
         ensures { result ≡ reverse self }
     {
         let Stack { items } = self;
+        let mut items = items;
+        items.shrink_to_fit();
         Items::from_vec(items)
     }
 }

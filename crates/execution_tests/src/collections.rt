@@ -4,13 +4,28 @@ use core_types::{Boxed, Items, Locals, Name, Op, Stack, ValType};
 use std::alloc::{AllocError, Global};
 use std::mem::size_of;
 
-// How many locals of a type come in a row.
-static RUNS: [(u32, ValType); 6] = [
+// How many locals of a type come in a row, in few runs.
+static FEW_RUNS: [(u32, ValType); 6] = [
     (2, ValType::I32),
     (0, ValType::FuncRef),
     (1, ValType::I64),
     (0, ValType::I64),
     (3, ValType::ExternRef),
+    (0, ValType::I32),
+];
+
+// The same locals in many runs.
+static MANY_RUNS: [(u32, ValType); 11] = [
+    (0, ValType::I64),
+    (1, ValType::I32),
+    (0, ValType::FuncRef),
+    (1, ValType::I32),
+    (0, ValType::ExternRef),
+    (1, ValType::I64),
+    (0, ValType::I64),
+    (2, ValType::ExternRef),
+    (0, ValType::I32),
+    (1, ValType::ExternRef),
     (0, ValType::I32),
 ];
 
@@ -39,15 +54,22 @@ fn locals_of(alloc: Global, runs: &[(u32, ValType)]) -> Result<Locals, AllocErro
 }
 
 // How many locals there are in the runs, and which one is at an index.
-fn local_at(alloc: Global, index: u32) -> Option<(u32, Option<ValType>)> {
-    let locals = locals_of(alloc, &RUNS).ok()?;
+fn local_at(alloc: Global, runs: &[(u32, ValType)], index: u32) -> Option<(u32, Option<ValType>)> {
+    let locals = locals_of(alloc, runs).ok()?;
     Some((locals.len(), locals.get(index)))
 }
 
 #[test]
 fn finds_locals_by_index(rt: HostRuntime) {
     for (index, ty) in &LOCALS {
-        assert!(rt; local_at(rt.alloc(), *index) == Some((6, *ty)), "{index}");
+        assert!(rt;
+            local_at(rt.alloc(), &FEW_RUNS, *index) == Some((6, *ty)),
+            "{index}"
+        );
+        assert!(rt;
+            local_at(rt.alloc(), &MANY_RUNS, *index) == Some((6, *ty)),
+            "{index}"
+        );
     }
 }
 
@@ -133,9 +155,9 @@ fn takes(stack: &mut Stack<u32>, step: Step) -> bool {
     }
 }
 
-// Whether a stack takes all steps so, and gives its items from the bottom.
-fn takes_all(alloc: Global) -> bool {
-    let mut stack = Stack::new(alloc);
+// Whether a stack with such room takes all steps so, and gives its items from the bottom.
+fn takes_all(alloc: Global, room: usize) -> bool {
+    let mut stack = Stack::with_room(alloc, room);
     let mut all = true;
     for step in &STEPS {
         all &= takes(&mut stack, *step);
@@ -145,7 +167,9 @@ fn takes_all(alloc: Global) -> bool {
 
 #[test]
 fn keeps_stacks(rt: HostRuntime) {
-    assert!(rt; takes_all(rt.alloc()));
+    for room in [0, 1, 9, usize::MAX] {
+        assert!(rt; takes_all(rt.alloc(), room), "{room}");
+    }
 }
 
 #[test]

@@ -1,3 +1,4 @@
+pub mod LastBytes
 pub mod PrefixFree
 pub mod SignedLaws
 pub mod UnsignedLaws

@@ -1,5 +1,5 @@
 -- What the first byte says of a signed integer's spelling.
-use Rattle.std.proofs.Common.{◌≡◌, ℕ, ◌-◌, ◌^◌, ◌<◌, ◌≤◌, List, [], ◌∷◌, ◌++◌, ℤ, pos, ◌+ℤ◌, ◌*ℤ◌, arith, ap, refl, subst, inl, inr, w64, FitsSigned}
+use Rattle.std.proofs.Common.{◌≡◌, ℕ, ◌-◌, ◌^◌, ◌<◌, ◌≤◌, List, [], ◌∷◌, ◌++◌, ℤ, pos, ◌+ℤ◌, ◌*ℤ◌, arith, ap, length, refl, subst, inl, inr, w64, FitsSigned}
 use Rattle.std.proofs.lemmas.Int.{ints}
 use Rattle.leb.proofs.Widths.{half_at_most}
 use Rattle.leb.specs.Ranges.{IsInRange}
@@ -37,3 +37,16 @@ none_reads bits byte bytes last more (first ∷ next ∷ text) rest z parts spel
     let same : byte ≡ first = cc in
     let tail : bytes ≡ (next ∷ text) ++ rest = cc in
     more (omega arith) spelt.1 (next ∷ text) rest spelt.2.0 tail spelt.2.1
+
+-- No bytes are no spelling.
+pub none_empty : (bits : ℕ) → NoFront (SpellsSigned bits) []
+none_empty bits [] rest value parts spelt = absurd spelt
+none_empty bits (byte ∷ text) rest value parts spelt = absurd (omega (arith, ap length parts))
+
+-- No spelling begins with a byte that is not the last where nothing spells the rest.
+pub none_behind_more : (bits byte : ℕ) (bytes : List ℕ) → 2 ^ 7 ≤ byte → NoFront (SpellsSigned (bits - 7)) bytes → NoFront (SpellsSigned bits) (byte ∷ bytes)
+none_behind_more bits byte bytes more none = none_reads bits byte bytes (λ last. absurd (omega arith)) (λ more wide. none)
+
+-- No spelling begins with a byte that is not the last where no bits are left for the rest.
+pub none_narrow : (bits byte : ℕ) (bytes : List ℕ) → 2 ^ 7 ≤ byte → bits ≤ 7 → NoFront (SpellsSigned bits) (byte ∷ bytes)
+none_narrow bits byte bytes more narrow = none_reads bits byte bytes (λ last. absurd (omega arith)) (λ more wide. absurd (omega arith))

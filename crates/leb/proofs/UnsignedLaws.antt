@@ -1,5 +1,5 @@
 -- What the first byte says of an unsigned integer's spelling.
-use Rattle.std.proofs.Common.{◌≡◌, ℕ, ◌+◌, ◌-◌, ◌*◌, ◌^◌, ◌<◌, ◌≤◌, List, [], ◌∷◌, ◌++◌, arith, ap, refl}
+use Rattle.std.proofs.Common.{◌≡◌, ℕ, ◌+◌, ◌-◌, ◌*◌, ◌^◌, ◌<◌, ◌≤◌, List, [], ◌∷◌, ◌++◌, arith, ap, length, refl}
 use Rattle.meaning.specs.binary.Values.{SpellsUnsigned}
 use Rattle.meaning.specs.binary.Conventions.{NoFront, Reads}
 
@@ -26,3 +26,16 @@ none_reads bits byte bytes last more (first ∷ next ∷ text) rest value parts 
     let same : byte ≡ first = cc in
     let tail : bytes ≡ (next ∷ text) ++ rest = cc in
     more (omega arith) spelt.1 (next ∷ text) rest spelt.2.0 tail spelt.2.1
+
+-- No bytes are no spelling.
+pub none_empty : (bits : ℕ) → NoFront (SpellsUnsigned bits) []
+none_empty bits [] rest value parts spelt = absurd spelt
+none_empty bits (byte ∷ text) rest value parts spelt = absurd (omega (arith, ap length parts))
+
+-- No spelling begins with a byte that is not the last where nothing spells the rest.
+pub none_behind_more : (bits byte : ℕ) (bytes : List ℕ) → 2 ^ 7 ≤ byte → NoFront (SpellsUnsigned (bits - 7)) bytes → NoFront (SpellsUnsigned bits) (byte ∷ bytes)
+none_behind_more bits byte bytes more none = none_reads bits byte bytes (λ last. absurd (omega arith)) (λ more wide. none)
+
+-- No spelling begins with a byte that is not the last where no bits are left for the rest.
+pub none_narrow : (bits byte : ℕ) (bytes : List ℕ) → 2 ^ 7 ≤ byte → bits ≤ 7 → NoFront (SpellsUnsigned bits) (byte ∷ bytes)
+none_narrow bits byte bytes more narrow = none_reads bits byte bytes (λ last. absurd (omega arith)) (λ more wide. absurd (omega arith))

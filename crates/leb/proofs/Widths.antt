@@ -22,3 +22,6 @@ pub half-seven_less : (bits : ℕ) → 7 < bits → 2 ^ (bits - 1) ≡ 2 ^ (bits
 half-seven_less bits wide =
     let parts : bits - 1 ≡ bits - 7 - 1 + 7 = omega arith in
     ap (λ (k : ℕ). 2 ^ k) parts ∙ pow-add 2 (bits - 7 - 1) 7
+
+pub pow-seven_more : (bits : ℕ) → 2 ^ (bits + 7) ≡ 2 ^ bits * 2 ^ 7
+pow-seven_more bits = pow-add 2 bits 7

@@ -1,6 +1,7 @@
 //! Reads the integers of the binary format, which are spelled with seven bits a byte (LEB128).
 #![tactic(auto)]
 
+mod fronts;
 mod laws;
 mod signed;
 mod unsigned;

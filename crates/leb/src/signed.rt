@@ -1,8 +1,10 @@
-ghost use Rattle.std.specs.Prelude.{◌≡◌, ◌+◌, ◌-◌, ◌^◌, ◌<◌, ◌≤◌, ◌<ℤ◌, ℤ, pos, ◌+ℤ◌, ◌*ℤ◌, length, drop, IfNone, IfSome};
+ghost use Rattle.std.specs.Prelude.{◌≡◌, ◌+◌, ◌-◌, ◌^◌, ◌<◌, ◌≤◌, ◌*◌, ◌<ℤ◌, ℤ, pos, ◌+ℤ◌, ◌*ℤ◌, length, drop, IfNone, IfSome};
+ghost use Rattle.leb.specs.Fronts.{AreMore};
 ghost use Rattle.leb.specs.Ranges.{IsInRange};
 ghost use Rattle.meaning.specs.binary.Values.{EndsSigned, SpellsSigned};
 ghost use Rattle.meaning.specs.binary.Conventions.{NoFront, Reads};
 
+use crate::fronts::{LastByte, find_last};
 use crate::width::is_within;
 
 // The signed integer of `bits` bits that a last byte represents.
@@ -32,27 +34,47 @@ fn joined_value(bits: u32, byte: u8, high: i64) -> i64
     high * 0x80 + i64::from(byte - 0x80)
 }
 
-// The signed integer of `bits` bits that a front of the bytes spells, and how many bytes spell it.
-fn signed_front(bytes: &[u8], bits: u32) -> Option<(i64, usize)>
+// The number that the bytes from `at` up to the last one spell, as one of `bits` bits, where the last one represents `high`.
+#[inline(always)]
+fn signed_value(bytes: &[u8], at: usize, last: LastByte, high: i64, bits: u32) -> i64
+    requires at_most { bits ≤ 64 }
+    requires within { (at ≤ last.offset) × (last.offset < length bytes.now) }
+    requires more { AreMore bytes.now at last.offset }
+    requires range { IsInRange last.bits high }
+    requires last { Reads (SpellsSigned last.bits) (drop last.offset bytes.now) high
+        (drop (last.offset + 1) bytes.now) }
+    requires bits { (0 < last.bits) × (last.bits + 7 * (last.offset - at) ≡ bits) }
+    ensures range { IsInRange bits result }
+    ensures found { Reads (SpellsSigned bits) (drop at bytes.now) result
+        (drop (last.offset + 1) bytes.now) }
+{
+    let mut value = high;
+    let mut offset = last.offset;
+    let mut width = last.bits;
+    while offset > at {
+        offset -= 1;
+        width += 7;
+        value = joined_value(width, bytes[offset], value);
+    }
+    value
+}
+
+// Reads the signed integer of `bits` bits whose spelling begins at `at`, and says at which offset the spelling ends.
+#[inline(always)]
+fn read_signed(bytes: &[u8], at: usize, bits: u32) -> Option<(i64, usize)>
     requires some_bits { 0 < bits }
     requires at_most { bits ≤ 64 }
-    ensures size { IfSome result (λ f. (0 < f.1) × (f.1 ≤ length bytes.now)) }
+    requires within { at ≤ length bytes.now }
+    ensures within { IfSome result (λ f. (at < f.1) × (f.1 ≤ length bytes.now)) }
     ensures range { IfSome result (λ f. IsInRange bits f.0) }
     ensures found { IfSome result
-        (λ f. Reads (SpellsSigned bits) bytes.now f.0 (drop f.1 bytes.now)) }
-    ensures none { IfNone result (NoFront (SpellsSigned bits) bytes.now) }
+        (λ f. Reads (SpellsSigned bits) (drop at bytes.now) f.0 (drop f.1 bytes.now)) }
+    ensures none { IfNone result (NoFront (SpellsSigned bits) (drop at bytes.now)) }
 {
-    let (byte, rest) = bytes.split_first()?;
-    let byte = *byte;
-    if byte < 0x80 {
-        let value = last_value(bits, byte)?;
-        return Some((value, 1));
-    }
-    if bits <= 7 {
-        return None;
-    }
-    let (high, size) = signed_front(rest, bits - 7)?;
-    Some((joined_value(bits, byte, high), size + 1))
+    let last = find_last(bytes, at, bits)?;
+    let high = last_value(last.bits, last.byte)?;
+    let value = signed_value(bytes, at, last, high, bits);
+    Some((value, last.offset + 1))
 }
 
 // The signed integer that a last byte represents, where there are enough bits for each.
@@ -78,8 +100,8 @@ fn read_long_s32(bytes: &[u8], at: usize) -> Option<(i32, usize)>
         (λ f. Reads (SpellsSigned 32) (drop at bytes.now) f.0 (drop f.1 bytes.now)) }
     ensures none { IfNone result (NoFront (SpellsSigned 32) (drop at bytes.now)) }
 {
-    let (value, size) = signed_front(&bytes[at..], 32)?;
-    Some((value as i32, at + size))
+    let (value, end) = read_signed(bytes, at, 32)?;
+    Some((value as i32, end))
 }
 
 /// Reads the signed integer of 32 bits whose spelling begins at `at`, and says at which offset the spelling ends.
@@ -112,8 +134,7 @@ pub fn read_s33(bytes: &[u8], at: usize) -> Option<(i64, usize)>
     ensures range { IfSome result (λ f. f.0 <ℤ pos (2 ^ 32)) }
     ensures none { IfNone result (NoFront (SpellsSigned 33) (drop at bytes.now)) }
 {
-    let (value, size) = signed_front(&bytes[at..], 33)?;
-    Some((value, at + size))
+    read_signed(bytes, at, 33)
 }
 
 /// Reads the signed integer of 64 bits whose spelling begins at `at`, and says at which offset the spelling ends.
@@ -127,6 +148,5 @@ pub fn read_s64(bytes: &[u8], at: usize) -> Option<(i64, usize)>
         (λ f. Reads (SpellsSigned 64) (drop at bytes.now) f.0 (drop f.1 bytes.now)) }
     ensures none { IfNone result (NoFront (SpellsSigned 64) (drop at bytes.now)) }
 {
-    let (value, size) = signed_front(&bytes[at..], 64)?;
-    Some((value, at + size))
+    read_signed(bytes, at, 64)
 }

@@ -1,31 +1,32 @@
-ghost use Rattle.std.specs.Prelude.{◌^◌, ◌<◌, ◌≤◌, length, drop, IfNone, IfSome};
+ghost use Rattle.std.specs.Prelude.{◌≡◌, ◌^◌, ◌<◌, ◌≤◌, ◌+◌, ◌-◌, ◌*◌, length, drop, IfNone, IfSome};
+ghost use Rattle.leb.specs.Fronts.{AreMore};
 ghost use Rattle.meaning.specs.binary.Values.{SpellsUnsigned};
 ghost use Rattle.meaning.specs.binary.Conventions.{NoFront, Reads};
 
+use crate::fronts::{LastByte, find_last};
 use crate::width::is_within;
 
-// The unsigned integer of `bits` bits that a front of the bytes spells, and how many bytes spell it.
-fn unsigned_front(bytes: &[u8], bits: u32) -> Option<(u64, usize)>
-    requires { bits ≤ 64 }
-    ensures size { IfSome result (λ f. (0 < f.1) × (f.1 ≤ length bytes.now)) }
-    ensures range { IfSome result (λ f. f.0 < 2 ^ bits) }
-    ensures found { IfSome result
-        (λ f. Reads (SpellsUnsigned bits) bytes.now f.0 (drop f.1 bytes.now)) }
-    ensures none { IfNone result (NoFront (SpellsUnsigned bits) bytes.now) }
+// The number that the bytes from `at` up to the last one spell, as one of `bits` bits.
+#[inline(always)]
+fn unsigned_value(bytes: &[u8], at: usize, last: LastByte, bits: u32) -> u64
+    requires at_most { bits ≤ 64 }
+    requires within { (at ≤ last.offset) × (last.offset < length bytes.now) }
+    requires more { AreMore bytes.now at last.offset }
+    requires last { Reads (SpellsUnsigned last.bits) (drop last.offset bytes.now) last.byte
+        (drop (last.offset + 1) bytes.now) }
+    requires bits { (0 < last.bits) × (last.bits + 7 * (last.offset - at) ≡ bits) }
+    requires fits { last.byte < 2 ^ last.bits }
+    ensures range { result < 2 ^ bits }
+    ensures found { Reads (SpellsUnsigned bits) (drop at bytes.now) result
+        (drop (last.offset + 1) bytes.now) }
 {
-    let (byte, rest) = bytes.split_first()?;
-    let byte = *byte;
-    if byte < 0x80 {
-        if !is_within(bits, byte) {
-            return None;
-        }
-        return Some((u64::from(byte), 1));
+    let mut value = u64::from(last.byte);
+    let mut offset = last.offset;
+    while offset > at {
+        offset -= 1;
+        value = value * 0x80 + u64::from(bytes[offset] - 0x80);
     }
-    if bits <= 7 {
-        return None;
-    }
-    let (high, size) = unsigned_front(rest, bits - 7)?;
-    Some((high * 0x80 + u64::from(byte - 0x80), size + 1))
+    value
 }
 
 // Reads the unsigned integer of 32 bits whose spelling begins at `at`, by more than one byte or none.
@@ -38,8 +39,12 @@ fn read_long_u32(bytes: &[u8], at: usize) -> Option<(u32, usize)>
         (λ f. Reads (SpellsUnsigned 32) (drop at bytes.now) f.0 (drop f.1 bytes.now)) }
     ensures none { IfNone result (NoFront (SpellsUnsigned 32) (drop at bytes.now)) }
 {
-    let (value, size) = unsigned_front(&bytes[at..], 32)?;
-    Some((value as u32, at + size))
+    let last = find_last(bytes, at, 32)?;
+    if !is_within(last.bits, last.byte) {
+        return None;
+    }
+    let value = unsigned_value(bytes, at, last, 32);
+    Some((value as u32, last.offset + 1))
 }
 
 /// Reads the unsigned integer of 32 bits whose spelling begins at `at`, and says at which offset the spelling ends.

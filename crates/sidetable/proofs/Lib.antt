@@ -6,6 +6,7 @@ mod LabelNumbers
 mod Left
 mod Lengths
 mod Making
+mod MeasuredRows
 mod Passing
 mod Shapes
 mod Wholes

@@ -1,6 +1,7 @@
 -- Sizes of bodies, read from the last operation to the first.
-use Rattle.std.specs.Prelude.{◌≡◌, ℕ, suc, ◌+◌, List, [], ◌∷◌, map, Option, Some, None, option_map}
+use Rattle.std.specs.Prelude.{◌≡◌, ◌≢◌, ◌<◌, ◌-◌, ℕ, suc, slice_get, ◌+◌, List, [], ◌∷◌, map, Option, Some, None, option_map}
 use Rattle.core_types.specs.declared.op.Op.{Op}
+use Rattle.core_types.specs.declared.op.PlainOp.{PlainOp}
 use Rattle.core_types.specs.declared.op.Op.TheVariants.{Plain, Block, Loop, If, Else, End}
 use Rattle.meaning.specs.structure.Bodies.{Part, rests}
 use Rattle.sidetable.specs.Flat.{size}
@@ -37,3 +38,7 @@ pub record Measures (ops : List Op) (s : Sizes) : Type 0 where
 -- One operation more is measured.
 abbrev pub MeasuresOn : Op → Sizes → Sizes → Type 0
 MeasuresOn op old new = (ops : List Op) → Measures ops old → Measures (op ∷ ops) new
+
+-- No instruction without a body lies right before this place.
+abbrev pub IsMarkBefore : ℕ → List Op → Type 0
+IsMarkBefore place ops = (plain : PlainOp) → 0 < place → slice_get ops (place - 1) ≢ Some (Plain plain)

@@ -6,13 +6,14 @@ ghost use Rattle.sidetable.specs.Flattening.{ArePushed, IsPushed};
 ghost use Rattle.sidetable.specs.Signatures.{signatures_of};
 
 use crate::counts::ModuleTypes;
-use crate::flattening::flatten_body;
+use crate::flattening::{FlatBody, Room, flatten_body};
 use crate::module_types::indices_of_types;
 use crate::operations::PackedOp;
 use crate::side_tables::{SideTables, number};
 use crate::sizes::sum;
 use core_types::Func;
 use std::alloc::{AllocError, Global};
+use std::mem;
 use validator::ValidModule;
 
 /// A function of a module: the place of its first operation, how many parameters, locals with these, and results it has, and the
@@ -40,6 +41,7 @@ fn flatten_function(
     alloc: Global,
     s: &ModuleTypes<'_>,
     flat: FlatModule,
+    room: &mut Room,
     func: &Func,
 ) -> Result<FlatModule, AllocError>
     requires body { HasBody func.now }
@@ -59,15 +61,22 @@ fn flatten_function(
     let mut functions = functions;
     let place = number(operations.len())?;
     let made = flatten_body(
-        alloc,
         s,
         operations,
         tables,
+        mem::replace(room, Room::new(alloc)),
         locals,
         results,
         func.body.as_slice(),
     )?;
-    let mut operations = made.operations;
+    let FlatBody {
+        operations,
+        tables,
+        greatest,
+        room: kept,
+    } = made;
+    *room = kept;
+    let mut operations = operations;
     operations.push(PackedOp::Leave(results))?;
     number(operations.len())?;
     functions.push(PackedFunction {
@@ -75,12 +84,12 @@ fn flatten_function(
         params,
         locals,
         results,
-        greatest: made.greatest,
+        greatest,
     })?;
     Ok(FlatModule {
         functions,
         operations,
-        tables: made.tables,
+        tables,
     })
 }
 
@@ -99,8 +108,9 @@ fn flatten_functions(
         operations: Vec::new(alloc),
         tables: SideTables::new(alloc),
     };
+    let mut room = Room::new(alloc);
     for index in 0..funcs.len() {
-        flat = flatten_function(alloc, s, flat, &funcs[index])?;
+        flat = flatten_function(alloc, s, flat, &mut room, &funcs[index])?;
     }
     Ok(flat)
 }

@@ -1,6 +1,7 @@
-ghost use Rattle.std.specs.Prelude.{◌≡◌, ◌+◌, ◌∷◌, [], List, IfOk, OnOk};
+ghost use Rattle.std.specs.Prelude.{◌≡◌, ◌≢◌, ◌+◌, ◌∷◌, [], List, IfOk, OnOk};
 ghost use Rattle.std.specs.List.{All};
 ghost use Rattle.core_types.specs.declared.op.Op.TheVariants.{Block, Else, End, If, Loop, Plain};
+ghost use Rattle.core_types.specs.declared.op.PlainOp.{PlainOp as PlainInstruction};
 ghost use Rattle.meaning.specs.structure.Bodies.{Body, writing};
 ghost use Rattle.sidetable.specs.Counts.{changed as changed_height};
 ghost use Rattle.sidetable.specs.Flattening.{CanMake, CanMakeAll, IsMade, Passes, PassesTo, Pushes, if_end, if_second};
@@ -15,7 +16,7 @@ use crate::labels::{Label, Level, push_label};
 use crate::operand_heights::{base, behind, changed, known, less_one};
 use crate::operations::{Entry, PackedOp, TransferInstruction};
 use crate::side_tables::{SideTables, number};
-use crate::sizes::{PartSize, measure, sum};
+use crate::sizes::{PartSize, clear, measure, sum};
 use core_types::{BlockType, Op, PlainOp, Stack};
 use meaning::writing_is_read;
 use std::alloc::{AllocError, Global};
@@ -38,9 +39,9 @@ struct Flattening {
 fn push_operation(f: &mut Flattening, op: PackedOp, after: Option<u64>) -> Result<(), AllocError>
     ensures { OnOk result (Pushes f.old op after f.new) }
 {
-    f.operations.push(op)?;
     f.greatest = f.greatest.max(known(f.height));
     f.height = after;
+    f.operations.push(op)?;
     Ok(())
 }
 
@@ -252,8 +253,27 @@ fn step(
     requires can { CanMake (signatures_of s.now) outermost f.old op.now }
     ensures { OnOk result (Passes (signatures_of s.now) outermost f.old op.now f.new) }
 {
+    if let Op::Plain(op) = op {
+        step_plain(s, outermost, f, op)?;
+        return Ok(());
+    }
+    step_mark(s, outermost, f, op)
+}
+
+// One mark more.
+#[inline(never)]
+fn step_mark(
+    s: &ModuleTypes<'_>,
+    outermost: Label,
+    f: &mut Flattening,
+    op: &Op,
+) -> Result<(), AllocError>
+    requires mark { (plain : PlainInstruction) → op.now ≢ Plain plain }
+    requires can { CanMake (signatures_of s.now) outermost f.old op.now }
+    ensures { OnOk result (Passes (signatures_of s.now) outermost f.old op.now f.new) }
+{
     match op {
-        Op::Plain(op) => step_plain(s, outermost, f, op)?,
+        Op::Plain(_) => unreachable!(),
         Op::Block(ty) => step_block(s, outermost, f, *ty)?,
         Op::Loop(ty) => step_loop(s, outermost, f, *ty)?,
         Op::If(ty) => step_if(s, outermost, f, *ty)?,
@@ -280,21 +300,43 @@ fn run(
     Ok(())
 }
 
+/// The stacks that flattening a function takes, whose room is kept for the next one.
+#[derive(Drop)]
+pub struct Room {
+    levels: Stack<Level>,
+    around: Stack<PartSize>,
+    openings: Stack<PartSize>,
+}
+
+impl Room {
+    /// No room. Takes no memory.
+    pub fn new(alloc: Global) -> Room
+        ensures { (result.levels ≡ []) × (result.around ≡ []) × (result.openings ≡ []) }
+    {
+        Room {
+            levels: Stack::new(alloc),
+            around: Stack::new(alloc),
+            openings: Stack::new(alloc),
+        }
+    }
+}
+
 /// What was made of a function's body, too: all operations so far, the side tables with what they name, and the greatest height in the
-/// function's frame.
+/// function's frame; and the room that it took.
 #[derive(Drop)]
 pub struct FlatBody {
     pub operations: Vec<PackedOp>,
     pub tables: SideTables,
     pub greatest: u64,
+    pub room: Room,
 }
 
 /// Flattens a body, whose operations are put behind others. Its function has so many locals, with its parameters, and results.
 pub fn flatten_body(
-    alloc: Global,
     s: &ModuleTypes<'_>,
     operations: Vec<PackedOp>,
     tables: SideTables,
+    room: Room,
     locals: u32,
     results: u32,
     code: &[Op],
@@ -305,7 +347,14 @@ pub fn flatten_body(
         → IsMade (signatures_of s.now) operations.items tables locals results body b) }
 {
     writing_is_read();
-    let measured = measure(alloc, code)?;
+    let Room {
+        levels,
+        around,
+        openings,
+    } = room;
+    let mut levels = levels;
+    clear(&mut levels);
+    let measured = measure(around, openings, code)?;
     let mut tables = tables;
     let end = sum(operations.len(), measured.size)?;
     let outermost = push_label(
@@ -319,7 +368,7 @@ pub fn flatten_body(
     let mut f = Flattening {
         tables,
         operations,
-        levels: Stack::new(alloc),
+        levels,
         openings: measured.openings,
         height: Some(locals as u64),
         greatest: locals as u64 + results as u64,
@@ -330,5 +379,10 @@ pub fn flatten_body(
         operations: f.operations,
         tables: f.tables,
         greatest,
+        room: Room {
+            levels: f.levels,
+            around: measured.around,
+            openings: f.openings,
+        },
     })
 }

@@ -1,13 +1,13 @@
-ghost use Rattle.std.specs.Prelude.{◌≡◌, ◌+◌, List, map, IfOk, OnOk};
+ghost use Rattle.std.specs.Prelude.{◌≡◌, ◌≢◌, ◌↔◌, ◌+◌, ◌≤◌, List, [], drop, length, map, IfOk, IsTrue, OnOk};
 ghost use Rattle.core_types.specs.declared.op.BlockType.{BlockType as AnyType};
 ghost use Rattle.core_types.specs.declared.op.PlainOp.{PlainOp};
 ghost use Rattle.core_types.specs.declared.op.Op.TheVariants.{Block, Else, End, If, Loop, Plain};
 ghost use Rattle.meaning.specs.structure.Bodies.{Part, body_of, first_part, other_parts};
 ghost use Rattle.sidetable.specs.Flat.{size};
-ghost use Rattle.sidetable.specs.Sizes.{MeasuresOn, behind_first, openings_of, size_of};
+ghost use Rattle.sidetable.specs.Sizes.{IsMarkBefore, Measures, MeasuresOn, behind_first, openings_of, size_of};
 
 use core_types::{Op, Stack};
-use std::alloc::{AllocError, Global};
+use std::alloc::AllocError;
 
 /// How many operations are left of a body, and of the other body behind it, if there is one.
 #[derive(Clone, Copy)]
@@ -25,11 +25,20 @@ struct Sizes {
 }
 
 /// What a function's code is measured to be: how many operations without marks it leaves, and how many lie behind each mark that
-/// begins a body.
+/// begins a body. The stack of the bodies around keeps its room for the next function.
 #[derive(Drop)]
 pub struct MeasuredCode {
     pub size: usize,
+    pub around: Stack<PartSize>,
     pub openings: Stack<PartSize>,
+}
+
+/// Takes all elements off a stack, which keeps its room.
+pub fn clear<T: Drop>(stack: &mut Stack<T>)
+    ensures { stack.new ≡ [] }
+{
+    let count = stack.len();
+    stack.drop_top(count);
 }
 
 /// A sum. Fails where it has more bits than a size.
@@ -97,15 +106,6 @@ fn measure_if(sizes: &mut Sizes) -> Result<(), AllocError>
     Ok(())
 }
 
-// An instruction without a body, which leaves one operation.
-fn measure_plain(sizes: &mut Sizes) -> Result<(), AllocError>
-    ensures { OnOk result ((op : PlainOp) → MeasuresOn (Plain op) sizes.old sizes.new) }
-{
-    let here = sum(sizes.here.here, 1)?;
-    sizes.here.here = here;
-    Ok(())
-}
-
 // An else: the second body lies behind it.
 fn measure_else(sizes: &mut Sizes) -> Result<(), AllocError>
     ensures { OnOk result (MeasuresOn Else sizes.old sizes.new) }
@@ -132,25 +132,38 @@ fn measure_end(sizes: &mut Sizes) -> Result<(), AllocError>
     Ok(())
 }
 
-// One operation more, which is most often an instruction.
+// Whether an operation is an instruction without a body.
 #[inline(always)]
-fn step_back(sizes: &mut Sizes, op: &Op) -> Result<(), AllocError>
-    ensures { OnOk result (MeasuresOn op.now sizes.old sizes.new) }
+fn is_plain(op: &Op) -> bool
+    ensures { IsTrue result ↔ ((plain : PlainOp) × (op.now ≡ Plain plain)) }
 {
-    if let Op::Plain(_) = op {
-        measure_plain(sizes)?;
-        return Ok(());
+    matches!(op, Op::Plain(_))
+}
+
+// Measures the instructions without a body that lie in a row before a position; answers the position of the first of them.
+fn measure_row(sizes: &mut Sizes, code: &[Op], end: usize) -> Result<usize, AllocError>
+    requires { end ≤ length code.now }
+    ensures within { IfOk result (λ start. start ≤ end) }
+    ensures measured { IfOk result (λ start. Measures (drop end code.now) sizes.old
+        → Measures (drop start code.now) sizes.new) }
+    ensures all { IfOk result (λ start. IsMarkBefore start code.now) }
+{
+    let mut start = end;
+    while start > 0 && is_plain(&code[start - 1]) {
+        start -= 1;
     }
-    measure_mark(sizes, op)
+    let here = sum(sizes.here.here, end - start)?;
+    sizes.here.here = here;
+    Ok(start)
 }
 
 // One mark more.
-#[inline(never)]
 fn measure_mark(sizes: &mut Sizes, op: &Op) -> Result<(), AllocError>
+    requires { (plain : PlainOp) → op.now ≢ Plain plain }
     ensures { OnOk result (MeasuresOn op.now sizes.old sizes.new) }
 {
     match op {
-        Op::Plain(_) => measure_plain(sizes)?,
+        Op::Plain(_) => unreachable!(),
         Op::Block(_) | Op::Loop(_) => measure_block(sizes)?,
         Op::If(_) => measure_if(sizes)?,
         Op::Else => measure_else(sizes)?,
@@ -159,9 +172,13 @@ fn measure_mark(sizes: &mut Sizes, op: &Op) -> Result<(), AllocError>
     Ok(())
 }
 
-/// Measures a function's code, from its last operation to the first.
+/// Measures a function's code, from its last operation to the first, with the room of two stacks.
 #[inline(never)]
-pub fn measure(alloc: Global, code: &[Op]) -> Result<MeasuredCode, AllocError>
+pub fn measure(
+    around: Stack<PartSize>,
+    openings: Stack<PartSize>,
+    code: &[Op],
+) -> Result<MeasuredCode, AllocError>
     ensures size { IfOk result (λ m. m.size ≡ size (body_of code.now)) }
     ensures openings { IfOk result (λ m. m.openings ≡ openings_of code.now) }
 {
@@ -170,16 +187,20 @@ pub fn measure(alloc: Global, code: &[Op]) -> Result<MeasuredCode, AllocError>
             here: 0,
             other: None,
         },
-        around: Stack::new(alloc),
-        openings: Stack::new(alloc),
+        around,
+        openings,
     };
-    let mut position = code.len();
+    clear(&mut sizes.around);
+    clear(&mut sizes.openings);
+    let mut position = measure_row(&mut sizes, code, code.len())?;
     while position > 0 {
         position -= 1;
-        step_back(&mut sizes, &code[position])?;
+        measure_mark(&mut sizes, &code[position])?;
+        position = measure_row(&mut sizes, code, position)?;
     }
     Ok(MeasuredCode {
         size: sizes.here.here,
+        around: sizes.around,
         openings: sizes.openings,
     })
 }

@@ -5,7 +5,6 @@ use Rattle.std.proofs.lemmas.List.{map-append}
 use Rattle.core_types.specs.declared.types.OperandType.{OperandType}
 use Rattle.core_types.specs.declared.types.OperandType.TheVariants.{Known}
 use Rattle.core_types.specs.declared.types.ValType.{ValType}
-use Rattle.core_types.specs.declared.types.ValType.TheVariants.{I32}
 use Rattle.meaning.specs.validation.Instructions.{Fits, known}
 use Rattle.meaning.proofs.lemmas.Typing.{AllFit-joined}
 use Rattle.validator.specs.declared.control_frames.ControlFrame.{ControlFrame}
@@ -21,21 +20,26 @@ module _ (frame : ControlFrame) (old : List OperandType) where
   pop_answer false new t wanted takes test =
       Refuses-misfit frame.unreachable frame.height old (t ∷ []) new (wanted ∷ []) takes refl (λ fit. let e : false ≡ true = test.1 fit.0 in absurd cc)
 
-  with_i32_known : (wanted : List ValType) → known (wanted ++ I32 ∷ []) ≡ known wanted ++ Known I32 ∷ []
-  with_i32_known wanted = map-append Known wanted (I32 ∷ [])
+  with_top_known : (wanted : List ValType) (top : ValType) → known (wanted ++ top ∷ []) ≡ known wanted ++ Known top ∷ []
+  with_top_known wanted top = map-append Known wanted (top ∷ [])
 
-  -- No i32 could be taken.
-  pub no_i32 : (wanted : List ValType) → Refuses frame.unreachable frame.height old (Known I32 ∷ []) → Refuses frame.unreachable frame.height old (known (wanted ++ I32 ∷ []))
-  no_i32 wanted refuses =
-      subst (Refuses frame.unreachable frame.height old) (sym (with_i32_known wanted)) (Refuses-top frame.unreachable frame.height old (known wanted) (Known I32) refuses)
+  -- No operand of the topmost type could be taken.
+  pub no_top : (wanted : List ValType) (top : ValType) → Refuses frame.unreachable frame.height old (Known top ∷ []) → Refuses frame.unreachable frame.height old (known (wanted ++ top ∷ []))
+  no_top wanted top refuses =
+      subst (Refuses frame.unreachable frame.height old) (sym (with_top_known wanted top)) (Refuses-top frame.unreachable frame.height old (known wanted) (Known top) refuses)
 
-  -- An i32 was taken, and then what lies under it.
-  pub under_i32 : (answer : Bool) (mid new : List OperandType) (wanted : List ValType) (t : OperandType) → TakesOff frame old (t ∷ []) mid → Fits t (Known I32)
-      → Pops frame mid (known wanted) new answer → Pops frame old (known (wanted ++ I32 ∷ [])) new answer
-  under_i32 true mid new wanted t takes fit (given, taken, fits) = (
+  -- One of the topmost type was taken, and then what lies under it.
+  pub under_top : (answer : Bool) (mid new : List OperandType) (wanted : List ValType) (top : ValType) (t : OperandType) → TakesOff frame old (t ∷ []) mid → Fits t (Known top)
+      → Pops frame mid (known wanted) new answer → Pops frame old (known (wanted ++ top ∷ [])) new answer
+  under_top true mid new wanted top t takes fit (given, taken, fits) = (
     given ++ t ∷ [],
     Takes-under frame.unreachable frame.height old (t ∷ []) mid given new takes taken,
-    rw (with_i32_known wanted) (AllFit-joined given (known wanted) (t ∷ []) (Known I32 ∷ []) fits (fit, tt)),
+    rw (with_top_known wanted top) (AllFit-joined given (known wanted) (t ∷ []) (Known top ∷ []) fits (fit, tt)),
   )
-  under_i32 false mid new wanted t takes fit refuses =
-      subst (Refuses frame.unreachable frame.height old) (sym (with_i32_known wanted)) (Refuses-under frame.unreachable frame.height old mid (known wanted) t (Known I32) takes refuses)
+  under_top false mid new wanted top t takes fit refuses =
+      subst (Refuses frame.unreachable frame.height old) (sym (with_top_known wanted top)) (Refuses-under frame.unreachable frame.height old mid (known wanted) t (Known top) takes refuses)
+
+  -- One operand is the last one.
+  pub one_popped : (answer : Bool) (new : List OperandType) (wanted : ValType) → PopsOne frame old (Known wanted) new answer → Pops frame old (known (wanted ∷ [])) new answer
+  one_popped true new wanted (t, takes, fit) = (t ∷ [], takes, (fit, tt))
+  one_popped false new wanted refuses = refuses

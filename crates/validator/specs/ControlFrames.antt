@@ -49,6 +49,16 @@ inside context control_stack = record context { labels = map label_of control_st
 abbrev pub control_stack : Stacks → List ControlFrame
 control_stack s = s.innermost ∷ reverse s.outer.items
 
+-- The body of a function with these results begins: there is no operand, and no frame but its own.
+pub record BeginsBody (s : Stacks) (results : List ValType) : Type 0 where
+  pub kind : s.innermost.kind ≡ Function
+  pub start_types : s.innermost.start_types.now ≡ []
+  pub end_types : s.innermost.end_types.now ≡ results
+  pub height : s.innermost.height ≡ 0
+  pub reachable : s.innermost.unreachable ≡ false
+  pub outer : s.outer.items ≡ []
+  pub operands : s.operands.items ≡ []
+
 -- The operation begins a body of this kind and block type.
 abbrev pub IsMark : FrameKind → BlockType → Op → Type 0
 IsMark Function t o = ⊥

@@ -1,7 +1,8 @@
-ghost use Rattle.std.specs.Prelude.{IfNone, IfSome, None, Some, ◌≡◌};
-ghost use Rattle.validator.specs.ControlFrames.{BecomesUnreachable, IsLabelAt, label_of};
+ghost use Rattle.std.specs.Prelude.{IfNone, IfSome, None, Some, [], ◌≡◌};
+ghost use Rattle.validator.specs.ControlFrames.{BecomesUnreachable, BeginsBody, IsLabelAt, label_of};
 
 use core_types::{OperandType, ValType};
+use std::alloc::Global;
 
 /// What the body of a control frame belongs to.
 #[derive(Clone, Copy)]
@@ -33,6 +34,40 @@ pub struct Stacks<'a> {
     pub innermost: ControlFrame<'a>,
     /// The frames around it, the innermost last.
     pub outer: Vec<ControlFrame<'a>>,
+}
+
+impl<'a> Stacks<'a> {
+    // No operand, and no frame but that of a body without results. Takes no memory.
+    pub fn new(alloc: Global) -> Stacks<'a>
+        ensures { BeginsBody result [] }
+    {
+        Stacks {
+            operands: Vec::new(alloc),
+            innermost: ControlFrame {
+                kind: FrameKind::Function,
+                start_types: &[],
+                end_types: &[],
+                height: 0,
+                unreachable: false,
+            },
+            outer: Vec::new(alloc),
+        }
+    }
+}
+
+// Leaves no operand, and no frame but that of the body of a function with these results. The stacks keep their room.
+pub fn begin_body<'a>(stacks: &mut Stacks<'a>, results: &'a [ValType])
+    ensures { BeginsBody stacks.new results.now }
+{
+    stacks.operands.clear();
+    stacks.outer.clear();
+    stacks.innermost = ControlFrame {
+        kind: FrameKind::Function,
+        start_types: &[],
+        end_types: results,
+        height: 0,
+        unreachable: false,
+    };
 }
 
 // The types of the label of a frame.

@@ -11,7 +11,7 @@ ghost use Rattle.validator.specs.declared.errors.ValidateError.TheVariants.{Inva
 ghost use Rattle.validator.specs.Modules.{HasValidBodies};
 
 use crate::context::{BodyContext, IndexSpaces, item};
-use crate::control_frames::{ControlFrame, FrameKind, Stacks};
+use crate::control_frames::{Stacks, begin_body};
 use crate::errors::{Fault, Place, ValidateError};
 use crate::instructions::control::blocks::finish;
 use crate::instructions::step;
@@ -26,38 +26,34 @@ pub fn are_typed(types: usize, funcs: &[Func]) -> bool
     funcs.iter().all(|func| (func.ty as usize) < types)
 }
 
-// Checks the body of a function, as flat operations without the last `End`.
+// Checks the body of a function, as flat operations without the last `End`, with the room of the stacks.
 #[inline(never)]
-pub fn validate_body(alloc: Global, context: &BodyContext<'_>, ops: &[Op]) -> Result<(), Fault>
+pub fn validate_body<'a>(
+    alloc: Global,
+    context: &BodyContext<'a>,
+    stacks: &mut Stacks<'a>,
+    ops: &[Op],
+) -> Result<(), Fault>
     ensures typed { OnOk result (IsTyped context.now ops.now) }
     ensures untyped { IfErr result (OnInvalid (IsUntyped context.now ops.now)) }
 {
-    let mut stacks = Stacks {
-        operands: Vec::new(alloc),
-        innermost: ControlFrame {
-            kind: FrameKind::Function,
-            start_types: &[],
-            end_types: context.results,
-            height: 0,
-            unreachable: false,
-        },
-        outer: Vec::new(alloc),
-    };
+    begin_body(stacks, context.results);
     for op in ops {
-        step(alloc, context, &mut stacks, op)?;
+        step(alloc, context, stacks, op)?;
     }
     if !stacks.outer.is_empty() {
         return Err(Fault::Invalid);
     }
-    finish(&mut stacks)
+    finish(stacks)
 }
 
 // Checks a function of a module (Validation, Functions).
-fn validate_function(
+fn validate_function<'a>(
     alloc: Global,
-    decoded: &Module,
-    spaces: &IndexSpaces,
-    func: &Func,
+    decoded: &'a Module,
+    spaces: &'a IndexSpaces,
+    stacks: &mut Stacks<'a>,
+    func: &'a Func,
 ) -> Result<(), Fault>
     requires spaces { AreIndexSpaces decoded.now spaces.now }
     requires marks { HasMarks decoded.now spaces.now }
@@ -74,7 +70,7 @@ fn validate_function(
         locals: &func.locals,
         results: ty.results.as_slice(),
     };
-    validate_body(alloc, &context, func.body.as_slice())
+    validate_body(alloc, &context, stacks, func.body.as_slice())
 }
 
 // Checks each function of a module.
@@ -90,8 +86,9 @@ pub fn validate_functions(
         (λ error. (error ≡ OutOfMemory) ⊎ (¬ HasValidBodies decoded.now)) }
     ensures no_section { IfErr result (λ error. (id : ℕ) → error ≢ Invalid (Section id)) }
 {
+    let mut stacks = Stacks::new(alloc);
     for (index, func) in decoded.funcs.as_slice().iter().enumerate() {
-        match validate_function(alloc, decoded, spaces, func) {
+        match validate_function(alloc, decoded, spaces, &mut stacks, func) {
             Ok(()) => {}
             Err(Fault::Invalid) => return Err(ValidateError::Invalid(Place::Func(index))),
             Err(Fault::OutOfMemory) => return Err(ValidateError::OutOfMemory),

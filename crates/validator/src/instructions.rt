@@ -6,11 +6,13 @@ pub mod reference;
 pub mod table;
 pub mod variable;
 
-ghost use Rattle.std.specs.Prelude.{[], ◌++◌, ◌∷◌};
+ghost use Rattle.std.specs.Prelude.{[], ◌++◌, ◌∷◌, ◌≢◌};
+ghost use Rattle.core_types.specs.declared.op.PlainOp.{PlainOp as PlainInstruction};
 ghost use Rattle.core_types.specs.declared.op.Op.TheVariants as flat;
 ghost use Rattle.core_types.specs.declared.op.PlainOp.TheVariants as plain;
 ghost use Rattle.core_types.specs.declared.types.ValType.TheVariants.{I32};
 ghost use Rattle.meaning.specs.validation.Instructions.{known};
+ghost use Rattle.meaning.specs.validation.Types.{function_type as type_of};
 ghost use Rattle.validator.specs.Operands.{PopsFrom, SameFrames};
 ghost use Rattle.validator.specs.InstructionTypes.{lent_type};
 ghost use Rattle.validator.specs.Steps.{Steps, StepsByFound, StepsByType};
@@ -27,7 +29,7 @@ use crate::instructions::parametric::{step_drop, step_select, step_typed_select}
 use crate::instructions::reference::step_reference;
 use crate::instructions::table::step_table;
 use crate::instructions::variable::step_variable;
-use crate::operands::{pop_fitting, pop_types, push_types};
+use crate::operands::{pop_fitting, pop_one, pop_two, pop_types, push_types};
 use crate::types::InstructionType;
 use core_types::{Op, OperandType, ParametricOp, PlainOp, ValType};
 use std::alloc::Global;
@@ -70,6 +72,30 @@ pub fn apply(stacks: &mut Stacks<'_>, ty: &InstructionType<'_>) -> Result<(), Fa
         return Err(Fault::Invalid);
     }
     push_types(&mut stacks.operands, ty.results)?;
+    Ok(())
+}
+
+// Steps over an instruction that takes an operand of a type, and gives one.
+#[inline(always)]
+pub fn apply_unary(stacks: &mut Stacks<'_>, takes: ValType, gives: ValType) -> Result<(), Fault>
+    ensures { StepsByType stacks.old stacks.new (type_of (takes ∷ []) (gives ∷ [])) result }
+{
+    if !pop_one(&mut stacks.operands, &stacks.innermost, takes) {
+        return Err(Fault::Invalid);
+    }
+    stacks.operands.push(OperandType::Known(gives))?;
+    Ok(())
+}
+
+// Steps over an instruction that takes two operands of a type, and gives one.
+#[inline(always)]
+pub fn apply_binary(stacks: &mut Stacks<'_>, takes: ValType, gives: ValType) -> Result<(), Fault>
+    ensures { StepsByType stacks.old stacks.new (type_of (takes ∷ takes ∷ []) (gives ∷ [])) result }
+{
+    if !pop_two(&mut stacks.operands, &stacks.innermost, takes) {
+        return Err(Fault::Invalid);
+    }
+    stacks.operands.push(OperandType::Known(gives))?;
     Ok(())
 }
 
@@ -118,8 +144,20 @@ pub fn step<'a>(
 ) -> Result<(), Fault>
     ensures { Steps context.now stacks.old stacks.new op.now result }
 {
+    if let Op::Plain(plain) = op {
+        return step_plain(alloc, context, stacks, plain);
+    }
+    step_mark(context, stacks, op)
+}
+
+// Steps over one mark.
+#[inline(never)]
+fn step_mark<'a>(context: &BodyContext<'a>, stacks: &mut Stacks<'a>, op: &Op) -> Result<(), Fault>
+    requires { (plain : PlainInstruction) → op.now ≢ flat.Plain plain }
+    ensures { Steps context.now stacks.old stacks.new op.now result }
+{
     match op {
-        Op::Plain(plain) => step_plain(alloc, context, stacks, plain),
+        Op::Plain(_) => unreachable!(),
         Op::Block(block) => step_begin(context, stacks, FrameKind::Block, block),
         Op::Loop(block) => step_begin(context, stacks, FrameKind::Loop, block),
         Op::If(block) => step_begin(context, stacks, FrameKind::If, block),

@@ -47,6 +47,25 @@ pub fn pop_fitting(
     }
 }
 
+// Takes an operand of a type off.
+#[inline(always)]
+pub fn pop_one(operands: &mut Vec<OperandType>, frame: &ControlFrame<'_>, wanted: ValType) -> bool
+    ensures { Pops frame.now operands.old.items (known (wanted ∷ [])) operands.new.items result }
+{
+    pop_fitting(operands, frame, OperandType::Known(wanted))
+}
+
+// Takes two operands of a type off.
+#[inline(always)]
+pub fn pop_two(operands: &mut Vec<OperandType>, frame: &ControlFrame<'_>, wanted: ValType) -> bool
+    ensures { Pops frame.now operands.old.items (known (wanted ∷ wanted ∷ [])) operands.new.items result }
+{
+    if !pop_fitting(operands, frame, OperandType::Known(wanted)) {
+        return false;
+    }
+    pop_one(operands, frame, wanted)
+}
+
 // Takes operands off that fit the types, the last one first.
 #[inline(always)]
 pub fn pop_types(

@@ -1,12 +1,13 @@
 -- Reading an expression, as a loop does.
 use Rattle.std.proofs.Common.{List, [], ap, arith, length, refl, suc, sym, zero, ℕ, ◌++◌, ◌<◌, ◌∙◌, ◌∷◌, ◌≡◌, ◌≤◌}
-use Rattle.std.specs.Prelude.{None, Ok, Option, Some}
+use Rattle.std.specs.Prelude.{None, Ok, Option, Result, Some}
 use Rattle.std.proofs.lemmas.List.{nil_from_length}
 use Rattle.core_types.specs.declared.op.Op.{Op}
 use Rattle.binary.specs.Errors.{OnRefused}
 use Rattle.binary.specs.Conventions.{OnRead}
 use Rattle.binary.specs.Expressions.{ReadsNext, after_next, expression_at, next_bodies, ops_at}
-use Rattle.binary.specs.Instructions.{op_at}
+use Rattle.binary.specs.Instructions.{op_at, operation_at}
+use Rattle.binary.specs.Values.{byte_at}
 use Rattle.binary.specs.declared.errors.DecodeError.{DecodeError}
 use Rattle.binary.specs.declared.expressions.Next.{Next}
 use Rattle.binary.specs.declared.expressions.Next.TheVariants.{Ended, Misplaced, Onward}
@@ -22,6 +23,21 @@ pub record IsReadingExpression (whole rest : List ℕ) (open_bodies : List OpenB
 pub expression_begins : (whole : List ℕ) → IsReadingExpression whole whole [] []
 unfolding expression_at
 expression_begins whole = record { steps = length whole; enough = omega arith; so_far = refl }
+
+-- An operation is read behind its opcode.
+pub chosen : (bytes rest : List ℕ) (code : ℕ) → byte_at bytes ≡ Some (code, rest) → op_at bytes ≡ operation_at code rest
+unfolding op_at
+chosen bytes rest code is = rw is refl
+
+module _ (result : Result Next DecodeError) (bodies new : List OpenBody) (ops behind : List Op) (bytes rest after : List ℕ) (code : ℕ) (is : byte_at bytes ≡ Some (code, rest)) where
+  -- What is read behind an opcode is read with it.
+  pub reads_behind : ReadsNext result bodies new ops behind after (operation_at code rest) → ReadsNext result bodies new ops behind after (op_at bytes)
+  reads_behind reads = rw (chosen bytes rest code is) reads
+
+  -- The same, where nothing was read or put on the others in between.
+  pub reads_later : (left : List ℕ) (others : List Op) → (others ≡ ops) × (left ≡ rest) → ReadsNext result bodies new others behind after (operation_at code left)
+      → ReadsNext result bodies new ops behind after (op_at bytes)
+  reads_later left others (same, there) reads = reads_behind (rw (sym same, sym there) reads)
 
 -- What was read.
 pub record HasRead (bytes after : List ℕ) (next : Next) (bodies new : List OpenBody) (ops behind : List Op) : Type 0 where

@@ -1,6 +1,9 @@
 //! Memory instructions (Binary Format, Memory Instructions).
 
-ghost use Rattle.std.specs.Prelude.{◌≡◌, ◌≤◌};
+ghost use Rattle.std.specs.Prelude.{IfOk, false, ◌≡◌, ◌≤◌};
+ghost use Rattle.core_types.specs.declared.op.Op.TheVariants.{Plain};
+ghost use Rattle.core_types.specs.declared.op.PlainOp.TheVariants as plain;
+ghost use Rattle.meaning.specs.binary.Modules.{names_data};
 ghost use Rattle.binary.specs.Conventions.{Gives};
 ghost use Rattle.binary.specs.Instructions.{in_row, load_at, mem_arg_at, memory_at, prefixed_memory_at, store_at};
 
@@ -65,7 +68,8 @@ fn read_mem_arg(reader: &mut Reader<'_>) -> Result<MemArg, DecodeError>
 #[inline(always)]
 fn read_load(reader: &mut Reader<'_>, code: u8, offset: usize) -> Result<MemoryOp, DecodeError>
     requires { 0x28 ≤ code }
-    ensures { Gives result reader.new (load_at code reader.old) }
+    ensures gives { Gives result reader.new (load_at code reader.old) }
+    ensures data { IfOk result (λ op. names_data (Plain (plain.Memory op)) ≡ false) }
 {
     match op_of(&LOADS, 0x28, code) {
         Some(op) => Ok(MemoryOp::Load(op, read_mem_arg(reader)?)),
@@ -77,7 +81,8 @@ fn read_load(reader: &mut Reader<'_>, code: u8, offset: usize) -> Result<MemoryO
 #[inline(always)]
 fn read_store(reader: &mut Reader<'_>, code: u8, offset: usize) -> Result<MemoryOp, DecodeError>
     requires { 0x36 ≤ code }
-    ensures { Gives result reader.new (store_at code reader.old) }
+    ensures gives { Gives result reader.new (store_at code reader.old) }
+    ensures data { IfOk result (λ op. names_data (Plain (plain.Memory op)) ≡ false) }
 {
     match op_of(&STORES, 0x36, code) {
         Some(op) => Ok(MemoryOp::Store(op, read_mem_arg(reader)?)),
@@ -94,7 +99,8 @@ pub fn read_memory(
     offset: usize,
 ) -> Result<MemoryOp, DecodeError>
     requires { 0x28 ≤ code }
-    ensures { Gives result reader.new (memory_at code reader.old) }
+    ensures gives { Gives result reader.new (memory_at code reader.old) }
+    ensures data { IfOk result (λ op. names_data (Plain (plain.Memory op)) ≡ false) }
 {
     match code {
         0x00..=0x35 => read_load(reader, code, offset),

@@ -74,19 +74,23 @@ fn binary_op(width: Width, index: u8) -> Option<NumericOp>
     Some(NumericOp::Binary(width, op))
 }
 
-// The numeric instruction without an immediate of this opcode, if there is one.
+// The numeric instruction without an immediate of this opcode, if there is one. The most frequent ones are tested first.
 #[tactic(auto, unfolding(crate::specs::Instructions::numeric_of))]
 #[inline(always)]
 pub fn numeric_op(code: u8) -> Option<NumericOp>
     ensures { result ≡ numeric_of code }
 {
+    if matches!(code, 0x6A..=0x78) {
+        return binary_op(Width::W32, code - 0x6A);
+    }
+    if matches!(code, 0x46..=0x4F) {
+        return comparison(Width::W32, code - 0x46);
+    }
     match code {
         0x45 => Some(NumericOp::Eqz(Width::W32)),
-        0x46..=0x4F => comparison(Width::W32, code - 0x46),
         0x50 => Some(NumericOp::Eqz(Width::W64)),
         0x51..=0x5A => comparison(Width::W64, code - 0x51),
         0x67..=0x69 => bit_count(Width::W32, code - 0x67),
-        0x6A..=0x78 => binary_op(Width::W32, code - 0x6A),
         0x79..=0x7B => bit_count(Width::W64, code - 0x79),
         0x7C..=0x8A => binary_op(Width::W64, code - 0x7C),
         0xA7 => Some(NumericOp::Convert(Conversion::I32WrapI64)),

@@ -1,11 +1,12 @@
 //! Functions with their locals and bodies (Binary Format, Code Section).
 
-ghost use Rattle.std.specs.Prelude.{[]};
+ghost use Rattle.std.specs.Prelude.{IfOk, OnOk, [], false, ◌≡◌};
 ghost use Rattle.binary.specs.Conventions.{Gives};
-ghost use Rattle.binary.specs.Sections.{code_at, code_section_at, codes_at, functions_at, groups_at, local_group_at, locals_at};
+ghost use Rattle.binary.specs.Instructions.{NotesData};
+ghost use Rattle.binary.specs.Sections.{NotesDataOfAll, code_at, code_section_at, codes_at, functions_at, groups_at, local_group_at, locals_at};
 
 use crate::errors::DecodeError;
-use crate::expressions::read_expression;
+use crate::expressions::read_body;
 use crate::reader::Reader;
 use crate::sections::custom::skip_customs;
 use crate::types::read_val_type;
@@ -48,26 +49,36 @@ fn read_locals(alloc: Global, reader: &mut Reader<'_>) -> Result<Locals, DecodeE
 
 // A function whose type has this index, behind its size.
 #[tactic(auto, unfolding(crate::specs::Sections::code_at, crate::specs::Sections::function_content_at, crate::specs::Values::sized_at))]
-fn read_code(alloc: Global, reader: &mut Reader<'_>, ty: u32) -> Result<Func, DecodeError>
-    ensures { Gives result reader.new (code_at ty reader.old) }
+fn read_code(
+    alloc: Global,
+    reader: &mut Reader<'_>,
+    ty: u32,
+    data_named: &mut bool,
+) -> Result<Func, DecodeError>
+    ensures reads { Gives result reader.new (code_at ty reader.old) }
+    ensures data { IfOk result (λ f. NotesData data_named.new f.body) }
+    ensures before { OnOk result (data_named.new ≡ false → data_named.old ≡ false) }
 {
     let mut content = reader.part()?;
     let locals = read_locals(alloc, &mut content)?;
-    let body = read_expression(alloc, &mut content)?;
+    let body = read_body(alloc, &mut content, data_named)?;
     content.finish()?;
     Ok(Func { ty, locals, body })
 }
 
+// A function for each index of a type. Notes where their code may name a data segment.
 fn read_codes(
     alloc: Global,
     reader: &mut Reader<'_>,
     types: &[u32],
+    data_named: &mut bool,
 ) -> Result<Items<Func>, DecodeError>
-    ensures { Gives result reader.new (codes_at types.now [] reader.old) }
+    ensures reads { Gives result reader.new (codes_at types.now [] reader.old) }
+    ensures data { IfOk result (NotesDataOfAll data_named.new) }
 {
     let mut funcs = Vec::new(alloc);
     for ty in types {
-        funcs.push(read_code(alloc, reader, *ty)?)?;
+        funcs.push(read_code(alloc, reader, *ty, data_named)?)?;
     }
     Ok(Items::from_vec(funcs))
 }
@@ -78,30 +89,34 @@ fn read_functions(
     alloc: Global,
     reader: &mut Reader<'_>,
     types: &[u32],
+    data_named: &mut bool,
 ) -> Result<Items<Func>, DecodeError>
-    ensures { Gives result reader.new (functions_at types.now reader.old) }
+    ensures reads { Gives result reader.new (functions_at types.now reader.old) }
+    ensures data { IfOk result (NotesDataOfAll data_named.new) }
 {
     let offset = reader.offset();
     let count = reader.u32()?;
     if count as usize != types.len() {
         return Err(DecodeError::Malformed(offset));
     }
-    read_codes(alloc, reader, types)
+    read_codes(alloc, reader, types, data_named)
 }
 
-// The code section, which may be absent where there are no indices.
+// The code section, which may be absent where there are no indices. Notes where its code may name a data segment.
 #[tactic(auto, unfolding(crate::specs::Sections::section_at, crate::specs::Values::sized_at))]
 pub fn read_code_section(
     alloc: Global,
     reader: &mut Reader<'_>,
     types: &[u32],
+    data_named: &mut bool,
 ) -> Result<Items<Func>, DecodeError>
-    ensures { Gives result reader.new (code_section_at types.now reader.old) }
+    ensures reads { Gives result reader.new (code_section_at types.now reader.old) }
+    ensures data { IfOk result (NotesDataOfAll data_named.new) }
 {
     skip_customs(reader)?;
     if reader.accept(10) {
         let mut content = reader.part()?;
-        let funcs = read_functions(alloc, &mut content, types)?;
+        let funcs = read_functions(alloc, &mut content, types, data_named)?;
         content.finish()?;
         return Ok(funcs);
     }

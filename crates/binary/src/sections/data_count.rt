@@ -2,17 +2,20 @@
 
 ghost use Rattle.std.specs.Prelude.{◌≡◌, ◌↔◌, false, All, IsTrue};
 ghost use Rattle.core_types.specs.declared.op.Op.{Op as Operation};
+ghost use Rattle.binary.specs.Sections.{NotesDataOfAll};
 ghost use Rattle.meaning.specs.binary.Modules.{IsDataCount, names_data};
 
 use core_types::{Func, MemoryOp, Module, Op, PlainOp};
 
-// Whether the data count is the number of data segments. Where it is absent, no code may name a data segment.
-pub fn fits_count(count: Option<u32>, decoded: &Module) -> bool
+// Whether the data count is the number of data segments. Where it is absent, no code may name a data segment, which is looked at
+// only where it was noted that some may.
+pub fn fits_count(count: Option<u32>, decoded: &Module, data_named: bool) -> bool
+    requires { NotesDataOfAll data_named decoded.now.funcs }
     ensures { IsTrue result ↔ IsDataCount decoded.now count }
 {
     match count {
         Some(count) => count as usize == decoded.datas.len(),
-        None => decoded.funcs.as_slice().iter().all(names_no_data),
+        None => !data_named || decoded.funcs.as_slice().iter().all(names_no_data),
     }
 }
 

@@ -6,8 +6,8 @@ ghost use Rattle.validator.specs.Steps.{StepsOver};
 
 use crate::control_frames::Stacks;
 use crate::errors::Fault;
-use crate::instructions::apply;
-use crate::types::{InstructionType, integer_type, once, takes_gives, twice};
+use crate::instructions::{apply, apply_binary, apply_unary};
+use crate::types::{InstructionType, integer_type, once, takes_gives};
 use core_types::{Conversion, NumericOp, ValType};
 
 // The type of a conversion.
@@ -24,28 +24,23 @@ fn type_of_conversion(op: Conversion) -> InstructionType<'static>
     }
 }
 
-// The type of a numeric instruction.
-fn type_of_numeric(op: NumericOp) -> InstructionType<'static>
-    ensures { lent_type result ≡ numeric_instruction_type op }
-{
-    match op {
-        NumericOp::Eqz(width) => takes_gives(once(integer_type(width)), once(ValType::I32)),
-        NumericOp::Compare(width, _) => takes_gives(twice(integer_type(width)), once(ValType::I32)),
-        NumericOp::Unary(width, _) => {
-            takes_gives(once(integer_type(width)), once(integer_type(width)))
-        }
-        NumericOp::Binary(width, _) => {
-            takes_gives(twice(integer_type(width)), once(integer_type(width)))
-        }
-        NumericOp::Convert(op) => type_of_conversion(op),
-    }
-}
-
 // A numeric instruction.
 pub fn step_numeric(stacks: &mut Stacks<'_>, op: NumericOp) -> Result<(), Fault>
     ensures { StepsOver stacks.old stacks.new (plain.Numeric op) result }
 {
-    apply(stacks, &type_of_numeric(op))
+    match op {
+        NumericOp::Eqz(width) => apply_unary(stacks, integer_type(width), ValType::I32),
+        NumericOp::Compare(width, _) => apply_binary(stacks, integer_type(width), ValType::I32),
+        NumericOp::Unary(width, _) => {
+            let ty = integer_type(width);
+            apply_unary(stacks, ty, ty)
+        }
+        NumericOp::Binary(width, _) => {
+            let ty = integer_type(width);
+            apply_binary(stacks, ty, ty)
+        }
+        NumericOp::Convert(op) => apply(stacks, &type_of_conversion(op)),
+    }
 }
 
 // A constant of 32 bits.

@@ -16,7 +16,7 @@ run-requires c =
         _,
         _,
         makes-first (signatures_of c.args.s.now) c.in_ok-outermost.outermost _ c.args.code.now body c.args.locals e (ap (λ (ops : List Op). (rests ops).here.body) e ∙ c.writing_is_read.ensures.whole body)
-            c.new.ensures c.in_ok-measured.ensures.openings refl _ refl c.in_ok-outermost.ensures.stands (all-within-kept _ _ c.in_ok-outermost.ensures.grows _ c.requires.within),
+            c.clear.ensures c.in_ok-measured.ensures.openings refl _ refl c.in_ok-outermost.ensures.stands (all-within-kept _ _ c.in_ok-outermost.ensures.grows _ c.requires.within),
       );
     }
 
@@ -27,5 +27,5 @@ returns c body e =
     is-made (signatures_of c.args.s.now) c.args.operations.items c.args.tables _ c.args.locals c.args.results c.in_ok-outermost.outermost c.run.new.f body _ c.in_ok-outermost.ensures.grows c.requires.within
     (c.in_ok-outermost.ensures.entry ∙ entry-same _ _ _ _ _ _ (omega (arith, c.in_ok-number.ensures, c.in_ok-end.ensures, c.len.ensures, sized)) refl refl)
     (c.in_ok-run.ensures.makes _ _ (makes-first (signatures_of c.args.s.now) c.in_ok-outermost.outermost _ c.args.code.now body c.args.locals e whole
-    c.new.ensures c.in_ok-measured.ensures.openings refl _ refl c.in_ok-outermost.ensures.stands (all-within-kept _ _ c.in_ok-outermost.ensures.grows _ c.requires.within)))
+    c.clear.ensures c.in_ok-measured.ensures.openings refl _ refl c.in_ok-outermost.ensures.stands (all-within-kept _ _ c.in_ok-outermost.ensures.grows _ c.requires.within)))
     refl refl (c.max-greatest.ensures ∙ ap (max c.run.new.f.greatest) c.known.ensures)

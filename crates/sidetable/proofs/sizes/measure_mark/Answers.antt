@@ -1,9 +1,6 @@
 use Rattle.std.proofs.Common.{inl, inr}
 use Rattle.sidetable.proofs.sizes.measure_mark.Goals as goal
 
-pub returns-in_ok-measure_plain-in-Plain : goal.returns-in_ok-measure_plain-in-Plain
-returns-in_ok-measure_plain-in-Plain c = rw c.in-Plain.is (c.in_ok-measure_plain-in-Plain.ensures c.in-Plain.field-0)
-
 pub returns-in_ok-measure_block-in-Block : goal.returns-in_ok-measure_block-in-Block
 returns-in_ok-measure_block-in-Block c =
     let measured = c.in_ok-measure_block-in-Block.ensures in

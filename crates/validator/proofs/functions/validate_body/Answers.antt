@@ -1,4 +1,4 @@
-use Rattle.std.proofs.Common.{◌≡◌, [], ◌∷◌, ◌++◌, ◌+◌, ◌<◌, ◌≤◌, ◌∙◌, drop, length, take, ap, subst, sym, refl, arith, rules}
+use Rattle.std.proofs.Common.{◌≡◌, [], ◌∷◌, ◌++◌, ◌+◌, ◌<◌, ◌≤◌, ◌∙◌, drop, length, take, ap, subst, sym, arith, rules}
 use Rattle.std.proofs.lemmas.List.{drop_all, drop_more, take_more, take_all, nil_from_length}
 use Rattle.std.proofs.lemmas.Result.{err_from_is_err_and}
 use Rattle.validator.specs.Completeness.{IsRestTyped}
@@ -8,10 +8,11 @@ use Rattle.validator.proofs.soundness.WholeBodies.{first_read, next_read, ok_all
 use Rattle.validator.proofs.functions.validate_body.Goals as goal
 
 pub loop-op-init : goal.loop-op-init
-loop-op-init c = (
-  first_read c.args.context.now _ refl refl refl refl refl c.new-2.ensures.items c.new.ensures.items,
-  first_goes c.args.context.now c.args.ops.now _ refl refl refl c.new-2.ensures.items c.new.ensures.items,
-)
+loop-op-init c =
+    let b = c.begin_body.ensures in (
+      first_read c.args.context.now _ b.kind b.start_types b.end_types b.height b.reachable b.outer b.operands,
+      first_goes c.args.context.now c.args.ops.now _ b.kind b.end_types b.height b.outer b.operands,
+    )
 
 pub loop-op-preserved : goal.loop-op-preserved
 loop-op-preserved c =

@@ -1,19 +1,23 @@
 use Rattle.std.proofs.lemmas.Result.{err_from_is_err_and}
 use Rattle.binary.proofs.loops.Code.{codes_continue, codes_end, codes_fail}
+use Rattle.binary.proofs.loops.DataNames.{notes_function}
 use Rattle.binary.proofs.sections.code.read_codes.Goals as goal
 
-pub returns-in_err-read_code : goal.returns-in_err-read_code
-returns-in_err-read_code c =
+pub returns-in_err-read_code-clause-reads : goal.returns-in_err-read_code-clause-reads
+returns-in_err-read_code-clause-reads c =
     let passed = err_from_is_err_and c.from_residual.result c.from_residual.ensures.1 in
     rw (passed.1, passed.2)
-    (codes_fail c.args.types.now c.loop-ty.ty-index c.loop-ty.funcs.items _ _ c.loop-ty.invariant c.in_err-read_code.field-0.0 c.loop-ty-test.true c.in_err-read_code.ensures)
+    (codes_fail c.args.types.now c.loop-ty.ty-index c.loop-ty.funcs.items _ _ c.loop-ty.invariant.0 c.in_err-read_code.field-0.0 c.loop-ty-test.true c.in_err-read_code.ensures.reads)
 
 pub loop-ty-preserved : goal.loop-ty-preserved
-loop-ty-preserved c =
-    rw c.in_ok-push.ensures.items
-    (codes_continue c.args.types.now c.loop-ty.ty-index c.loop-ty.funcs.items _ _ c.loop-ty.invariant c.in_ok-read_code.field-0 _ c.loop-ty-test.true c.in_ok-read_code.ensures)
+loop-ty-preserved c = (
+  rw c.in_ok-push.ensures.items
+      (codes_continue c.args.types.now c.loop-ty.ty-index c.loop-ty.funcs.items _ _ c.loop-ty.invariant.0 c.in_ok-read_code.field-0 _ c.loop-ty-test.true c.in_ok-read_code.ensures.reads),
+  rw c.in_ok-push.ensures.items
+      (notes_function c.loop-ty.data_named _ c.in_ok-read_code.field-0 c.loop-ty.funcs.items c.loop-ty.invariant.1 c.in_ok-read_code.ensures.data c.in_ok-read_code.ensures.before),
+)
 
-pub returns : goal.returns
-returns c =
+pub returns-clause-reads : goal.returns-clause-reads
+returns-clause-reads c =
     rw c.from_vec.ensures
-    (codes_end c.args.types.now c.loop-ty.ty-index c.loop-ty.funcs.items _ _ c.loop-ty.invariant c.loop-ty-test.false)
+    (codes_end c.args.types.now c.loop-ty.ty-index c.loop-ty.funcs.items _ _ c.loop-ty.invariant.0 c.loop-ty-test.false)

@@ -1,6 +1,6 @@
 use Rattle.std.proofs.Common.{◌-◌, ◌<◌, ◌≤◌, length, slice_get, IfSome}
 use Rattle.core_types.specs.LocalRuns.{start_of}
-use Rattle.core_types.proofs.halving.run_at.Given as goal
+use Rattle.core_types.proofs.halving.run_by_halving.Given as goal
 
 abbrev pub invariant-loop-low : goal.invariant-loop-low
 invariant-loop-low l = record {

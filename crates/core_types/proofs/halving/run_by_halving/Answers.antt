@@ -1,6 +1,6 @@
 use Rattle.std.proofs.Common.{◌+◌, ◌-◌, ◌/◌, ◌<◌, length, arith}
 use Rattle.core_types.proofs.Runs.{begins_next, ends_there}
-use Rattle.core_types.proofs.halving.run_at.Goals as goal
+use Rattle.core_types.proofs.halving.run_by_halving.Goals as goal
 
 pub loop-low-preserved-then-run-index : goal.loop-low-preserved-then-run-index
 loop-low-preserved-then-run-index c =

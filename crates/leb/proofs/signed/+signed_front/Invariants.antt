@@ -1,4 +1,0 @@
-use Rattle.leb.proofs.signed.+signed_front.Given as goal
-
-abbrev pub decreases-signed_front : goal.decreases-signed_front
-decreases-signed_front l = l.bits

@@ -1,4 +1,0 @@
-use Rattle.leb.proofs.unsigned.+unsigned_front.Given as goal
-
-abbrev pub decreases-unsigned_front : goal.decreases-unsigned_front
-decreases-unsigned_front l = l.bits
