@@ -1,5 +1,5 @@
 -- Reading functions, and ways to put them together.
-use Rattle.std.specs.Prelude.{Err, List, ◌∷◌, None, Ok, Option, Result, Some, if◌then◌else◌, nat_le, ℕ, ◌==◌, ◌≡◌}
+use Rattle.std.specs.Prelude.{Err, List, [], ◌∷◌, ◌++◌, None, Ok, Option, Result, Some, if◌then◌else◌, nat_le, ℕ, ◌==◌, ◌≡◌}
 use Rattle.binary.specs.Errors.{OnRefused}
 use Rattle.binary.specs.declared.errors.DecodeError.{DecodeError}
 
@@ -32,11 +32,11 @@ abbrev pub OnRead : {V : Type 0} → Option (V × List ℕ) → (V → (rest : L
 OnRead None P = ⊥
 OnRead (Some read) P = P read.0 read.1
 
--- A reader puts the value on a stack of others and leaves the rest, or refuses where there is no value; unless it is out of memory.
+-- A reader puts the value behind others and leaves the rest, or refuses where there is no value; unless it is out of memory.
 abbrev pub Pushes : {V : Type 0} → Result (Unit {0}) DecodeError → (others after : List V)
     → List ℕ → Option (V × List ℕ) → Type 0
 Pushes (Ok done) others after rest read =
-    OnRead read (λ v left. (left ≡ rest) × (after ≡ v ∷ others))
+    OnRead read (λ v left. (left ≡ rest) × (after ≡ others ++ v ∷ []))
 Pushes (Err error) others after rest read = OnRefused error (read ≡ None)
 
 -- A value that takes no bytes.

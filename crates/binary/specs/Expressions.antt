@@ -23,9 +23,9 @@ next_bodies (InIf ∷ bodies) Else = (Onward, InBlock ∷ bodies)
 next_bodies [] End = (Ended, [])
 next_bodies (body ∷ bodies) End = (Onward, bodies)
 
--- The operations, the last one first, once another one was read, of which the last end is none.
+-- The operations, once another one was read, of which the last end is none.
 abbrev pub after_next : Next → List Op → Op → List Op
-after_next Onward ops op = op ∷ ops
+after_next Onward ops op = ops ++ op ∷ []
 after_next Ended ops op = ops
 after_next Misplaced ops op = ops
 

@@ -222,3 +222,9 @@ NameNoData ops = All (λ op. names_data op ≡ false) ops
 -- What is noted of operations: where it is false, none of them names a data segment.
 abbrev pub NotesData : Bool → List Op → Type 0
 NotesData noted ops = noted ≡ false → NameNoData ops
+
+-- What is noted before stays noted; and where nothing is noted then, no operation more names a data segment.
+abbrev pub NotesMore : (others : List Op) → (before : Bool) → (ops : List Op) → (now : Bool)
+    → Type 0
+NotesMore others before ops now =
+    now ≡ false → (before ≡ false) × (NameNoData others → NameNoData ops)

@@ -1,20 +1,22 @@
 //! Expressions: instructions down to the end of the outermost body (Binary Format, Expressions).
 
-ghost use Rattle.std.specs.Prelude.{◌≡◌, ◌≢◌, IfOk, List, OnOk, [], false, ℕ};
+ghost use Rattle.std.specs.Prelude.{◌≡◌, IfOk, List, OnOk, [], false, ℕ};
 ghost use Rattle.core_types.specs.declared.op.Op.TheVariants.{Block, Else, End, If, Loop};
 ghost use Rattle.binary.specs.Conventions.{Gives, bare_at, mapped_at};
-ghost use Rattle.binary.specs.Instructions.{NameNoData, NotesData, operation_at};
+ghost use Rattle.binary.specs.Instructions.{NameNoData, NotesData, NotesMore, operation_at};
 ghost use Rattle.binary.specs.Types.{block_type_at};
 ghost use Rattle.binary.specs.Expressions.{ReadsFrequent, ReadsNext, expression_at};
 ghost use Rattle.binary.specs.declared.errors.DecodeError.TheVariants.{OutOfMemory};
 ghost use Rattle.binary.specs.declared.expressions.Next.TheVariants.{Onward};
 
 use crate::errors::DecodeError;
-use crate::instructions::{push_i32_const, push_memory, push_numeric, push_plain, push_variable};
+use crate::instructions::{
+    push_control, push_i32_const, push_memory, push_numeric, push_plain, push_variable,
+};
 use crate::reader::Reader;
 use crate::types::read_block_type;
 use crate::values::Readable;
-use core_types::{Items, Op, Stack};
+use core_types::{Expression, Op, Stack};
 use std::alloc::{AllocError, Global};
 
 // A body that the decoder has begun and not ended.
@@ -41,7 +43,7 @@ pub enum Next {
 fn push_block(
     reader: &mut Reader<'_>,
     bodies: &mut Stack<OpenBody>,
-    ops: &mut Stack<Op>,
+    ops: &mut Expression,
 ) -> Result<Next, DecodeError>
     ensures reads { ReadsNext result bodies.old bodies.new ops.old ops.new
         reader.new (mapped_at Block block_type_at reader.old) }
@@ -57,7 +59,7 @@ fn push_block(
 fn push_loop(
     reader: &mut Reader<'_>,
     bodies: &mut Stack<OpenBody>,
-    ops: &mut Stack<Op>,
+    ops: &mut Expression,
 ) -> Result<Next, DecodeError>
     ensures reads { ReadsNext result bodies.old bodies.new ops.old ops.new
         reader.new (mapped_at Loop block_type_at reader.old) }
@@ -73,7 +75,7 @@ fn push_loop(
 fn push_if(
     reader: &mut Reader<'_>,
     bodies: &mut Stack<OpenBody>,
-    ops: &mut Stack<Op>,
+    ops: &mut Expression,
 ) -> Result<Next, DecodeError>
     ensures reads { ReadsNext result bodies.old bodies.new ops.old ops.new
         reader.new (mapped_at If block_type_at reader.old) }
@@ -86,7 +88,7 @@ fn push_if(
 }
 
 // The first body of an if ends and the second begins.
-fn push_else(bodies: &mut Stack<OpenBody>, ops: &mut Stack<Op>) -> Result<Next, DecodeError>
+fn push_else(bodies: &mut Stack<OpenBody>, ops: &mut Expression) -> Result<Next, DecodeError>
     ensures reads { (rest : List ℕ) → ReadsNext result bodies.old bodies.new ops.old
         ops.new rest (bare_at Else rest) }
     ensures data { OnOk result (NameNoData ops.old → NameNoData ops.new) }
@@ -107,7 +109,7 @@ fn push_else(bodies: &mut Stack<OpenBody>, ops: &mut Stack<Op>) -> Result<Next, 
 
 // A body ends, or the expression where no body is open.
 #[inline(always)]
-fn push_end(bodies: &mut Stack<OpenBody>, ops: &mut Stack<Op>) -> Result<Next, DecodeError>
+fn push_end(bodies: &mut Stack<OpenBody>, ops: &mut Expression) -> Result<Next, DecodeError>
     ensures reads { (rest : List ℕ) → ReadsNext result bodies.old bodies.new ops.old
         ops.new rest (bare_at End rest) }
     ensures data { OnOk result (NameNoData ops.old → NameNoData ops.new) }
@@ -121,20 +123,21 @@ fn push_end(bodies: &mut Stack<OpenBody>, ops: &mut Stack<Op>) -> Result<Next, D
     }
 }
 
-// An operation, behind its opcode, which is at the offset.
+// An operation, behind its opcode, which is at the offset. Notes where it names a data segment.
 #[tactic(auto, unfolding(crate::specs::Instructions::operation_at))]
 #[inline(never)]
 fn read_other(
     alloc: Global,
     reader: &mut Reader<'_>,
     bodies: &mut Stack<OpenBody>,
-    ops: &mut Stack<Op>,
+    ops: &mut Expression,
     code: u8,
     offset: usize,
+    data_named: &mut bool,
 ) -> Result<Next, DecodeError>
     ensures reads { ReadsNext result bodies.old bodies.new ops.old ops.new
         reader.new (operation_at code reader.old) }
-    ensures data { code ≢ 0xFC → OnOk result (NameNoData ops.old → NameNoData ops.new) }
+    ensures data { OnOk result (NotesMore ops.old data_named.old ops.new data_named.new) }
 {
     match code {
         0x02 => push_block(reader, bodies, ops),
@@ -143,7 +146,7 @@ fn read_other(
         0x05 => push_else(bodies, ops),
         0x0B => push_end(bodies, ops),
         _ => {
-            push_plain(alloc, reader, ops, code, offset)?;
+            push_plain(alloc, reader, ops, code, offset, data_named)?;
             Ok(Next::Onward)
         }
     }
@@ -154,7 +157,7 @@ fn read_other(
 #[inline(always)]
 fn read_frequent(
     reader: &mut Reader<'_>,
-    ops: &mut Stack<Op>,
+    ops: &mut Expression,
     code: u8,
     offset: usize,
 ) -> Result<bool, DecodeError>
@@ -170,19 +173,21 @@ fn read_frequent(
         push_numeric(ops, code, offset)?;
     } else if matches!(code, 0x28..=0x40) {
         push_memory(reader, ops, code, offset)?;
+    } else if matches!(code, 0x0C | 0x0D | 0x0F | 0x10) {
+        push_control(reader, ops, code, offset)?;
     } else {
         return Ok(false);
     }
     Ok(true)
 }
 
-// Operations down to the end of the outermost body, put on a stack that has none. Notes where one of them may name a data segment.
+// Operations down to the end of the outermost body, put on an expression that has none. Notes where one of them names a data segment.
 fn read_operations(
     alloc: Global,
     reader: &mut Reader<'_>,
-    ops: Stack<Op>,
+    ops: Expression,
     data_named: &mut bool,
-) -> Result<Items<Op>, DecodeError>
+) -> Result<Expression, DecodeError>
     requires { ops ≡ [] }
     ensures reads { Gives result reader.new (expression_at reader.old) }
     ensures data { IfOk result (NotesData data_named.new) }
@@ -194,10 +199,20 @@ fn read_operations(
         let offset = reader.offset();
         let code = reader.byte()?;
         if !read_frequent(reader, &mut ops, code, offset)? {
-            *data_named |= code == 0xFC;
-            match read_other(alloc, reader, &mut bodies, &mut ops, code, offset)? {
+            match read_other(
+                alloc,
+                reader,
+                &mut bodies,
+                &mut ops,
+                code,
+                offset,
+                data_named,
+            )? {
                 Next::Onward => {}
-                Next::Ended => return Ok(ops.into_items()),
+                Next::Ended => {
+                    ops.shrink();
+                    return Ok(ops);
+                }
                 Next::Misplaced => return Err(DecodeError::Malformed(offset)),
             }
         }
@@ -206,11 +221,11 @@ fn read_operations(
 }
 
 // An expression.
-pub fn read_expression(alloc: Global, reader: &mut Reader<'_>) -> Result<Items<Op>, DecodeError>
+pub fn read_expression(alloc: Global, reader: &mut Reader<'_>) -> Result<Expression, DecodeError>
     ensures { Gives result reader.new (expression_at reader.old) }
 {
     let mut data_named = false;
-    read_operations(alloc, reader, Stack::new(alloc), &mut data_named)
+    read_operations(alloc, reader, Expression::new(alloc), &mut data_named)
 }
 
 // An expression that takes most of the bytes that are left. An operation takes two of them or more, mostly. Notes where one of
@@ -219,21 +234,26 @@ pub fn read_body(
     alloc: Global,
     reader: &mut Reader<'_>,
     data_named: &mut bool,
-) -> Result<Items<Op>, DecodeError>
+) -> Result<Expression, DecodeError>
     ensures reads { Gives result reader.new (expression_at reader.old) }
     ensures data { IfOk result (NotesData data_named.new) }
     ensures before { OnOk result (data_named.new ≡ false → data_named.old ≡ false) }
 {
     let room = reader.rest().len() / 2;
-    read_operations(alloc, reader, Stack::with_room(alloc, room), data_named)
+    read_operations(
+        alloc,
+        reader,
+        Expression::with_room(alloc, room),
+        data_named,
+    )
 }
 
-impl Readable for Items<Op> {
+impl Readable for Expression {
     ghost use Rattle.binary.specs.Expressions.{expression_at};
 
     ghost reads = { expression_at };
 
-    fn read(alloc: Global, reader: &mut Reader<'_>) -> Result<Items<Op>, DecodeError> {
+    fn read(alloc: Global, reader: &mut Reader<'_>) -> Result<Expression, DecodeError> {
         read_expression(alloc, reader)
     }
 }

@@ -9,12 +9,14 @@ pub mod table;
 pub mod variable;
 
 ghost use Rattle.core_types.specs.declared.op.Op.TheVariants.{Plain};
-ghost use Rattle.std.specs.Prelude.{List, OnOk, ℕ, ◌≢◌, ◌≤◌};
-ghost use Rattle.core_types.specs.declared.op.PlainOp.TheVariants.{BrTable, I32Const, I64Const, Memory, Numeric, SelectTyped, Variable};
+ghost use Rattle.std.specs.Prelude.{List, OnOk, ℕ, ◌≡◌, ◌≤◌};
+ghost use Rattle.core_types.specs.Expressions.{lent_op};
+ghost use Rattle.meaning.specs.binary.Modules.{names_data};
+ghost use Rattle.core_types.specs.declared.op.PlainOp.TheVariants.{BrTable, Control, I32Const, I64Const, Memory, Numeric, SelectTyped, Variable};
 ghost use Rattle.binary.specs.Conventions.{Pushes, Gives, chosen_at, mapped_at, mapped_case};
 ghost use Rattle.binary.specs.Types.{val_type_at};
 ghost use Rattle.binary.specs.Values.{unsigned_at, vector_at};
-ghost use Rattle.binary.specs.Instructions.{NameNoData, branch_table_at, group_at, memory_at, numeric_at, plain_at, prefixed_at, stored_at, variable_at};
+ghost use Rattle.binary.specs.Instructions.{NameNoData, NotesMore, branch_table_at, control_at, group_at, memory_at, numeric_at, plain_at, prefixed_at, stored_at, variable_at};
 
 use crate::errors::DecodeError;
 use crate::instructions::control::{read_branch_table, read_control};
@@ -26,7 +28,7 @@ use crate::instructions::table::{read_prefixed_table, read_table};
 use crate::instructions::variable::read_variable;
 use crate::reader::Reader;
 use crate::values::read_vector;
-use core_types::{Boxed, Op, PlainOp, Stack, ValType};
+use core_types::{Boxed, Expression, LentOp, MemoryOp, Op, OpWith, PlainOp, ValType};
 use std::alloc::Global;
 
 // A branch by number, behind its opcode.
@@ -59,7 +61,7 @@ fn read_i64_const(reader: &mut Reader<'_>) -> Result<PlainOp, DecodeError>
 
 // A 32-bit constant, behind its opcode, put on the others.
 #[inline(always)]
-pub fn push_i32_const(reader: &mut Reader<'_>, ops: &mut Stack<Op>) -> Result<(), DecodeError>
+pub fn push_i32_const(reader: &mut Reader<'_>, ops: &mut Expression) -> Result<(), DecodeError>
     ensures pushes { Pushes result ops.old ops.new reader.new
         (mapped_at Plain (mapped_at I32Const (stored_at 32)) reader.old) }
     ensures data { OnOk result (NameNoData ops.old → NameNoData ops.new) }
@@ -69,11 +71,28 @@ pub fn push_i32_const(reader: &mut Reader<'_>, ops: &mut Stack<Op>) -> Result<()
     Ok(())
 }
 
+// A control instruction without a body and without a list, behind its opcode, which is at the offset, put on the others.
+#[inline(always)]
+pub fn push_control(
+    reader: &mut Reader<'_>,
+    ops: &mut Expression,
+    code: u8,
+    offset: usize,
+) -> Result<(), DecodeError>
+    ensures pushes { Pushes result ops.old ops.new reader.new
+        (mapped_at Plain (mapped_case Control control_at code) reader.old) }
+    ensures data { OnOk result (NameNoData ops.old → NameNoData ops.new) }
+{
+    let op = read_control(reader, code, offset)?;
+    ops.push(Op::Plain(PlainOp::Control(op)))?;
+    Ok(())
+}
+
 // An instruction on a local or a global, behind its opcode, which is at the offset, put on the others.
 #[inline(always)]
 pub fn push_variable(
     reader: &mut Reader<'_>,
-    ops: &mut Stack<Op>,
+    ops: &mut Expression,
     code: u8,
     offset: usize,
 ) -> Result<(), DecodeError>
@@ -90,7 +109,7 @@ pub fn push_variable(
 #[inline(always)]
 pub fn push_memory(
     reader: &mut Reader<'_>,
-    ops: &mut Stack<Op>,
+    ops: &mut Expression,
     code: u8,
     offset: usize,
 ) -> Result<(), DecodeError>
@@ -106,7 +125,7 @@ pub fn push_memory(
 
 // A numeric instruction without an immediate, whose opcode is at the offset, put on the others.
 #[inline(always)]
-pub fn push_numeric(ops: &mut Stack<Op>, code: u8, offset: usize) -> Result<(), DecodeError>
+pub fn push_numeric(ops: &mut Expression, code: u8, offset: usize) -> Result<(), DecodeError>
     ensures pushes { (rest : List ℕ) → Pushes result ops.old ops.new rest
         (mapped_at Plain (mapped_case Numeric numeric_at code) rest) }
     ensures data { OnOk result (NameNoData ops.old → NameNoData ops.new) }
@@ -118,25 +137,53 @@ pub fn push_numeric(ops: &mut Stack<Op>, code: u8, offset: usize) -> Result<(), 
     Ok(())
 }
 
-// An instruction without a body, behind its opcode, which is at the offset, put on the others.
+/// Whether an operation names a data segment.
+pub fn is_of_data(op: LentOp<'_>) -> bool
+    ensures { result ≡ names_data (lent_op op.entry) }
+{
+    matches!(
+        op,
+        OpWith::Memory(MemoryOp::Init(_) | MemoryOp::DataDrop(_))
+    )
+}
+
+// An instruction behind the byte FC, which is at the offset, put on the others. Notes where it names a data segment.
+fn push_prefixed(
+    reader: &mut Reader<'_>,
+    ops: &mut Expression,
+    offset: usize,
+    data_named: &mut bool,
+) -> Result<(), DecodeError>
+    ensures pushes { Pushes result ops.old ops.new reader.new
+        (mapped_at Plain (chosen_at (unsigned_at 32) prefixed_at) reader.old) }
+    ensures data { OnOk result (NotesMore ops.old data_named.old ops.new data_named.new) }
+{
+    let last = ops.len();
+    ops.push(Op::Plain(read_prefixed(reader, offset)?))?;
+    *data_named |= is_of_data(ops.get(last));
+    Ok(())
+}
+
+// An instruction without a body, behind its opcode, which is at the offset, put on the others. Notes where it names a data segment.
 #[tactic(auto, unfolding(crate::specs::Instructions::plain_at))]
 pub fn push_plain(
     alloc: Global,
     reader: &mut Reader<'_>,
-    ops: &mut Stack<Op>,
+    ops: &mut Expression,
     code: u8,
     offset: usize,
+    data_named: &mut bool,
 ) -> Result<(), DecodeError>
     ensures pushes { Pushes result ops.old ops.new reader.new
         (mapped_at Plain (plain_at code) reader.old) }
-    ensures data { code ≢ 0xFC → OnOk result (NameNoData ops.old → NameNoData ops.new) }
+    ensures data { OnOk result (NotesMore ops.old data_named.old ops.new data_named.new) }
 {
     match code {
         0x0E => ops.push(Op::Plain(read_br_table(alloc, reader)?))?,
         0x1C => ops.push(Op::Plain(read_typed_select(alloc, reader)?))?,
         0x41 => push_i32_const(reader, ops)?,
         0x42 => ops.push(Op::Plain(read_i64_const(reader)?))?,
-        0xFC => ops.push(Op::Plain(read_prefixed(reader, offset)?))?,
+        0xFC => push_prefixed(reader, ops, offset, data_named)?,
         _ => push_group(reader, ops, code, offset)?,
     }
     Ok(())
@@ -146,7 +193,7 @@ pub fn push_plain(
 #[tactic(auto, unfolding(crate::specs::Instructions::group_at))]
 fn push_group(
     reader: &mut Reader<'_>,
-    ops: &mut Stack<Op>,
+    ops: &mut Expression,
     code: u8,
     offset: usize,
 ) -> Result<(), DecodeError>
@@ -155,10 +202,7 @@ fn push_group(
     ensures data { OnOk result (NameNoData ops.old → NameNoData ops.new) }
 {
     match code {
-        0x00..=0x13 => {
-            let op = read_control(reader, code, offset)?;
-            ops.push(Op::Plain(PlainOp::Control(op)))?;
-        }
+        0x00..=0x13 => push_control(reader, ops, code, offset)?,
         0x14..=0x1B => {
             let op = read_parametric(reader, code, offset)?;
             ops.push(Op::Plain(PlainOp::Parametric(op)))?;

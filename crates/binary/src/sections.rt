@@ -19,7 +19,7 @@ use crate::expressions::read_expression;
 use crate::reader::Reader;
 use crate::sections::custom::skip_customs;
 use crate::values::{Readable, read_vector};
-use core_types::{Items, Op};
+use core_types::{Expression, Items};
 use std::alloc::Global;
 
 // A section with a vector. Where it is absent, the vector is empty.
@@ -58,7 +58,7 @@ pub fn read_number_section(reader: &mut Reader<'_>, id: u8) -> Result<Option<u32
 
 // The index of a table or a memory, and an offset in it.
 #[tactic(auto, unfolding(crate::specs::Sections::target_at))]
-pub fn read_target(alloc: Global, reader: &mut Reader<'_>) -> Result<(u32, Items<Op>), DecodeError>
+pub fn read_target(alloc: Global, reader: &mut Reader<'_>) -> Result<(u32, Expression), DecodeError>
     ensures { Gives result reader.new (target_at reader.old) }
 {
     let index = reader.u32()?;

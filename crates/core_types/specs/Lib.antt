@@ -1,2 +1,3 @@
+pub mod Expressions
 pub mod LocalRuns
 pub mod Outcome

@@ -1,7 +1,9 @@
 //! The types that the layers share.
 #![tactic(auto)]
 
+mod appending;
 mod boxed;
+mod expression;
 mod halving;
 mod items;
 mod locals;
@@ -13,6 +15,7 @@ mod text;
 mod types;
 
 pub use boxed::Boxed;
+pub use expression::{Expression, LentOp, OpWith, is_mark};
 pub use items::Items;
 pub use locals::{LocalRun, Locals};
 pub use module::{

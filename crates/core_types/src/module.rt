@@ -1,6 +1,6 @@
+use crate::expression::Expression;
 use crate::items::Items;
 use crate::locals::Locals;
-use crate::op::Op;
 use crate::text::Name;
 use crate::types::{FuncType, GlobalType, Limits, RefType, TableType};
 
@@ -10,7 +10,7 @@ use crate::types::{FuncType, GlobalType, Limits, RefType, TableType};
 pub struct Func {
     pub ty: u32,
     pub locals: Locals,
-    pub body: Items<Op>,
+    pub body: Expression,
 }
 
 /// What an import asks for; a function by the index of its type (Structure, Modules, Imports).
@@ -51,7 +51,7 @@ pub struct Export {
 #[derive(Drop)]
 pub struct Global {
     pub ty: GlobalType,
-    pub init: Items<Op>,
+    pub init: Expression,
 }
 
 /// The references of an element segment: function indices, each of which represents the `ref.func` of it, or constant
@@ -59,14 +59,14 @@ pub struct Global {
 #[derive(Drop)]
 pub enum ElementItems {
     Functions(Items<u32>),
-    Expressions(Items<Items<Op>>),
+    Expressions(Items<Expression>),
 }
 
 /// Whether an element segment is copied into a table at a link, and where (Structure, Modules, Element Segments).
 #[derive(Drop)]
 pub enum ElementMode {
     Passive,
-    Active { table: u32, offset: Items<Op> },
+    Active { table: u32, offset: Expression },
     Declarative,
 }
 
@@ -82,7 +82,7 @@ pub struct ElementSegment {
 #[derive(Drop)]
 pub enum DataMode {
     Passive,
-    Active { memory: u32, offset: Items<Op> },
+    Active { memory: u32, offset: Expression },
 }
 
 /// Bytes for memories (Structure, Modules, Data Segments).

@@ -1,7 +1,6 @@
-ghost use Rattle.std.specs.Prelude.{◌≡◌, ◌<◌, ◌≤◌, List, [], ◌∷◌, drop, length, reverse, slice_get, OnOk, OnErr, MatchOption};
-ghost use Rattle.std.specs.Vec.{vec_capacity};
+ghost use Rattle.std.specs.Prelude.{◌≡◌, ◌≤◌, List, [], ◌∷◌, drop, length, reverse, slice_get, OnOk, OnErr, MatchOption};
 
-use crate::items::Items;
+use crate::appending::append;
 use std::alloc::{AllocError, Global};
 use std::marker::Model;
 
@@ -27,16 +26,6 @@ impl<T> Stack<T> {
         }
     }
 
-    /// An empty stack, which has room for `count` elements where there is memory for them.
-    pub fn with_room(alloc: Global, count: usize) -> Stack<T>
-        ensures { result ≡ [] }
-    {
-        match Vec::with_capacity(alloc, count) {
-            Ok(items) => Stack { items },
-            Err(_) => Stack::new(alloc),
-        }
-    }
-
     /// How many elements there are.
     #[inline(always)]
     pub fn len(&self) -> usize
@@ -53,26 +42,6 @@ impl<T> Stack<T> {
     {
         self.items.pop()
     }
-
-    /// The elements from the bottom to the top, in a list that gives back the room for more. Takes no memory.
-    pub fn into_items(self) -> Items<T>
-        ensures { result ≡ reverse self }
-    {
-        let Stack { items } = self;
-        let mut items = items;
-        items.shrink_to_fit();
-        Items::from_vec(items)
-    }
-}
-
-// Reserves room for more elements.
-#[cold]
-#[inline(never)]
-fn grow<T>(items: &mut Vec<T>) -> Result<(), AllocError>
-    ensures same { items.new.items ≡ items.old.items }
-    ensures room { OnOk result (length items.new.items < vec_capacity items.new) }
-{
-    items.reserve(1)
 }
 
 impl<T: Drop> Stack<T> {
@@ -82,11 +51,7 @@ impl<T: Drop> Stack<T> {
         ensures ok { OnOk result (self.new ≡ x ∷ self.old) }
         ensures err { OnErr result (self.new ≡ self.old) }
     {
-        if self.items.len() == self.items.capacity() {
-            grow(&mut self.items)?;
-        }
-        self.items.push_reserved(x);
-        Ok(())
+        append(&mut self.items, x)
     }
 
     /// Takes the topmost `count` elements off. Takes no memory.

@@ -1,6 +1,9 @@
-//! The lists, names, locals, boxes and stacks of `core_types`, and the size of an operation.
+//! The lists, names, locals, boxes, stacks and expressions of `core_types`, and the size of an operation.
 
-use core_types::{Boxed, Items, Locals, Name, Op, Stack, ValType};
+use core_types::{
+    Boxed, BranchTable, Expression, Items, LentOp, Locals, Name, Op, OpWith, PlainOp, Stack,
+    ValType, is_mark,
+};
 use std::alloc::{AllocError, Global};
 use std::mem::size_of;
 
@@ -155,24 +158,66 @@ fn takes(stack: &mut Stack<u32>, step: Step) -> bool {
     }
 }
 
-// Whether a stack with such room takes all steps so, and gives its items from the bottom.
-fn takes_all(alloc: Global, room: usize) -> bool {
-    let mut stack = Stack::with_room(alloc, room);
+// Whether a stack takes all steps so.
+fn takes_all(alloc: Global) -> bool {
+    let mut stack = Stack::new(alloc);
     let mut all = true;
     for step in &STEPS {
         all &= takes(&mut stack, *step);
     }
-    all && stack.into_items().as_slice() == [1, 2].as_slice()
+    all && stack.get(0) == Some(2) && stack.get(1) == Some(1)
 }
 
 #[test]
 fn keeps_stacks(rt: HostRuntime) {
+    assert!(rt; takes_all(rt.alloc()));
+}
+
+// An expression with an operation of each kind of list, between two others.
+fn expression_of(alloc: Global, room: usize) -> Result<Expression, AllocError> {
+    let mut expression = Expression::with_room(alloc, room);
+    let labels = Items::from_vec(vec![in alloc; 1u32, 2]?);
+    let table = BranchTable { labels, default: 3 };
+    let types = Items::from_vec(vec![in alloc; ValType::I64]?);
+    expression.push(Op::Plain(PlainOp::I64Const(7)))?;
+    expression.push(Op::Plain(PlainOp::BrTable(Boxed::new(alloc, table)?)))?;
+    expression.push(Op::Plain(PlainOp::SelectTyped(Boxed::new(alloc, types)?)))?;
+    expression.push(Op::Else)?;
+    expression.shrink();
+    Ok(expression)
+}
+
+// Whether an operation is the one of that index.
+fn is_operation(index: usize, op: LentOp<'_>) -> bool {
+    match (index, op) {
+        (0, OpWith::I64Const(n)) => n == 7 && !is_mark(op),
+        (1, OpWith::BrTable(table)) => {
+            table.labels.as_slice() == [1, 2].as_slice() && table.default == 3
+        }
+        (2, OpWith::SelectTyped(types)) => types.as_slice() == [ValType::I64].as_slice(),
+        (3, OpWith::Else) => is_mark(op),
+        _ => false,
+    }
+}
+
+// Whether an expression with such room has its four operations.
+fn keeps_operations(alloc: Global, room: usize) -> Result<bool, AllocError> {
+    let expression = expression_of(alloc, room)?;
+    let mut all = expression.len() == 4;
+    for index in 0..expression.len() {
+        all &= is_operation(index, expression.get(index));
+    }
+    Ok(all)
+}
+
+#[test]
+fn keeps_expressions(rt: HostRuntime) {
     for room in [0, 1, 9, usize::MAX] {
-        assert!(rt; takes_all(rt.alloc(), room), "{room}");
+        assert!(rt; keeps_operations(rt.alloc(), room) == Ok(true), "{room}");
     }
 }
 
 #[test]
 fn operations_are_small(rt: HostRuntime) {
-    assert!(rt; size_of::<Op>() <= 24);
+    assert!(rt; size_of::<OpWith<u32, u32>>() <= 16);
 }

@@ -2,7 +2,7 @@
 
 use crate::modules::{append, empty_store, loaded_module, store_with};
 use crate::runs::calls_so;
-use core_types::{Extern, ExternType, Op, PlainOp, RefType, Val, ValType};
+use core_types::{Extern, ExternType, OpWith, RefType, Val, ValType};
 use hostfunc::HostTable;
 use std::alloc::Global;
 use store::{Callee, ModuleFunction, Store, accepts};
@@ -114,10 +114,8 @@ fn gives(callee: Callee<'_>, instance: u32, number: u32) -> bool {
     let Callee::InModule(function) = callee else {
         return false;
     };
-    let is_constant = match function.func.body.as_slice() {
-        [Op::Plain(PlainOp::I32Const(n))] => *n == number,
-        _ => false,
-    };
+    let body = &function.func.body;
+    let is_constant = body.len() == 1 && matches!(body.get(0), OpWith::I32Const(n) if n == number);
     let results = function.ty.results.as_slice();
     function.instance == instance && results == [ValType::I32].as_slice() && is_constant
 }

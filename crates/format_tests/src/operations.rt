@@ -160,9 +160,10 @@ fn module_around(alloc: Global, body: &[u8]) -> Result<Vec<u8>, AllocError> {
 // The text of the first operation of a module.
 fn first_operation(alloc: Global, decoded: &Module) -> Result<String, AllocError> {
     let mut text = String::new(alloc);
-    let first = decoded.funcs.as_slice().first();
-    if let Some(op) = first.and_then(|func| func.body.as_slice().first()) {
-        print_operation(&mut text, op)?;
+    if let Some(func) = decoded.funcs.as_slice().first() {
+        if func.body.len() > 0 {
+            print_operation(&mut text, func.body.get(0))?;
+        }
     }
     Ok(text)
 }

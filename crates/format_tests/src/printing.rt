@@ -4,9 +4,9 @@ use crate::mnemonics::{
     Printed, print_indexed, print_operation, print_types, reference_name, type_name,
 };
 use core_types::{
-    DataMode, DataSegment, ElementItems, ElementMode, ElementSegment, Export, ExportDesc, Func,
-    FuncType, Global as ModuleGlobal, GlobalType, Import, ImportDesc, Limits, Module, Mutability,
-    Op, TableType, ValType,
+    DataMode, DataSegment, ElementItems, ElementMode, ElementSegment, Export, ExportDesc,
+    Expression, Func, FuncType, Global as ModuleGlobal, GlobalType, Import, ImportDesc, Limits,
+    Module, Mutability, TableType, ValType,
 };
 use std::alloc::{AllocError, Global};
 
@@ -70,10 +70,10 @@ fn print_import(out: &mut String, import: &Import) -> Printed {
     out.push_str("))")
 }
 
-fn print_operations(out: &mut String, operations: &[Op]) -> Printed {
-    for op in operations {
+fn print_operations(out: &mut String, expression: &Expression) -> Printed {
+    for index in 0..expression.len() {
         out.push_str(" ")?;
-        print_operation(out, op)?;
+        print_operation(out, expression.get(index))?;
     }
     Ok(())
 }
@@ -91,7 +91,7 @@ fn print_function(out: &mut String, func: &Func) -> Printed {
     print_indexed(out, " (func (type", func.ty)?;
     out.push_str(")")?;
     print_locals(out, func)?;
-    print_operations(out, func.body.as_slice())?;
+    print_operations(out, &func.body)?;
     out.push_str(")")
 }
 
@@ -110,7 +110,7 @@ fn print_memory(out: &mut String, limits: Limits) -> Printed {
 fn print_global(out: &mut String, global: &ModuleGlobal) -> Printed {
     out.push_str(" (")?;
     print_global_type(out, global.ty)?;
-    print_operations(out, global.init.as_slice())?;
+    print_operations(out, &global.init)?;
     out.push_str(")")
 }
 
@@ -125,7 +125,7 @@ fn print_export(out: &mut String, export: &Export) -> Printed {
     out.push_str("))")
 }
 
-fn print_offset(out: &mut String, offset: &[Op]) -> Printed {
+fn print_offset(out: &mut String, offset: &Expression) -> Printed {
     out.push_str(" (offset")?;
     print_operations(out, offset)?;
     out.push_str(")")
@@ -137,7 +137,7 @@ fn print_element_mode(out: &mut String, mode: &ElementMode) -> Printed {
         ElementMode::Active { table, offset } => {
             print_indexed(out, " (table", *table)?;
             out.push_str(")")?;
-            print_offset(out, offset.as_slice())
+            print_offset(out, offset)
         }
         ElementMode::Declarative => out.push_str(" declare"),
     }
@@ -160,7 +160,7 @@ fn print_element(out: &mut String, segment: &ElementSegment) -> Printed {
             out.push_str(reference_name(segment.ty))?;
             for expression in expressions.as_slice() {
                 out.push_str(" (item")?;
-                print_operations(out, expression.as_slice())?;
+                print_operations(out, expression)?;
                 out.push_str(")")?;
             }
         }
@@ -173,7 +173,7 @@ fn print_data(out: &mut String, segment: &DataSegment) -> Printed {
     if let DataMode::Active { memory, offset } = &segment.mode {
         print_indexed(out, " (memory", *memory)?;
         out.push_str(")")?;
-        print_offset(out, offset.as_slice())?;
+        print_offset(out, offset)?;
     }
     out.push_str(" \"")?;
     for byte in segment.bytes.as_slice() {

@@ -1,8 +1,10 @@
-ghost use Rattle.std.specs.Prelude.{◌≡◌, ◌≢◌, ◌+◌, ◌<◌, ◌≤◌, ℕ, List, [], ◌∷◌, ◌++◌, length, reverse, IfOk, OnOk, IsTrue, Some, None, false, option_map, vec_capacity, vec_len};
+ghost use Rattle.std.specs.Prelude.{◌≡◌, ◌≢◌, ◌+◌, ◌<◌, ◌≤◌, ℕ, List, [], ◌∷◌, ◌++◌, length, reverse, IfNone, IfOk, IfSome, OnOk, IsTrue, Some, None, false, option_map, vec_capacity, vec_len};
+ghost use Rattle.core_types.specs.Expressions.{lent_op};
 ghost use Rattle.core_types.specs.declared.module.Module.{Module};
 ghost use Rattle.core_types.specs.declared.op.NumericOp.{NumericOp as AnyNumericOp};
 ghost use Rattle.core_types.specs.declared.op.NumericOp.TheVariants.{Binary as BinaryForm};
 ghost use Rattle.core_types.specs.declared.op.Op.{Op as AnyOp};
+ghost use Rattle.core_types.specs.declared.op.Op.TheVariants.{Plain};
 ghost use Rattle.core_types.specs.declared.op.PlainOp.TheVariants.{Numeric as NumericForm, Reference as ReferenceForm, Variable as VariableForm};
 ghost use Rattle.core_types.specs.declared.op.ReferenceOp.TheVariants.{Func as FuncForm};
 ghost use Rattle.core_types.specs.declared.op.VariableOp.TheVariants.{GlobalGet as GlobalGetForm};
@@ -10,8 +12,12 @@ ghost use Rattle.core_types.specs.declared.outcome.Val.{Val as AnyVal};
 ghost use Rattle.meaning.specs.execution.Modules.{constant, constant_operands, constant_step, constant_value, only, operate as operate_of};
 ghost use Rattle.meaning.specs.execution.Values.{null_of};
 ghost use Rattle.store.specs.Contents.{Contents, lists_of, module_instance, store_with};
+ghost use Rattle.instantiate.specs.Constants.{IsNoConstant};
 
-use core_types::{BinaryOp, NumericOp, Op, PlainOp, RefType, ReferenceOp, Val, VariableOp, Width};
+use core_types::{
+    BinaryOp, Expression, LentOp, NumericOp, OpWith, PlainOp, RefType, ReferenceOp, Val,
+    VariableOp, Width,
+};
 use intops::{binary_32, binary_64};
 use std::alloc::{AllocError, Global};
 use std::marker::Model;
@@ -169,25 +175,51 @@ fn execute_plain(
     operate(*operator, operands)
 }
 
-// Executes an instruction of a constant expression on operands, to which there is room for one more, and says whether it could.
-fn execute(op: &Op, addresses: &Addresses, state: &State, operands: &mut Vec<Val>) -> bool
+// The instruction that an operation without a list is, if it is one.
+fn plain_op(op: LentOp<'_>) -> Option<PlainOp>
+    ensures some { IfSome result (λ plain. lent_op op.entry ≡ Plain plain) }
+    ensures none { IfNone result (IsNoConstant (lent_op op.entry)) }
+{
+    match op {
+        OpWith::Control(op) => Some(PlainOp::Control(op)),
+        OpWith::BrTable(_) => None,
+        OpWith::Reference(op) => Some(PlainOp::Reference(op)),
+        OpWith::Parametric(op) => Some(PlainOp::Parametric(op)),
+        OpWith::SelectTyped(_) => None,
+        OpWith::Variable(op) => Some(PlainOp::Variable(op)),
+        OpWith::Table(op) => Some(PlainOp::Table(op)),
+        OpWith::Memory(op) => Some(PlainOp::Memory(op)),
+        OpWith::Numeric(op) => Some(PlainOp::Numeric(op)),
+        OpWith::I32Const(n) => Some(PlainOp::I32Const(n)),
+        OpWith::I64Const(n) => Some(PlainOp::I64Const(n)),
+        OpWith::Block(_) => None,
+        OpWith::Loop(_) => None,
+        OpWith::If(_) => None,
+        OpWith::Else => None,
+        OpWith::End => None,
+    }
+}
+
+// Executes an operation of a constant expression on operands, to which there is room for one more, and says whether it could.
+fn execute(op: LentOp<'_>, addresses: &Addresses, state: &State, operands: &mut Vec<Val>) -> bool
     requires room { vec_len operands.old < vec_capacity operands.old }
     ensures done { IsTrue result → (contents : Contents) (m : Module) (ops : List AnyOp)
         → constant_operands (store_with contents state.now)
-        (module_instance (lists_of addresses.now) m) (op.now ∷ ops) (reverse operands.old.items)
+        (module_instance (lists_of addresses.now) m) (lent_op op.entry ∷ ops)
+        (reverse operands.old.items)
         ≡ constant_operands (store_with contents state.now)
         (module_instance (lists_of addresses.now) m) ops (reverse operands.new.items) }
     ensures none { result ≡ false → (contents : Contents) (m : Module) (ops : List AnyOp)
         → constant_operands (store_with contents state.now)
-        (module_instance (lists_of addresses.now) m) (op.now ∷ ops) (reverse operands.old.items)
-        ≡ None }
+        (module_instance (lists_of addresses.now) m) (lent_op op.entry ∷ ops)
+        (reverse operands.old.items) ≡ None }
     ensures len { vec_len operands.new ≤ vec_len operands.old + 1 }
     ensures capacity { vec_capacity operands.old ≤ vec_capacity operands.new }
 {
-    let Op::Plain(plain) = op else {
+    let Some(plain) = plain_op(op) else {
         return false;
     };
-    execute_plain(plain, addresses, state, operands)
+    execute_plain(&plain, addresses, state, operands)
 }
 
 /// Operands of constant expressions. Contracts see how many there is room for; what they are between two expressions is of no account.
@@ -218,7 +250,7 @@ fn only_value(operands: &[Val]) -> Option<Val>
 // Executes the instructions of a constant expression, for each of which there is room for an operand, and answers the value if one is
 // left alone.
 fn run_constant(
-    code: &[Op],
+    code: &Expression,
     addresses: &Addresses,
     state: &State,
     operands: &mut Vec<Val>,
@@ -230,7 +262,7 @@ fn run_constant(
 {
     operands.clear();
     for k in 0..code.len() {
-        if !execute(&code[k], addresses, state, operands) {
+        if !execute(code.get(k), addresses, state, operands) {
             return None;
         }
     }
@@ -263,7 +295,12 @@ impl ConstantOperands {
 
     /// The value of a constant expression, in the instance with these addresses (Execution, Modules, Instantiation). In a valid module
     /// it has one. There is room for an operand for each instruction; it takes no memory.
-    pub fn value_of(&mut self, code: &[Op], addresses: &Addresses, state: &State) -> Option<Val>
+    pub fn value_of(
+        &mut self,
+        code: &Expression,
+        addresses: &Addresses,
+        state: &State,
+    ) -> Option<Val>
         requires room { length code.now ≤ self.old }
         ensures value { (contents : Contents) (m : Module) → result ≡ constant_value
             (store_with contents state.now) (module_instance (lists_of addresses.now) m) code.now }
@@ -275,7 +312,7 @@ impl ConstantOperands {
     /// The same, where room is made first. Fails where there is no memory for the operands.
     pub fn evaluate(
         &mut self,
-        code: &[Op],
+        code: &Expression,
         addresses: &Addresses,
         state: &State,
     ) -> Result<Option<Val>, AllocError>

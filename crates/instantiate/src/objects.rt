@@ -12,7 +12,7 @@ ghost use Rattle.instantiate.specs.declared.objects.ObjectFault.TheVariants as f
 
 use crate::constants::{ConstantOperands, function_reference};
 use core_types::{
-    ElementItems, ElementSegment as ModuleElements, Global as ModuleGlobal, Items, Limits, Op,
+    ElementItems, ElementSegment as ModuleElements, Expression, Global as ModuleGlobal, Limits,
     TableType, Val,
 };
 use std::alloc::{AllocError, AllocFailed, Global};
@@ -80,7 +80,7 @@ fn new_global(
     ensures { IfOk result (λ variable. (code : Contents) (m : AnyModule) → variable ≡ new_global
         (store_with code state.now) (module_instance (lists_of addresses.now) m) wanted.now) }
 {
-    match operands.evaluate(wanted.init.as_slice(), addresses, state)? {
+    match operands.evaluate(&wanted.init, addresses, state)? {
         Some(value) => Ok(Some(GlobalVariable::new(wanted.ty, value))),
         None => Ok(None),
     }
@@ -138,7 +138,7 @@ fn function_references(
 // The values of constant expressions.
 fn values_of(
     alloc: Global,
-    expressions: &[Items<Op>],
+    expressions: &[Expression],
     addresses: &Addresses,
     state: &State,
     operands: &mut ConstantOperands,
@@ -152,7 +152,7 @@ fn values_of(
 {
     let mut found = Vec::new(alloc);
     for k in 0..expressions.len() {
-        match operands.evaluate(expressions[k].as_slice(), addresses, state)? {
+        match operands.evaluate(&expressions[k], addresses, state)? {
             Some(value) => found.push(value)?,
             None => return Err(ObjectFault::NoValue),
         }

@@ -14,7 +14,9 @@ ghost use Rattle.instantiate.specs.Tasks.{EndsAs, HasNoI32, RanTasks, RunsTo, in
 use crate::constants::ConstantOperands;
 use crate::copies::{Linked, copy_bytes, copy_elements, drop_element_segment};
 use crate::link_end::TaskEnd;
-use core_types::{DataMode, DataSegment, ElementItems, ElementMode, ElementSegment, Op, Val};
+use core_types::{
+    DataMode, DataSegment, ElementItems, ElementMode, ElementSegment, Expression, Val,
+};
 use exec::{Outcome, invoke};
 use fuel::Meter;
 use hostfunc::{HostFn, HostTable};
@@ -23,7 +25,7 @@ use store::{State, Store, accepts};
 
 // The offset at which a segment is copied, if its constant expression has such a value.
 fn offset_of(
-    code: &[Op],
+    code: &Expression,
     linked: &Linked<'_>,
     state: &State,
     operands: &mut ConstantOperands,
@@ -82,7 +84,7 @@ fn run_element_segment(
         ElementMode::Declarative => drop_element_segment(x, linked, state, meter),
         ElementMode::Active { table, offset } => {
             let count = count_operand(item_count(&wanted.items));
-            match offset_of(offset.as_slice(), linked, state, operands) {
+            match offset_of(offset, linked, state, operands) {
                 Some(target) => copy_elements(x, *table, target, count, linked, state, meter),
                 None => Err(TaskEnd::Stuck),
             }
@@ -138,7 +140,7 @@ fn run_data_segment(
         DataMode::Passive => Ok(()),
         DataMode::Active { offset, .. } => {
             let count = count_operand(wanted.bytes.len());
-            match offset_of(offset.as_slice(), linked, state, operands) {
+            match offset_of(offset, linked, state, operands) {
                 Some(target) => copy_bytes(x, target, count, linked, state, meter),
                 None => Err(TaskEnd::Stuck),
             }

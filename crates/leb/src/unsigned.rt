@@ -29,9 +29,29 @@ fn unsigned_value(bytes: &[u8], at: usize, last: LastByte, bits: u32) -> u64
     value
 }
 
-// Reads the unsigned integer of 32 bits whose spelling begins at `at`, by more than one byte or none.
+// Reads the unsigned integer of `bits` bits whose spelling begins at `at`, and says at which offset the spelling ends.
 #[cold]
 #[inline(never)]
+fn read_unsigned(bytes: &[u8], at: usize, bits: u32) -> Option<(u64, usize)>
+    requires some_bits { 0 < bits }
+    requires at_most { bits ≤ 64 }
+    requires within { at ≤ length bytes.now }
+    ensures within { IfSome result (λ f. (at < f.1) × (f.1 ≤ length bytes.now)) }
+    ensures range { IfSome result (λ f. f.0 < 2 ^ bits) }
+    ensures found { IfSome result
+        (λ f. Reads (SpellsUnsigned bits) (drop at bytes.now) f.0 (drop f.1 bytes.now)) }
+    ensures none { IfNone result (NoFront (SpellsUnsigned bits) (drop at bytes.now)) }
+{
+    let last = find_last(bytes, at, bits)?;
+    if !is_within(last.bits, last.byte) {
+        return None;
+    }
+    let value = unsigned_value(bytes, at, last, bits);
+    Some((value, last.offset + 1))
+}
+
+// Reads the unsigned integer of 32 bits whose spelling begins at `at`, by more than one byte or none.
+#[inline(always)]
 fn read_long_u32(bytes: &[u8], at: usize) -> Option<(u32, usize)>
     requires { at ≤ length bytes.now }
     ensures within { IfSome result (λ f. (at < f.1) × (f.1 ≤ length bytes.now)) }
@@ -39,12 +59,8 @@ fn read_long_u32(bytes: &[u8], at: usize) -> Option<(u32, usize)>
         (λ f. Reads (SpellsUnsigned 32) (drop at bytes.now) f.0 (drop f.1 bytes.now)) }
     ensures none { IfNone result (NoFront (SpellsUnsigned 32) (drop at bytes.now)) }
 {
-    let last = find_last(bytes, at, 32)?;
-    if !is_within(last.bits, last.byte) {
-        return None;
-    }
-    let value = unsigned_value(bytes, at, last, 32);
-    Some((value as u32, last.offset + 1))
+    let (value, end) = read_unsigned(bytes, at, 32)?;
+    Some((value as u32, end))
 }
 
 /// Reads the unsigned integer of 32 bits whose spelling begins at `at`, and says at which offset the spelling ends.

@@ -8,5 +8,6 @@ mod Lengths
 mod Making
 mod MeasuredRows
 mod Passing
+mod PlainOps
 mod Shapes
 mod Wholes

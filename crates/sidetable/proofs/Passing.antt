@@ -12,7 +12,7 @@ use Rattle.meaning.specs.structure.Bodies.{Body, BlockKind, LoopKind, IfKind, re
 use Rattle.sidetable.specs.Counts.{Signatures, behind, block_counts, changed, counts_of, height_or_zero, less}
 use Rattle.sidetable.specs.Flat.{FlatOp, Enter, Jump, entry_of, flat_op, size}
 use Rattle.sidetable.specs.Flat.{If as IfOp}
-use Rattle.sidetable.specs.Flattening.{Makes, Passes, Pushes, greatest_left, if_end, if_second, left}
+use Rattle.sidetable.specs.Flattening.{Makes, Passes, PassesTo, Pushes, greatest_left, if_end, if_second, left}
 use Rattle.sidetable.specs.Labels.{AllStand, LabelStands, LevelStands, all_entries}
 use Rattle.sidetable.specs.Packing.{IsWithin, Packs, made, unpacked}
 use Rattle.sidetable.specs.Shapes.{BehindElse, BehindEnd, Closes}
@@ -27,7 +27,7 @@ use Rattle.sidetable.specs.declared.operations.PackedOp.{PackedOp}
 use Rattle.sidetable.specs.declared.operations.PackedOp.TheVariants as packed
 use Rattle.sidetable.specs.declared.operations.TransferInstruction.TheVariants as transfer
 use Rattle.sidetable.specs.declared.sizes.PartSize.{PartSize}
-use Rattle.sidetable.proofs.Growth.{grows-same}
+use Rattle.sidetable.proofs.Growth.{grows-more, grows-same}
 use Rattle.sidetable.proofs.LabelNumbers.{all-kept, level-stands}
 use Rattle.sidetable.proofs.Left.{greatest-else, greatest-end, greatest-plain, left-else, left-end, left-plain}
 use Rattle.sidetable.proofs.Making.{GoesOn, MakesOne, both-heights, both-left, first-level, makes-on, makes-one, nested-heights, nested-left, no-other, opened-other, opened-rest, opened-size, same-label, same-level, single-if-heights, single-if-left, some-other, stand-more}
@@ -42,6 +42,18 @@ with-tables f tables openings = record { tables = tables; operations = f.operati
 
 abbrev with-levels : Flattening → List Level → Flattening
 with-levels f levels = record { tables = f.tables; operations = f.operations; levels = levels; openings = f.openings; height = f.height; greatest = f.greatest }
+
+-- With other heights.
+abbrev pub with-heights : Flattening → Option ℕ → ℕ → Flattening
+with-heights f height greatest = record { tables = f.tables; operations = f.operations; levels = f.levels; openings = f.openings; height = height; greatest = greatest }
+
+-- ---- some operations, and then others
+
+pub passes-then : (s : Signatures) (outermost : Label) (old between new : Flattening) (all some ops : List Op) → PassesTo s outermost old all some between → PassesTo s outermost between some ops new → PassesTo s outermost old all ops new
+passes-then s outermost old between new all some ops first second = record {
+  grows = grows-more old.tables between.tables new.tables first.grows second.grows;
+  makes = λ whole most m. second.makes whole most (first.makes whole most m);
+}
 
 -- ---- an instruction without a body
 

@@ -39,6 +39,10 @@ pub record Measures (ops : List Op) (s : Sizes) : Type 0 where
 abbrev pub MeasuresOn : Op → Sizes → Sizes → Type 0
 MeasuresOn op old new = (ops : List Op) → Measures ops old → Measures (op ∷ ops) new
 
+-- No instruction without a body lies at this place.
+abbrev pub IsMarkAt : ℕ → List Op → Type 0
+IsMarkAt place ops = (plain : PlainOp) → slice_get ops place ≢ Some (Plain plain)
+
 -- No instruction without a body lies right before this place.
 abbrev pub IsMarkBefore : ℕ → List Op → Type 0
-IsMarkBefore place ops = (plain : PlainOp) → 0 < place → slice_get ops (place - 1) ≢ Some (Plain plain)
+IsMarkBefore place ops = 0 < place → IsMarkAt (place - 1) ops

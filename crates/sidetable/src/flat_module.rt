@@ -67,7 +67,7 @@ fn flatten_function(
         mem::replace(room, Room::new(alloc)),
         locals,
         results,
-        func.body.as_slice(),
+        &func.body,
     )?;
     let FlatBody {
         operations,

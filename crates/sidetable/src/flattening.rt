@@ -1,5 +1,6 @@
-ghost use Rattle.std.specs.Prelude.{◌≡◌, ◌≢◌, ◌+◌, ◌∷◌, [], List, IfOk, OnOk};
+ghost use Rattle.std.specs.Prelude.{◌≡◌, ◌≢◌, ◌<◌, ◌≤◌, ◌+◌, ◌∷◌, [], List, drop, length, IfOk, OnOk};
 ghost use Rattle.std.specs.List.{All};
+ghost use Rattle.core_types.specs.Expressions.{lent_op};
 ghost use Rattle.core_types.specs.declared.op.Op.TheVariants.{Block, Else, End, If, Loop, Plain};
 ghost use Rattle.core_types.specs.declared.op.PlainOp.{PlainOp as PlainInstruction};
 ghost use Rattle.meaning.specs.structure.Bodies.{Body, writing};
@@ -8,16 +9,17 @@ ghost use Rattle.sidetable.specs.Flattening.{CanMake, CanMakeAll, IsMade, Passes
 ghost use Rattle.sidetable.specs.Packing.{IsWithin};
 ghost use Rattle.sidetable.specs.Signatures.{signatures_of};
 ghost use Rattle.sidetable.specs.SideTables.{Grows};
+ghost use Rattle.sidetable.specs.Sizes.{IsMarkAt};
 ghost use Rattle.sidetable.specs.declared.sizes.PartSize.{PartSize as AnySize};
 
 use crate::counts::{Counts, ModuleTypes, counts_of_block};
 use crate::instructions::pack;
 use crate::labels::{Label, Level, push_label};
-use crate::operand_heights::{base, behind, changed, known, less_one};
+use crate::operand_heights::{Heights, base, changed, heights_behind, known, less_one};
 use crate::operations::{Entry, PackedOp, TransferInstruction};
 use crate::side_tables::{SideTables, number};
 use crate::sizes::{PartSize, clear, measure, sum};
-use core_types::{BlockType, Op, PlainOp, Stack};
+use core_types::{BlockType, Expression, LentOp, OpWith, Stack, is_mark};
 use meaning::writing_is_read;
 use std::alloc::{AllocError, Global};
 
@@ -36,28 +38,13 @@ struct Flattening {
 // ---- operations
 
 // Puts an operation behind the others, behind which the height is this.
+#[inline(always)]
 fn push_operation(f: &mut Flattening, op: PackedOp, after: Option<u64>) -> Result<(), AllocError>
     ensures { OnOk result (Pushes f.old op after f.new) }
 {
     f.greatest = f.greatest.max(known(f.height));
     f.height = after;
     f.operations.push(op)?;
-    Ok(())
-}
-
-// An instruction without a body.
-fn step_plain(
-    s: &ModuleTypes<'_>,
-    outermost: Label,
-    f: &mut Flattening,
-    op: &PlainOp,
-) -> Result<(), AllocError>
-    requires can { CanMake (signatures_of s.now) outermost f.old (Plain op.now) }
-    ensures { OnOk result (Passes (signatures_of s.now) outermost f.old (Plain op.now) f.new) }
-{
-    let packed = pack(s, &mut f.tables, outermost, &f.levels, op)?;
-    let after = behind(packed.counts, f.height)?;
-    push_operation(f, packed.op, after)?;
     Ok(())
 }
 
@@ -243,44 +230,79 @@ fn step_end(s: &ModuleTypes<'_>, outermost: Label, f: &mut Flattening)
     f.height = level.after;
 }
 
-// One operation more.
-fn step(
-    s: &ModuleTypes<'_>,
-    outermost: Label,
-    f: &mut Flattening,
-    op: &Op,
-) -> Result<(), AllocError>
-    requires can { CanMake (signatures_of s.now) outermost f.old op.now }
-    ensures { OnOk result (Passes (signatures_of s.now) outermost f.old op.now f.new) }
-{
-    if let Op::Plain(op) = op {
-        step_plain(s, outermost, f, op)?;
-        return Ok(());
-    }
-    step_mark(s, outermost, f, op)
-}
-
 // One mark more.
-#[inline(never)]
+#[inline(always)]
 fn step_mark(
     s: &ModuleTypes<'_>,
     outermost: Label,
     f: &mut Flattening,
-    op: &Op,
+    op: LentOp<'_>,
 ) -> Result<(), AllocError>
-    requires mark { (plain : PlainInstruction) → op.now ≢ Plain plain }
-    requires can { CanMake (signatures_of s.now) outermost f.old op.now }
-    ensures { OnOk result (Passes (signatures_of s.now) outermost f.old op.now f.new) }
+    requires mark { (plain : PlainInstruction) → lent_op op ≢ Plain plain }
+    requires can { CanMake (signatures_of s.now) outermost f.old (lent_op op) }
+    ensures { OnOk result (Passes (signatures_of s.now) outermost f.old (lent_op op.entry) f.new) }
 {
     match op {
-        Op::Plain(_) => unreachable!(),
-        Op::Block(ty) => step_block(s, outermost, f, *ty)?,
-        Op::Loop(ty) => step_loop(s, outermost, f, *ty)?,
-        Op::If(ty) => step_if(s, outermost, f, *ty)?,
-        Op::Else => step_else(s, outermost, f)?,
-        Op::End => step_end(s, outermost, f),
+        OpWith::Block(ty) => step_block(s, outermost, f, ty)?,
+        OpWith::Loop(ty) => step_loop(s, outermost, f, ty)?,
+        OpWith::If(ty) => step_if(s, outermost, f, ty)?,
+        OpWith::Else => step_else(s, outermost, f)?,
+        OpWith::End => step_end(s, outermost, f),
+        _ => unreachable!(),
     }
     Ok(())
+}
+
+// ---- all operations
+
+// The mark at a position.
+#[inline(never)]
+fn pass_mark(
+    s: &ModuleTypes<'_>,
+    outermost: Label,
+    f: &mut Flattening,
+    code: &Expression,
+    position: usize,
+) -> Result<(), AllocError>
+    requires within { position < length code.now }
+    requires mark { IsMarkAt position code.now }
+    requires can { CanMakeAll (signatures_of s.now) outermost f.old (drop position code.now) }
+    ensures { OnOk result (PassesTo (signatures_of s.now) outermost f.old
+        (drop position code.now) (drop (position + 1) code.now) f.new) }
+{
+    step_mark(s, outermost, f, code.get(position))
+}
+
+// Passes the instructions without a body that lie in a row from a position on; answers the position behind them.
+#[inline(always)]
+fn pass_row(
+    s: &ModuleTypes<'_>,
+    outermost: Label,
+    f: &mut Flattening,
+    code: &Expression,
+    start: usize,
+) -> Result<usize, AllocError>
+    requires within { start ≤ length code.now }
+    requires can { CanMakeAll (signatures_of s.now) outermost f.old (drop start code.now) }
+    ensures within { IfOk result (λ end. (start ≤ end) × (end ≤ length code.now)) }
+    ensures passes { IfOk result (λ end. PassesTo (signatures_of s.now) outermost f.old
+        (drop start code.now) (drop end code.now) f.new) }
+    ensures mark { IfOk result (λ end. IsMarkAt end code.now) }
+{
+    let mut heights = Heights {
+        here: f.height,
+        greatest: f.greatest,
+    };
+    let mut index = start;
+    while index < code.len() && !is_mark(code.get(index)) {
+        let packed = pack(s, &mut f.tables, outermost, &f.levels, code.get(index))?;
+        heights = heights_behind(packed.counts, heights)?;
+        f.operations.push(packed.op)?;
+        index += 1;
+    }
+    f.height = heights.here;
+    f.greatest = heights.greatest;
+    Ok(index)
 }
 
 // All operations.
@@ -289,13 +311,18 @@ fn run(
     s: &ModuleTypes<'_>,
     outermost: Label,
     f: &mut Flattening,
-    code: &[Op],
+    code: &Expression,
 ) -> Result<(), AllocError>
     requires can { CanMakeAll (signatures_of s.now) outermost f.old code.now }
     ensures { OnOk result (PassesTo (signatures_of s.now) outermost f.old code.now ([]) f.new) }
 {
-    for op in code {
-        step(s, outermost, f, op)?;
+    let mut position = 0;
+    while position < code.len() {
+        position = pass_row(s, outermost, f, code, position)?;
+        if position < code.len() {
+            pass_mark(s, outermost, f, code, position)?;
+            position += 1;
+        }
     }
     Ok(())
 }
@@ -339,7 +366,7 @@ pub fn flatten_body(
     room: Room,
     locals: u32,
     results: u32,
-    code: &[Op],
+    code: &Expression,
 ) -> Result<FlatBody, AllocError>
     requires written { (body : Body) × (code.now ≡ writing body) }
     requires within { All (IsWithin tables) operations.items }

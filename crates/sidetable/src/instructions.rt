@@ -1,4 +1,7 @@
 ghost use Rattle.std.specs.Prelude.{◌≡◌, IfOk, OnOk, Some, map};
+ghost use Rattle.core_types.specs.Expressions.{lent_op};
+ghost use Rattle.core_types.specs.declared.op.Op.TheVariants as flat;
+ghost use Rattle.core_types.specs.declared.op.PlainOp.{PlainOp as PlainForm};
 ghost use Rattle.core_types.specs.declared.op.PlainOp.TheVariants.{I64Const};
 ghost use Rattle.sidetable.specs.Counts.{counts_of};
 ghost use Rattle.sidetable.specs.Flat.{BrTable, Plain, entry_at, flat_control, flat_op};
@@ -15,7 +18,7 @@ use crate::labels::{Label, Level, label_at, push_branch};
 use crate::operations::{OtherInstruction, PackedOp, TransferInstruction};
 use crate::packing::{memory, numeric, parametric, reference, table, variable};
 use crate::side_tables::SideTables;
-use core_types::{BranchTable, ControlOp, PlainOp, Stack};
+use core_types::{BranchTable, ControlOp, LentOp, OpWith, Stack};
 use std::alloc::AllocError;
 
 // Packs a control instruction that has neither a body nor a list.
@@ -110,36 +113,42 @@ pub fn pack(
     tables: &mut SideTables,
     outermost: Label,
     levels: &Stack<Level>,
-    op: &PlainOp,
+    op: LentOp<'_>,
 ) -> Result<PackedInstruction, AllocError>
-    requires { AllStand tables.old outermost levels.now }
+    requires stand { AllStand tables.old outermost levels.now }
+    requires plain { (plain : PlainForm) × (lent_op op ≡ flat.Plain plain) }
     ensures grows { OnOk result (Grows tables.old tables.new) }
-    ensures packs { IfOk result (λ p. Packs tables.new p.op
-        (flat_op outermost.entry (all_entries outermost levels.now) op.now)) }
-    ensures counts { IfOk result (λ p. p.counts ≡ counts_of (signatures_of s.now) op.now) }
+    ensures packs { (plain : PlainForm) → lent_op op.entry ≡ flat.Plain plain → IfOk result
+        (λ p. Packs tables.new p.op
+        (flat_op outermost.entry (all_entries outermost levels.now) plain)) }
+    ensures counts { (plain : PlainForm) → lent_op op.entry ≡ flat.Plain plain → IfOk result
+        (λ p. p.counts ≡ counts_of (signatures_of s.now) plain) }
 {
     let one = Counts { takes: 0, gives: 1 };
     let packed = match op {
-        PlainOp::Control(op) => PackedInstruction {
-            op: control(tables, outermost, levels, *op)?,
-            counts: control_counts(s, *op),
+        OpWith::Control(op) => PackedInstruction {
+            op: control(tables, outermost, levels, op)?,
+            counts: control_counts(s, op),
         },
-        PlainOp::BrTable(branch) => PackedInstruction {
-            op: branch_table(tables, outermost, levels, branch.get())?,
+        OpWith::BrTable(branch) => PackedInstruction {
+            op: branch_table(tables, outermost, levels, branch)?,
             counts: None,
         },
-        PlainOp::Reference(op) => with_counts(reference(*op), reference_counts(*op)),
-        PlainOp::Parametric(op) => with_counts(parametric(*op), parametric_counts(*op)),
-        PlainOp::SelectTyped(_) => with_counts(
+        OpWith::Reference(op) => with_counts(reference(op), reference_counts(op)),
+        OpWith::Parametric(op) => with_counts(parametric(op), parametric_counts(op)),
+        OpWith::SelectTyped(_) => with_counts(
             PackedOp::Other(OtherInstruction::Select, 0),
             Counts { takes: 3, gives: 1 },
         ),
-        PlainOp::Variable(op) => with_counts(variable(*op), variable_counts(*op)),
-        PlainOp::Table(op) => with_counts(table(tables, *op)?, table_counts(*op)),
-        PlainOp::Memory(op) => with_counts(memory(*op), memory_counts(*op)),
-        PlainOp::Numeric(op) => with_counts(numeric(*op), numeric_counts(*op)),
-        PlainOp::I32Const(n) => with_counts(PackedOp::I32Const(*n), one),
-        PlainOp::I64Const(n) => with_counts(constant(tables, *n)?, one),
+        OpWith::Variable(op) => with_counts(variable(op), variable_counts(op)),
+        OpWith::Table(op) => with_counts(table(tables, op)?, table_counts(op)),
+        OpWith::Memory(op) => with_counts(memory(op), memory_counts(op)),
+        OpWith::Numeric(op) => with_counts(numeric(op), numeric_counts(op)),
+        OpWith::I32Const(n) => with_counts(PackedOp::I32Const(n), one),
+        OpWith::I64Const(n) => with_counts(constant(tables, n)?, one),
+        OpWith::Block(_) | OpWith::Loop(_) | OpWith::If(_) | OpWith::Else | OpWith::End => {
+            unreachable!()
+        }
     };
     Ok(packed)
 }

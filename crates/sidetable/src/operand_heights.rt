@@ -1,4 +1,4 @@
-ghost use Rattle.std.specs.Prelude.{◌≡◌, ◌-◌, IfOk};
+ghost use Rattle.std.specs.Prelude.{◌≡◌, ◌-◌, IfOk, max};
 ghost use Rattle.sidetable.specs.Counts.{behind as behind_counts, changed as changed_height, height_or_zero as known_or_zero, less as less_by};
 
 use crate::counts::Counts;
@@ -27,14 +27,34 @@ pub fn changed(c: Counts, height: Option<u64>) -> Result<Option<u64>, AllocError
     }
 }
 
-/// The height behind an instruction.
-pub fn behind(c: Option<Counts>, height: Option<u64>) -> Result<Option<u64>, AllocError>
+// The height behind an instruction.
+fn behind(c: Option<Counts>, height: Option<u64>) -> Result<Option<u64>, AllocError>
     ensures { IfOk result (λ h. h ≡ behind_counts c height) }
 {
     match c {
         Some(c) => changed(c, height),
         None => Ok(None),
     }
+}
+
+/// The height, and the greatest so far.
+#[derive(Clone, Copy)]
+pub struct Heights {
+    pub here: Option<u64>,
+    pub greatest: u64,
+}
+
+/// The heights behind an instruction.
+#[inline(always)]
+pub fn heights_behind(c: Option<Counts>, before: Heights) -> Result<Heights, AllocError>
+    ensures here { IfOk result (λ h. h.here ≡ behind_counts c before.here) }
+    ensures greatest { IfOk result
+        (λ h. h.greatest ≡ max before.greatest (known_or_zero before.here)) }
+{
+    Ok(Heights {
+        here: behind(c, before.here)?,
+        greatest: before.greatest.max(known(before.here)),
+    })
 }
 
 /// The height, or 0 where nothing arrives.

@@ -1,4 +1,5 @@
-ghost use Rattle.std.specs.Prelude.{◌≡◌, ◌≢◌, ◌↔◌, ◌+◌, ◌≤◌, List, [], drop, length, map, IfOk, IsTrue, OnOk};
+ghost use Rattle.std.specs.Prelude.{◌≡◌, ◌≢◌, ◌+◌, ◌≤◌, List, [], drop, length, map, IfOk, OnOk};
+ghost use Rattle.core_types.specs.Expressions.{lent_op};
 ghost use Rattle.core_types.specs.declared.op.BlockType.{BlockType as AnyType};
 ghost use Rattle.core_types.specs.declared.op.PlainOp.{PlainOp};
 ghost use Rattle.core_types.specs.declared.op.Op.TheVariants.{Block, Else, End, If, Loop, Plain};
@@ -6,7 +7,7 @@ ghost use Rattle.meaning.specs.structure.Bodies.{Part, body_of, first_part, othe
 ghost use Rattle.sidetable.specs.Flat.{size};
 ghost use Rattle.sidetable.specs.Sizes.{IsMarkBefore, Measures, MeasuresOn, behind_first, openings_of, size_of};
 
-use core_types::{Op, Stack};
+use core_types::{Expression, LentOp, OpWith, Stack, is_mark};
 use std::alloc::AllocError;
 
 /// How many operations are left of a body, and of the other body behind it, if there is one.
@@ -132,16 +133,8 @@ fn measure_end(sizes: &mut Sizes) -> Result<(), AllocError>
     Ok(())
 }
 
-// Whether an operation is an instruction without a body.
-#[inline(always)]
-fn is_plain(op: &Op) -> bool
-    ensures { IsTrue result ↔ ((plain : PlainOp) × (op.now ≡ Plain plain)) }
-{
-    matches!(op, Op::Plain(_))
-}
-
 // Measures the instructions without a body that lie in a row before a position; answers the position of the first of them.
-fn measure_row(sizes: &mut Sizes, code: &[Op], end: usize) -> Result<usize, AllocError>
+fn measure_row(sizes: &mut Sizes, code: &Expression, end: usize) -> Result<usize, AllocError>
     requires { end ≤ length code.now }
     ensures within { IfOk result (λ start. start ≤ end) }
     ensures measured { IfOk result (λ start. Measures (drop end code.now) sizes.old
@@ -149,7 +142,7 @@ fn measure_row(sizes: &mut Sizes, code: &[Op], end: usize) -> Result<usize, Allo
     ensures all { IfOk result (λ start. IsMarkBefore start code.now) }
 {
     let mut start = end;
-    while start > 0 && is_plain(&code[start - 1]) {
+    while start > 0 && !is_mark(code.get(start - 1)) {
         start -= 1;
     }
     let here = sum(sizes.here.here, end - start)?;
@@ -158,16 +151,16 @@ fn measure_row(sizes: &mut Sizes, code: &[Op], end: usize) -> Result<usize, Allo
 }
 
 // One mark more.
-fn measure_mark(sizes: &mut Sizes, op: &Op) -> Result<(), AllocError>
-    requires { (plain : PlainOp) → op.now ≢ Plain plain }
-    ensures { OnOk result (MeasuresOn op.now sizes.old sizes.new) }
+fn measure_mark(sizes: &mut Sizes, op: LentOp<'_>) -> Result<(), AllocError>
+    requires { (plain : PlainOp) → lent_op op ≢ Plain plain }
+    ensures { OnOk result (MeasuresOn (lent_op op.entry) sizes.old sizes.new) }
 {
     match op {
-        Op::Plain(_) => unreachable!(),
-        Op::Block(_) | Op::Loop(_) => measure_block(sizes)?,
-        Op::If(_) => measure_if(sizes)?,
-        Op::Else => measure_else(sizes)?,
-        Op::End => measure_end(sizes)?,
+        OpWith::Block(_) | OpWith::Loop(_) => measure_block(sizes)?,
+        OpWith::If(_) => measure_if(sizes)?,
+        OpWith::Else => measure_else(sizes)?,
+        OpWith::End => measure_end(sizes)?,
+        _ => unreachable!(),
     }
     Ok(())
 }
@@ -177,7 +170,7 @@ fn measure_mark(sizes: &mut Sizes, op: &Op) -> Result<(), AllocError>
 pub fn measure(
     around: Stack<PartSize>,
     openings: Stack<PartSize>,
-    code: &[Op],
+    code: &Expression,
 ) -> Result<MeasuredCode, AllocError>
     ensures size { IfOk result (λ m. m.size ≡ size (body_of code.now)) }
     ensures openings { IfOk result (λ m. m.openings ≡ openings_of code.now) }
@@ -195,7 +188,7 @@ pub fn measure(
     let mut position = measure_row(&mut sizes, code, code.len())?;
     while position > 0 {
         position -= 1;
-        measure_mark(&mut sizes, &code[position])?;
+        measure_mark(&mut sizes, code.get(position))?;
         position = measure_row(&mut sizes, code, position)?;
     }
     Ok(MeasuredCode {

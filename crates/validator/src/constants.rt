@@ -1,10 +1,14 @@
 ghost use Rattle.std.specs.Prelude.{IsTrue, Some, ℕ, ◌+◌, ◌<◌, ◌^◌, ◌↔◌, ◌≡◌};
+ghost use Rattle.core_types.specs.Expressions.{lent_op};
+ghost use Rattle.core_types.specs.declared.op.Op.TheVariants as flat;
+ghost use Rattle.core_types.specs.declared.op.PlainOp.{PlainOp as Plain};
 ghost use Rattle.core_types.specs.declared.types.ValType.{ValType as Value};
 ghost use Rattle.validator.specs.Constants.{GivesConstant, GivesGlobal, GivesReference, IsConstantIn, Leads, Operates};
 
 use crate::types::{integer_type, reference_type};
 use core_types::{
-    BinaryOp, GlobalType, Mutability, NumericOp, Op, PlainOp, ReferenceOp, ValType, VariableOp,
+    BinaryOp, Expression, GlobalType, LentOp, Mutability, NumericOp, OpWith, ReferenceOp, ValType,
+    VariableOp, is_mark,
 };
 
 /// What a constant expression is typed in (Validation, Constant Expressions).
@@ -46,42 +50,37 @@ fn global_constant(context: &ConstantContext<'_>, op: VariableOp) -> Option<ValT
     }
 }
 
-// The type of the value that a constant instruction gives. The value is read, so that its range is
-// known.
+// The type of the value that a constant instruction gives.
 #[tactic(auto, unfolding(crate::specs::Constants::GivesConstant))]
-fn constant_type(context: &ConstantContext<'_>, op: &PlainOp) -> Option<ValType>
-    ensures { (t : Value) → (result ≡ Some t) ↔ GivesConstant context.now op.now t }
+fn constant_type(context: &ConstantContext<'_>, op: LentOp<'_>) -> Option<ValType>
+    ensures { (plain : Plain) → lent_op op.entry ≡ flat.Plain plain → (t : Value)
+        → (result ≡ Some t) ↔ GivesConstant context.now plain t }
 {
     match op {
-        PlainOp::I32Const(value) => {
-            let _value = *value;
-            Some(ValType::I32)
-        }
-        PlainOp::I64Const(value) => {
-            let _value = *value;
-            Some(ValType::I64)
-        }
-        PlainOp::Reference(op) => reference_constant(context, *op),
-        PlainOp::Variable(op) => global_constant(context, *op),
+        OpWith::I32Const(_) => Some(ValType::I32),
+        OpWith::I64Const(_) => Some(ValType::I64),
+        OpWith::Reference(op) => reference_constant(context, op),
+        OpWith::Variable(op) => global_constant(context, op),
         _ => None,
     }
 }
 
 // Whether an instruction is a constant of this type.
-fn is_constant_of(context: &ConstantContext<'_>, op: &PlainOp, wanted: ValType) -> bool
-    ensures { IsTrue result ↔ GivesConstant context.now op.now wanted }
+fn is_constant_of(context: &ConstantContext<'_>, op: LentOp<'_>, wanted: ValType) -> bool
+    ensures { (plain : Plain) → lent_op op.entry ≡ flat.Plain plain
+        → IsTrue result ↔ GivesConstant context.now plain wanted }
 {
     constant_type(context, op) == Some(wanted)
 }
 
 // Whether an instruction is an operator of constant expressions, on operands of this type.
 #[tactic(auto, unfolding(crate::specs::Constants::Operates))]
-fn is_operator(op: &PlainOp, wanted: ValType) -> bool
-    ensures { IsTrue result ↔ Operates op.now wanted }
+fn is_operator(op: LentOp<'_>, wanted: ValType) -> bool
+    ensures { (plain : Plain) → lent_op op.entry ≡ flat.Plain plain → IsTrue result ↔ Operates plain wanted }
 {
     match op {
-        PlainOp::Numeric(NumericOp::Binary(width, BinaryOp::Add | BinaryOp::Sub | BinaryOp::Mul)) =>
-            { integer_type(*width) == wanted }
+        OpWith::Numeric(NumericOp::Binary(width, BinaryOp::Add | BinaryOp::Sub | BinaryOp::Mul)) =>
+            { integer_type(width) == wanted }
         _ => false,
     }
 }
@@ -89,12 +88,13 @@ fn is_operator(op: &PlainOp, wanted: ValType) -> bool
 // How many operands of a type there are behind a constant instruction, if it is one on that type.
 fn height_behind(
     context: &ConstantContext<'_>,
-    op: &PlainOp,
+    op: LentOp<'_>,
     wanted: ValType,
     height: usize,
 ) -> Option<usize>
     requires { height + 1 < 2 ^ 64 }
-    ensures { (after : ℕ) → (result ≡ Some after) ↔ Leads context.now wanted op.now height after }
+    ensures { (plain : Plain) → lent_op op.entry ≡ flat.Plain plain → (after : ℕ)
+        → (result ≡ Some after) ↔ Leads context.now wanted plain height after }
 {
     if is_constant_of(context, op, wanted) {
         return Some(height + 1);
@@ -106,14 +106,15 @@ fn height_behind(
 }
 
 // Whether an expression is made of constant instructions, which leave one value of this type.
-pub fn is_constant(context: &ConstantContext<'_>, ops: &[Op], wanted: ValType) -> bool
+pub fn is_constant(context: &ConstantContext<'_>, ops: &Expression, wanted: ValType) -> bool
     ensures { IsTrue result ↔ IsConstantIn context.now ops.now wanted }
 {
     let mut height = 0;
     for k in 0..ops.len() {
-        let Op::Plain(op) = &ops[k] else {
+        let op = ops.get(k);
+        if is_mark(op) {
             return false;
-        };
+        }
         match height_behind(context, op, wanted, height) {
             Some(after) => height = after,
             None => return false,

@@ -15,8 +15,7 @@ fn is_valid_data_mode(spaces: &IndexSpaces, context: &ConstantContext<'_>, mode:
     match mode {
         DataMode::Passive => true,
         DataMode::Active { memory, offset } => {
-            (*memory as usize) < spaces.memories.len()
-                && is_constant(context, offset.as_slice(), ValType::I32)
+            (*memory as usize) < spaces.memories.len() && is_constant(context, offset, ValType::I32)
         }
     }
 }

@@ -20,9 +20,10 @@ fn are_valid_items(
         ElementItems::Functions(indices) => {
             ty == RefType::FuncRef && are_below(spaces.functions.len(), indices.as_slice())
         }
-        ElementItems::Expressions(expressions) => expressions.as_slice().iter().all(
-            |ops| is_constant(context, ops.as_slice(), reference_type(ty)),
-        ),
+        ElementItems::Expressions(expressions) => expressions
+            .as_slice()
+            .iter()
+            .all(|ops| is_constant(context, ops, reference_type(ty))),
     }
 }
 
@@ -47,9 +48,7 @@ fn is_valid_element_mode(
     match mode {
         ElementMode::Passive | ElementMode::Declarative => true,
         ElementMode::Active { table, offset } => match spaces.tables.get(*table as usize) {
-            Some(found) => {
-                found.element == ty && is_constant(context, offset.as_slice(), ValType::I32)
-            }
+            Some(found) => { found.element == ty && is_constant(context, offset, ValType::I32) }
             None => false,
         },
     }

@@ -15,7 +15,7 @@ use crate::control_frames::{Stacks, begin_body};
 use crate::errors::{Fault, Place, ValidateError};
 use crate::instructions::control::blocks::finish;
 use crate::instructions::step;
-use core_types::{Func, Module, Op};
+use core_types::{Expression, Func, Module};
 use std::alloc::Global;
 
 // Whether the type of each function is there, in a module with this number of types (Validation,
@@ -32,14 +32,14 @@ pub fn validate_body<'a>(
     alloc: Global,
     context: &BodyContext<'a>,
     stacks: &mut Stacks<'a>,
-    ops: &[Op],
+    ops: &Expression,
 ) -> Result<(), Fault>
     ensures typed { OnOk result (IsTyped context.now ops.now) }
     ensures untyped { IfErr result (OnInvalid (IsUntyped context.now ops.now)) }
 {
     begin_body(stacks, context.results);
-    for op in ops {
-        step(alloc, context, stacks, op)?;
+    for index in 0..ops.len() {
+        step(alloc, context, stacks, ops, index)?;
     }
     if !stacks.outer.is_empty() {
         return Err(Fault::Invalid);
@@ -70,7 +70,7 @@ fn validate_function<'a>(
         locals: &func.locals,
         results: ty.results.as_slice(),
     };
-    validate_body(alloc, &context, stacks, func.body.as_slice())
+    validate_body(alloc, &context, stacks, &func.body)
 }
 
 // Checks each function of a module.

@@ -11,5 +11,5 @@ pub fn are_valid_globals(context: &ConstantContext<'_>, globals: &[ModuleGlobal]
     ensures { IsTrue result ↔ All (λ (g : OwnGlobal). IsConstantIn context.now g.init g.ty.value)
         globals.now }
 {
-    globals.iter().all(|global| is_constant(context, global.init.as_slice(), global.ty.value))
+    globals.iter().all(|global| is_constant(context, &global.init, global.ty.value))
 }

@@ -6,10 +6,10 @@ pub mod reference;
 pub mod table;
 pub mod variable;
 
-ghost use Rattle.std.specs.Prelude.{[], ◌++◌, ◌∷◌, ◌≢◌};
-ghost use Rattle.core_types.specs.declared.op.PlainOp.{PlainOp as PlainInstruction};
+ghost use Rattle.std.specs.Prelude.{◌≡◌, ◌≢◌, ◌<◌, [], ◌++◌, ◌∷◌, length, slice_get, Some};
+ghost use Rattle.core_types.specs.declared.op.Op.{Op as Operation};
 ghost use Rattle.core_types.specs.declared.op.Op.TheVariants as flat;
-ghost use Rattle.core_types.specs.declared.op.PlainOp.TheVariants as plain;
+ghost use Rattle.core_types.specs.declared.op.PlainOp.{PlainOp as Plain};
 ghost use Rattle.core_types.specs.declared.types.ValType.TheVariants.{I32};
 ghost use Rattle.meaning.specs.validation.Instructions.{known};
 ghost use Rattle.meaning.specs.validation.Types.{function_type as type_of};
@@ -31,7 +31,7 @@ use crate::instructions::table::step_table;
 use crate::instructions::variable::step_variable;
 use crate::operands::{pop_fitting, pop_one, pop_two, pop_types, push_types};
 use crate::types::InstructionType;
-use core_types::{Op, OperandType, ParametricOp, PlainOp, ValType};
+use core_types::{Expression, OpWith, OperandType, ParametricOp, ValType};
 use std::alloc::Global;
 
 // Pops an i32, and then operands that fit the types under it.
@@ -110,58 +110,57 @@ pub fn apply_some(stacks: &mut Stacks<'_>, found: &Option<InstructionType<'_>>) 
     }
 }
 
-// Steps over an instruction without a body.
-pub fn step_plain(
-    alloc: Global,
-    context: &BodyContext<'_>,
-    stacks: &mut Stacks<'_>,
-    plain: &PlainOp,
+// Steps over a mark, at which a body begins or ends.
+#[inline(never)]
+fn step_mark<'a>(
+    context: &BodyContext<'a>,
+    stacks: &mut Stacks<'a>,
+    ops: &Expression,
+    index: usize,
 ) -> Result<(), Fault>
-    ensures { Steps context.now stacks.old stacks.new (flat.Plain plain.now) result }
+    requires within { index < length ops.now }
+    requires mark { (plain : Plain) → slice_get ops.now index ≢ Some (flat.Plain plain) }
+    ensures { (op : Operation) → slice_get ops.now index ≡ Some op
+        → Steps context.now stacks.old stacks.new op result }
 {
-    match plain {
-        PlainOp::Control(op) => step_control(context, stacks, *op),
-        PlainOp::BrTable(table) => step_br_table(alloc, stacks, table.get()),
-        PlainOp::Reference(op) => step_reference(context, stacks, *op),
-        PlainOp::Parametric(ParametricOp::DropOperand) => step_drop(stacks),
-        PlainOp::Parametric(ParametricOp::Select) => step_select(stacks),
-        PlainOp::SelectTyped(types) => step_typed_select(stacks, types.get()),
-        PlainOp::Variable(op) => step_variable(context, stacks, *op),
-        PlainOp::Table(op) => step_table(context, stacks, *op),
-        PlainOp::Memory(op) => step_memory(context, stacks, *op),
-        PlainOp::Numeric(op) => step_numeric(stacks, *op),
-        PlainOp::I32Const(value) => step_i32_const(stacks, *value),
-        PlainOp::I64Const(value) => step_i64_const(stacks, *value),
+    match ops.get(index) {
+        OpWith::Block(block) => step_begin(context, stacks, FrameKind::Block, block),
+        OpWith::Loop(block) => step_begin(context, stacks, FrameKind::Loop, block),
+        OpWith::If(block) => step_begin(context, stacks, FrameKind::If, block),
+        OpWith::Else => step_else(stacks),
+        OpWith::End => step_end(stacks),
+        _ => unreachable!(),
     }
 }
 
-// Steps over one operation.
+// Steps over the operation at an index. Marks are apart, as the loop over a body keeps nothing in memory without them.
+#[inline(always)]
 pub fn step<'a>(
     alloc: Global,
     context: &BodyContext<'a>,
     stacks: &mut Stacks<'a>,
-    op: &Op,
+    ops: &Expression,
+    index: usize,
 ) -> Result<(), Fault>
-    ensures { Steps context.now stacks.old stacks.new op.now result }
+    requires { index < length ops.now }
+    ensures { (op : Operation) → slice_get ops.now index ≡ Some op
+        → Steps context.now stacks.old stacks.new op result }
 {
-    if let Op::Plain(plain) = op {
-        return step_plain(alloc, context, stacks, plain);
-    }
-    step_mark(context, stacks, op)
-}
-
-// Steps over one mark.
-#[inline(never)]
-fn step_mark<'a>(context: &BodyContext<'a>, stacks: &mut Stacks<'a>, op: &Op) -> Result<(), Fault>
-    requires { (plain : PlainInstruction) → op.now ≢ flat.Plain plain }
-    ensures { Steps context.now stacks.old stacks.new op.now result }
-{
-    match op {
-        Op::Plain(_) => unreachable!(),
-        Op::Block(block) => step_begin(context, stacks, FrameKind::Block, block),
-        Op::Loop(block) => step_begin(context, stacks, FrameKind::Loop, block),
-        Op::If(block) => step_begin(context, stacks, FrameKind::If, block),
-        Op::Else => step_else(stacks),
-        Op::End => step_end(stacks),
+    match ops.get(index) {
+        OpWith::Control(op) => step_control(context, stacks, op),
+        OpWith::BrTable(table) => step_br_table(alloc, stacks, table),
+        OpWith::Reference(op) => step_reference(context, stacks, op),
+        OpWith::Parametric(ParametricOp::DropOperand) => step_drop(stacks),
+        OpWith::Parametric(ParametricOp::Select) => step_select(stacks),
+        OpWith::SelectTyped(types) => step_typed_select(stacks, types),
+        OpWith::Variable(op) => step_variable(context, stacks, op),
+        OpWith::Table(op) => step_table(context, stacks, op),
+        OpWith::Memory(op) => step_memory(context, stacks, op),
+        OpWith::Numeric(op) => step_numeric(stacks, op),
+        OpWith::I32Const(value) => step_i32_const(stacks, value),
+        OpWith::I64Const(value) => step_i64_const(stacks, value),
+        OpWith::Block(_) | OpWith::Loop(_) | OpWith::If(_) | OpWith::Else | OpWith::End => {
+            step_mark(context, stacks, ops, index)
+        }
     }
 }

@@ -5,7 +5,8 @@ ghost use Rattle.core_types.specs.declared.op.Op.{Op as Operation};
 ghost use Rattle.binary.specs.Sections.{NotesDataOfAll};
 ghost use Rattle.meaning.specs.binary.Modules.{IsDataCount, names_data};
 
-use core_types::{Func, MemoryOp, Module, Op, PlainOp};
+use crate::instructions::is_of_data;
+use core_types::{Func, Module};
 
 // Whether the data count is the number of data segments. Where it is absent, no code may name a data segment, which is looked at
 // only where it was noted that some may.
@@ -22,14 +23,10 @@ pub fn fits_count(count: Option<u32>, decoded: &Module, data_named: bool) -> boo
 fn names_no_data(f: &Func) -> bool
     ensures { IsTrue result ↔ All (λ (op : Operation). names_data op ≡ false) f.now.body }
 {
-    f.body.as_slice().iter().all(is_no_data)
-}
-
-fn is_no_data(op: &Op) -> bool
-    ensures { IsTrue result ↔ (names_data op.now ≡ false) }
-{
-    !matches!(
-        op,
-        Op::Plain(PlainOp::Memory(MemoryOp::Init(_) | MemoryOp::DataDrop(_)))
-    )
+    for index in 0..f.body.len() {
+        if is_of_data(f.body.get(index)) {
+            return false;
+        }
+    }
+    true
 }

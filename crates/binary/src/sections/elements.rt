@@ -13,7 +13,7 @@ use crate::reader::Reader;
 use crate::sections::read_target;
 use crate::types::read_ref_type;
 use crate::values::{Readable, read_vector};
-use core_types::{ElementItems, ElementMode, ElementSegment, Items, Op, RefType};
+use core_types::{ElementItems, ElementMode, ElementSegment, Expression, Items, RefType};
 use std::alloc::Global;
 
 impl Readable for ElementSegment {
@@ -88,7 +88,7 @@ fn read_expressions_form(
     match form {
         4 => {
             let offset = read_expression(alloc, reader)?;
-            let list = read_vector::<Items<Op>>(alloc, reader)?;
+            let list = read_vector::<Expression>(alloc, reader)?;
             let mode = ElementMode::Active { table: 0, offset };
             Ok(expressions(RefType::FuncRef, list, mode))
         }
@@ -126,11 +126,11 @@ fn read_kind_functions(alloc: Global, reader: &mut Reader<'_>) -> Result<Items<u
 fn read_references(
     alloc: Global,
     reader: &mut Reader<'_>,
-) -> Result<(RefType, Items<Items<Op>>), DecodeError>
+) -> Result<(RefType, Items<Expression>), DecodeError>
     ensures { Gives result reader.new (references_at reader.old) }
 {
     let ty = read_ref_type(reader)?;
-    let expressions = read_vector::<Items<Op>>(alloc, reader)?;
+    let expressions = read_vector::<Expression>(alloc, reader)?;
     Ok((ty, expressions))
 }
 
@@ -144,7 +144,7 @@ fn functions(indices: Items<u32>, mode: ElementMode) -> ElementSegment
     }
 }
 
-fn expressions(ty: RefType, list: Items<Items<Op>>, mode: ElementMode) -> ElementSegment
+fn expressions(ty: RefType, list: Items<Expression>, mode: ElementMode) -> ElementSegment
     ensures { result ≡ element ty (Expressions list) mode }
 {
     ElementSegment {

@@ -1,10 +1,12 @@
-ghost use Rattle.std.specs.Prelude.{IfOk, slice_set, true, ◌≡◌};
+ghost use Rattle.std.specs.Prelude.{IfOk, List, slice_set, true, ◌∷◌, ◌≡◌};
+ghost use Rattle.core_types.specs.Expressions.{lent_op};
+ghost use Rattle.core_types.specs.declared.op.Op.{Op as Operation};
 ghost use Rattle.meaning.specs.validation.Modules.{named_by, named_by_each, named_by_elements, named_by_exports, named_by_globals, named_by_items, named_functions};
 ghost use Rattle.validator.specs.References.{marks_of, set_marks};
 
 use core_types::{
-    ElementItems, ElementSegment, Export, ExportDesc, Global as ModuleGlobal, Items, Module, Op,
-    PlainOp, ReferenceOp,
+    ElementItems, ElementSegment, Export, ExportDesc, Expression, Global as ModuleGlobal, LentOp,
+    Module, OpWith, ReferenceOp,
 };
 use std::alloc::{AllocError, Global};
 
@@ -27,23 +29,35 @@ fn mark_functions(marks: &mut [bool], indices: &[u32])
     }
 }
 
+// Marks the function that an operation names, if it names one.
+fn mark_operation(marks: &mut [bool], op: LentOp<'_>)
+    ensures { (ops : List Operation) → set_marks marks.new (named_by ops)
+        ≡ set_marks marks.old (named_by (lent_op op.entry ∷ ops)) }
+{
+    let OpWith::Reference(op) = op else {
+        return;
+    };
+    let ReferenceOp::Func(index) = op else {
+        return;
+    };
+    mark_function(marks, index);
+}
+
 // Marks the functions that an expression names.
-fn mark_expression(marks: &mut [bool], ops: &[Op])
+fn mark_expression(marks: &mut [bool], ops: &Expression)
     ensures { marks.new ≡ set_marks marks.old (named_by ops.now) }
 {
-    for op in ops {
-        if let Op::Plain(PlainOp::Reference(ReferenceOp::Func(index))) = op {
-            mark_function(marks, *index);
-        }
+    for k in 0..ops.len() {
+        mark_operation(marks, ops.get(k));
     }
 }
 
 // Marks the functions that the expressions name.
-fn mark_expressions(marks: &mut [bool], expressions: &[Items<Op>])
+fn mark_expressions(marks: &mut [bool], expressions: &[Expression])
     ensures { marks.new ≡ set_marks marks.old (named_by_each expressions.now) }
 {
     for ops in expressions {
-        mark_expression(marks, ops.as_slice());
+        mark_expression(marks, ops);
     }
 }
 
@@ -52,7 +66,7 @@ fn mark_globals(marks: &mut [bool], globals: &[ModuleGlobal])
     ensures { marks.new ≡ set_marks marks.old (named_by_globals globals.now) }
 {
     for global in globals {
-        mark_expression(marks, global.init.as_slice());
+        mark_expression(marks, &global.init);
     }
 }
 

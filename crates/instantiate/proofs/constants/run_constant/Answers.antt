@@ -1,5 +1,7 @@
-use Rattle.std.proofs.Common.{ap, arith}
+use Rattle.std.proofs.Common.{ap, arith, sym}
 use Rattle.std.specs.Prelude.{List, reverse}
+use Rattle.std.proofs.lemmas.Option.{get_or_from_slice_get}
+use Rattle.core_types.specs.Expressions.{lent_op}
 use Rattle.core_types.specs.declared.module.Module.{Module}
 use Rattle.core_types.specs.declared.outcome.Val.{Val}
 use Rattle.meaning.specs.execution.Modules.{constant_operands}
@@ -15,11 +17,11 @@ loop-k-init c = (
 )
 
 pub execute-requires : goal.execute-requires
-execute-requires c = record { room = omega (arith, c.loop-k.invariant.0, c.loop-k.invariant.1, c.loop-k-test.true, c.requires.room, c.clear.ensures.capacity) }
+execute-requires c = record { room = omega (arith, c.loop-k.invariant.0, c.loop-k.invariant.1, c.loop-k-test.true, c.len-k-end.ensures, c.requires.room, c.clear.ensures.capacity) }
 
 pub returns-then-not-execute-clause-value : goal.returns-then-not-execute-clause-value
 returns-then-not-execute-clause-value c = λ (contents : Contents) (m : Module).
-    run-none (store_with contents c.args.state.now) (module_instance (lists_of c.args.addresses.now) m) c.args.code.now c.loop-k.k c.loop-k.operands.items (c.loop-k.invariant.2 contents m) c.index-code-k.result c.loop-k-test.true c.index-code-k.is (c.execute.ensures.none c.if-not-execute.true contents m _)
+    run-none (store_with contents c.args.state.now) (module_instance (lists_of c.args.addresses.now) m) c.args.code.now c.loop-k.k c.loop-k.operands.items (c.loop-k.invariant.2 contents m) (lent_op c.get.result) (omega (arith, c.loop-k-test.true, c.len-k-end.ensures)) (sym (get_or_from_slice_get c.args.code.now c.loop-k.k (lent_op c.get.result) (lent_op c.get.result) c.get.ensures)) (c.execute.ensures.none c.if-not-execute.true contents m _)
 
 pub returns-then-not-execute-clause-capacity : goal.returns-then-not-execute-clause-capacity
 returns-then-not-execute-clause-capacity c = omega (arith, c.loop-k.invariant.1, c.clear.ensures.capacity, c.execute.ensures.capacity)
@@ -29,5 +31,5 @@ loop-k-preserved c = (
   omega (arith, c.loop-k.invariant.0, c.execute.ensures.len),
   omega (arith, c.loop-k.invariant.1, c.execute.ensures.capacity),
   λ (contents : Contents) (m : Module).
-      run-on (store_with contents c.args.state.now) (module_instance (lists_of c.args.addresses.now) m) c.args.code.now c.loop-k.k c.loop-k.operands.items (c.loop-k.invariant.2 contents m) c.index-code-k.result c.execute.new.operands.items c.loop-k-test.true c.index-code-k.is (c.execute.ensures.done c.if-not-execute.false contents m _),
+      run-on (store_with contents c.args.state.now) (module_instance (lists_of c.args.addresses.now) m) c.args.code.now c.loop-k.k c.loop-k.operands.items (c.loop-k.invariant.2 contents m) (lent_op c.get.result) c.execute.new.operands.items (omega (arith, c.loop-k-test.true, c.len-k-end.ensures)) (sym (get_or_from_slice_get c.args.code.now c.loop-k.k (lent_op c.get.result) (lent_op c.get.result) c.get.ensures)) (c.execute.ensures.done c.if-not-execute.false contents m _),
 )

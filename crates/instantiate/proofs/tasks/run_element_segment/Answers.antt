@@ -14,12 +14,12 @@ returns-in-Declarative-clause-ran c =
 pub returns-in-Some-clause-ran : goal.returns-in-Some-clause-ran
 returns-in-Some-clause-ran c =
     let code = c.args.linked.now.code.now in
-    let has = rw c.as_slice.ensures at c.in-Some.ensures.offset in
+    let has = c.in-Some.ensures.offset in
     let run = rw (c.count_operand-count.ensures, c.item_count.ensures) at c.copy_elements.ensures.run in
     rw c.in-Active.is (copied NoHosts c.args.meter.now.bound c.args.linked.now.instance (instance_in c.args.linked.now) c.copy_elements.result (link_state code c.args.state.now c.args.meter.now.left) (link_state code c.copy_elements.new.state c.copy_elements.new.meter.left) c.in-Active.offset (item_count c.args.wanted.now.items) c.in-Some.target (TableForm (TableInitForm c.args.x c.in-Active.table)) (TableForm (ElemDropForm c.args.x)) has run)
 
 pub returns-in-None-clause-ran : goal.returns-in-None-clause-ran
 returns-in-None-clause-ran c =
     let code = c.args.linked.now.code.now in
-    let none = rw c.as_slice.ensures at c.in-None.ensures.offset in
+    let none = c.in-None.ensures.offset in
     rw c.in-Active.is (stuck-elements NoHosts c.args.meter.now.bound c.args.linked.now.instance (instance_in c.args.linked.now) (link_state code c.args.state.now c.args.meter.now.left) c.in-Active.offset (item_count c.args.wanted.now.items) c.args.x c.in-Active.table (TableForm (ElemDropForm c.args.x)) none)

@@ -17,7 +17,7 @@ returns c =
     let m : FlatModule = record { functions = c.push-2.new.self; operations = c.push.new.self; tables = c.in_ok-made.made.tables } in
     let p : PackedFunction = record { place = c.in_ok-place.place; params = c.in_ok-params.params; locals = c.in_ok-locals.locals; results = c.in_ok-results.results; greatest = c.in_ok-made.made.greatest } in
     let (body₀, e₀) = c.requires.body in
-    let first = c.in_ok-made.ensures body₀ (c.as_slice.ensures ∙ e₀) in
+    let first = c.in_ok-made.ensures body₀ e₀ in
     let behind = placed-behind s c.args.flat.operations.items c.args.flat.tables p body₀ c.in_ok-made.made m first at refl c.in_ok-push.ensures.items refl in
     record {
       few = omega (arith, c.in_ok-number.ensures, c.len-6.ensures);
@@ -27,7 +27,7 @@ returns c =
       functions = c.in_ok-push-2.ensures.items;
       flat = record {
         flat = λ body e.
-            (placed-behind s c.args.flat.operations.items c.args.flat.tables p body c.in_ok-made.made m (c.in_ok-made.ensures body (c.as_slice.ensures ∙ e)) at refl c.in_ok-push.ensures.items refl).1;
+            (placed-behind s c.args.flat.operations.items c.args.flat.tables p body c.in_ok-made.made m (c.in_ok-made.ensures body e) at refl c.in_ok-push.ensures.items refl).1;
         params = params;
         locals = locals;
         results = results;

@@ -1,19 +1,33 @@
-use Rattle.std.proofs.Common.{◌≡◌, ◌∙◌, ◌+◌, ◌∷◌, ap, arith, drop, sym}
-use Rattle.std.proofs.lemmas.List.{drop_more}
-use Rattle.core_types.specs.declared.op.Op.{Op}
-use Rattle.sidetable.proofs.Growth.{grows-more}
+use Rattle.std.proofs.Common.{◌≡◌, [], arith, drop}
+use Rattle.std.proofs.lemmas.List.{drop_all}
+use Rattle.sidetable.proofs.Passing.{passes-then}
 use Rattle.sidetable.proofs.flattening.run.Goals as goal
 
-pub loop-op-preserved : goal.loop-op-preserved
-loop-op-preserved c =
-    let (passed, can) = c.loop-op.invariant in
-    let (whole, most, made) = can in
-    let ops = drop (c.loop-op.op-index + 1) c.args.code.now in
-    let here : drop c.loop-op.op-index c.args.code.now ≡ c.op-item.result ∷ ops = drop_more c.args.code.now c.loop-op.op-index c.op-item.result (omega arith) ∙ ap (λ (o : Op). o ∷ ops) (sym c.op-item.is) in
-    let next = c.in_ok-step.ensures in (
-      record {
-        grows = grows-more c.args.f.now.tables c.loop-op.f.tables c.step.new.f.tables passed.grows next.grows;
-        makes = λ w m first. next.makes ops w m (rw here at (passed.makes w m first));
-      },
-      (whole, most, next.makes ops whole most (rw here at made)),
-    )
+pub pass_row-requires-clause-can : goal.pass_row-requires-clause-can
+pass_row-requires-clause-can c =
+    let (whole, most, can) = c.requires.can in
+    (whole, most, c.loop-position.invariant.passes.makes whole most can)
+
+pub pass_mark-requires-clause-can : goal.pass_mark-requires-clause-can
+pass_mark-requires-clause-can c =
+    let (whole, most, can) = c.requires.can in
+    (whole, most, c.in_ok-position.ensures.passes.makes whole most (c.loop-position.invariant.passes.makes whole most can))
+
+pub loop-position-preserved-then-position-len : goal.loop-position-preserved-then-position-len
+loop-position-preserved-then-position-len c =
+    let row = passes-then _ _ _ _ _ _ _ _ c.loop-position.invariant.passes c.in_ok-position.ensures.passes in
+    record {
+      within = omega (arith, c.if-position-len.true, c.len-in-loop-position.ensures);
+      passes = passes-then _ _ _ _ _ _ _ _ row c.in_ok-pass_mark.ensures;
+    }
+
+pub loop-position-preserved : goal.loop-position-preserved
+loop-position-preserved c = record {
+  within = c.in_ok-position.ensures.within.1;
+  passes = passes-then _ _ _ _ _ _ _ _ c.loop-position.invariant.passes c.in_ok-position.ensures.passes;
+}
+
+pub returns : goal.returns
+returns c =
+    let none : drop c.loop-position.position c.args.code.now ≡ [] = drop_all c.loop-position.position c.args.code.now (omega arith) in
+    rw none at c.loop-position.invariant.passes

@@ -1,16 +1,16 @@
-use Rattle.std.proofs.Common.{◌≡◌, suc, ◌+◌, ◌-◌, ◌∷◌, ◌∙◌, ap, arith, drop, sym}
-use Rattle.std.proofs.lemmas.List.{drop_more}
-use Rattle.core_types.specs.declared.op.Op.{Op}
+use Rattle.std.proofs.Common.{◌≡◌, suc, ◌+◌, ◌-◌, arith}
+use Rattle.core_types.specs.Expressions.{lent_op}
 use Rattle.sidetable.proofs.MeasuredRows.{plain_measures}
+use Rattle.sidetable.proofs.PlainOps.{drop_at}
 use Rattle.sidetable.proofs.sizes.measure_row.Goals as goal
 
 pub loop-start-preserved : goal.loop-start-preserved
 loop-start-preserved c =
     let i = c.loop-start.invariant in
-    let (plain, is_plain) = c.is_plain.ensures.0 c.if-is_plain.true in
+    let (plain, is_plain) = c.is_mark.ensures.plain c.if-not-is_mark.true in
+    let op = lent_op c.get.result in
     let back : c.loop-start.start - 1 + 1 ≡ c.loop-start.start = omega arith in
-    let here : drop (c.loop-start.start - 1) c.args.code.now ≡ c.index-code-start.result ∷ drop (c.loop-start.start - 1 + 1) c.args.code.now =
-    drop_more c.args.code.now (c.loop-start.start - 1) c.index-code-start.result (omega arith) ∙ ap (λ (o : Op). o ∷ drop (c.loop-start.start - 1 + 1) c.args.code.now) (sym c.index-code-start.is) in
+    let here = drop_at c.args.code.now (c.loop-start.start - 1) op (omega arith) c.get.ensures in
     let one_more : c.args.end - (c.loop-start.start - 1) ≡ suc (c.args.end - c.loop-start.start) = omega (arith, i.0) in
     (omega (arith, i.0), λ s measures. rw (here, back, is_plain, one_more) (plain_measures plain _ s (c.args.end - c.loop-start.start) (i.1 s measures)))
 

@@ -3,5 +3,5 @@ use Rattle.validator.specs.Completeness.{IsRestTyped}
 use Rattle.validator.specs.Soundness.{IsReadTyped}
 use Rattle.validator.proofs.functions.validate_body.Given as goal
 
-abbrev pub invariant-loop-op : goal.invariant-loop-op
-invariant-loop-op l = IsReadTyped l.context l.stacks (take l.op-index l.ops) × IsRestTyped l.context l.ops l.stacks (drop l.op-index l.ops)
+abbrev pub invariant-loop-index : goal.invariant-loop-index
+invariant-loop-index l = IsReadTyped l.context l.stacks (take l.index l.ops) × IsRestTyped l.context l.ops l.stacks (drop l.index l.ops)

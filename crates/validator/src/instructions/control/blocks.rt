@@ -36,15 +36,16 @@ fn takes_condition(kind: FrameKind) -> bool
 }
 
 // A block, a loop or an if begins.
+#[inline(never)]
 pub fn step_begin<'a>(
     context: &BodyContext<'a>,
     stacks: &mut Stacks<'a>,
     kind: FrameKind,
-    block: &BlockType,
+    block: BlockType,
 ) -> Result<(), Fault>
-    ensures { StepsInto context.now stacks.old stacks.new kind block.now result }
+    ensures { StepsInto context.now stacks.old stacks.new kind block result }
 {
-    let Some(ty) = type_of_block(context.decoded.types.as_slice(), *block) else {
+    let Some(ty) = type_of_block(context.decoded.types.as_slice(), block) else {
         return Err(Fault::Invalid);
     };
     let taken = InstructionType {
@@ -88,6 +89,7 @@ pub fn finish(stacks: &mut Stacks<'_>) -> Result<(), Fault>
 }
 
 // The second body of an if begins.
+#[inline(never)]
 pub fn step_else(stacks: &mut Stacks<'_>) -> Result<(), Fault>
     ensures { StepsAnywhere stacks.old stacks.new flat.Else result }
 {
@@ -112,6 +114,7 @@ fn needs_no_else(frame: &ControlFrame<'_>) -> bool
 }
 
 // The innermost frame ends, and its results go to the one around it.
+#[inline(never)]
 pub fn step_end(stacks: &mut Stacks<'_>) -> Result<(), Fault>
     ensures { StepsAnywhere stacks.old stacks.new flat.End result }
 {

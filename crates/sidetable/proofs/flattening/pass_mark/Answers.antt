@@ -1,0 +1,23 @@
+use Rattle.std.proofs.Common.{◌+◌, drop}
+use Rattle.std.proofs.lemmas.Result.{on_ok_weaker}
+use Rattle.core_types.specs.Expressions.{lent_op}
+use Rattle.sidetable.proofs.PlainOps.{drop_at}
+use Rattle.sidetable.proofs.flattening.pass_mark.Goals as goal
+
+pub step_mark-requires-clause-can : goal.step_mark-requires-clause-can
+step_mark-requires-clause-can c =
+    let (whole, most, can) = c.requires.can in
+    let here = drop_at c.args.code.now c.args.position (lent_op c.get.result) c.requires.within c.get.ensures in
+    (drop (c.args.position + 1) c.args.code.now, whole, most, rw here at can)
+
+pub returns : goal.returns
+returns c =
+    let here = drop_at c.args.code.now c.args.position (lent_op c.get.result) c.requires.within c.get.ensures in
+    on_ok_weaker c.step_mark.result
+    (
+    λ next.
+    record {
+      grows = next.grows;
+      makes = λ whole most first. next.makes (drop (c.args.position + 1) c.args.code.now) whole most (rw here at first);
+    }
+    ) c.step_mark.ensures
