@@ -1,5 +1,5 @@
 -- Reading expressions.
-use Rattle.std.specs.Prelude.{◌≡◌, Bool, true, false, Err, List, None, Ok, Option, Result, Some, [], length, suc, zero, ℕ, ◌++◌, ◌∷◌}
+use Rattle.std.specs.Prelude.{◌≡◌, ◌≤◌, Bool, true, false, Err, IfErr, List, OnOk, None, Ok, Option, Result, Some, [], length, suc, zero, ℕ, ◌++◌, ◌∷◌}
 use Rattle.core_types.specs.declared.op.Op.{Op}
 use Rattle.core_types.specs.declared.op.Op.TheVariants.{Block, Else, End, If, Loop, Plain}
 use Rattle.binary.specs.Conventions.{OnRead, Reading, ◌>>=◌}
@@ -62,3 +62,19 @@ ops_at (suc steps) bodies ops bytes = do
 -- An expression: each operation takes a byte at least.
 unfoldable pub expression_at : Reading (List Op)
 expression_at bytes = ops_at (length bytes) [] [] bytes
+
+-- An expression is being read: the remaining steps suffice, and go on to the whole of it.
+pub record IsReadingExpression (whole rest : List ℕ) (open_bodies : List OpenBody)
+    (ops : List Op)
+    : Type 0 where
+  pub steps : ℕ
+  pub enough : length rest ≤ steps
+  pub so_far : ops_at steps open_bodies ops rest ≡ expression_at whole
+
+-- Whatever expression is being read, it still is behind some operations more, which are no marks.
+abbrev pub ReadsRow : Result (Unit {0}) DecodeError → (ops ops' : List Op) → (bytes rest : List ℕ)
+    → Type 0
+ReadsRow result ops ops' bytes rest =
+    (whole : List ℕ) (bodies : List OpenBody) → IsReadingExpression whole bytes bodies ops
+    → OnOk result (IsReadingExpression whole rest bodies ops')
+    × IfErr result (λ error. OnRefused error (expression_at whole ≡ None))

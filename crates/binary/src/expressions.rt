@@ -1,11 +1,11 @@
 //! Expressions: instructions down to the end of the outermost body (Binary Format, Expressions).
 
-ghost use Rattle.std.specs.Prelude.{◌≡◌, IfOk, List, OnOk, [], false, ℕ};
+ghost use Rattle.std.specs.Prelude.{◌≡◌, ◌≤◌, IfOk, List, OnOk, [], false, length, ℕ};
 ghost use Rattle.core_types.specs.declared.op.Op.TheVariants.{Block, Else, End, If, Loop};
 ghost use Rattle.binary.specs.Conventions.{Gives, bare_at, mapped_at};
 ghost use Rattle.binary.specs.Instructions.{NameNoData, NotesData, NotesMore, operation_at};
 ghost use Rattle.binary.specs.Types.{block_type_at};
-ghost use Rattle.binary.specs.Expressions.{ReadsFrequent, ReadsNext, expression_at};
+ghost use Rattle.binary.specs.Expressions.{ReadsFrequent, ReadsNext, ReadsRow, expression_at};
 ghost use Rattle.binary.specs.declared.errors.DecodeError.TheVariants.{OutOfMemory};
 ghost use Rattle.binary.specs.declared.expressions.Next.TheVariants.{Onward};
 
@@ -181,6 +181,27 @@ fn read_frequent(
     Ok(true)
 }
 
+// Reads the frequent operations that lie in a row, up to another one or to the end of the bytes. The reader is in hand meanwhile.
+#[inline(always)]
+fn read_row(reader: &mut Reader<'_>, ops: &mut Expression) -> Result<(), DecodeError>
+    ensures reads { ReadsRow result ops.old ops.new reader.old reader.new }
+    ensures forward { OnOk result (length reader.new ≤ length reader.old) }
+    ensures data { OnOk result (NameNoData ops.old → NameNoData ops.new) }
+{
+    let mut here = reader.fork();
+    while !here.is_empty() {
+        let mut next = here.fork();
+        let offset = next.offset();
+        let code = next.byte()?;
+        if !read_frequent(&mut next, ops, code, offset)? {
+            break;
+        }
+        here = next;
+    }
+    *reader = here;
+    Ok(())
+}
+
 // Operations down to the end of the outermost body, put on an expression that has none. Notes where one of them names a data segment.
 fn read_operations(
     alloc: Global,
@@ -195,29 +216,27 @@ fn read_operations(
 {
     let mut bodies = Stack::new(alloc);
     let mut ops = ops;
-    while !reader.is_empty() {
+    loop {
+        read_row(reader, &mut ops)?;
         let offset = reader.offset();
         let code = reader.byte()?;
-        if !read_frequent(reader, &mut ops, code, offset)? {
-            match read_other(
-                alloc,
-                reader,
-                &mut bodies,
-                &mut ops,
-                code,
-                offset,
-                data_named,
-            )? {
-                Next::Onward => {}
-                Next::Ended => {
-                    ops.shrink();
-                    return Ok(ops);
-                }
-                Next::Misplaced => return Err(DecodeError::Malformed(offset)),
+        match read_other(
+            alloc,
+            reader,
+            &mut bodies,
+            &mut ops,
+            code,
+            offset,
+            data_named,
+        )? {
+            Next::Onward => {}
+            Next::Ended => {
+                ops.shrink();
+                return Ok(ops);
             }
+            Next::Misplaced => return Err(DecodeError::Malformed(offset)),
         }
     }
-    Err(DecodeError::Malformed(reader.offset()))
 }
 
 // An expression.

@@ -28,7 +28,7 @@ use crate::instructions::table::{read_prefixed_table, read_table};
 use crate::instructions::variable::read_variable;
 use crate::reader::Reader;
 use crate::values::read_vector;
-use core_types::{Boxed, Expression, LentOp, MemoryOp, Op, OpWith, PlainOp, ValType};
+use core_types::{Boxed, Expression, LentOp, MemoryOp, Op, PlainOp, ValType, plain_op};
 use std::alloc::Global;
 
 // A branch by number, behind its opcode.
@@ -141,10 +141,10 @@ pub fn push_numeric(ops: &mut Expression, code: u8, offset: usize) -> Result<(),
 pub fn is_of_data(op: LentOp<'_>) -> bool
     ensures { result ≡ names_data (lent_op op.entry) }
 {
-    matches!(
-        op,
-        OpWith::Memory(MemoryOp::Init(_) | MemoryOp::DataDrop(_))
-    )
+    match plain_op(op) {
+        Some(PlainOp::Memory(op)) => matches!(op, MemoryOp::Init(_) | MemoryOp::DataDrop(_)),
+        _ => false,
+    }
 }
 
 // An instruction behind the byte FC, which is at the offset, put on the others. Notes where it names a data segment.

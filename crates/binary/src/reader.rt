@@ -32,6 +32,17 @@ impl<'a> Reader<'a> {
         Reader { bytes, offset: 0 }
     }
 
+    // Another reader of the same bytes, at the same offset.
+    #[inline(always)]
+    pub fn fork(&self) -> Reader<'a>
+        ensures { result ≡ self.now }
+    {
+        Reader {
+            bytes: self.bytes,
+            offset: self.offset,
+        }
+    }
+
     // Whether all bytes are read.
     #[inline(always)]
     pub fn is_empty(&self) -> bool

@@ -1,81 +1,120 @@
--- Operations whose lists have numbers, where one list more is there.
-use Rattle.std.proofs.Common.{◌≡◌, ℕ, suc, ◌<◌, List, [], ◌∷◌, ◌++◌, length, get_or, map, refl, ap, ap₂, arith, ◌∙◌}
+-- Operations with numbers, where one more is there, and operations that are no marks.
+use Rattle.std.proofs.Common.{◌≡◌, zero, ℕ, suc, List, [], ◌∷◌, ◌++◌, length, map, refl, ap, ap₂, arith, ◌∙◌}
 use Rattle.std.specs.List.{All}
+use Rattle.std.specs.Prelude.{Result, Ok, Err, OnOk, OnErr, slice_index_or}
+use Rattle.std.proofs.lemmas.List.Elements.{All-append}
+use Rattle.std.proofs.lemmas.List.{length-append}
 use Rattle.std.proofs.Math.Seq.{get_or-append_seam}
 use Rattle.std.proofs.lemmas.List.{get_or_append_left, map-append}
-use Rattle.core_types.specs.declared.expression.OpWith.{OpWith}
-use Rattle.core_types.specs.declared.expression.OpWith.TheVariants as stored
 use denote.Ref.{Bor}
-use Rattle.core_types.specs.declared.op.BlockType.{BlockType}
-use Rattle.core_types.specs.declared.op.BranchTable.{BranchTable}
+use Rattle.core_types.specs.declared.lent_op.OpWith.{OpWith}
+use Rattle.core_types.specs.declared.lent_op.OpWith.TheVariants as short
 use Rattle.core_types.specs.declared.op.PlainOp.{PlainOp}
 use Rattle.core_types.specs.declared.op.Op.{Op}
 use Rattle.core_types.specs.declared.op.Op.TheVariants as op
-use Rattle.core_types.specs.declared.op.PlainOp.TheVariants as plain
+use Rattle.core_types.specs.declared.op.PlainOp.{PlainOp}
 use Rattle.core_types.specs.declared.types.ValType.{ValType}
-use Rattle.core_types.specs.Expressions.{IsWithin, lent_op, no_labels, numbered_op, op_with}
+use Rattle.std.specs.Prelude.{Option}
+use Rattle.core_types.specs.Expressions.{IsWithin, lent_op, stored_op}
 
--- Lists that are the same where there is one make the same operation.
-same_lists : (tables tables' : ℕ → BranchTable) (types types' : ℕ → List ValType) (n m : ℕ) (o : OpWith ℕ ℕ) → IsWithin n m o
-    → ((k : ℕ) → k < n → tables k ≡ tables' k) → ((k : ℕ) → k < m → types k ≡ types' k) → op_with tables types o ≡ op_with tables' types' o
-same_lists tables tables' types types' n m (stored.Control o) within a b = refl
-same_lists tables tables' types types' n m (stored.BrTable k) within a b = ap (λ (t : BranchTable). op.Plain (plain.BrTable t)) (a k within)
-same_lists tables tables' types types' n m (stored.Reference o) within a b = refl
-same_lists tables tables' types types' n m (stored.Parametric o) within a b = refl
-same_lists tables tables' types types' n m (stored.SelectTyped k) within a b = ap (λ (t : List ValType). op.Plain (plain.SelectTyped t)) (b k within)
-same_lists tables tables' types types' n m (stored.Variable o) within a b = refl
-same_lists tables tables' types types' n m (stored.Table o) within a b = refl
-same_lists tables tables' types types' n m (stored.Memory o) within a b = refl
-same_lists tables tables' types types' n m (stored.Numeric o) within a b = refl
-same_lists tables tables' types types' n m (stored.I32Const k) within a b = refl
-same_lists tables tables' types types' n m (stored.I64Const k) within a b = refl
-same_lists tables tables' types types' n m (stored.Block t) within a b = refl
-same_lists tables tables' types types' n m (stored.Loop t) within a b = refl
-same_lists tables tables' types types' n m (stored.If t) within a b = refl
-same_lists tables tables' types types' n m stored.Else within a b = refl
-same_lists tables tables' types types' n m stored.End within a b = refl
+-- One other more leaves an operation as it is.
+same_op : (others : List Op) (x : Op) (o : OpWith ℕ) → IsWithin (length others) o → (stored_op (others ++ x ∷ []) o ≡ stored_op others o) × IsWithin (length (others ++ x ∷ [])) o
+same_op others x (short.Other k) within = (get_or_append_left others (x ∷ []) op.End k within, rw (length-append others (x ∷ [])) (omega (arith, within)))
+same_op others x short.Unreachable within = (refl, tt)
+same_op others x short.Nop within = (refl, tt)
+same_op others x (short.Br l) within = (refl, tt)
+same_op others x (short.BrIf l) within = (refl, tt)
+same_op others x short.Return within = (refl, tt)
+same_op others x (short.Call l) within = (refl, tt)
+same_op others x (short.RefNull t) within = (refl, tt)
+same_op others x short.RefIsNull within = (refl, tt)
+same_op others x (short.RefFunc f) within = (refl, tt)
+same_op others x (short.Parametric o) within = (refl, tt)
+same_op others x (short.LocalGet l) within = (refl, tt)
+same_op others x (short.LocalSet l) within = (refl, tt)
+same_op others x (short.LocalTee l) within = (refl, tt)
+same_op others x (short.GlobalGet l) within = (refl, tt)
+same_op others x (short.GlobalSet l) within = (refl, tt)
+same_op others x (short.Load w a n) within = (refl, tt)
+same_op others x (short.Load8 w s a n) within = (refl, tt)
+same_op others x (short.Load16 w s a n) within = (refl, tt)
+same_op others x (short.Load32 s a n) within = (refl, tt)
+same_op others x (short.Store w a n) within = (refl, tt)
+same_op others x (short.Store8 w a n) within = (refl, tt)
+same_op others x (short.Store16 w a n) within = (refl, tt)
+same_op others x (short.Store32 a n) within = (refl, tt)
+same_op others x short.MemorySize within = (refl, tt)
+same_op others x short.MemoryGrow within = (refl, tt)
+same_op others x short.MemoryFill within = (refl, tt)
+same_op others x short.MemoryCopy within = (refl, tt)
+same_op others x (short.Numeric o) within = (refl, tt)
+same_op others x (short.I32Const n) within = (refl, tt)
+same_op others x (short.I64Const n) within = (refl, tt)
+same_op others x (short.Block t) within = (refl, tt)
+same_op others x (short.Loop t) within = (refl, tt)
+same_op others x (short.If t) within = (refl, tt)
+same_op others x short.Else within = (refl, tt)
+same_op others x short.End within = (refl, tt)
 
-all_same : (f g : OpWith ℕ ℕ → Op) (P : OpWith ℕ ℕ → Type 0) → ((o : OpWith ℕ ℕ) → P o → f o ≡ g o) → (ops : List (OpWith ℕ ℕ)) → All P ops → map f ops ≡ map g ops
-all_same f g P same [] all = refl
-all_same f g P same (o ∷ ops) all = ap₂ (λ (x : Op) (xs : List Op). x ∷ xs) (same o (all 0 o (omega arith))) (all_same f g P same ops (λ k d less. all (suc k) d (omega (arith, less))))
+same_ops : (others : List Op) (x : Op) (ops : List (OpWith ℕ)) → All (IsWithin (length others)) ops → map (stored_op (others ++ x ∷ [])) ops ≡ map (stored_op others) ops
+same_ops others x [] all = refl
+same_ops others x (o ∷ ops) all = ap₂ (λ (y : Op) (ys : List Op). y ∷ ys) (same_op others x o (all 0 o (omega arith))).0 (same_ops others x ops (λ k d less. all (suc k) d (omega (arith, less))))
 
-module _ (tables : List BranchTable) (selects : List (List ValType)) (ops : List (OpWith ℕ ℕ)) (within : All (IsWithin (length tables) (length selects)) ops) where
-  -- A branch by number behind the others, whose labels are behind those of the others.
-  pub table_appended : (t : BranchTable) → map (numbered_op (tables ++ t ∷ []) selects) (ops ++ stored.BrTable (length tables) ∷ []) ≡ map (numbered_op tables selects) ops ++ op.Plain (plain.BrTable t) ∷ []
-  table_appended t =
-      let f = numbered_op (tables ++ t ∷ []) selects in
-      let others = all_same f (numbered_op tables selects) (IsWithin (length tables) (length selects))
-      (λ o inside. same_lists (λ n. get_or (tables ++ t ∷ []) n no_labels) (λ n. get_or tables n no_labels) (λ n. get_or selects n []) (λ n. get_or selects n []) (length tables) (length selects) o inside (λ k less. get_or_append_left tables (t ∷ []) no_labels k less) (λ k less. refl))
-      ops within in
-      map-append f ops (stored.BrTable (length tables) ∷ [])
-      ∙ ap₂ (λ (xs ys : List Op). xs ++ ys) others (ap (λ (b : BranchTable). op.Plain (plain.BrTable b) ∷ []) (get_or-append_seam tables t [] no_labels))
+only_one : {A : Type 0} (P : A → Type 0) (x : A) → P x → All P (x ∷ [])
+only_one P x one zero d less = one
+only_one P x one (suc k) d less = absurd (omega (arith, less))
 
-  -- A select behind the others, whose types are behind those of the others.
-  pub select_appended : (types : List ValType) → map (numbered_op tables (selects ++ types ∷ [])) (ops ++ stored.SelectTyped (length selects) ∷ []) ≡ map (numbered_op tables selects) ops ++ op.Plain (plain.SelectTyped types) ∷ []
-  select_appended types =
-      let f = numbered_op tables (selects ++ types ∷ []) in
-      let others = all_same f (numbered_op tables selects) (IsWithin (length tables) (length selects))
-      (λ o inside. same_lists (λ n. get_or tables n no_labels) (λ n. get_or tables n no_labels) (λ n. get_or (selects ++ types ∷ []) n []) (λ n. get_or selects n []) (length tables) (length selects) o inside (λ k less. refl) (λ k less. get_or_append_left selects (types ∷ []) [] k less))
-      ops within in
-      map-append f ops (stored.SelectTyped (length selects) ∷ [])
-      ∙ ap₂ (λ (xs ys : List Op). xs ++ ys) others (ap (λ (b : List ValType). op.Plain (plain.SelectTyped b) ∷ []) (get_or-append_seam selects types [] []))
+-- A property of all elements, and of one that is put behind them if there is memory.
+pub all_pushed : {A V E : Type 0} (P : A → Type 0) (r : Result V E) (old new : List A) (x : A) → OnOk r (new ≡ old ++ x ∷ []) → OnErr r (new ≡ old) → All P old → P x → All P new
+all_pushed P (Ok v) old new x ok err all one = rw ok (All-append P old (x ∷ []) all (only_one P x one))
+all_pushed P (Err e) old new x ok err all one = rw err all
+
+-- One other more leaves the operations within the others.
+pub within_more : (others : List Op) (x : Op) (ops : List (OpWith ℕ)) → All (IsWithin (length others)) ops → All (IsWithin (length (others ++ x ∷ []))) ops
+within_more others x ops all = λ k d less. (same_op others x (slice_index_or ops k d) (all k d less)).1
+
+-- An operation behind the others, which stands behind those that take more than eight bytes.
+pub other_appended : (others : List Op) (x : Op) (ops : List (OpWith ℕ)) → All (IsWithin (length others)) ops → map (stored_op (others ++ x ∷ [])) (ops ++ short.Other (length others) ∷ []) ≡ map (stored_op others) ops ++ x ∷ []
+other_appended others x ops within =
+    map-append (stored_op (others ++ x ∷ [])) ops (short.Other (length others) ∷ [])
+    ∙ ap₂ (λ (xs ys : List Op). xs ++ ys) (same_ops others x ops within) (ap (λ (y : Op). y ∷ []) (get_or-append_seam others x [] op.End))
 
 -- What is no mark is an instruction without a body.
-pub plain_unless_mark : (o : OpWith (Bor BranchTable) (Bor (List ValType))) → ((t : BlockType) → o ≡ stored.Block t → ⊥) → ((t : BlockType) → o ≡ stored.Loop t → ⊥) → ((t : BlockType) → o ≡ stored.If t → ⊥)
-    → (o ≡ stored.Else → ⊥) → (o ≡ stored.End → ⊥) → (p : PlainOp) × (lent_op o ≡ op.Plain p)
-plain_unless_mark (stored.Control o) block loop if_ else_ end = (plain.Control o, refl)
-plain_unless_mark (stored.BrTable t) block loop if_ else_ end = (plain.BrTable t.now, refl)
-plain_unless_mark (stored.Reference o) block loop if_ else_ end = (plain.Reference o, refl)
-plain_unless_mark (stored.Parametric o) block loop if_ else_ end = (plain.Parametric o, refl)
-plain_unless_mark (stored.SelectTyped s) block loop if_ else_ end = (plain.SelectTyped s.now, refl)
-plain_unless_mark (stored.Variable o) block loop if_ else_ end = (plain.Variable o, refl)
-plain_unless_mark (stored.Table o) block loop if_ else_ end = (plain.Table o, refl)
-plain_unless_mark (stored.Memory o) block loop if_ else_ end = (plain.Memory o, refl)
-plain_unless_mark (stored.Numeric o) block loop if_ else_ end = (plain.Numeric o, refl)
-plain_unless_mark (stored.I32Const n) block loop if_ else_ end = (plain.I32Const n, refl)
-plain_unless_mark (stored.I64Const n) block loop if_ else_ end = (plain.I64Const n, refl)
-plain_unless_mark (stored.Block t) block loop if_ else_ end = absurd (block t refl)
-plain_unless_mark (stored.Loop t) block loop if_ else_ end = absurd (loop t refl)
-plain_unless_mark (stored.If t) block loop if_ else_ end = absurd (if_ t refl)
-plain_unless_mark stored.Else block loop if_ else_ end = absurd (else_ refl)
-plain_unless_mark stored.End block loop if_ else_ end = absurd (end refl)
+pub plain_unless_mark : (o : OpWith (Bor Op)) → ((t : Option ValType) → o ≡ short.Block t → ⊥) → ((t : Option ValType) → o ≡ short.Loop t → ⊥) → ((t : Option ValType) → o ≡ short.If t → ⊥)
+    → (o ≡ short.Else → ⊥) → (o ≡ short.End → ⊥) → ((t : Bor Op) → o ≡ short.Other t → ⊥) → (p : PlainOp) × (lent_op o ≡ op.Plain p)
+plain_unless_mark short.Unreachable block loop if_ else_ end other = (_, refl)
+plain_unless_mark short.Nop block loop if_ else_ end other = (_, refl)
+plain_unless_mark (short.Br l) block loop if_ else_ end other = (_, refl)
+plain_unless_mark (short.BrIf l) block loop if_ else_ end other = (_, refl)
+plain_unless_mark short.Return block loop if_ else_ end other = (_, refl)
+plain_unless_mark (short.Call l) block loop if_ else_ end other = (_, refl)
+plain_unless_mark (short.RefNull t) block loop if_ else_ end other = (_, refl)
+plain_unless_mark short.RefIsNull block loop if_ else_ end other = (_, refl)
+plain_unless_mark (short.RefFunc f) block loop if_ else_ end other = (_, refl)
+plain_unless_mark (short.Parametric o) block loop if_ else_ end other = (_, refl)
+plain_unless_mark (short.LocalGet l) block loop if_ else_ end other = (_, refl)
+plain_unless_mark (short.LocalSet l) block loop if_ else_ end other = (_, refl)
+plain_unless_mark (short.LocalTee l) block loop if_ else_ end other = (_, refl)
+plain_unless_mark (short.GlobalGet l) block loop if_ else_ end other = (_, refl)
+plain_unless_mark (short.GlobalSet l) block loop if_ else_ end other = (_, refl)
+plain_unless_mark (short.Load w a n) block loop if_ else_ end other = (_, refl)
+plain_unless_mark (short.Load8 w s a n) block loop if_ else_ end other = (_, refl)
+plain_unless_mark (short.Load16 w s a n) block loop if_ else_ end other = (_, refl)
+plain_unless_mark (short.Load32 s a n) block loop if_ else_ end other = (_, refl)
+plain_unless_mark (short.Store w a n) block loop if_ else_ end other = (_, refl)
+plain_unless_mark (short.Store8 w a n) block loop if_ else_ end other = (_, refl)
+plain_unless_mark (short.Store16 w a n) block loop if_ else_ end other = (_, refl)
+plain_unless_mark (short.Store32 a n) block loop if_ else_ end other = (_, refl)
+plain_unless_mark short.MemorySize block loop if_ else_ end other = (_, refl)
+plain_unless_mark short.MemoryGrow block loop if_ else_ end other = (_, refl)
+plain_unless_mark short.MemoryFill block loop if_ else_ end other = (_, refl)
+plain_unless_mark short.MemoryCopy block loop if_ else_ end other = (_, refl)
+plain_unless_mark (short.Numeric o) block loop if_ else_ end other = (_, refl)
+plain_unless_mark (short.I32Const n) block loop if_ else_ end other = (_, refl)
+plain_unless_mark (short.I64Const n) block loop if_ else_ end other = (_, refl)
+plain_unless_mark (short.Block t) block loop if_ else_ end other = absurd (block t refl)
+plain_unless_mark (short.Loop t) block loop if_ else_ end other = absurd (loop t refl)
+plain_unless_mark (short.If t) block loop if_ else_ end other = absurd (if_ t refl)
+plain_unless_mark short.Else block loop if_ else_ end other = absurd (else_ refl)
+plain_unless_mark short.End block loop if_ else_ end other = absurd (end refl)
+plain_unless_mark (short.Other t) block loop if_ else_ end other = absurd (other t refl)

@@ -1,47 +1,109 @@
--- Flat operations whose lists stand elsewhere.
-use Rattle.std.specs.Prelude.{List, [], ℕ, ◌<◌, ⊤, get_or}
+-- Flat operations in eight bytes, and those that take more.
+use Rattle.std.specs.Prelude.{List, ℕ, ◌<◌, ⊤, get_or, Option, None, Some}
 use denote.Ref.{Bor}
-use Rattle.core_types.specs.declared.expression.OpWith.{OpWith}
-use Rattle.core_types.specs.declared.expression.OpWith.TheVariants as stored
-use Rattle.core_types.specs.declared.op.BranchTable.{BranchTable}
+use Rattle.core_types.specs.declared.lent_op.Mark.{Mark}
+use Rattle.core_types.specs.declared.lent_op.Mark.TheVariants as mark
+use Rattle.core_types.specs.declared.lent_op.OpWith.{OpWith}
+use Rattle.core_types.specs.declared.lent_op.OpWith.TheVariants as short
+use Rattle.core_types.specs.declared.op.BlockType.{BlockType}
+use Rattle.core_types.specs.declared.op.BlockType.TheVariants as block
+use Rattle.core_types.specs.declared.op.ControlOp.TheVariants as control
+use Rattle.core_types.specs.declared.op.LoadOp.{LoadOp}
+use Rattle.core_types.specs.declared.op.LoadOp.TheVariants as load
+use Rattle.core_types.specs.declared.op.MemoryOp.TheVariants as memory
 use Rattle.core_types.specs.declared.op.Op.{Op}
 use Rattle.core_types.specs.declared.op.Op.TheVariants as op
 use Rattle.core_types.specs.declared.op.PlainOp.TheVariants as plain
+use Rattle.core_types.specs.declared.op.ReferenceOp.TheVariants as reference
+use Rattle.core_types.specs.declared.op.StoreOp.{StoreOp}
+use Rattle.core_types.specs.declared.op.StoreOp.TheVariants as store
+use Rattle.core_types.specs.declared.op.VariableOp.TheVariants as variable
 use Rattle.core_types.specs.declared.types.ValType.{ValType}
 
--- The operation, where these are its lists.
-abbrev pub op_with : {T S : Type 0} → (T → BranchTable) → (S → List ValType) → OpWith T S → Op
-op_with table types (stored.Control o) = op.Plain (plain.Control o)
-op_with table types (stored.BrTable t) = op.Plain (plain.BrTable (table t))
-op_with table types (stored.Reference o) = op.Plain (plain.Reference o)
-op_with table types (stored.Parametric o) = op.Plain (plain.Parametric o)
-op_with table types (stored.SelectTyped s) = op.Plain (plain.SelectTyped (types s))
-op_with table types (stored.Variable o) = op.Plain (plain.Variable o)
-op_with table types (stored.Table o) = op.Plain (plain.Table o)
-op_with table types (stored.Memory o) = op.Plain (plain.Memory o)
-op_with table types (stored.Numeric o) = op.Plain (plain.Numeric o)
-op_with table types (stored.I32Const n) = op.Plain (plain.I32Const n)
-op_with table types (stored.I64Const n) = op.Plain (plain.I64Const n)
-op_with table types (stored.Block t) = op.Block t
-op_with table types (stored.Loop t) = op.Loop t
-op_with table types (stored.If t) = op.If t
-op_with table types stored.Else = op.Else
-op_with table types stored.End = op.End
+-- The type of a block that takes nothing and gives this.
+abbrev pub block_type_of : Option ValType → BlockType
+block_type_of None = block.Empty
+block_type_of (Some t) = block.Value t
+
+-- A load.
+abbrev pub load_at : LoadOp → ℕ → ℕ → Op
+load_at o align offset = op.Plain (plain.Memory (memory.Load o (record { align = align; offset = offset })))
+
+-- A store.
+abbrev pub store_at : StoreOp → ℕ → ℕ → Op
+store_at o align offset = op.Plain (plain.Memory (memory.Store o (record { align = align; offset = offset })))
+
+-- The operation, where this is the one that takes more than eight bytes.
+abbrev pub op_with : {T : Type 0} → (T → Op) → OpWith T → Op
+op_with other short.Unreachable = op.Plain (plain.Control control.Unreachable)
+op_with other short.Nop = op.Plain (plain.Control control.Nop)
+op_with other (short.Br l) = op.Plain (plain.Control (control.Br l))
+op_with other (short.BrIf l) = op.Plain (plain.Control (control.BrIf l))
+op_with other short.Return = op.Plain (plain.Control control.Return)
+op_with other (short.Call f) = op.Plain (plain.Control (control.Call f))
+op_with other (short.RefNull t) = op.Plain (plain.Reference (reference.Null t))
+op_with other short.RefIsNull = op.Plain (plain.Reference reference.IsNull)
+op_with other (short.RefFunc f) = op.Plain (plain.Reference (reference.Func f))
+op_with other (short.Parametric o) = op.Plain (plain.Parametric o)
+op_with other (short.LocalGet x) = op.Plain (plain.Variable (variable.LocalGet x))
+op_with other (short.LocalSet x) = op.Plain (plain.Variable (variable.LocalSet x))
+op_with other (short.LocalTee x) = op.Plain (plain.Variable (variable.LocalTee x))
+op_with other (short.GlobalGet x) = op.Plain (plain.Variable (variable.GlobalGet x))
+op_with other (short.GlobalSet x) = op.Plain (plain.Variable (variable.GlobalSet x))
+op_with other (short.Load w align offset) = load_at (load.Whole w) align offset
+op_with other (short.Load8 w s align offset) = load_at (load.Bits8 w s) align offset
+op_with other (short.Load16 w s align offset) = load_at (load.Bits16 w s) align offset
+op_with other (short.Load32 s align offset) = load_at (load.Bits32 s) align offset
+op_with other (short.Store w align offset) = store_at (store.Whole w) align offset
+op_with other (short.Store8 w align offset) = store_at (store.Bits8 w) align offset
+op_with other (short.Store16 w align offset) = store_at (store.Bits16 w) align offset
+op_with other (short.Store32 align offset) = store_at store.Bits32 align offset
+op_with other short.MemorySize = op.Plain (plain.Memory memory.Size)
+op_with other short.MemoryGrow = op.Plain (plain.Memory memory.Grow)
+op_with other short.MemoryFill = op.Plain (plain.Memory memory.Fill)
+op_with other short.MemoryCopy = op.Plain (plain.Memory memory.Copy)
+op_with other (short.Numeric o) = op.Plain (plain.Numeric o)
+op_with other (short.I32Const n) = op.Plain (plain.I32Const n)
+op_with other (short.I64Const n) = op.Plain (plain.I64Const n)
+op_with other (short.Block t) = op.Block (block_type_of t)
+op_with other (short.Loop t) = op.Loop (block_type_of t)
+op_with other (short.If t) = op.If (block_type_of t)
+op_with other short.Else = op.Else
+op_with other short.End = op.End
+op_with other (short.Other t) = other t
 
 -- The operation that is lent.
-abbrev pub lent_op : OpWith (Bor BranchTable) (Bor (List ValType)) → Op
-lent_op o = op_with (λ table. table.now) (λ types. types.now) o
+abbrev pub lent_op : OpWith (Bor Op) → Op
+lent_op o = op_with (λ op. op.now) o
 
--- No labels, and the default 0.
-abbrev pub no_labels : BranchTable
-no_labels = record { labels = []; default = 0 }
+-- The mark, as an operation.
+abbrev pub mark_op : Mark → Op
+mark_op (mark.Block t) = op.Block t
+mark_op (mark.Loop t) = op.Loop t
+mark_op (mark.If t) = op.If t
+mark_op mark.Else = op.Else
+mark_op mark.End = op.End
 
--- The operation whose lists have these numbers.
-abbrev pub numbered_op : List BranchTable → List (List ValType) → OpWith ℕ ℕ → Op
-numbered_op tables selects o = op_with (λ n. get_or tables n no_labels) (λ n. get_or selects n []) o
+-- The operation that is stored, where these are those that take more than eight bytes.
+abbrev pub stored_op : List Op → OpWith ℕ → Op
+stored_op others o = op_with (λ n. get_or others n op.End) o
 
--- There are as many lists as its numbers ask for.
-abbrev pub IsWithin : ℕ → ℕ → OpWith ℕ ℕ → Type 0
-IsWithin tables selects (stored.BrTable n) = n < tables
-IsWithin tables selects (stored.SelectTyped n) = n < selects
-IsWithin tables selects o = ⊤
+-- There are as many others as its number asks for.
+abbrev pub IsWithin : ℕ → OpWith ℕ → Type 0
+IsWithin count (short.Other n) = n < count
+IsWithin count o = ⊤
+
+-- It begins or ends a body, or has a list.
+abbrev pub HasListOrBody : Op → Type 0
+HasListOrBody (op.Plain (plain.Control o)) = ⊥
+HasListOrBody (op.Plain (plain.BrTable t)) = ⊤
+HasListOrBody (op.Plain (plain.Reference o)) = ⊥
+HasListOrBody (op.Plain (plain.Parametric o)) = ⊥
+HasListOrBody (op.Plain (plain.SelectTyped types)) = ⊤
+HasListOrBody (op.Plain (plain.Variable o)) = ⊥
+HasListOrBody (op.Plain (plain.Table o)) = ⊥
+HasListOrBody (op.Plain (plain.Memory o)) = ⊥
+HasListOrBody (op.Plain (plain.Numeric o)) = ⊥
+HasListOrBody (op.Plain (plain.I32Const n)) = ⊥
+HasListOrBody (op.Plain (plain.I64Const n)) = ⊥
+HasListOrBody o = ⊤

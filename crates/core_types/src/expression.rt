@@ -1,66 +1,34 @@
-ghost use Rattle.std.specs.Prelude.{◌≡◌, ◌<◌, ◌∷◌, [], ◌++◌, Some, length, slice_get, false, ◌≢◌, IfOk, IsTrue, OnErr, OnOk};
-ghost use Rattle.core_types.specs.declared.op.Op.TheVariants as flat;
-ghost use Rattle.core_types.specs.declared.op.PlainOp.{PlainOp as Plain};
+ghost use Rattle.std.specs.Prelude.{◌≡◌, ◌<◌, ◌∷◌, [], ◌++◌, Some, length, slice_get, IfOk, OnErr, OnOk};
 ghost use Rattle.core_types.specs.Expressions.{lent_op};
 
 use crate::appending::append;
-use crate::boxed::Boxed;
-use crate::items::Items;
-use crate::op::{
-    BlockType, BranchTable, ControlOp, MemoryOp, NumericOp, Op, ParametricOp, PlainOp, ReferenceOp,
-    TableOp, VariableOp,
-};
-use crate::types::ValType;
+use crate::lent_op::{LentOp, OpWith};
+use crate::op::Op;
+use crate::stored_op::{StoredOp, store_op};
 use std::alloc::{AllocError, Global};
 use std::marker::Model;
-
-/// A flat operation that has a `T` for the labels of a branch by number, and an `S` for the types of a select.
-#[derive(Clone, Copy)]
-pub enum OpWith<T, S> {
-    Control(ControlOp),
-    BrTable(T),
-    Reference(ReferenceOp),
-    Parametric(ParametricOp),
-    SelectTyped(S),
-    Variable(VariableOp),
-    Table(TableOp),
-    Memory(MemoryOp),
-    Numeric(NumericOp),
-    I32Const(u32),
-    I64Const(u64),
-    Block(BlockType),
-    Loop(BlockType),
-    If(BlockType),
-    Else,
-    End,
-}
-
-/// A flat operation that is lent.
-pub type LentOp<'a> = OpWith<&'a BranchTable, &'a Items<ValType>>;
 
 /// An expression, as its flat operations without the last `End`, which contracts see as the list of them (Structure, Instructions,
 /// Expressions).
 ///
-/// An operation takes 16 bytes. One with a list has the number of it.
+/// An operation takes eight bytes. One that takes more, which is rare, stands among the others and has its number here.
 #[derive(Drop)]
 pub struct Expression {
-    operations: Vec<OpWith<u32, u32>>,
-    tables: Vec<Boxed<BranchTable>>,
-    selects: Vec<Boxed<Items<ValType>>>,
+    operations: Vec<StoredOp>,
+    others: Vec<Op>,
 }
 
 impl Model for Expression {
     ghost use Rattle.std.specs.Prelude.{List, length, map};
     ghost use Rattle.std.specs.List.{All};
-    ghost use Rattle.core_types.specs.Expressions.{IsWithin, numbered_op};
+    ghost use Rattle.core_types.specs.Expressions.{IsWithin, stored_op};
     ghost use Rattle.core_types.specs.declared.op.Op.{Op};
 
     ghost Value = { List Op };
 
-    ghost view = { λ e. map (numbered_op e.tables.items e.selects.items) e.operations.items };
+    ghost view = { λ e. map (stored_op e.others.items) e.operations.items };
 
-    ghost invariant = { λ e. All (IsWithin (length e.tables.items) (length e.selects.items))
-        e.operations.items };
+    ghost invariant = { λ e. All (IsWithin (length e.others.items)) e.operations.items };
 }
 
 impl Expression {
@@ -70,8 +38,7 @@ impl Expression {
     {
         Expression {
             operations: Vec::new(alloc),
-            tables: Vec::new(alloc),
-            selects: Vec::new(alloc),
+            others: Vec::new(alloc),
         }
     }
 
@@ -82,8 +49,7 @@ impl Expression {
         match Vec::with_capacity(alloc, count) {
             Ok(operations) => Expression {
                 operations,
-                tables: Vec::new(alloc),
-                selects: Vec::new(alloc),
+                others: Vec::new(alloc),
             },
             Err(_) => Expression::new(alloc),
         }
@@ -111,86 +77,71 @@ impl Expression {
         ensures { slice_get self.now index ≡ Some (lent_op result) }
     {
         match self.operations[index] {
-            OpWith::Control(op) => OpWith::Control(op),
-            OpWith::BrTable(number) => OpWith::BrTable(self.tables[number as usize].get()),
-            OpWith::Reference(op) => OpWith::Reference(op),
+            OpWith::Unreachable => OpWith::Unreachable,
+            OpWith::Nop => OpWith::Nop,
+            OpWith::Br(label) => OpWith::Br(label),
+            OpWith::BrIf(label) => OpWith::BrIf(label),
+            OpWith::Return => OpWith::Return,
+            OpWith::Call(function) => OpWith::Call(function),
+            OpWith::RefNull(ty) => OpWith::RefNull(ty),
+            OpWith::RefIsNull => OpWith::RefIsNull,
+            OpWith::RefFunc(function) => OpWith::RefFunc(function),
             OpWith::Parametric(op) => OpWith::Parametric(op),
-            OpWith::SelectTyped(number) => {
-                OpWith::SelectTyped(self.selects[number as usize].get())
-            }
-            OpWith::Variable(op) => OpWith::Variable(op),
-            OpWith::Table(op) => OpWith::Table(op),
-            OpWith::Memory(op) => OpWith::Memory(op),
+            OpWith::LocalGet(index) => OpWith::LocalGet(index),
+            OpWith::LocalSet(index) => OpWith::LocalSet(index),
+            OpWith::LocalTee(index) => OpWith::LocalTee(index),
+            OpWith::GlobalGet(index) => OpWith::GlobalGet(index),
+            OpWith::GlobalSet(index) => OpWith::GlobalSet(index),
+            OpWith::Load(width, align, offset) => OpWith::Load(width, align, offset),
+            OpWith::Load8(width, sign, align, offset) => OpWith::Load8(width, sign, align, offset),
+            OpWith::Load16(width, sign, align, offset) => OpWith::Load16(
+                width, sign, align, offset,
+            ),
+            OpWith::Load32(sign, align, offset) => OpWith::Load32(sign, align, offset),
+            OpWith::Store(width, align, offset) => OpWith::Store(width, align, offset),
+            OpWith::Store8(width, align, offset) => OpWith::Store8(width, align, offset),
+            OpWith::Store16(width, align, offset) => OpWith::Store16(width, align, offset),
+            OpWith::Store32(align, offset) => OpWith::Store32(align, offset),
+            OpWith::MemorySize => OpWith::MemorySize,
+            OpWith::MemoryGrow => OpWith::MemoryGrow,
+            OpWith::MemoryFill => OpWith::MemoryFill,
+            OpWith::MemoryCopy => OpWith::MemoryCopy,
             OpWith::Numeric(op) => OpWith::Numeric(op),
             OpWith::I32Const(n) => OpWith::I32Const(n),
             OpWith::I64Const(n) => OpWith::I64Const(n),
-            OpWith::Block(ty) => OpWith::Block(ty),
-            OpWith::Loop(ty) => OpWith::Loop(ty),
-            OpWith::If(ty) => OpWith::If(ty),
+            OpWith::Block(value) => OpWith::Block(value),
+            OpWith::Loop(value) => OpWith::Loop(value),
+            OpWith::If(value) => OpWith::If(value),
             OpWith::Else => OpWith::Else,
             OpWith::End => OpWith::End,
+            OpWith::Other(number) => OpWith::Other(&self.others[number as usize]),
         }
     }
-}
 
-// Puts a list behind the others, and answers its number.
-fn add<T: Drop>(lists: &mut Vec<Boxed<T>>, list: Boxed<T>) -> Result<u32, AllocError>
-    ensures number { IfOk result (λ n. n ≡ length lists.old.items) }
-    ensures ok { OnOk result (lists.new.items ≡ lists.old.items ++ list ∷ []) }
-    ensures err { OnErr result (lists.new.items ≡ lists.old.items) }
-{
-    let Ok(number) = u32::try_from(lists.len()) else {
-        return Err(AllocError);
-    };
-    lists.push(list)?;
-    Ok(number)
-}
-
-impl Expression {
-    /// Puts an operation behind the others.
+    /// Puts an operation behind the others. Fails where there is no memory, or where there are 2^32 that take more than eight
+    /// bytes.
     #[inline(always)]
     pub fn push(&mut self, op: Op) -> Result<(), AllocError>
         ensures { OnOk result (self.new ≡ self.old ++ op ∷ []) }
     {
-        match op {
-            Op::Plain(PlainOp::Control(op)) => append(&mut self.operations, OpWith::Control(op)),
-            Op::Plain(PlainOp::BrTable(table)) => {
-                let number = add(&mut self.tables, table)?;
-                append(&mut self.operations, OpWith::BrTable(number))
-            }
-            Op::Plain(PlainOp::Reference(op)) => {
-                append(&mut self.operations, OpWith::Reference(op))
-            }
-            Op::Plain(PlainOp::Parametric(op)) => {
-                append(&mut self.operations, OpWith::Parametric(op))
-            }
-            Op::Plain(PlainOp::SelectTyped(types)) => {
-                let number = add(&mut self.selects, types)?;
-                append(&mut self.operations, OpWith::SelectTyped(number))
-            }
-            Op::Plain(PlainOp::Variable(op)) => append(&mut self.operations, OpWith::Variable(op)),
-            Op::Plain(PlainOp::Table(op)) => append(&mut self.operations, OpWith::Table(op)),
-            Op::Plain(PlainOp::Memory(op)) => append(&mut self.operations, OpWith::Memory(op)),
-            Op::Plain(PlainOp::Numeric(op)) => append(&mut self.operations, OpWith::Numeric(op)),
-            Op::Plain(PlainOp::I32Const(n)) => append(&mut self.operations, OpWith::I32Const(n)),
-            Op::Plain(PlainOp::I64Const(n)) => append(&mut self.operations, OpWith::I64Const(n)),
-            Op::Block(ty) => append(&mut self.operations, OpWith::Block(ty)),
-            Op::Loop(ty) => append(&mut self.operations, OpWith::Loop(ty)),
-            Op::If(ty) => append(&mut self.operations, OpWith::If(ty)),
-            Op::Else => append(&mut self.operations, OpWith::Else),
-            Op::End => append(&mut self.operations, OpWith::End),
+        if let Some(stored) = store_op(&op) {
+            return append(&mut self.operations, stored);
         }
+        let number = add(&mut self.others, op)?;
+        append(&mut self.operations, OpWith::Other(number))
     }
 }
 
-/// Whether an operation is a mark, at which a body begins or ends.
+// Puts an operation behind the others that take more than eight bytes, and answers its number.
 #[inline(always)]
-pub fn is_mark(op: LentOp<'_>) -> bool
-    ensures mark { IsTrue result → (plain : Plain) → lent_op op.entry ≢ flat.Plain plain }
-    ensures plain { result ≡ false → (plain : Plain) × (lent_op op.entry ≡ flat.Plain plain) }
+fn add(others: &mut Vec<Op>, op: Op) -> Result<u32, AllocError>
+    ensures number { IfOk result (λ n. n ≡ length others.old.items) }
+    ensures ok { OnOk result (others.new.items ≡ others.old.items ++ op ∷ []) }
+    ensures err { OnErr result (others.new.items ≡ others.old.items) }
 {
-    matches!(
-        op,
-        OpWith::Block(_) | OpWith::Loop(_) | OpWith::If(_) | OpWith::Else | OpWith::End
-    )
+    let Ok(number) = u32::try_from(others.len()) else {
+        return Err(AllocError);
+    };
+    append(others, op)?;
+    Ok(number)
 }

@@ -6,17 +6,21 @@ mod boxed;
 mod expression;
 mod halving;
 mod items;
+mod lent_op;
 mod locals;
 mod module;
 mod op;
 mod outcome;
+mod plain;
 mod stack;
+mod stored_op;
 mod text;
 mod types;
 
 pub use boxed::Boxed;
-pub use expression::{Expression, LentOp, OpWith, is_mark};
+pub use expression::Expression;
 pub use items::Items;
+pub use lent_op::{LentOp, Mark, OpWith, block_type, is_mark, mark_of};
 pub use locals::{LocalRun, Locals};
 pub use module::{
     DataMode, DataSegment, ElementItems, ElementMode, ElementSegment, Export, ExportDesc, Func,
@@ -28,6 +32,7 @@ pub use op::{
     Width,
 };
 pub use outcome::{Exhaustion, Extern, Trap, Val};
+pub use plain::plain_op;
 pub use stack::Stack;
 pub use text::Name;
 pub use types::{

@@ -178,7 +178,7 @@ pub struct BranchTable {
 }
 
 /// An instruction that has no body (Structure, Instructions). Those with a list keep it on the heap, and those with eight
-/// bytes stand apart from their group, so that an `Op` takes no more than 24 bytes.
+/// bytes stand apart from their group.
 #[derive(Drop)]
 pub enum PlainOp {
     Control(ControlOp),

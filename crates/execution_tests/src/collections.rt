@@ -1,8 +1,8 @@
 //! The lists, names, locals, boxes, stacks and expressions of `core_types`, and the size of an operation.
 
 use core_types::{
-    Boxed, BranchTable, Expression, Items, LentOp, Locals, Name, Op, OpWith, PlainOp, Stack,
-    ValType, is_mark,
+    BlockType, Boxed, BranchTable, Expression, Items, LentOp, Locals, MemArg, MemoryOp, Name, Op,
+    OpWith, PlainOp, Stack, StoreOp, ValType, is_mark,
 };
 use std::alloc::{AllocError, Global};
 use std::mem::size_of;
@@ -173,37 +173,62 @@ fn keeps_stacks(rt: HostRuntime) {
     assert!(rt; takes_all(rt.alloc()));
 }
 
-// An expression with an operation of each kind of list, between two others.
+// An expression with operations in eight bytes and others that take more, in turn.
 fn expression_of(alloc: Global, room: usize) -> Result<Expression, AllocError> {
     let mut expression = Expression::with_room(alloc, room);
     let labels = Items::from_vec(vec![in alloc; 1u32, 2]?);
     let table = BranchTable { labels, default: 3 };
     let types = Items::from_vec(vec![in alloc; ValType::I64]?);
+    let argument = MemArg {
+        align: 256,
+        offset: 9,
+    };
     expression.push(Op::Plain(PlainOp::I64Const(7)))?;
     expression.push(Op::Plain(PlainOp::BrTable(Boxed::new(alloc, table)?)))?;
+    expression.push(Op::Plain(PlainOp::I64Const(u64::MAX)))?;
     expression.push(Op::Plain(PlainOp::SelectTyped(Boxed::new(alloc, types)?)))?;
     expression.push(Op::Else)?;
+    expression.push(Op::Block(BlockType::Index(4)))?;
+    expression.push(Op::Loop(BlockType::Value(ValType::I32)))?;
+    expression.push(Op::Plain(PlainOp::Memory(MemoryOp::Store(StoreOp::Bits32, argument))))?;
     expression.shrink();
     Ok(expression)
+}
+
+// Whether an operation that takes more than eight bytes is the one of that index.
+fn is_other(index: usize, op: &Op) -> bool {
+    match (index, op) {
+        (1, Op::Plain(PlainOp::BrTable(table))) => {
+            let table = table.get();
+            table.labels.as_slice() == [1, 2].as_slice() && table.default == 3
+        }
+        (2, Op::Plain(PlainOp::I64Const(n))) => *n == u64::MAX,
+        (3, Op::Plain(PlainOp::SelectTyped(types))) => {
+            types.get().as_slice() == [ValType::I64].as_slice()
+        }
+        (5, Op::Block(BlockType::Index(ty))) => *ty == 4,
+        (7, Op::Plain(PlainOp::Memory(MemoryOp::Store(StoreOp::Bits32, argument)))) => {
+            argument.align == 256 && argument.offset == 9
+        }
+        _ => false,
+    }
 }
 
 // Whether an operation is the one of that index.
 fn is_operation(index: usize, op: LentOp<'_>) -> bool {
     match (index, op) {
         (0, OpWith::I64Const(n)) => n == 7 && !is_mark(op),
-        (1, OpWith::BrTable(table)) => {
-            table.labels.as_slice() == [1, 2].as_slice() && table.default == 3
-        }
-        (2, OpWith::SelectTyped(types)) => types.as_slice() == [ValType::I64].as_slice(),
-        (3, OpWith::Else) => is_mark(op),
+        (4, OpWith::Else) => is_mark(op),
+        (6, OpWith::Loop(Some(ty))) => ty == ValType::I32 && is_mark(op),
+        (_, OpWith::Other(other)) => is_other(index, other) && is_mark(op) == (index == 5),
         _ => false,
     }
 }
 
-// Whether an expression with such room has its four operations.
+// Whether an expression with such room has its eight operations.
 fn keeps_operations(alloc: Global, room: usize) -> Result<bool, AllocError> {
     let expression = expression_of(alloc, room)?;
-    let mut all = expression.len() == 4;
+    let mut all = expression.len() == 8;
     for index in 0..expression.len() {
         all &= is_operation(index, expression.get(index));
     }
@@ -219,5 +244,5 @@ fn keeps_expressions(rt: HostRuntime) {
 
 #[test]
 fn operations_are_small(rt: HostRuntime) {
-    assert!(rt; size_of::<OpWith<u32, u32>>() <= 16);
+    assert!(rt; size_of::<OpWith<u32>>() == 8);
 }

@@ -1,9 +1,9 @@
 //! Instructions in the standard's text format, flat, with all indices as numbers.
 
 use core_types::{
-    BinaryOp, BlockType, BranchTable, Comparison, ControlOp, Conversion, LentOp, LoadOp, MemArg,
-    MemoryOp, NumericOp, OpWith, ParametricOp, RefType, ReferenceOp, Sign, StoreOp, TableOp,
-    UnaryOp, ValType, VariableOp, Width,
+    BinaryOp, BlockType, BranchTable, Comparison, ControlOp, Conversion, LentOp, LoadOp, Mark,
+    MemArg, MemoryOp, NumericOp, Op, OpWith, ParametricOp, PlainOp, RefType, ReferenceOp, Sign,
+    StoreOp, TableOp, UnaryOp, ValType, VariableOp, Width, mark_of, plain_op,
 };
 use std::alloc::AllocError;
 
@@ -271,24 +271,47 @@ fn print_block(out: &mut String, word: &str, ty: BlockType) -> Printed {
     print_block_type(out, ty)
 }
 
+fn print_plain(out: &mut String, op: &PlainOp) -> Printed {
+    match op {
+        PlainOp::Control(op) => print_control(out, *op),
+        PlainOp::BrTable(table) => print_branch_table(out, table.get()),
+        PlainOp::Reference(op) => print_reference(out, *op),
+        PlainOp::Parametric(op) => print_parametric(out, *op),
+        PlainOp::SelectTyped(types) => print_types(out, "select (result", types.get().as_slice()),
+        PlainOp::Variable(op) => print_variable(out, *op),
+        PlainOp::Table(op) => print_table(out, *op),
+        PlainOp::Memory(op) => print_memory(out, *op),
+        PlainOp::Numeric(op) => print_numeric(out, *op),
+        PlainOp::I32Const(n) => write!(out, "i32.const {n}"),
+        PlainOp::I64Const(n) => write!(out, "i64.const {n}"),
+    }
+}
+
+fn print_mark(out: &mut String, mark: Mark) -> Printed {
+    match mark {
+        Mark::Block(ty) => print_block(out, "block", ty),
+        Mark::Loop(ty) => print_block(out, "loop", ty),
+        Mark::If(ty) => print_block(out, "if", ty),
+        Mark::Else => out.push_str("else"),
+        Mark::End => out.push_str("end"),
+    }
+}
+
+// An instruction that has a list, or else a question mark.
+fn print_list(out: &mut String, op: LentOp<'_>) -> Printed {
+    match op {
+        OpWith::Other(Op::Plain(op)) => print_plain(out, op),
+        _ => out.push_str("?"),
+    }
+}
+
 /// Prints a flat operation.
 pub fn print_operation(out: &mut String, op: LentOp<'_>) -> Printed {
-    match op {
-        OpWith::Control(op) => print_control(out, op),
-        OpWith::BrTable(table) => print_branch_table(out, table),
-        OpWith::Reference(op) => print_reference(out, op),
-        OpWith::Parametric(op) => print_parametric(out, op),
-        OpWith::SelectTyped(types) => print_types(out, "select (result", types.as_slice()),
-        OpWith::Variable(op) => print_variable(out, op),
-        OpWith::Table(op) => print_table(out, op),
-        OpWith::Memory(op) => print_memory(out, op),
-        OpWith::Numeric(op) => print_numeric(out, op),
-        OpWith::I32Const(n) => write!(out, "i32.const {n}"),
-        OpWith::I64Const(n) => write!(out, "i64.const {n}"),
-        OpWith::Block(ty) => print_block(out, "block", ty),
-        OpWith::Loop(ty) => print_block(out, "loop", ty),
-        OpWith::If(ty) => print_block(out, "if", ty),
-        OpWith::Else => out.push_str("else"),
-        OpWith::End => out.push_str("end"),
+    if let Some(mark) = mark_of(op) {
+        return print_mark(out, mark);
+    }
+    match plain_op(op) {
+        Some(op) => print_plain(out, &op),
+        None => print_list(out, op),
     }
 }

@@ -1,5 +1,4 @@
 pub mod Addresses
-pub mod Constants
 pub mod Links
 pub mod Objects
 pub mod Offsets

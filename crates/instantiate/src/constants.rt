@@ -12,11 +12,10 @@ ghost use Rattle.core_types.specs.declared.outcome.Val.{Val as AnyVal};
 ghost use Rattle.meaning.specs.execution.Modules.{constant, constant_operands, constant_step, constant_value, only, operate as operate_of};
 ghost use Rattle.meaning.specs.execution.Values.{null_of};
 ghost use Rattle.store.specs.Contents.{Contents, lists_of, module_instance, store_with};
-ghost use Rattle.instantiate.specs.Constants.{IsNoConstant};
 
 use core_types::{
-    BinaryOp, Expression, LentOp, NumericOp, OpWith, PlainOp, RefType, ReferenceOp, Val,
-    VariableOp, Width,
+    BinaryOp, Expression, LentOp, NumericOp, PlainOp, RefType, ReferenceOp, Val, VariableOp, Width,
+    plain_op,
 };
 use intops::{binary_32, binary_64};
 use std::alloc::{AllocError, Global};
@@ -175,32 +174,8 @@ fn execute_plain(
     operate(*operator, operands)
 }
 
-// The instruction that an operation without a list is, if it is one.
-fn plain_op(op: LentOp<'_>) -> Option<PlainOp>
-    ensures some { IfSome result (λ plain. lent_op op.entry ≡ Plain plain) }
-    ensures none { IfNone result (IsNoConstant (lent_op op.entry)) }
-{
-    match op {
-        OpWith::Control(op) => Some(PlainOp::Control(op)),
-        OpWith::BrTable(_) => None,
-        OpWith::Reference(op) => Some(PlainOp::Reference(op)),
-        OpWith::Parametric(op) => Some(PlainOp::Parametric(op)),
-        OpWith::SelectTyped(_) => None,
-        OpWith::Variable(op) => Some(PlainOp::Variable(op)),
-        OpWith::Table(op) => Some(PlainOp::Table(op)),
-        OpWith::Memory(op) => Some(PlainOp::Memory(op)),
-        OpWith::Numeric(op) => Some(PlainOp::Numeric(op)),
-        OpWith::I32Const(n) => Some(PlainOp::I32Const(n)),
-        OpWith::I64Const(n) => Some(PlainOp::I64Const(n)),
-        OpWith::Block(_) => None,
-        OpWith::Loop(_) => None,
-        OpWith::If(_) => None,
-        OpWith::Else => None,
-        OpWith::End => None,
-    }
-}
-
 // Executes an operation of a constant expression on operands, to which there is room for one more, and says whether it could.
+#[tactic(auto, using(crate::proofs::lemmas::Constants::no_constant))]
 fn execute(op: LentOp<'_>, addresses: &Addresses, state: &State, operands: &mut Vec<Val>) -> bool
     requires room { vec_len operands.old < vec_capacity operands.old }
     ensures done { IsTrue result → (contents : Contents) (m : Module) (ops : List AnyOp)

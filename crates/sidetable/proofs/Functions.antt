@@ -21,7 +21,7 @@ use Rattle.sidetable.specs.Packing.{IsWithin, made, unpacked}
 use Rattle.sidetable.specs.SideTables.{Continues, SideTables}
 use Rattle.sidetable.specs.declared.flat_module.FlatModule.{FlatModule}
 use Rattle.sidetable.specs.declared.flat_module.PackedFunction.{PackedFunction}
-use Rattle.sidetable.specs.declared.flattening.FlatBody.{FlatBody}
+use Rattle.sidetable.specs.declared.flattening.Flattening.{Flattening}
 use Rattle.sidetable.specs.declared.operations.PackedOp.{PackedOp}
 use Rattle.sidetable.specs.declared.operations.PackedOp.TheVariants as packed
 
@@ -84,10 +84,10 @@ all-more s fs old new f all one = record {
 -- ---- a function that was flattened
 
 -- Its operations begin where those before end.
-pub placed-behind : (s : Signatures) (before : List PackedOp) (tables : SideTables) (p : PackedFunction) (body : Body) (b : FlatBody) (m : FlatModule) → IsMade s before tables p.locals p.results body b → p.place ≡ length before → p.greatest ≡ b.greatest
+pub placed-behind : (s : Signatures) (before : List PackedOp) (tables : SideTables) (p : PackedFunction) (body : Body) (b : Flattening) (m : FlatModule) → IsMade s before tables p.locals p.results body b p.greatest → p.place ≡ length before
     → m.operations.items ≡ b.operations.items ++ (packed.Leave p.results ∷ []) → m.tables ≡ b.tables
     → (operations_of m ≡ made tables before ++ function_operations s p.locals p.results p.place body) × IsFlatBody s (operations_of m) p body
-placed-behind s before tables p body b m made_so place_is greatest_is ops_are tables_are = (whole, record { more = []; placed = there; greatest = greatest_is ∙ made_so.greatest })
+placed-behind s before tables p body b m made_so place_is ops_are tables_are = (whole, record { more = []; placed = there; greatest = made_so.height })
   where
     code : List FlatOp
     code = flat s (function_entry p.locals p.results p.place body) (function_entry p.locals p.results p.place body ∷ []) (Some p.locals) p.place body
@@ -106,7 +106,7 @@ placed-behind s before tables p body b m made_so place_is greatest_is ops_are ta
         ∙ sym (append-nil (function_operations s p.locals p.results p.place body))
 
 -- What it names by number is there.
-pub within-behind : (m : FlatModule) (b : FlatBody) (results : ℕ) → All (IsWithin b.tables) b.operations.items → m.operations.items ≡ b.operations.items ++ (packed.Leave results ∷ []) → m.tables ≡ b.tables → AreWithin m
+pub within-behind : (m : FlatModule) (b : Flattening) (results : ℕ) → All (IsWithin b.tables) b.operations.items → m.operations.items ≡ b.operations.items ++ (packed.Leave results ∷ []) → m.tables ≡ b.tables → AreWithin m
 within-behind m b results within ops_are tables_are =
     rw (ops_are, tables_are) (All-append (IsWithin b.tables) b.operations.items (packed.Leave results ∷ []) within (All-cons (IsWithin b.tables) (packed.Leave results) [] (tt {0}) (All-nil (IsWithin b.tables))))
 

@@ -14,7 +14,6 @@ use Rattle.sidetable.specs.Packing.{IsWithin, made, unpacked}
 use Rattle.sidetable.specs.Shapes.{IsNoneOpen}
 use Rattle.sidetable.specs.SideTables.{Grows, SideTables}
 use Rattle.sidetable.specs.Sizes.{openings_of}
-use Rattle.sidetable.specs.declared.flattening.FlatBody.{FlatBody}
 use Rattle.sidetable.specs.declared.flattening.Flattening.{Flattening}
 use Rattle.sidetable.specs.declared.labels.Label.{Label}
 use Rattle.sidetable.specs.declared.labels.Level.{Level}
@@ -57,16 +56,16 @@ makes-last s outermost f whole most m =
     (sym (append-nil (made f.tables f.operations.items)) ∙ first, omega arith)
 
 -- What was made is the operations before, which are as they were, and the body's flat code.
-pub is-made : (s : Signatures) (before : List PackedOp) (tables grown : SideTables) (locals results : ℕ) (outermost : Label) (f : Flattening) (body : Body) (b : FlatBody) → Grows tables grown → All (IsWithin tables) before
+pub is-made : (s : Signatures) (before : List PackedOp) (tables grown : SideTables) (locals results : ℕ) (outermost : Label) (f : Flattening) (body : Body) (most : ℕ) → Grows tables grown → All (IsWithin tables) before
     → outermost.entry ≡ function_entry locals results (length before) body
     → Makes s outermost f [] (behind_made s outermost.entry locals (made grown before) body) (max (locals + results) (greatest s (Some locals) body))
-    → b.operations ≡ f.operations → b.tables ≡ f.tables → b.greatest ≡ max f.greatest (height_or_zero f.height) → IsMade s before tables locals results body b
-is-made s before tables grown locals results outermost f body b grows within entry_is m ops_are tables_are greatest_is =
-    let (ops, most) = makes-last s outermost f _ _ m in
+    → most ≡ max f.greatest (height_or_zero f.height) → IsMade s before tables locals results body f most
+is-made s before tables grown locals results outermost f body most grows within entry_is m most_is =
+    let (ops, height) = makes-last s outermost f _ _ m in
     let kept : made grown before ≡ made tables before = made-kept tables grown grows before within in
     let size : length (made tables before) ≡ length before = length-map before (unpacked tables) in record {
-      operations = rw (ops_are, tables_are) (ops ∙ ap (λ (os : List FlatOp). behind_made s outermost.entry locals os body) kept ∙ ap (λ (e : Entry). behind_made s e locals (made tables before) body) entry_is
-          ∙ ap (λ (n : ℕ). made tables before ++ flat s (function_entry locals results (length before) body) (function_entry locals results (length before) body ∷ []) (Some locals) n body) size);
-      greatest = greatest_is ∙ most;
-      within = rw (ops_are, tables_are) m.within;
+      operations = ops ∙ ap (λ (os : List FlatOp). behind_made s outermost.entry locals os body) kept ∙ ap (λ (e : Entry). behind_made s e locals (made tables before) body) entry_is
+          ∙ ap (λ (n : ℕ). made tables before ++ flat s (function_entry locals results (length before) body) (function_entry locals results (length before) body ∷ []) (Some locals) n body) size;
+      height = most_is ∙ height;
+      within = m.within;
     }

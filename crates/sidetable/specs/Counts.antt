@@ -1,9 +1,11 @@
 -- How many operands each instruction takes and gives, which is its type counted (Validation, Instructions).
 use Rattle.sidetable.specs.declared.counts.Counts.{Counts}
-use Rattle.std.specs.Prelude.{ℕ, suc, ◌+◌, ◌-◌, List, length, Option, Some, None, slice_get}
+use Rattle.std.specs.Prelude.{◌≡◌, ℕ, suc, ◌+◌, ◌-◌, List, length, Option, Some, None, slice_get}
 use Rattle.core_types.specs.declared.op.BlockType.{BlockType}
 use Rattle.core_types.specs.declared.op.ControlOp.{ControlOp}
 use Rattle.core_types.specs.declared.op.ControlOp.TheVariants.{Unreachable, Nop, Br, BrIf, Return, Call, CallIndirect, ReturnCall, ReturnCallIndirect}
+use Rattle.core_types.specs.declared.op.Op.{Op}
+use Rattle.core_types.specs.declared.op.Op.TheVariants as op
 use Rattle.core_types.specs.declared.op.ReferenceOp.{ReferenceOp}
 use Rattle.core_types.specs.declared.op.ReferenceOp.TheVariants as reference
 use Rattle.core_types.specs.declared.op.ParametricOp.{ParametricOp}
@@ -104,6 +106,11 @@ counts_of s (Memory op) = Some (memory_counts op)
 counts_of s (Numeric op) = Some (numeric_counts op)
 counts_of s (I32Const n) = Some (counts 0 1)
 counts_of s (I64Const n) = Some (counts 0 1)
+
+-- This is an instruction without a body, which takes and gives so many.
+abbrev pub HasCounts : Signatures → Op → Option Counts → Type 0
+HasCounts s (op.Plain o) found = found ≡ counts_of s o
+HasCounts s o found = ⊥
 
 -- How many parameters and results a block has.
 abbrev pub block_counts : Signatures → BlockType → Counts

@@ -1,6 +1,7 @@
 -- Flattening, from the first operation with its marks to the last.
-use Rattle.std.specs.Prelude.{◌≡◌, ℕ, suc, ◌+◌, ◌<◌, ◌^◌, Bool, List, [], ◌∷◌, ◌++◌, length, max, Option, Some, None}
+use Rattle.std.specs.Prelude.{Vec, ◌≡◌, ℕ, suc, ◌+◌, ◌<◌, ◌^◌, Bool, List, [], ◌∷◌, ◌++◌, length, max, Option, Some, None}
 use Rattle.std.specs.List.{All}
+use Rattle.std.specs.declared.alloc.Global.{Global}
 use Rattle.core_types.specs.declared.op.Op.{Op}
 use Rattle.meaning.specs.structure.Bodies.{Body, Part, Rests, first_part, other_parts, rests}
 use Rattle.sidetable.specs.Counts.{Signatures, height_or_zero}
@@ -13,7 +14,6 @@ use Rattle.sidetable.specs.Shapes.{Closes}
 use Rattle.sidetable.specs.SideTables.{Continues, Grows, SideTables}
 use Rattle.sidetable.specs.declared.flat_module.FlatModule.{FlatModule}
 use Rattle.sidetable.specs.declared.flat_module.PackedFunction.{PackedFunction}
-use Rattle.sidetable.specs.declared.flattening.FlatBody.{FlatBody}
 use Rattle.sidetable.specs.Sizes.{openings_of}
 use Rattle.sidetable.specs.declared.flattening.Flattening.{Flattening}
 use Rattle.sidetable.specs.declared.labels.Label.{Label}
@@ -128,13 +128,17 @@ if_end at here (Some other) = at + 1 + here + 1 + other
 
 -- The operations of a body were put behind others, and this is the greatest height in its function's frame.
 pub record IsMade (s : Signatures) (before : List PackedOp) (tables : SideTables)
-    (locals results : ℕ) (body : Body) (b : FlatBody)
+    (locals results : ℕ) (body : Body) (f : Flattening) (greatest : ℕ)
     : Type 0 where
-  pub operations : made b.tables b.operations.items ≡ made tables before
+  pub operations : made f.tables f.operations.items ≡ made tables before
       ++ flat s (function_entry locals results (length before) body)
       (function_entry locals results (length before) body ∷ []) (Some locals) (length before) body
-  pub greatest : b.greatest ≡ function_greatest s locals results body
-  pub within : All (IsWithin b.tables) b.operations.items
+  pub height : greatest ≡ function_greatest s locals results body
+  pub within : All (IsWithin f.tables) f.operations.items
+
+-- The functions so far, with what was made of their operations.
+abbrev pub module_of : Vec PackedFunction Global → Flattening → FlatModule
+module_of functions f = record { functions = functions; operations = f.operations; tables = f.tables }
 
 -- One function more is there.
 pub record IsPushed (s : Signatures) (old : FlatModule) (f : Func) (new : FlatModule)

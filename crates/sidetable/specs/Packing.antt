@@ -9,6 +9,8 @@ use Rattle.core_types.specs.declared.op.LoadOp.TheVariants as from
 use Rattle.core_types.specs.declared.op.MemoryOp.TheVariants as memory
 use Rattle.core_types.specs.declared.op.NumericOp.{NumericOp}
 use Rattle.core_types.specs.declared.op.NumericOp.TheVariants.{Eqz, Compare, Unary, Binary, Convert}
+use Rattle.core_types.specs.declared.op.Op.{Op}
+use Rattle.core_types.specs.declared.op.Op.TheVariants as op
 use Rattle.core_types.specs.declared.op.ParametricOp.TheVariants as parametric
 use Rattle.core_types.specs.declared.op.PlainOp.{PlainOp}
 use Rattle.core_types.specs.declared.op.PlainOp.TheVariants as plain
@@ -21,7 +23,7 @@ use Rattle.core_types.specs.declared.op.UnaryOp.TheVariants.{Clz, Ctz, Popcnt, E
 use Rattle.core_types.specs.declared.op.VariableOp.TheVariants as variable
 use Rattle.core_types.specs.declared.op.Width.TheVariants.{W32, W64}
 use Rattle.core_types.specs.declared.types.RefType.TheVariants as ref
-use Rattle.sidetable.specs.Flat.{FlatOp, Plain, Enter, If, Jump, Br, BrIf, BrTable, Return, Leave, at_offset}
+use Rattle.sidetable.specs.Flat.{FlatOp, Plain, Enter, If, Jump, Br, BrIf, BrTable, Return, Leave, at_offset, flat_op}
 use Rattle.sidetable.specs.SideTables.{SideTables, branch_range_of, constant_of, entry_of_number, pair_of}
 use Rattle.sidetable.specs.declared.operations.BinaryInstruction.{BinaryInstruction}
 use Rattle.sidetable.specs.declared.operations.BinaryInstruction.TheVariants as binary
@@ -241,6 +243,11 @@ pub record Packs (t : SideTables) (p : PackedOp) (o : FlatOp) : Type 0 where
 -- It stands for this instruction, whatever the side tables are.
 abbrev pub PacksAlone : PackedOp → PlainOp → Type 0
 PacksAlone p op = (t : SideTables) → Packs t p (Plain op)
+
+-- This is an instruction without a body, for which the packed operation stands where these labels are around.
+abbrev pub PacksPlain : SideTables → PackedOp → Entry → List Entry → Op → Type 0
+PacksPlain t p outermost entries (op.Plain o) = Packs t p (flat_op outermost entries o)
+PacksPlain t p outermost entries o = ⊥
 
 -- Packed operations that stand for these.
 abbrev pub made : SideTables → List PackedOp → List FlatOp

@@ -1,19 +1,18 @@
-ghost use Rattle.std.specs.Prelude.{◌<◌, length, IfOk};
+ghost use Rattle.std.specs.Prelude.{◌<◌, length, IfOk, OnOk};
 ghost use Rattle.std.specs.List.{All};
 ghost use Rattle.core_types.specs.declared.module.Func.{Func as AnyFunc};
 ghost use Rattle.sidetable.specs.FlatModules.{AreWithin, HasBody, IsFlatModule};
-ghost use Rattle.sidetable.specs.Flattening.{ArePushed, IsPushed};
+ghost use Rattle.sidetable.specs.Flattening.{ArePushed, IsPushed, module_of};
 ghost use Rattle.sidetable.specs.Signatures.{signatures_of};
 
 use crate::counts::ModuleTypes;
-use crate::flattening::{FlatBody, Room, flatten_body};
+use crate::flattening::{Flattening, flatten_body};
 use crate::module_types::indices_of_types;
 use crate::operations::PackedOp;
 use crate::side_tables::{SideTables, number};
-use crate::sizes::sum;
-use core_types::Func;
+use crate::sizes::{PartSize, sum};
+use core_types::{Func, Stack};
 use std::alloc::{AllocError, Global};
-use std::mem;
 use validator::ValidModule;
 
 /// A function of a module: the place of its first operation, how many parameters, locals with these, and results it has, and the
@@ -40,45 +39,25 @@ pub struct FlatModule {
 fn flatten_function(
     alloc: Global,
     s: &ModuleTypes<'_>,
-    flat: FlatModule,
-    room: &mut Room,
+    functions: &mut Vec<PackedFunction>,
+    f: &mut Flattening,
+    around: &mut Stack<PartSize>,
     func: &Func,
-) -> Result<FlatModule, AllocError>
+) -> Result<(), AllocError>
     requires body { HasBody func.now }
     requires ty { func.now.ty < length s.now.types.now }
-    requires within { AreWithin flat }
-    ensures { IfOk result (λ m. IsPushed (signatures_of s.now) flat func.now m) }
+    requires within { AreWithin (module_of functions.old f.old) }
+    ensures { OnOk result (IsPushed (signatures_of s.now) (module_of functions.old f.old) func.now
+        (module_of functions.new f.new)) }
 {
     let ty = &s.types[func.ty as usize];
     let params = number(ty.params.len())?;
     let results = number(ty.results.len())?;
     let locals = number(sum(ty.params.len(), func.locals.len() as usize)?)?;
-    let FlatModule {
-        functions,
-        operations,
-        tables,
-    } = flat;
-    let mut functions = functions;
-    let place = number(operations.len())?;
-    let made = flatten_body(
-        s,
-        operations,
-        tables,
-        mem::replace(room, Room::new(alloc)),
-        locals,
-        results,
-        &func.body,
-    )?;
-    let FlatBody {
-        operations,
-        tables,
-        greatest,
-        room: kept,
-    } = made;
-    *room = kept;
-    let mut operations = operations;
-    operations.push(PackedOp::Leave(results))?;
-    number(operations.len())?;
+    let place = number(f.operations.len())?;
+    let greatest = flatten_body(alloc, s, f, around, locals, results, &func.body)?;
+    f.operations.push(PackedOp::Leave(results))?;
+    number(f.operations.len())?;
     functions.push(PackedFunction {
         place,
         params,
@@ -86,11 +65,7 @@ fn flatten_function(
         results,
         greatest,
     })?;
-    Ok(FlatModule {
-        functions,
-        operations,
-        tables,
-    })
+    Ok(())
 }
 
 // Flattens functions, which have bodies and whose types there are.
@@ -103,16 +78,17 @@ fn flatten_functions(
     requires types { All (λ (f : AnyFunc). f.ty < length s.now.types.now) funcs.now }
     ensures { IfOk result (λ m. ArePushed (signatures_of s.now) funcs.now m) }
 {
-    let mut flat = FlatModule {
-        functions: Vec::new(alloc),
-        operations: Vec::new(alloc),
-        tables: SideTables::new(alloc),
-    };
-    let mut room = Room::new(alloc);
+    let mut functions = Vec::new(alloc);
+    let mut f = Flattening::new(alloc);
+    let mut around = Stack::new(alloc);
     for index in 0..funcs.len() {
-        flat = flatten_function(alloc, s, flat, &mut room, &funcs[index])?;
+        flatten_function(alloc, s, &mut functions, &mut f, &mut around, &funcs[index])?;
     }
-    Ok(flat)
+    Ok(FlatModule {
+        functions,
+        operations: f.operations,
+        tables: f.tables,
+    })
 }
 
 /// Flattens a valid module: each function's operations, in their order and without marks, with what a branch, a return, an `if` and

@@ -1,6 +1,6 @@
 ghost use Rattle.std.specs.Prelude.{◌≡◌, ◌≢◌, ◌<◌, ◌≤◌, ◌+◌, ◌∷◌, [], List, drop, length, IfOk, OnOk};
 ghost use Rattle.std.specs.List.{All};
-ghost use Rattle.core_types.specs.Expressions.{lent_op};
+ghost use Rattle.core_types.specs.Expressions.{mark_op};
 ghost use Rattle.core_types.specs.declared.op.Op.TheVariants.{Block, Else, End, If, Loop, Plain};
 ghost use Rattle.core_types.specs.declared.op.PlainOp.{PlainOp as PlainInstruction};
 ghost use Rattle.meaning.specs.structure.Bodies.{Body, writing};
@@ -19,20 +19,38 @@ use crate::operand_heights::{Heights, base, changed, heights_behind, known, less
 use crate::operations::{Entry, PackedOp, TransferInstruction};
 use crate::side_tables::{SideTables, number};
 use crate::sizes::{PartSize, clear, measure, sum};
-use core_types::{BlockType, Expression, LentOp, OpWith, Stack, is_mark};
+use core_types::{BlockType, Expression, Mark, Stack, mark_of};
 use meaning::writing_is_read;
 use std::alloc::{AllocError, Global};
+use std::mem;
 
-// What was made of the operations so far: the side tables and the operations, the bodies that are open, the sizes of what lies
-// behind the marks to come, the height here, and the greatest height so far.
+/// What was made of the operations so far: the side tables and the operations, those of the functions before among them; the bodies
+/// that are open, the sizes of what lies behind the marks to come, the height here, and the greatest height so far. The stacks keep
+/// their room for the next function.
 #[derive(Drop)]
-struct Flattening {
-    tables: SideTables,
-    operations: Vec<PackedOp>,
+pub struct Flattening {
+    pub tables: SideTables,
+    pub operations: Vec<PackedOp>,
     levels: Stack<Level>,
     openings: Stack<PartSize>,
     height: Option<u64>,
     greatest: u64,
+}
+
+impl Flattening {
+    /// Nothing made. Takes no memory.
+    pub fn new(alloc: Global) -> Flattening
+        ensures { result.operations.items ≡ [] }
+    {
+        Flattening {
+            tables: SideTables::new(alloc),
+            operations: Vec::new(alloc),
+            levels: Stack::new(alloc),
+            openings: Stack::new(alloc),
+            height: None,
+            greatest: 0,
+        }
+    }
 }
 
 // ---- operations
@@ -236,19 +254,17 @@ fn step_mark(
     s: &ModuleTypes<'_>,
     outermost: Label,
     f: &mut Flattening,
-    op: LentOp<'_>,
+    mark: Mark,
 ) -> Result<(), AllocError>
-    requires mark { (plain : PlainInstruction) → lent_op op ≢ Plain plain }
-    requires can { CanMake (signatures_of s.now) outermost f.old (lent_op op) }
-    ensures { OnOk result (Passes (signatures_of s.now) outermost f.old (lent_op op.entry) f.new) }
+    requires { CanMake (signatures_of s.now) outermost f.old (mark_op mark) }
+    ensures { OnOk result (Passes (signatures_of s.now) outermost f.old (mark_op mark) f.new) }
 {
-    match op {
-        OpWith::Block(ty) => step_block(s, outermost, f, ty)?,
-        OpWith::Loop(ty) => step_loop(s, outermost, f, ty)?,
-        OpWith::If(ty) => step_if(s, outermost, f, ty)?,
-        OpWith::Else => step_else(s, outermost, f)?,
-        OpWith::End => step_end(s, outermost, f),
-        _ => unreachable!(),
+    match mark {
+        Mark::Block(ty) => step_block(s, outermost, f, ty)?,
+        Mark::Loop(ty) => step_loop(s, outermost, f, ty)?,
+        Mark::If(ty) => step_if(s, outermost, f, ty)?,
+        Mark::Else => step_else(s, outermost, f)?,
+        Mark::End => step_end(s, outermost, f),
     }
     Ok(())
 }
@@ -270,7 +286,10 @@ fn pass_mark(
     ensures { OnOk result (PassesTo (signatures_of s.now) outermost f.old
         (drop position code.now) (drop (position + 1) code.now) f.new) }
 {
-    step_mark(s, outermost, f, code.get(position))
+    let Some(mark) = mark_of(code.get(position)) else {
+        unreachable!()
+    };
+    step_mark(s, outermost, f, mark)
 }
 
 // Passes the instructions without a body that lie in a row from a position on; answers the position behind them.
@@ -294,8 +313,11 @@ fn pass_row(
         greatest: f.greatest,
     };
     let mut index = start;
-    while index < code.len() && !is_mark(code.get(index)) {
-        let packed = pack(s, &mut f.tables, outermost, &f.levels, code.get(index))?;
+    while index < code.len() {
+        let found = pack(s, &mut f.tables, outermost, &f.levels, code.get(index))?;
+        let Some(packed) = found else {
+            break;
+        };
         heights = heights_behind(packed.counts, heights)?;
         f.operations.push(packed.op)?;
         index += 1;
@@ -327,89 +349,40 @@ fn run(
     Ok(())
 }
 
-/// The stacks that flattening a function takes, whose room is kept for the next one.
-#[derive(Drop)]
-pub struct Room {
-    levels: Stack<Level>,
-    around: Stack<PartSize>,
-    openings: Stack<PartSize>,
-}
-
-impl Room {
-    /// No room. Takes no memory.
-    pub fn new(alloc: Global) -> Room
-        ensures { (result.levels ≡ []) × (result.around ≡ []) × (result.openings ≡ []) }
-    {
-        Room {
-            levels: Stack::new(alloc),
-            around: Stack::new(alloc),
-            openings: Stack::new(alloc),
-        }
-    }
-}
-
-/// What was made of a function's body, too: all operations so far, the side tables with what they name, and the greatest height in the
-/// function's frame; and the room that it took.
-#[derive(Drop)]
-pub struct FlatBody {
-    pub operations: Vec<PackedOp>,
-    pub tables: SideTables,
-    pub greatest: u64,
-    pub room: Room,
-}
-
-/// Flattens a body, whose operations are put behind others. Its function has so many locals, with its parameters, and results.
+/// Flattens a body, whose operations are put behind others, with the room of the stack around; answers the greatest height in the
+/// function's frame. Its function has so many locals, with its parameters, and results.
 pub fn flatten_body(
+    alloc: Global,
     s: &ModuleTypes<'_>,
-    operations: Vec<PackedOp>,
-    tables: SideTables,
-    room: Room,
+    f: &mut Flattening,
+    around: &mut Stack<PartSize>,
     locals: u32,
     results: u32,
     code: &Expression,
-) -> Result<FlatBody, AllocError>
+) -> Result<u64, AllocError>
     requires written { (body : Body) × (code.now ≡ writing body) }
-    requires within { All (IsWithin tables) operations.items }
-    ensures { IfOk result (λ b. (body : Body) → code.now ≡ writing body
-        → IsMade (signatures_of s.now) operations.items tables locals results body b) }
+    requires within { All (IsWithin f.old.tables) f.old.operations.items }
+    ensures { IfOk result (λ greatest. (body : Body) → code.now ≡ writing body
+        → IsMade (signatures_of s.now) f.old.operations.items f.old.tables locals results body
+        f.new greatest) }
 {
     writing_is_read();
-    let Room {
-        levels,
-        around,
-        openings,
-    } = room;
-    let mut levels = levels;
-    clear(&mut levels);
-    let measured = measure(around, openings, code)?;
-    let mut tables = tables;
-    let end = sum(operations.len(), measured.size)?;
+    let openings = mem::replace(&mut f.openings, Stack::new(alloc));
+    let measured = measure(mem::replace(around, Stack::new(alloc)), openings, code)?;
+    *around = measured.around;
+    f.openings = measured.openings;
+    clear(&mut f.levels);
+    let end = sum(f.operations.len(), measured.size)?;
     let outermost = push_label(
-        &mut tables,
+        &mut f.tables,
         Entry {
             target: number(end)?,
             kept: results,
             height: locals as u64,
         },
     )?;
-    let mut f = Flattening {
-        tables,
-        operations,
-        levels,
-        openings: measured.openings,
-        height: Some(locals as u64),
-        greatest: locals as u64 + results as u64,
-    };
-    run(s, outermost, &mut f, code)?;
-    let greatest = f.greatest.max(known(f.height));
-    Ok(FlatBody {
-        operations: f.operations,
-        tables: f.tables,
-        greatest,
-        room: Room {
-            levels: f.levels,
-            around: measured.around,
-            openings: f.openings,
-        },
-    })
+    f.height = Some(locals as u64);
+    f.greatest = locals as u64 + results as u64;
+    run(s, outermost, f, code)?;
+    Ok(f.greatest.max(known(f.height)))
 }

@@ -27,16 +27,6 @@ pub fn changed(c: Counts, height: Option<u64>) -> Result<Option<u64>, AllocError
     }
 }
 
-// The height behind an instruction.
-fn behind(c: Option<Counts>, height: Option<u64>) -> Result<Option<u64>, AllocError>
-    ensures { IfOk result (λ h. h ≡ behind_counts c height) }
-{
-    match c {
-        Some(c) => changed(c, height),
-        None => Ok(None),
-    }
-}
-
 /// The height, and the greatest so far.
 #[derive(Clone, Copy)]
 pub struct Heights {
@@ -51,10 +41,15 @@ pub fn heights_behind(c: Option<Counts>, before: Heights) -> Result<Heights, All
     ensures greatest { IfOk result
         (λ h. h.greatest ≡ max before.greatest (known_or_zero before.here)) }
 {
-    Ok(Heights {
-        here: behind(c, before.here)?,
-        greatest: before.greatest.max(known(before.here)),
-    })
+    let Some(height) = before.here else {
+        return Ok(before);
+    };
+    let greatest = before.greatest.max(height);
+    let here = match c {
+        Some(c) => changed(c, before.here)?,
+        None => None,
+    };
+    Ok(Heights { here, greatest })
 }
 
 /// The height, or 0 where nothing arrives.

@@ -199,7 +199,7 @@ pub fn numeric(op: NumericOp) -> PackedOp
 }
 
 // A load from an offset.
-fn load(op: LoadOp, offset: u32) -> PackedOp
+pub fn load(op: LoadOp, offset: u32) -> PackedOp
     ensures { PacksAlone result (plain.Memory (Load op (at_offset offset))) }
 {
     match op {
@@ -243,7 +243,7 @@ fn load(op: LoadOp, offset: u32) -> PackedOp
 }
 
 // A store at an offset.
-fn store(op: StoreOp, offset: u32) -> PackedOp
+pub fn store(op: StoreOp, offset: u32) -> PackedOp
     ensures { PacksAlone result (plain.Memory (Store op (at_offset offset))) }
 {
     match op {

@@ -1,5 +1,5 @@
 ghost use Rattle.std.specs.Prelude.{◌≡◌, ◌≢◌, ◌+◌, ◌≤◌, List, [], drop, length, map, IfOk, OnOk};
-ghost use Rattle.core_types.specs.Expressions.{lent_op};
+ghost use Rattle.core_types.specs.Expressions.{mark_op};
 ghost use Rattle.core_types.specs.declared.op.BlockType.{BlockType as AnyType};
 ghost use Rattle.core_types.specs.declared.op.PlainOp.{PlainOp};
 ghost use Rattle.core_types.specs.declared.op.Op.TheVariants.{Block, Else, End, If, Loop, Plain};
@@ -7,7 +7,7 @@ ghost use Rattle.meaning.specs.structure.Bodies.{Part, body_of, first_part, othe
 ghost use Rattle.sidetable.specs.Flat.{size};
 ghost use Rattle.sidetable.specs.Sizes.{IsMarkBefore, Measures, MeasuresOn, behind_first, openings_of, size_of};
 
-use core_types::{Expression, LentOp, OpWith, Stack, is_mark};
+use core_types::{Expression, Mark, Stack, is_mark, mark_of};
 use std::alloc::AllocError;
 
 /// How many operations are left of a body, and of the other body behind it, if there is one.
@@ -134,6 +134,7 @@ fn measure_end(sizes: &mut Sizes) -> Result<(), AllocError>
 }
 
 // Measures the instructions without a body that lie in a row before a position; answers the position of the first of them.
+#[inline(always)]
 fn measure_row(sizes: &mut Sizes, code: &Expression, end: usize) -> Result<usize, AllocError>
     requires { end ≤ length code.now }
     ensures within { IfOk result (λ start. start ≤ end) }
@@ -151,16 +152,14 @@ fn measure_row(sizes: &mut Sizes, code: &Expression, end: usize) -> Result<usize
 }
 
 // One mark more.
-fn measure_mark(sizes: &mut Sizes, op: LentOp<'_>) -> Result<(), AllocError>
-    requires { (plain : PlainOp) → lent_op op ≢ Plain plain }
-    ensures { OnOk result (MeasuresOn (lent_op op.entry) sizes.old sizes.new) }
+fn measure_mark(sizes: &mut Sizes, mark: Mark) -> Result<(), AllocError>
+    ensures { OnOk result (MeasuresOn (mark_op mark) sizes.old sizes.new) }
 {
-    match op {
-        OpWith::Block(_) | OpWith::Loop(_) => measure_block(sizes)?,
-        OpWith::If(_) => measure_if(sizes)?,
-        OpWith::Else => measure_else(sizes)?,
-        OpWith::End => measure_end(sizes)?,
-        _ => unreachable!(),
+    match mark {
+        Mark::Block(_) | Mark::Loop(_) => measure_block(sizes)?,
+        Mark::If(_) => measure_if(sizes)?,
+        Mark::Else => measure_else(sizes)?,
+        Mark::End => measure_end(sizes)?,
     }
     Ok(())
 }
@@ -188,7 +187,10 @@ pub fn measure(
     let mut position = measure_row(&mut sizes, code, code.len())?;
     while position > 0 {
         position -= 1;
-        measure_mark(&mut sizes, code.get(position))?;
+        let Some(mark) = mark_of(code.get(position)) else {
+            unreachable!()
+        };
+        measure_mark(&mut sizes, mark)?;
         position = measure_row(&mut sizes, code, position)?;
     }
     Ok(MeasuredCode {

@@ -2,19 +2,7 @@
 use Rattle.std.proofs.Common.{◌≡◌, ℕ, zero, suc, ◌+◌, ◌<◌, Bool, List, [], ◌∷◌, ◌++◌, length, get_or, drop, replicate, refl, sym, ap, ◌∙◌, inl, inr, arith}
 use Rattle.std.proofs.lemmas.List.{drop_more}
 use Rattle.std.specs.Prelude.{true, false, ◌⊎◌, Some, slice_get, slice_set}
-use denote.Ref.{Bor}
-use Rattle.core_types.specs.Expressions.{lent_op}
-use Rattle.core_types.specs.declared.expression.OpWith.{OpWith}
-use Rattle.core_types.specs.declared.expression.OpWith.TheVariants as stored
-use Rattle.core_types.specs.declared.op.BranchTable.{BranchTable}
-use Rattle.core_types.specs.declared.op.Op.{Op}
-use Rattle.core_types.specs.declared.op.Op.TheVariants as flat
-use Rattle.core_types.specs.declared.op.PlainOp.TheVariants as plain
-use Rattle.core_types.specs.declared.op.ReferenceOp.{ReferenceOp}
-use Rattle.core_types.specs.declared.op.ReferenceOp.TheVariants as reference_op
-use Rattle.core_types.specs.declared.types.ValType.{ValType}
 use Rattle.meaning.specs.validation.Instructions.{IsNamed}
-use Rattle.meaning.specs.validation.Modules.{named_by}
 use Rattle.validator.specs.References.{set_marks}
 
 pub marked_append : (marks : List Bool) (xs ys : List ℕ) → set_marks marks (xs ++ ys) ≡ set_marks (set_marks marks xs) ys
@@ -79,28 +67,3 @@ none_set (suc n) (suc x) h = none_set n x h
 
 pub named_if_marked : (n : ℕ) (xs : List ℕ) (x : ℕ) → slice_get (set_marks (replicate n false) xs) x ≡ Some true → IsNamed x xs
 named_if_marked n xs x h = elim (marked_only (replicate n false) xs x h) [ inl before ↦ absurd (none_set n x before) | inr named ↦ named ]
-
--- What is no instruction on references names no function.
-pub others_name_none : (o : OpWith (Bor BranchTable) (Bor (List ValType))) → ((r : ReferenceOp) → o ≡ stored.Reference r → ⊥) → (ops : List Op) → named_by (lent_op o ∷ ops) ≡ named_by ops
-others_name_none (stored.Control o) other ops = refl
-others_name_none (stored.BrTable t) other ops = refl
-others_name_none (stored.Reference r) other ops = absurd (other r refl)
-others_name_none (stored.Parametric o) other ops = refl
-others_name_none (stored.SelectTyped t) other ops = refl
-others_name_none (stored.Variable o) other ops = refl
-others_name_none (stored.Table o) other ops = refl
-others_name_none (stored.Memory o) other ops = refl
-others_name_none (stored.Numeric o) other ops = refl
-others_name_none (stored.I32Const n) other ops = refl
-others_name_none (stored.I64Const n) other ops = refl
-others_name_none (stored.Block t) other ops = refl
-others_name_none (stored.Loop t) other ops = refl
-others_name_none (stored.If t) other ops = refl
-others_name_none stored.Else other ops = refl
-others_name_none stored.End other ops = refl
-
--- Nor does one that is no reference to a function.
-pub nulls_name_none : (r : ReferenceOp) → ((x : ℕ) → r ≡ reference_op.Func x → ⊥) → (ops : List Op) → named_by (flat.Plain (plain.Reference r) ∷ ops) ≡ named_by ops
-nulls_name_none (reference_op.Null t) other ops = refl
-nulls_name_none reference_op.IsNull other ops = refl
-nulls_name_none (reference_op.Func x) other ops = absurd (other x refl)

@@ -7,8 +7,8 @@ ghost use Rattle.validator.specs.Constants.{GivesConstant, GivesGlobal, GivesRef
 
 use crate::types::{integer_type, reference_type};
 use core_types::{
-    BinaryOp, Expression, GlobalType, LentOp, Mutability, NumericOp, OpWith, ReferenceOp, ValType,
-    VariableOp, is_mark,
+    BinaryOp, Expression, GlobalType, LentOp, Mutability, NumericOp, PlainOp, ReferenceOp, ValType,
+    VariableOp, is_mark, plain_op,
 };
 
 /// What a constant expression is typed in (Validation, Constant Expressions).
@@ -56,11 +56,11 @@ fn constant_type(context: &ConstantContext<'_>, op: LentOp<'_>) -> Option<ValTyp
     ensures { (plain : Plain) → lent_op op.entry ≡ flat.Plain plain → (t : Value)
         → (result ≡ Some t) ↔ GivesConstant context.now plain t }
 {
-    match op {
-        OpWith::I32Const(_) => Some(ValType::I32),
-        OpWith::I64Const(_) => Some(ValType::I64),
-        OpWith::Reference(op) => reference_constant(context, op),
-        OpWith::Variable(op) => global_constant(context, op),
+    match plain_op(op)? {
+        PlainOp::I32Const(_) => Some(ValType::I32),
+        PlainOp::I64Const(_) => Some(ValType::I64),
+        PlainOp::Reference(op) => reference_constant(context, op),
+        PlainOp::Variable(op) => global_constant(context, op),
         _ => None,
     }
 }
@@ -78,9 +78,12 @@ fn is_constant_of(context: &ConstantContext<'_>, op: LentOp<'_>, wanted: ValType
 fn is_operator(op: LentOp<'_>, wanted: ValType) -> bool
     ensures { (plain : Plain) → lent_op op.entry ≡ flat.Plain plain → IsTrue result ↔ Operates plain wanted }
 {
-    match op {
-        OpWith::Numeric(NumericOp::Binary(width, BinaryOp::Add | BinaryOp::Sub | BinaryOp::Mul)) =>
-            { integer_type(width) == wanted }
+    match plain_op(op) {
+        Some(
+            PlainOp::Numeric(
+                NumericOp::Binary(width, BinaryOp::Add | BinaryOp::Sub | BinaryOp::Mul),
+            ),
+        ) => integer_type(width) == wanted,
         _ => false,
     }
 }

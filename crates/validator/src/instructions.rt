@@ -23,15 +23,18 @@ use crate::errors::Fault;
 use crate::instructions::control::blocks::{step_begin, step_else, step_end};
 use crate::instructions::control::branches::step_br_table;
 use crate::instructions::control::step_control;
-use crate::instructions::memory::step_memory;
+use crate::instructions::memory::{step_load, step_memory, step_store};
 use crate::instructions::numeric::{step_i32_const, step_i64_const, step_numeric};
-use crate::instructions::parametric::{step_drop, step_select, step_typed_select};
+use crate::instructions::parametric::{step_parametric, step_typed_select};
 use crate::instructions::reference::step_reference;
 use crate::instructions::table::step_table;
 use crate::instructions::variable::step_variable;
 use crate::operands::{pop_fitting, pop_one, pop_two, pop_types, push_types};
 use crate::types::InstructionType;
-use core_types::{Expression, OpWith, OperandType, ParametricOp, ValType};
+use core_types::{
+    ControlOp, Expression, LoadOp, Mark, MemoryOp, Op, OpWith, OperandType, PlainOp, ReferenceOp,
+    StoreOp, ValType, VariableOp, mark_of,
+};
 use std::alloc::Global;
 
 // Pops an i32, and then operands that fit the types under it.
@@ -110,6 +113,36 @@ pub fn apply_some(stacks: &mut Stacks<'_>, found: &Option<InstructionType<'_>>) 
     }
 }
 
+// Steps over an operation that takes more than eight bytes, or over any other.
+#[inline(never)]
+fn step_other<'a>(
+    alloc: Global,
+    context: &BodyContext<'a>,
+    stacks: &mut Stacks<'a>,
+    op: &Op,
+) -> Result<(), Fault>
+    ensures { Steps context.now stacks.old stacks.new op.now result }
+{
+    match op {
+        Op::Plain(PlainOp::Control(op)) => step_control(context, stacks, *op),
+        Op::Plain(PlainOp::BrTable(table)) => step_br_table(alloc, stacks, table.get()),
+        Op::Plain(PlainOp::Reference(op)) => step_reference(context, stacks, *op),
+        Op::Plain(PlainOp::Parametric(op)) => step_parametric(stacks, *op),
+        Op::Plain(PlainOp::SelectTyped(types)) => step_typed_select(stacks, types.get()),
+        Op::Plain(PlainOp::Variable(op)) => step_variable(context, stacks, *op),
+        Op::Plain(PlainOp::Table(op)) => step_table(context, stacks, *op),
+        Op::Plain(PlainOp::Memory(op)) => step_memory(context, stacks, *op),
+        Op::Plain(PlainOp::Numeric(op)) => step_numeric(stacks, *op),
+        Op::Plain(PlainOp::I32Const(value)) => step_i32_const(stacks, *value),
+        Op::Plain(PlainOp::I64Const(value)) => step_i64_const(stacks, *value),
+        Op::Block(block) => step_begin(context, stacks, FrameKind::Block, *block),
+        Op::Loop(block) => step_begin(context, stacks, FrameKind::Loop, *block),
+        Op::If(block) => step_begin(context, stacks, FrameKind::If, *block),
+        Op::Else => step_else(stacks),
+        Op::End => step_end(stacks),
+    }
+}
+
 // Steps over a mark, at which a body begins or ends.
 #[inline(never)]
 fn step_mark<'a>(
@@ -123,17 +156,18 @@ fn step_mark<'a>(
     ensures { (op : Operation) → slice_get ops.now index ≡ Some op
         → Steps context.now stacks.old stacks.new op result }
 {
-    match ops.get(index) {
-        OpWith::Block(block) => step_begin(context, stacks, FrameKind::Block, block),
-        OpWith::Loop(block) => step_begin(context, stacks, FrameKind::Loop, block),
-        OpWith::If(block) => step_begin(context, stacks, FrameKind::If, block),
-        OpWith::Else => step_else(stacks),
-        OpWith::End => step_end(stacks),
-        _ => unreachable!(),
+    match mark_of(ops.get(index)) {
+        Some(Mark::Block(ty)) => step_begin(context, stacks, FrameKind::Block, ty),
+        Some(Mark::Loop(ty)) => step_begin(context, stacks, FrameKind::Loop, ty),
+        Some(Mark::If(ty)) => step_begin(context, stacks, FrameKind::If, ty),
+        Some(Mark::Else) => step_else(stacks),
+        Some(Mark::End) => step_end(stacks),
+        None => unreachable!(),
     }
 }
 
-// Steps over the operation at an index. Marks are apart, as the loop over a body keeps nothing in memory without them.
+// Steps over the operation at an index. Marks and rare operations are apart, as the loop over a body keeps nothing in memory without
+// them.
 #[inline(always)]
 pub fn step<'a>(
     alloc: Global,
@@ -147,20 +181,55 @@ pub fn step<'a>(
         → Steps context.now stacks.old stacks.new op result }
 {
     match ops.get(index) {
-        OpWith::Control(op) => step_control(context, stacks, op),
-        OpWith::BrTable(table) => step_br_table(alloc, stacks, table),
-        OpWith::Reference(op) => step_reference(context, stacks, op),
-        OpWith::Parametric(ParametricOp::DropOperand) => step_drop(stacks),
-        OpWith::Parametric(ParametricOp::Select) => step_select(stacks),
-        OpWith::SelectTyped(types) => step_typed_select(stacks, types),
-        OpWith::Variable(op) => step_variable(context, stacks, op),
-        OpWith::Table(op) => step_table(context, stacks, op),
-        OpWith::Memory(op) => step_memory(context, stacks, op),
+        OpWith::Unreachable => step_control(context, stacks, ControlOp::Unreachable),
+        OpWith::Nop => step_control(context, stacks, ControlOp::Nop),
+        OpWith::Br(label) => step_control(context, stacks, ControlOp::Br(label)),
+        OpWith::BrIf(label) => step_control(context, stacks, ControlOp::BrIf(label)),
+        OpWith::Return => step_control(context, stacks, ControlOp::Return),
+        OpWith::Call(function) => step_control(context, stacks, ControlOp::Call(function)),
+        OpWith::RefNull(ty) => step_reference(context, stacks, ReferenceOp::Null(ty)),
+        OpWith::RefIsNull => step_reference(context, stacks, ReferenceOp::IsNull),
+        OpWith::RefFunc(function) => step_reference(context, stacks, ReferenceOp::Func(function)),
+        OpWith::Parametric(op) => step_parametric(stacks, op),
+        OpWith::LocalGet(index) => step_variable(context, stacks, VariableOp::LocalGet(index)),
+        OpWith::LocalSet(index) => step_variable(context, stacks, VariableOp::LocalSet(index)),
+        OpWith::LocalTee(index) => step_variable(context, stacks, VariableOp::LocalTee(index)),
+        OpWith::GlobalGet(index) => step_variable(context, stacks, VariableOp::GlobalGet(index)),
+        OpWith::GlobalSet(index) => step_variable(context, stacks, VariableOp::GlobalSet(index)),
+        OpWith::Load(width, align, offset) => {
+            step_load(context, stacks, LoadOp::Whole(width), align, offset)
+        }
+        OpWith::Load8(width, sign, align, offset) => {
+            step_load(context, stacks, LoadOp::Bits8(width, sign), align, offset)
+        }
+        OpWith::Load16(width, sign, align, offset) => {
+            step_load(context, stacks, LoadOp::Bits16(width, sign), align, offset)
+        }
+        OpWith::Load32(sign, align, offset) => {
+            step_load(context, stacks, LoadOp::Bits32(sign), align, offset)
+        }
+        OpWith::Store(width, align, offset) => {
+            step_store(context, stacks, StoreOp::Whole(width), align, offset)
+        }
+        OpWith::Store8(width, align, offset) => {
+            step_store(context, stacks, StoreOp::Bits8(width), align, offset)
+        }
+        OpWith::Store16(width, align, offset) => {
+            step_store(context, stacks, StoreOp::Bits16(width), align, offset)
+        }
+        OpWith::Store32(align, offset) => {
+            step_store(context, stacks, StoreOp::Bits32, align, offset)
+        }
+        OpWith::MemorySize => step_memory(context, stacks, MemoryOp::Size),
+        OpWith::MemoryGrow => step_memory(context, stacks, MemoryOp::Grow),
+        OpWith::MemoryFill => step_memory(context, stacks, MemoryOp::Fill),
+        OpWith::MemoryCopy => step_memory(context, stacks, MemoryOp::Copy),
         OpWith::Numeric(op) => step_numeric(stacks, op),
         OpWith::I32Const(value) => step_i32_const(stacks, value),
-        OpWith::I64Const(value) => step_i64_const(stacks, value),
+        OpWith::I64Const(value) => step_i64_const(stacks, u64::from(value)),
         OpWith::Block(_) | OpWith::Loop(_) | OpWith::If(_) | OpWith::Else | OpWith::End => {
             step_mark(context, stacks, ops, index)
         }
+        OpWith::Other(op) => step_other(alloc, context, stacks, op),
     }
 }

@@ -1,11 +1,10 @@
 -- Reading an expression, as a loop does.
 use Rattle.std.proofs.Common.{List, [], ap, arith, length, refl, suc, sym, zero, ℕ, ◌++◌, ◌<◌, ◌∙◌, ◌∷◌, ◌≡◌, ◌≤◌}
 use Rattle.std.specs.Prelude.{None, Ok, Option, Result, Some}
-use Rattle.std.proofs.lemmas.List.{nil_from_length}
 use Rattle.core_types.specs.declared.op.Op.{Op}
 use Rattle.binary.specs.Errors.{OnRefused}
 use Rattle.binary.specs.Conventions.{OnRead}
-use Rattle.binary.specs.Expressions.{ReadsNext, after_next, expression_at, next_bodies, ops_at}
+use Rattle.binary.specs.Expressions.{IsReadingExpression, ReadsNext, after_next, expression_at, next_bodies, ops_at}
 use Rattle.binary.specs.Instructions.{op_at, operation_at}
 use Rattle.binary.specs.Values.{byte_at}
 use Rattle.binary.specs.declared.errors.DecodeError.{DecodeError}
@@ -13,12 +12,6 @@ use Rattle.binary.specs.declared.expressions.Next.{Next}
 use Rattle.binary.specs.declared.expressions.Next.TheVariants.{Ended, Misplaced, Onward}
 use Rattle.binary.specs.declared.expressions.OpenBody.{OpenBody}
 use Rattle.binary.proofs.Refusals.{OnRefused-map}
-
--- An expression is being read: the remaining steps suffice, and go on to the whole of it.
-pub record IsReadingExpression (whole rest : List ℕ) (open_bodies : List OpenBody) (ops : List Op) : Type 0 where
-  pub steps : ℕ
-  pub enough : length rest ≤ steps
-  pub so_far : ops_at steps open_bodies ops rest ≡ expression_at whole
 
 pub expression_begins : (whole : List ℕ) → IsReadingExpression whole whole [] []
 unfolding expression_at
@@ -33,11 +26,6 @@ module _ (result : Result Next DecodeError) (bodies new : List OpenBody) (ops be
   -- What is read behind an opcode is read with it.
   pub reads_behind : ReadsNext result bodies new ops behind after (operation_at code rest) → ReadsNext result bodies new ops behind after (op_at bytes)
   reads_behind reads = rw (chosen bytes rest code is) reads
-
-  -- The same, where nothing was read or put on the others in between.
-  pub reads_later : (left : List ℕ) (others : List Op) → (others ≡ ops) × (left ≡ rest) → ReadsNext result bodies new others behind after (operation_at code left)
-      → ReadsNext result bodies new ops behind after (op_at bytes)
-  reads_later left others (same, there) reads = reads_behind (rw (sym same, sym there) reads)
 
 -- What was read.
 pub record HasRead (bytes after : List ℕ) (next : Next) (bodies new : List OpenBody) (ops behind : List Op) : Type 0 where
@@ -96,6 +84,7 @@ module _ (whole bytes : List ℕ) (open_bodies : List OpenBody) (ops : List Op) 
       OnRefused-map error (op_at bytes ≡ None) (expression_at whole ≡ None)
       (λ none. sym inside.so_far ∙ none_inside inside.steps none) refused
 
-  pub expression_stops : length bytes ≡ 0 → expression_at whole ≡ None
-  unfolding op_at
-  expression_stops empty = sym inside.so_far ∙ none_inside inside.steps (rw (nil_from_length bytes empty) refl)
+-- Where no opcode is read, no operation is.
+pub no_opcode : (bytes : List ℕ) (error : DecodeError) → OnRefused error (byte_at bytes ≡ None) → OnRefused error (op_at bytes ≡ None)
+unfolding op_at
+no_opcode bytes error refused = OnRefused-map error (byte_at bytes ≡ None) (op_at bytes ≡ None) (λ none. rw none refl) refused

@@ -17,12 +17,15 @@ pub fn read_variable(
 ) -> Result<VariableOp, DecodeError>
     ensures { Gives result reader.new (variable_at code reader.old) }
 {
+    if !matches!(code, 0x20..=0x24) {
+        return Err(DecodeError::Unsupported(offset));
+    }
+    let index = reader.u32()?;
     match code {
-        0x20 => Ok(VariableOp::LocalGet(reader.u32()?)),
-        0x21 => Ok(VariableOp::LocalSet(reader.u32()?)),
-        0x22 => Ok(VariableOp::LocalTee(reader.u32()?)),
-        0x23 => Ok(VariableOp::GlobalGet(reader.u32()?)),
-        0x24 => Ok(VariableOp::GlobalSet(reader.u32()?)),
-        _ => Err(DecodeError::Unsupported(offset)),
+        0x20 => Ok(VariableOp::LocalGet(index)),
+        0x21 => Ok(VariableOp::LocalSet(index)),
+        0x22 => Ok(VariableOp::LocalTee(index)),
+        0x23 => Ok(VariableOp::GlobalGet(index)),
+        _ => Ok(VariableOp::GlobalSet(index)),
     }
 }

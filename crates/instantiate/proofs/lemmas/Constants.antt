@@ -3,7 +3,9 @@ use Rattle.std.proofs.Common.{◌≡◌, ℕ, ◌+◌, ◌<◌, ◌≤◌, List,
 use Rattle.std.specs.Prelude.{Option, option_map}
 use Rattle.std.proofs.lemmas.List.{drop_all, drop_more, reverse-append}
 use Rattle.core_types.specs.declared.op.NumericOp.{NumericOp}
+use Rattle.core_types.specs.Expressions.{HasListOrBody}
 use Rattle.core_types.specs.declared.op.Op.{Op}
+use Rattle.core_types.specs.declared.op.Op.TheVariants as flat
 use Rattle.core_types.specs.declared.op.PlainOp.TheVariants.{Control, BrTable, Reference, Parametric, SelectTyped, Variable, Table, Memory, Numeric, I32Const, I64Const}
 use Rattle.core_types.specs.declared.op.PlainOp.{PlainOp}
 use Rattle.core_types.specs.declared.outcome.Val.{Val}
@@ -33,6 +35,25 @@ module _ (store : Store) (i : ModuleInstance) where
 
   pub put-none : (op : PlainOp) (operands : List Val) → ((n : NumericOp) → op ≡ Numeric n → ⊥) → None ≡ constant store i op → constant_step store i op operands ≡ None
   put-none op operands no_operator none = step-put op operands no_operator ∙ ap (λ (o : Option Val). option_map (λ (w : Val). w ∷ operands) o) (sym none)
+
+-- In no instance does a constant expression have a value that begins with an operation with a list or a body.
+pub no_constant : (o : Op) → HasListOrBody o → (store : Store) (i : ModuleInstance) (ops : List Op) (operands : List Val) → constant_operands store i (o ∷ ops) operands ≡ None
+no_constant (flat.Plain (Control o)) has store i ops operands = absurd has
+no_constant (flat.Plain (BrTable t)) has store i ops operands = refl
+no_constant (flat.Plain (Reference o)) has store i ops operands = absurd has
+no_constant (flat.Plain (Parametric o)) has store i ops operands = absurd has
+no_constant (flat.Plain (SelectTyped t)) has store i ops operands = refl
+no_constant (flat.Plain (Variable o)) has store i ops operands = absurd has
+no_constant (flat.Plain (Table o)) has store i ops operands = absurd has
+no_constant (flat.Plain (Memory o)) has store i ops operands = absurd has
+no_constant (flat.Plain (Numeric o)) has store i ops operands = absurd has
+no_constant (flat.Plain (I32Const n)) has store i ops operands = absurd has
+no_constant (flat.Plain (I64Const n)) has store i ops operands = absurd has
+no_constant (flat.Block t) has store i ops operands = refl
+no_constant (flat.Loop t) has store i ops operands = refl
+no_constant (flat.If t) has store i ops operands = refl
+no_constant flat.Else has store i ops operands = refl
+no_constant flat.End has store i ops operands = refl
 
 -- ---- the loop over an expression
 

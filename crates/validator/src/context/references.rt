@@ -6,7 +6,7 @@ ghost use Rattle.validator.specs.References.{marks_of, set_marks};
 
 use core_types::{
     ElementItems, ElementSegment, Export, ExportDesc, Expression, Global as ModuleGlobal, LentOp,
-    Module, OpWith, ReferenceOp,
+    Module, PlainOp, ReferenceOp, plain_op,
 };
 use std::alloc::{AllocError, Global};
 
@@ -34,10 +34,13 @@ fn mark_operation(marks: &mut [bool], op: LentOp<'_>)
     ensures { (ops : List Operation) → set_marks marks.new (named_by ops)
         ≡ set_marks marks.old (named_by (lent_op op.entry ∷ ops)) }
 {
-    let OpWith::Reference(op) = op else {
+    let Some(plain) = plain_op(op) else {
         return;
     };
-    let ReferenceOp::Func(index) = op else {
+    let PlainOp::Reference(reference) = plain else {
+        return;
+    };
+    let ReferenceOp::Func(index) = reference else {
         return;
     };
     mark_function(marks, index);

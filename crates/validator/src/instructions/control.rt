@@ -18,6 +18,7 @@ use crate::types::takes_gives;
 use core_types::ControlOp;
 
 // A control instruction.
+#[inline(always)]
 pub fn step_control(
     context: &BodyContext<'_>,
     stacks: &mut Stacks<'_>,

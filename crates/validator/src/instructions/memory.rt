@@ -1,4 +1,5 @@
 ghost use Rattle.std.specs.Prelude.{IsTrue, ◌^◌, ◌↔◌, ◌≡◌, ◌≤◌};
+ghost use Rattle.core_types.specs.Expressions.{load_at, store_at};
 ghost use Rattle.core_types.specs.declared.op.MemoryOp.TheVariants as memory_op;
 ghost use Rattle.core_types.specs.declared.op.Op.TheVariants as flat;
 ghost use Rattle.core_types.specs.declared.op.PlainOp.TheVariants as plain;
@@ -114,6 +115,7 @@ fn type_of_memory_init(context: &BodyContext<'_>, segment: u32) -> Option<Instru
 }
 
 // The type of an instruction on the memory or a data segment.
+#[inline(always)]
 fn type_of_memory(context: &BodyContext<'_>, op: MemoryOp) -> Option<InstructionType<'static>>
     ensures { HasTypeOf context.now (plain.Memory op) result }
 {
@@ -138,6 +140,7 @@ fn type_of_memory(context: &BodyContext<'_>, op: MemoryOp) -> Option<Instruction
 }
 
 // An instruction on the memory or a data segment.
+#[inline(always)]
 pub fn step_memory(
     context: &BodyContext<'_>,
     stacks: &mut Stacks<'_>,
@@ -146,4 +149,40 @@ pub fn step_memory(
     ensures { Steps context.now stacks.old stacks.new (flat.Plain (plain.Memory op)) result }
 {
     apply_some(stacks, &type_of_memory(context, op))
+}
+
+// A load with an alignment of eight bits.
+#[inline(always)]
+pub fn step_load(
+    context: &BodyContext<'_>,
+    stacks: &mut Stacks<'_>,
+    load: LoadOp,
+    align: u8,
+    offset: u32,
+) -> Result<(), Fault>
+    ensures { Steps context.now stacks.old stacks.new (load_at load align offset) result }
+{
+    let align = u32::from(align);
+    apply_some(
+        stacks,
+        &type_of_load(context, load, MemArg { align, offset }),
+    )
+}
+
+// A store with an alignment of eight bits.
+#[inline(always)]
+pub fn step_store(
+    context: &BodyContext<'_>,
+    stacks: &mut Stacks<'_>,
+    store: StoreOp,
+    align: u8,
+    offset: u32,
+) -> Result<(), Fault>
+    ensures { Steps context.now stacks.old stacks.new (store_at store align offset) result }
+{
+    let align = u32::from(align);
+    apply_some(
+        stacks,
+        &type_of_store(context, store, MemArg { align, offset }),
+    )
 }

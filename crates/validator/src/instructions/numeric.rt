@@ -25,6 +25,7 @@ fn type_of_conversion(op: Conversion) -> InstructionType<'static>
 }
 
 // A numeric instruction.
+#[inline(always)]
 pub fn step_numeric(stacks: &mut Stacks<'_>, op: NumericOp) -> Result<(), Fault>
     ensures { StepsOver stacks.old stacks.new (plain.Numeric op) result }
 {
@@ -44,6 +45,7 @@ pub fn step_numeric(stacks: &mut Stacks<'_>, op: NumericOp) -> Result<(), Fault>
 }
 
 // A constant of 32 bits.
+#[inline(always)]
 pub fn step_i32_const(stacks: &mut Stacks<'_>, value: u32) -> Result<(), Fault>
     ensures { StepsOver stacks.old stacks.new (plain.I32Const value) result }
 {
@@ -51,6 +53,7 @@ pub fn step_i32_const(stacks: &mut Stacks<'_>, value: u32) -> Result<(), Fault>
 }
 
 // A constant of 64 bits.
+#[inline(always)]
 pub fn step_i64_const(stacks: &mut Stacks<'_>, value: u64) -> Result<(), Fault>
     ensures { StepsOver stacks.old stacks.new (plain.I64Const value) result }
 {

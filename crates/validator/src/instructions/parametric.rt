@@ -13,7 +13,7 @@ use crate::errors::Fault;
 use crate::instructions::apply_some;
 use crate::operands::{pop, pop_fitting};
 use crate::types::{InstructionType, once, takes_i32_gives, twice};
-use core_types::{Items, OperandType, ValType};
+use core_types::{Items, OperandType, ParametricOp, ValType};
 
 // The operand type of numbers of a type, if numbers have it.
 fn numeric_operand(ty: ValType) -> Option<OperandType>
@@ -47,7 +47,7 @@ pub fn joint(first: OperandType, second: OperandType) -> Option<OperandType>
 }
 
 // A drop.
-pub fn step_drop(stacks: &mut Stacks<'_>) -> Result<(), Fault>
+fn step_drop(stacks: &mut Stacks<'_>) -> Result<(), Fault>
     ensures { StepsOver stacks.old stacks.new (plain.Parametric parametric.DropOperand) result }
 {
     match pop(&mut stacks.operands, &stacks.innermost) {
@@ -57,7 +57,7 @@ pub fn step_drop(stacks: &mut Stacks<'_>) -> Result<(), Fault>
 }
 
 // A select without types.
-pub fn step_select(stacks: &mut Stacks<'_>) -> Result<(), Fault>
+fn step_select(stacks: &mut Stacks<'_>) -> Result<(), Fault>
     ensures { StepsOver stacks.old stacks.new (plain.Parametric parametric.Select) result }
 {
     if !pop_fitting(
@@ -78,6 +78,17 @@ pub fn step_select(stacks: &mut Stacks<'_>) -> Result<(), Fault>
     };
     stacks.operands.push(chosen)?;
     Ok(())
+}
+
+// An instruction on operands of any type.
+#[inline(always)]
+pub fn step_parametric(stacks: &mut Stacks<'_>, op: ParametricOp) -> Result<(), Fault>
+    ensures { StepsOver stacks.old stacks.new (plain.Parametric op) result }
+{
+    match op {
+        ParametricOp::DropOperand => step_drop(stacks),
+        ParametricOp::Select => step_select(stacks),
+    }
 }
 
 // A select with types, of which there is one.

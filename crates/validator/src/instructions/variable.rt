@@ -48,6 +48,7 @@ fn type_of_variable(context: &BodyContext<'_>, op: VariableOp) -> Option<Instruc
 }
 
 // An instruction on a local or a global.
+#[inline(always)]
 pub fn step_variable(
     context: &BodyContext<'_>,
     stacks: &mut Stacks<'_>,

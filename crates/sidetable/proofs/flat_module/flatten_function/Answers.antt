@@ -13,21 +13,21 @@ returns c =
     let params = c.in_ok-params.ensures ∙ c.len.ensures ∙ ap (λ (t : FuncType). length t.params) ty in
     let results = c.in_ok-results.ensures ∙ c.len-2.ensures ∙ ap (λ (t : FuncType). length t.results) ty in
     let locals = c.in_ok-locals.ensures ∙ c.in_ok-sum.ensures ∙ ap₂ (λ (n m : ℕ). n + m) (c.len-3.ensures ∙ ap (λ (t : FuncType). length t.params) ty) c.len-4.ensures in
-    let at : c.in_ok-place.place ≡ length c.args.flat.operations.items = omega (arith, c.in_ok-place.ensures, c.len-5.ensures) in
-    let m : FlatModule = record { functions = c.push-2.new.self; operations = c.push.new.self; tables = c.in_ok-made.made.tables } in
-    let p : PackedFunction = record { place = c.in_ok-place.place; params = c.in_ok-params.params; locals = c.in_ok-locals.locals; results = c.in_ok-results.results; greatest = c.in_ok-made.made.greatest } in
+    let at : c.in_ok-place.place ≡ length c.args.f.now.operations.items = omega (arith, c.in_ok-place.ensures, c.len-5.ensures) in
+    let m : FlatModule = record { functions = c.push-2.new.self; operations = c.push.new.self; tables = c.flatten_body.new.f.tables } in
+    let p : PackedFunction = record { place = c.in_ok-place.place; params = c.in_ok-params.params; locals = c.in_ok-locals.locals; results = c.in_ok-results.results; greatest = c.in_ok-greatest.greatest } in
     let (body₀, e₀) = c.requires.body in
-    let first = c.in_ok-made.ensures body₀ e₀ in
-    let behind = placed-behind s c.args.flat.operations.items c.args.flat.tables p body₀ c.in_ok-made.made m first at refl c.in_ok-push.ensures.items refl in
+    let first = c.in_ok-greatest.ensures body₀ e₀ in
+    let behind = placed-behind s c.args.f.now.operations.items c.args.f.now.tables p body₀ c.flatten_body.new.f m first at c.in_ok-push.ensures.items refl in
     record {
       few = omega (arith, c.in_ok-number.ensures, c.len-6.ensures);
-      within = within-behind m c.in_ok-made.made c.in_ok-results.results first.within c.in_ok-push.ensures.items refl;
+      within = within-behind m c.flatten_body.new.f c.in_ok-results.results first.within c.in_ok-push.ensures.items refl;
       operations = (_, behind.0);
       packed = p;
       functions = c.in_ok-push-2.ensures.items;
       flat = record {
         flat = λ body e.
-            (placed-behind s c.args.flat.operations.items c.args.flat.tables p body c.in_ok-made.made m (c.in_ok-made.ensures body e) at refl c.in_ok-push.ensures.items refl).1;
+            (placed-behind s c.args.f.now.operations.items c.args.f.now.tables p body c.flatten_body.new.f m (c.in_ok-greatest.ensures body e) at c.in_ok-push.ensures.items refl).1;
         params = params;
         locals = locals;
         results = results;

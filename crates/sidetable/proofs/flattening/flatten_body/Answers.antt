@@ -24,8 +24,8 @@ pub returns : goal.returns
 returns c body e =
     let whole = ap (λ (ops : List Op). (rests ops).here.body) e ∙ c.writing_is_read.ensures.whole body in
     let sized : c.in_ok-measured.measured.size ≡ size body = c.in_ok-measured.ensures.size ∙ ap size whole in
-    is-made (signatures_of c.args.s.now) c.args.operations.items c.args.tables _ c.args.locals c.args.results c.in_ok-outermost.outermost c.run.new.f body _ c.in_ok-outermost.ensures.grows c.requires.within
+    is-made (signatures_of c.args.s.now) c.args.f.now.operations.items c.args.f.now.tables _ c.args.locals c.args.results c.in_ok-outermost.outermost c.run.new.f body _ c.in_ok-outermost.ensures.grows c.requires.within
     (c.in_ok-outermost.ensures.entry ∙ entry-same _ _ _ _ _ _ (omega (arith, c.in_ok-number.ensures, c.in_ok-end.ensures, c.len.ensures, sized)) refl refl)
     (c.in_ok-run.ensures.makes _ _ (makes-first (signatures_of c.args.s.now) c.in_ok-outermost.outermost _ c.args.code.now body c.args.locals e whole
     c.clear.ensures c.in_ok-measured.ensures.openings refl _ refl c.in_ok-outermost.ensures.stands (all-within-kept _ _ c.in_ok-outermost.ensures.grows _ c.requires.within)))
-    refl refl (c.max-greatest.ensures ∙ ap (max c.run.new.f.greatest) c.known.ensures)
+    (c.max.ensures ∙ ap (max c.run.new.f.greatest) c.known.ensures)

@@ -1,12 +1,5 @@
 use Rattle.std.proofs.Common.{inl, inr}
-use Rattle.core_types.proofs.StoredOps.{plain_unless_mark}
 use Rattle.sidetable.proofs.sizes.measure_mark.Goals as goal
-
-pub unreachable-requires : goal.unreachable-requires
-unreachable-requires c =
-    let n = c.in_default in
-    let (plain, is) = plain_unless_mark c.args.op n.not-Block n.not-Loop n.not-If n.not-Else n.not-End in
-    c.requires plain is
 
 pub returns-in_ok-measure_block-in-Block : goal.returns-in_ok-measure_block-in-Block
 returns-in_ok-measure_block-in-Block c =

@@ -1,24 +1,29 @@
-use Rattle.std.proofs.Common.{sym}
+use Rattle.std.proofs.Common.{[], ◌∷◌, arith, length, sym}
+use Rattle.std.proofs.lemmas.List.{length-append}
 use Rattle.std.proofs.lemmas.Result.{on_ok_weaker}
-use Rattle.core_types.proofs.StoredOps.{select_appended, table_appended}
+use Rattle.core_types.specs.Expressions.{IsWithin}
+use Rattle.core_types.proofs.StoredOps.{all_pushed, other_appended, within_more}
 use Rattle.core_types.proofs.expression.Expression.push.Goals as goal
 
-pub returns-in_ok-number-in-Plain-BrTable : goal.returns-in_ok-number-in-Plain-BrTable
-returns-in_ok-number-in-Plain-BrTable c =
-    let n = c.in_ok-number-in-Plain-BrTable.ensures in
-    on_ok_weaker c.append-in-Plain-BrTable.result
-    (
-    λ appended.
-    rw (rw n.number at appended, n.ok, c.in-Plain-BrTable.is, c.in-Plain-BrTable.field-0-is, sym c.self.view_is)
-    (table_appended c.self.inside.tables.items c.self.inside.selects.items c.self.inside.operations.items c.self.invariant c.in-Plain-BrTable.table)
-    ) c.append-in-Plain-BrTable.ensures.ok
+pub invariant_of-self : goal.invariant_of-self
+invariant_of-self c =
+    let count = length c.self.inside.others.items in
+    all_pushed (IsWithin count) c.append.result _ _ c.in-Some.stored c.append.ensures.ok c.append.ensures.err c.self.invariant
+    (rw c.in-Some.is at c.store_op.ensures.within count)
 
-pub returns-in_ok-number-in-Plain-SelectTyped : goal.returns-in_ok-number-in-Plain-SelectTyped
-returns-in_ok-number-in-Plain-SelectTyped c =
-    let n = c.in_ok-number-in-Plain-SelectTyped.ensures in
-    on_ok_weaker c.append-in-Plain-SelectTyped.result
+pub invariant_of-self-2 : goal.invariant_of-self-2
+invariant_of-self-2 c =
+    let n = c.in_ok-number.ensures in
+    all_pushed (IsWithin (length c.add.new.others.items)) c.append-2.result _ _ _ c.append-2.ensures.ok c.append-2.ensures.err
+    (rw n.ok (within_more c.self.inside.others.items c.args.op c.self.inside.operations.items c.self.invariant))
+    (rw (n.ok, n.number, length-append c.self.inside.others.items (c.args.op ∷ [])) (omega arith))
+
+pub returns : goal.returns
+returns c =
+    let n = c.in_ok-number.ensures in
+    on_ok_weaker c.append-2.result
     (
     λ appended.
-    rw (rw n.number at appended, n.ok, c.in-Plain-SelectTyped.is, c.in-Plain-SelectTyped.field-0-is, sym c.self.view_is)
-    (select_appended c.self.inside.tables.items c.self.inside.selects.items c.self.inside.operations.items c.self.invariant c.in-Plain-SelectTyped.types)
-    ) c.append-in-Plain-SelectTyped.ensures.ok
+    rw (rw n.number at appended, n.ok, sym c.self.view_is)
+    (other_appended c.self.inside.others.items c.args.op c.self.inside.operations.items c.self.invariant)
+    ) c.append-2.ensures.ok
