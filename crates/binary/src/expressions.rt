@@ -152,6 +152,29 @@ fn read_other(
     }
 }
 
+// An operation, behind its opcode, as `read_other` reads it. The end of a body is so frequent that it is apart.
+#[tactic(auto, unfolding(crate::specs::Instructions::operation_at))]
+#[inline(always)]
+fn read_next(
+    alloc: Global,
+    reader: &mut Reader<'_>,
+    bodies: &mut Stack<OpenBody>,
+    ops: &mut Expression,
+    code: u8,
+    offset: usize,
+    data_named: &mut bool,
+) -> Result<Next, DecodeError>
+    ensures reads { ReadsNext result bodies.old bodies.new ops.old ops.new
+        reader.new (operation_at code reader.old) }
+    ensures data { OnOk result (NotesMore ops.old data_named.old ops.new data_named.new) }
+{
+    if code == 0x0B {
+        push_end(bodies, ops)
+    } else {
+        read_other(alloc, reader, bodies, ops, code, offset, data_named)
+    }
+}
+
 // An operation that is frequent, behind its opcode, which is at the offset; answers whether it is. None of them is a mark.
 #[tactic(auto, unfolding(crate::specs::Instructions::operation_at, crate::specs::Instructions::plain_at, crate::specs::Instructions::group_at))]
 #[inline(always)]
@@ -202,10 +225,12 @@ fn read_row(reader: &mut Reader<'_>, ops: &mut Expression) -> Result<(), DecodeE
     Ok(())
 }
 
-// Operations down to the end of the outermost body, put on an expression that has none. Notes where one of them names a data segment.
+// Operations down to the end of the outermost body, put on an expression that has none, with the room of a stack. Notes where one of
+// them names a data segment.
 fn read_operations(
     alloc: Global,
     reader: &mut Reader<'_>,
+    bodies: &mut Stack<OpenBody>,
     ops: Expression,
     data_named: &mut bool,
 ) -> Result<Expression, DecodeError>
@@ -214,21 +239,13 @@ fn read_operations(
     ensures data { IfOk result (NotesData data_named.new) }
     ensures before { OnOk result (data_named.new ≡ false → data_named.old ≡ false) }
 {
-    let mut bodies = Stack::new(alloc);
+    bodies.clear();
     let mut ops = ops;
     loop {
         read_row(reader, &mut ops)?;
         let offset = reader.offset();
         let code = reader.byte()?;
-        match read_other(
-            alloc,
-            reader,
-            &mut bodies,
-            &mut ops,
-            code,
-            offset,
-            data_named,
-        )? {
+        match read_next(alloc, reader, bodies, &mut ops, code, offset, data_named)? {
             Next::Onward => {}
             Next::Ended => {
                 ops.shrink();
@@ -243,15 +260,23 @@ fn read_operations(
 pub fn read_expression(alloc: Global, reader: &mut Reader<'_>) -> Result<Expression, DecodeError>
     ensures { Gives result reader.new (expression_at reader.old) }
 {
+    let mut bodies = Stack::new(alloc);
     let mut data_named = false;
-    read_operations(alloc, reader, Expression::new(alloc), &mut data_named)
+    read_operations(
+        alloc,
+        reader,
+        &mut bodies,
+        Expression::new(alloc),
+        &mut data_named,
+    )
 }
 
-// An expression that takes most of the bytes that are left. An operation takes two of them or more, mostly. Notes where one of
-// them may name a data segment.
+// An expression that takes most of the bytes that are left, read with the room of a stack. An operation takes two of them or more,
+// mostly. Notes where one of them may name a data segment.
 pub fn read_body(
     alloc: Global,
     reader: &mut Reader<'_>,
+    bodies: &mut Stack<OpenBody>,
     data_named: &mut bool,
 ) -> Result<Expression, DecodeError>
     ensures reads { Gives result reader.new (expression_at reader.old) }
@@ -262,6 +287,7 @@ pub fn read_body(
     read_operations(
         alloc,
         reader,
+        bodies,
         Expression::with_room(alloc, room),
         data_named,
     )

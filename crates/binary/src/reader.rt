@@ -48,7 +48,7 @@ impl<'a> Reader<'a> {
     pub fn is_empty(&self) -> bool
         ensures { result ≡ (length self.now == 0) }
     {
-        self.offset == self.bytes.len()
+        self.offset >= self.bytes.len()
     }
 
     // The offset in the whole input.
@@ -65,6 +65,7 @@ impl<'a> Reader<'a> {
     }
 
     // Passes the next byte if it is this one.
+    #[inline(always)]
     pub fn accept(&mut self, byte: u8) -> bool
         ensures accepted { result ≡ begins_with byte self.old }
         ensures rest { self.new ≡ (if result then drop 1 self.old else self.old) }

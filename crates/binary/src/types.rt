@@ -142,7 +142,8 @@ pub fn read_global_type(reader: &mut Reader<'_>) -> Result<GlobalType, DecodeErr
 
 // A block type: nothing, a value type, or an index, which is a signed integer of 33 bits that is not negative.
 #[tactic(auto, unfolding(crate::specs::Types::block_type_at))]
-pub fn read_block_type(reader: &mut Reader<'_>) -> Result<BlockType, DecodeError>
+#[inline(never)]
+fn read_any_block_type(reader: &mut Reader<'_>) -> Result<BlockType, DecodeError>
     ensures { Gives result reader.new (block_type_at reader.old) }
 {
     if reader.accept(0x40) {
@@ -156,4 +157,16 @@ pub fn read_block_type(reader: &mut Reader<'_>) -> Result<BlockType, DecodeError
         Ok(index) => Ok(BlockType::Index(index)),
         Err(_) => Err(DecodeError::Malformed(offset)),
     }
+}
+
+// The same. Most are nothing.
+#[tactic(auto, unfolding(crate::specs::Types::block_type_at))]
+#[inline(always)]
+pub fn read_block_type(reader: &mut Reader<'_>) -> Result<BlockType, DecodeError>
+    ensures { Gives result reader.new (block_type_at reader.old) }
+{
+    if reader.accept(0x40) {
+        return Ok(BlockType::Empty);
+    }
+    read_any_block_type(reader)
 }

@@ -1,10 +1,12 @@
-ghost use Rattle.std.specs.Prelude.{◌≡◌, ◌<◌, ◌∷◌, [], ◌++◌, Some, length, slice_get, IfOk, OnErr, OnOk};
+ghost use Rattle.std.specs.Prelude.{◌≡◌, ◌≢◌, ◌<◌, ◌∷◌, [], ◌++◌, Some, false, length, slice_get, IfOk, IsTrue, OnErr, OnOk};
+ghost use Rattle.core_types.specs.declared.op.Op.TheVariants as flat;
+ghost use Rattle.core_types.specs.declared.op.PlainOp.{PlainOp as Plain};
 ghost use Rattle.core_types.specs.Expressions.{lent_op};
 
 use crate::appending::append;
-use crate::lent_op::{LentOp, OpWith};
+use crate::lent_op::{LentOp, OpWith, is_mark};
 use crate::op::Op;
-use crate::stored_op::{StoredOp, store_op};
+use crate::stored_op::{StoredOp, may_be_mark, store_op};
 use std::alloc::{AllocError, Global};
 use std::marker::Model;
 
@@ -116,6 +118,18 @@ impl Expression {
             OpWith::End => OpWith::End,
             OpWith::Other(number) => OpWith::Other(&self.others[number as usize]),
         }
+    }
+
+    /// Whether the operation at an index is a mark, at which a body begins or ends.
+    #[inline(always)]
+    pub fn is_mark_at(&self, index: usize) -> bool
+        requires { index < length self.now }
+        ensures mark { IsTrue result → (plain : Plain)
+            → slice_get self.now index ≢ Some (flat.Plain plain) }
+        ensures plain { result ≡ false → (plain : Plain)
+            × (slice_get self.now index ≡ Some (flat.Plain plain)) }
+    {
+        may_be_mark(&self.operations[index]) && is_mark(self.get(index))
     }
 
     /// Puts an operation behind the others. Fails where there is no memory, or where there are 2^32 that take more than eight

@@ -7,6 +7,7 @@ use crate::locals::LocalRun;
 const FEW_RUNS: usize = 8;
 
 // The index of the first run that ends behind the index of a local.
+#[inline(never)]
 pub fn run_at(runs: &[LocalRun], index: u32) -> usize
     ensures within { result ≤ length runs.now }
     ensures begins { start_of 0 runs.now result ≤ index }

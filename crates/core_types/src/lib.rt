@@ -17,6 +17,7 @@ mod stored_op;
 mod text;
 mod types;
 
+pub use appending::append;
 pub use boxed::Boxed;
 pub use expression::Expression;
 pub use items::Items;

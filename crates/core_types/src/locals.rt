@@ -62,10 +62,16 @@ impl Locals {
         Ok(())
     }
 
-    /// The type of the local at this index, found by halving.
+    /// The type of the local at this index. Most locals are of the first run; the run of another one is found by halving.
+    #[inline(always)]
     pub fn get(&self, index: u32) -> Option<ValType>
         ensures { result ≡ slice_get self.now index }
     {
+        if let Some(first) = self.runs.first() {
+            if index < first.end {
+                return Some(first.ty);
+            }
+        }
         let found = run_at(&self.runs, index);
         if found < self.runs.len() {
             Some(self.runs[found].ty)

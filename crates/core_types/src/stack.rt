@@ -1,4 +1,4 @@
-ghost use Rattle.std.specs.Prelude.{◌≡◌, ◌≤◌, List, [], ◌∷◌, drop, length, reverse, slice_get, OnOk, OnErr, MatchOption};
+ghost use Rattle.std.specs.Prelude.{◌≡◌, List, [], ◌∷◌, length, reverse, slice_get, OnOk, OnErr, MatchOption};
 
 use crate::appending::append;
 use std::alloc::{AllocError, Global};
@@ -54,13 +54,11 @@ impl<T: Drop> Stack<T> {
         append(&mut self.items, x)
     }
 
-    /// Takes the topmost `count` elements off. Takes no memory.
-    pub fn drop_top(&mut self, count: usize)
-        requires { count ≤ length self.old }
-        ensures { self.new ≡ drop count self.old }
+    /// Takes all elements off. Takes no memory, and keeps the room.
+    pub fn clear(&mut self)
+        ensures { self.new ≡ [] }
     {
-        let kept = self.items.len() - count;
-        self.items.truncate(kept);
+        self.items.clear();
     }
 }
 

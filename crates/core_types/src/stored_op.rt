@@ -1,6 +1,7 @@
-ghost use Rattle.std.specs.Prelude.{◌≡◌, List, ℕ, IfSome};
+ghost use Rattle.std.specs.Prelude.{◌≡◌, List, ℕ, IfSome, false};
 ghost use Rattle.core_types.specs.declared.op.Op.{Op as AnyOp};
 ghost use Rattle.core_types.specs.declared.op.Op.TheVariants as flat;
+ghost use Rattle.core_types.specs.declared.op.PlainOp.{PlainOp as AnyPlain};
 ghost use Rattle.core_types.specs.declared.op.PlainOp.TheVariants as plain;
 ghost use Rattle.core_types.specs.Expressions.{IsWithin, stored_op};
 
@@ -134,4 +135,21 @@ pub fn store_op(op: &Op) -> Option<StoredOp>
         Op::End => Some(OpWith::End),
         _ => None,
     }
+}
+
+/// Whether an operation may be a mark: it is one, or it takes more than eight bytes.
+#[inline(always)]
+pub fn may_be_mark(op: &StoredOp) -> bool
+    ensures { result ≡ false → (others : List AnyOp)
+        → (instruction : AnyPlain) × (stored_op others op.now ≡ flat.Plain instruction) }
+{
+    matches!(
+        op,
+        OpWith::Block(_)
+            | OpWith::Loop(_)
+            | OpWith::If(_)
+            | OpWith::Else
+            | OpWith::End
+            | OpWith::Other(_)
+    )
 }

@@ -2,7 +2,7 @@
 
 use core_types::{
     BlockType, Boxed, BranchTable, Expression, Items, LentOp, Locals, MemArg, MemoryOp, Name, Op,
-    OpWith, PlainOp, Stack, StoreOp, ValType, is_mark,
+    OpWith, PlainOp, Stack, StoreOp, ValType, append, is_mark,
 };
 use std::alloc::{AllocError, Global};
 use std::mem::size_of;
@@ -123,6 +123,19 @@ fn keeps_names_and_boxes(rt: HostRuntime) {
     assert!(rt; keeps_value(rt.alloc()) == Ok(true));
 }
 
+// Whether elements stand behind one another, in the order in which they were put.
+fn keeps_order(alloc: Global) -> Result<bool, AllocError> {
+    let mut items = Vec::new(alloc);
+    append(&mut items, 1u32)?;
+    append(&mut items, 2)?;
+    Ok(items.as_slice() == [1, 2].as_slice())
+}
+
+#[test]
+fn appends_elements(rt: HostRuntime) {
+    assert!(rt; keeps_order(rt.alloc()) == Ok(true));
+}
+
 // A call of a stack, and its answer where it has one.
 #[derive(Clone, Copy)]
 enum Step {
@@ -131,15 +144,15 @@ enum Step {
     Top(Option<u32>),
     Get(usize, Option<u32>),
     Len(usize),
-    DropTop(usize),
+    Clear,
 }
 
-use Step::{DropTop, Get, Len, Pop, Push, Top};
+use Step::{Clear, Get, Len, Pop, Push, Top};
 
 #[rattlefmt::skip]
-static STEPS: [Step; 14] = [
+static STEPS: [Step; 16] = [
     Pop(None), Push(1), Push(2), Push(3), Top(Some(3)), Get(0, Some(3)), Get(2, Some(1)), Get(3, None),
-    Pop(Some(3)), Len(2), Push(5), Push(6), DropTop(2), Len(2),
+    Pop(Some(3)), Len(2), Clear, Len(0), Pop(None), Push(5), Push(6), Len(2),
 ];
 
 // Whether a stack takes a step so.
@@ -150,11 +163,10 @@ fn takes(stack: &mut Stack<u32>, step: Step) -> bool {
         Top(x) => stack.top() == x,
         Get(index, x) => stack.get(index) == x,
         Len(count) => stack.len() == count,
-        DropTop(count) if count <= stack.len() => {
-            stack.drop_top(count);
+        Clear => {
+            stack.clear();
             true
         }
-        DropTop(_) => false,
     }
 }
 
@@ -165,7 +177,7 @@ fn takes_all(alloc: Global) -> bool {
     for step in &STEPS {
         all &= takes(&mut stack, *step);
     }
-    all && stack.get(0) == Some(2) && stack.get(1) == Some(1)
+    all && stack.get(0) == Some(6) && stack.get(1) == Some(5)
 }
 
 #[test]
@@ -231,6 +243,7 @@ fn keeps_operations(alloc: Global, room: usize) -> Result<bool, AllocError> {
     let mut all = expression.len() == 8;
     for index in 0..expression.len() {
         all &= is_operation(index, expression.get(index));
+        all &= expression.is_mark_at(index) == matches!(index, 4..=6);
     }
     Ok(all)
 }

@@ -43,10 +43,6 @@ with-tables f tables openings = record { tables = tables; operations = f.operati
 abbrev with-levels : Flattening → List Level → Flattening
 with-levels f levels = record { tables = f.tables; operations = f.operations; levels = levels; openings = f.openings; height = f.height; greatest = f.greatest }
 
--- With other heights.
-abbrev pub with-heights : Flattening → Option ℕ → ℕ → Flattening
-with-heights f height greatest = record { tables = f.tables; operations = f.operations; levels = f.levels; openings = f.openings; height = height; greatest = greatest }
-
 -- ---- some operations, and then others
 
 pub passes-then : (s : Signatures) (outermost : Label) (old between new : Flattening) (all some ops : List Op) → PassesTo s outermost old all some between → PassesTo s outermost between some ops new → PassesTo s outermost old all ops new

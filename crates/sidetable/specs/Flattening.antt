@@ -1,8 +1,10 @@
 -- Flattening, from the first operation with its marks to the last.
-use Rattle.std.specs.Prelude.{Vec, ◌≡◌, ℕ, suc, ◌+◌, ◌<◌, ◌^◌, Bool, List, [], ◌∷◌, ◌++◌, length, max, Option, Some, None}
+use Rattle.std.specs.Prelude.{Vec, ◌≡◌, ◌≢◌, ℕ, suc, ◌+◌, ◌<◌, ◌^◌, Bool, true, false, List, [], ◌∷◌, ◌++◌, length, max, Option, Some, None}
 use Rattle.std.specs.List.{All}
 use Rattle.std.specs.declared.alloc.Global.{Global}
 use Rattle.core_types.specs.declared.op.Op.{Op}
+use Rattle.core_types.specs.declared.op.Op.TheVariants.{Plain}
+use Rattle.core_types.specs.declared.op.PlainOp.{PlainOp}
 use Rattle.meaning.specs.structure.Bodies.{Body, Part, Rests, first_part, other_parts, rests}
 use Rattle.sidetable.specs.Counts.{Signatures, height_or_zero}
 use Rattle.core_types.specs.declared.module.Func.{Func}
@@ -17,6 +19,7 @@ use Rattle.sidetable.specs.declared.flat_module.PackedFunction.{PackedFunction}
 use Rattle.sidetable.specs.Sizes.{openings_of}
 use Rattle.sidetable.specs.declared.flattening.Flattening.{Flattening}
 use Rattle.sidetable.specs.declared.labels.Label.{Label}
+use Rattle.sidetable.specs.declared.operand_heights.Heights.{Heights}
 use Rattle.sidetable.specs.declared.labels.Level.{Level}
 use Rattle.sidetable.specs.declared.operations.PackedOp.{PackedOp}
 
@@ -101,6 +104,23 @@ pub record PassesTo (s : Signatures) (outermost : Label) (old : Flattening) (all
   pub grows : Grows old.tables new.tables
   pub makes : (whole : List FlatOp) (most : ℕ) → Makes s outermost old all whole most
       → Makes s outermost new ops whole most
+
+-- With heights that are kept apart.
+abbrev pub with_heights : Flattening → Heights → Flattening
+with_heights f h = record {
+  tables = f.tables;
+  operations = f.operations;
+  levels = f.levels;
+  openings = f.openings;
+  height = h.here;
+  greatest = h.greatest;
+}
+
+-- The operation is passed, or it is a mark, and nothing changes.
+abbrev pub PassesUnlessMark : Signatures → Label → Flattening → Op → Flattening → Bool → Type 0
+PassesUnlessMark s outermost old op new true = Passes s outermost old op new
+PassesUnlessMark s outermost old op new false =
+    (new ≡ old) × ((plain : PlainOp) → op ≢ Plain plain)
 
 -- An operation is put behind the others, at this height.
 pub record Pushes (old : Flattening) (p : PackedOp) (after : Option ℕ) (new : Flattening)

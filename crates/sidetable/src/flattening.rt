@@ -1,11 +1,13 @@
-ghost use Rattle.std.specs.Prelude.{◌≡◌, ◌≢◌, ◌<◌, ◌≤◌, ◌+◌, ◌∷◌, [], List, drop, length, IfOk, OnOk};
+ghost use Rattle.std.specs.Prelude.{◌≡◌, ◌≢◌, ◌<◌, ◌≤◌, ◌+◌, ◌∷◌, [], List, Some, drop, length, slice_get, IfOk, OnOk};
 ghost use Rattle.std.specs.List.{All};
-ghost use Rattle.core_types.specs.Expressions.{mark_op};
+ghost use Rattle.core_types.specs.Expressions.{lent_op, mark_op};
+ghost use Rattle.core_types.specs.declared.op.Op.{Op as Operation};
 ghost use Rattle.core_types.specs.declared.op.Op.TheVariants.{Block, Else, End, If, Loop, Plain};
 ghost use Rattle.core_types.specs.declared.op.PlainOp.{PlainOp as PlainInstruction};
 ghost use Rattle.meaning.specs.structure.Bodies.{Body, writing};
 ghost use Rattle.sidetable.specs.Counts.{changed as changed_height};
-ghost use Rattle.sidetable.specs.Flattening.{CanMake, CanMakeAll, IsMade, Passes, PassesTo, Pushes, if_end, if_second};
+ghost use Rattle.sidetable.specs.Flattening.{CanMake, CanMakeAll, IsMade, Passes, PassesTo, PassesUnlessMark, Pushes, if_end, if_second, with_heights};
+ghost use Rattle.sidetable.specs.Labels.{AllStand};
 ghost use Rattle.sidetable.specs.Packing.{IsWithin};
 ghost use Rattle.sidetable.specs.Signatures.{signatures_of};
 ghost use Rattle.sidetable.specs.SideTables.{Grows};
@@ -18,8 +20,8 @@ use crate::labels::{Label, Level, push_label};
 use crate::operand_heights::{Heights, base, changed, heights_behind, known, less_one};
 use crate::operations::{Entry, PackedOp, TransferInstruction};
 use crate::side_tables::{SideTables, number};
-use crate::sizes::{PartSize, clear, measure, sum};
-use core_types::{BlockType, Expression, Mark, Stack, mark_of};
+use crate::sizes::{PartSize, measure, sum};
+use core_types::{BlockType, Expression, LentOp, Mark, OpWith, Stack, append, mark_of};
 use meaning::writing_is_read;
 use std::alloc::{AllocError, Global};
 use std::mem;
@@ -62,8 +64,7 @@ fn push_operation(f: &mut Flattening, op: PackedOp, after: Option<u64>) -> Resul
 {
     f.greatest = f.greatest.max(known(f.height));
     f.height = after;
-    f.operations.push(op)?;
-    Ok(())
+    append(&mut f.operations, op)
 }
 
 // ---- marks
@@ -292,6 +293,67 @@ fn pass_mark(
     step_mark(s, outermost, f, mark)
 }
 
+// Passes an instruction without a body, and answers whether the operation is one. The heights are apart, in hand.
+#[inline(always)]
+fn pass_plain(
+    s: &ModuleTypes<'_>,
+    outermost: Label,
+    f: &mut Flattening,
+    heights: &mut Heights,
+    op: LentOp<'_>,
+) -> Result<bool, AllocError>
+    requires { AllStand f.old.tables outermost f.old.levels }
+    ensures { IfOk result (PassesUnlessMark (signatures_of s.now) outermost
+        (with_heights f.old heights.old) (lent_op op.entry) (with_heights f.new heights.new)) }
+{
+    let Some(packed) = pack(s, &mut f.tables, outermost, &f.levels, op)? else {
+        return Ok(false);
+    };
+    *heights = heights_behind(packed.counts, *heights)?;
+    f.operations.push(packed.op)?;
+    Ok(true)
+}
+
+// Passes the operation at an index, as `pass_plain` does. For each that is frequent the compiler makes code of its own, which knows
+// its counts and the parts of its packed form.
+#[inline(always)]
+fn pass_at(
+    s: &ModuleTypes<'_>,
+    outermost: Label,
+    f: &mut Flattening,
+    heights: &mut Heights,
+    code: &Expression,
+    index: usize,
+) -> Result<bool, AllocError>
+    requires within { index < length code.now }
+    requires stand { AllStand f.old.tables outermost f.old.levels }
+    ensures { (op : Operation) → slice_get code.now index ≡ Some op
+        → IfOk result (PassesUnlessMark (signatures_of s.now) outermost
+        (with_heights f.old heights.old) op (with_heights f.new heights.new)) }
+{
+    match code.get(index) {
+        OpWith::LocalGet(local) => pass_plain(s, outermost, f, heights, OpWith::LocalGet(local)),
+        OpWith::LocalSet(local) => pass_plain(s, outermost, f, heights, OpWith::LocalSet(local)),
+        OpWith::LocalTee(local) => pass_plain(s, outermost, f, heights, OpWith::LocalTee(local)),
+        OpWith::I32Const(n) => pass_plain(s, outermost, f, heights, OpWith::I32Const(n)),
+        OpWith::Numeric(op) => pass_plain(s, outermost, f, heights, OpWith::Numeric(op)),
+        OpWith::Load(width, align, offset) => {
+            pass_plain(s, outermost, f, heights, OpWith::Load(width, align, offset))
+        }
+        OpWith::Store(width, align, offset) => {
+            pass_plain(
+                s,
+                outermost,
+                f,
+                heights,
+                OpWith::Store(width, align, offset),
+            )
+        }
+        OpWith::BrIf(label) => pass_plain(s, outermost, f, heights, OpWith::BrIf(label)),
+        op => pass_plain(s, outermost, f, heights, op),
+    }
+}
+
 // Passes the instructions without a body that lie in a row from a position on; answers the position behind them.
 #[inline(always)]
 fn pass_row(
@@ -314,12 +376,9 @@ fn pass_row(
     };
     let mut index = start;
     while index < code.len() {
-        let found = pack(s, &mut f.tables, outermost, &f.levels, code.get(index))?;
-        let Some(packed) = found else {
+        if !pass_at(s, outermost, f, &mut heights, code, index)? {
             break;
-        };
-        heights = heights_behind(packed.counts, heights)?;
-        f.operations.push(packed.op)?;
+        }
         index += 1;
     }
     f.height = heights.here;
@@ -371,7 +430,7 @@ pub fn flatten_body(
     let measured = measure(mem::replace(around, Stack::new(alloc)), openings, code)?;
     *around = measured.around;
     f.openings = measured.openings;
-    clear(&mut f.levels);
+    f.levels.clear();
     let end = sum(f.operations.len(), measured.size)?;
     let outermost = push_label(
         &mut f.tables,

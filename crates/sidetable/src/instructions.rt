@@ -251,6 +251,7 @@ fn with_memory(op: MemoryOp) -> PackedInstruction
 
 /// Packs an instruction without a body, where these labels are around; answers none for a mark. Fails where there is no memory for
 /// what it names by number.
+#[inline(always)]
 pub fn pack(
     s: &ModuleTypes<'_>,
     tables: &mut SideTables,

@@ -32,10 +32,10 @@ pub struct SideTables {
 pub fn number(count: usize) -> Result<u32, AllocError>
     ensures { IfOk result (λ n. n ≡ count) }
 {
-    match u32::try_from(count) {
-        Ok(n) => Ok(n),
-        Err(_) => Err(AllocError),
+    if count > u32::MAX as usize {
+        return Err(AllocError);
     }
+    Ok(count as u32)
 }
 
 impl SideTables {

@@ -7,7 +7,7 @@ ghost use Rattle.meaning.specs.structure.Bodies.{Part, body_of, first_part, othe
 ghost use Rattle.sidetable.specs.Flat.{size};
 ghost use Rattle.sidetable.specs.Sizes.{IsMarkBefore, Measures, MeasuresOn, behind_first, openings_of, size_of};
 
-use core_types::{Expression, Mark, Stack, is_mark, mark_of};
+use core_types::{Expression, Mark, Stack, mark_of};
 use std::alloc::AllocError;
 
 /// How many operations are left of a body, and of the other body behind it, if there is one.
@@ -32,14 +32,6 @@ pub struct MeasuredCode {
     pub size: usize,
     pub around: Stack<PartSize>,
     pub openings: Stack<PartSize>,
-}
-
-/// Takes all elements off a stack, which keeps its room.
-pub fn clear<T: Drop>(stack: &mut Stack<T>)
-    ensures { stack.new ≡ [] }
-{
-    let count = stack.len();
-    stack.drop_top(count);
 }
 
 /// A sum. Fails where it has more bits than a size.
@@ -143,7 +135,7 @@ fn measure_row(sizes: &mut Sizes, code: &Expression, end: usize) -> Result<usize
     ensures all { IfOk result (λ start. IsMarkBefore start code.now) }
 {
     let mut start = end;
-    while start > 0 && !is_mark(code.get(start - 1)) {
+    while start > 0 && !code.is_mark_at(start - 1) {
         start -= 1;
     }
     let here = sum(sizes.here.here, end - start)?;
@@ -182,8 +174,8 @@ pub fn measure(
         around,
         openings,
     };
-    clear(&mut sizes.around);
-    clear(&mut sizes.openings);
+    sizes.around.clear();
+    sizes.openings.clear();
     let mut position = measure_row(&mut sizes, code, code.len())?;
     while position > 0 {
         position -= 1;

@@ -1,6 +1,6 @@
 -- Laws of what is taken from a frame's operands.
-use Rattle.std.proofs.Common.{◌≡◌, ℕ, zero, suc, ◌+◌, ◌<◌, Bool, List, [], ◌∷◌, ◌++◌, length, take, drop, reverse, get_or, replicate, refl, sym, ap, ◌∙◌, inl, inr, append_assoc, arith}
-use Rattle.std.proofs.lemmas.List.{append-nil, drop_more, map-append, replicate-append-replicate, reverse-append, take_more}
+use Rattle.std.proofs.Common.{◌≡◌, ℕ, zero, suc, ◌+◌, ◌<◌, ◌≤◌, set, Bool, List, [], ◌∷◌, ◌++◌, length, take, drop, reverse, get_or, replicate, refl, sym, ap, ◌∙◌, inl, inr, append_assoc, arith}
+use Rattle.std.proofs.lemmas.List.{append-nil, drop_more, length-set, map-append, replicate-append-replicate, reverse-append, take_all, take_more, take_more_set}
 use Rattle.std.specs.Prelude.{Option, Some, None, IfSome, option_to_list}
 use Rattle.core_types.specs.declared.types.OperandType.TheVariants.{Known, Unknown}
 use Rattle.core_types.specs.declared.types.OperandType.{OperandType}
@@ -30,6 +30,22 @@ Takes-top unreachable height old new t e high = record {
       let (rest, left, taken) = last_of under own new t (sym e ∙ parts) (omega (arith, ap length e)) in
       (rest, left, inl taken);
 }
+
+-- A list is what stands before its last element, and that element.
+split_last : (xs : List OperandType) (x : OperandType) (n : ℕ) → n + 1 ≡ length xs → x ≡ get_or xs n x → xs ≡ take n xs ++ x ∷ []
+split_last xs x n last is =
+    let whole = sym (take_all (n + 1) xs (omega (arith, last))) in
+    whole ∙ take_more xs n x (omega (arith, last)) ∙ ap (λ (y : OperandType). take n xs ++ y ∷ []) (sym is)
+
+-- The topmost operand is replaced.
+pub set_last : (xs : List OperandType) (y : OperandType) (n : ℕ) → n + 1 ≡ length xs → set xs n y ≡ take n xs ++ y ∷ []
+set_last xs y n last =
+    let whole = sym (take_all (n + 1) (set xs n y) (omega (arith, last, length-set xs n y))) in
+    whole ∙ take_more_set xs n y (omega (arith, last))
+
+-- The topmost operand is this one, and is taken off.
+pub Takes-last : (unreachable : Bool) (height : ℕ) (old : List OperandType) (t : OperandType) (n : ℕ) → n + 1 ≡ length old → t ≡ get_or old n t → height ≤ n → Takes unreachable height old (t ∷ []) (take n old)
+Takes-last unreachable height old t n last is high = Takes-top unreachable height old (take n old) t (split_last old t n last is) (omega (arith, last))
 
 pub Takes-nothing : (unreachable : Bool) (height : ℕ) (old : List OperandType) → Takes unreachable height old [] old
 Takes-nothing unreachable height old = record { at = λ under own parts long. (own, parts, inl (sym (append-nil own))) }

@@ -2,7 +2,8 @@
 use Rattle.std.specs.Prelude.{◌≡◌, ℕ, Bool, true, List, [], ◌∷◌, ◌++◌, replicate, ◌⊎◌, length, ◌≤◌, false}
 use Rattle.core_types.specs.declared.types.OperandType.TheVariants.{Known, Unknown}
 use Rattle.core_types.specs.declared.types.OperandType.{OperandType}
-use Rattle.meaning.specs.validation.Instructions.{AllFit, Fits, IsNumeric}
+use Rattle.core_types.specs.declared.types.ValType.{ValType}
+use Rattle.meaning.specs.validation.Instructions.{AllFit, Fits, IsNumeric, known}
 use Rattle.validator.specs.declared.control_frames.ControlFrame.{ControlFrame}
 use Rattle.validator.specs.declared.control_frames.Stacks.{Stacks}
 use Rattle.core_types.specs.declared.types.RefType.{RefType}
@@ -69,7 +70,13 @@ PopsOne frame old wanted new true =
     (t : OperandType) × TakesOff frame old (t ∷ []) new × Fits t wanted
 PopsOne frame old wanted new false = Refuses frame.unreachable frame.height old (wanted ∷ [])
 
--- The same from the stacks, whose frames stay.
+-- Operands of the types that are wanted are taken, and those of others are put in their place.
+abbrev pub Replaces : ControlFrame → List OperandType → List ValType → List ValType → List OperandType
+    → Type 0
+Replaces frame old wanted results new =
+    (rest : List OperandType) × TakesOff frame old (known wanted) rest × (new ≡ rest ++ known results)
+
+-- The answer of a pop from the stacks, whose frames stay.
 abbrev pub PopsFrom : Stacks → List OperandType → Stacks → Bool → Type 0
 PopsFrom old wanted new answer =
     Pops old.innermost old.operands.items wanted new.operands.items answer

@@ -29,7 +29,9 @@ use crate::instructions::parametric::{step_parametric, step_typed_select};
 use crate::instructions::reference::step_reference;
 use crate::instructions::table::step_table;
 use crate::instructions::variable::step_variable;
-use crate::operands::{pop_fitting, pop_one, pop_two, pop_types, push_types};
+use crate::operands::{
+    pop_fitting, pop_one, pop_two, pop_types, push_types, replace_one, replace_two,
+};
 use crate::types::InstructionType;
 use core_types::{
     ControlOp, Expression, LoadOp, Mark, MemoryOp, Op, OpWith, OperandType, PlainOp, ReferenceOp,
@@ -78,9 +80,18 @@ pub fn apply(stacks: &mut Stacks<'_>, ty: &InstructionType<'_>) -> Result<(), Fa
     Ok(())
 }
 
-// Steps over an instruction that takes an operand of a type, and gives one.
+// Steps over an instruction that takes nothing, and gives an operand of a type.
 #[inline(always)]
-pub fn apply_unary(stacks: &mut Stacks<'_>, takes: ValType, gives: ValType) -> Result<(), Fault>
+pub fn apply_nullary(stacks: &mut Stacks<'_>, gives: ValType) -> Result<(), Fault>
+    ensures { StepsByType stacks.old stacks.new (type_of [] (gives ∷ [])) result }
+{
+    stacks.operands.push(OperandType::Known(gives))?;
+    Ok(())
+}
+
+// Steps over an instruction that takes an operand of a type, and gives one.
+#[inline(never)]
+fn apply_to_one(stacks: &mut Stacks<'_>, takes: ValType, gives: ValType) -> Result<(), Fault>
     ensures { StepsByType stacks.old stacks.new (type_of (takes ∷ []) (gives ∷ [])) result }
 {
     if !pop_one(&mut stacks.operands, &stacks.innermost, takes) {
@@ -90,9 +101,20 @@ pub fn apply_unary(stacks: &mut Stacks<'_>, takes: ValType, gives: ValType) -> R
     Ok(())
 }
 
-// Steps over an instruction that takes two operands of a type, and gives one.
+// The same, where the operand is mostly known, and is replaced in its place then.
 #[inline(always)]
-pub fn apply_binary(stacks: &mut Stacks<'_>, takes: ValType, gives: ValType) -> Result<(), Fault>
+pub fn apply_unary(stacks: &mut Stacks<'_>, takes: ValType, gives: ValType) -> Result<(), Fault>
+    ensures { StepsByType stacks.old stacks.new (type_of (takes ∷ []) (gives ∷ [])) result }
+{
+    if replace_one(&mut stacks.operands, &stacks.innermost, takes, gives) {
+        return Ok(());
+    }
+    apply_to_one(stacks, takes, gives)
+}
+
+// Steps over an instruction that takes two operands of a type, and gives one.
+#[inline(never)]
+fn apply_to_two(stacks: &mut Stacks<'_>, takes: ValType, gives: ValType) -> Result<(), Fault>
     ensures { StepsByType stacks.old stacks.new (type_of (takes ∷ takes ∷ []) (gives ∷ [])) result }
 {
     if !pop_two(&mut stacks.operands, &stacks.innermost, takes) {
@@ -100,6 +122,17 @@ pub fn apply_binary(stacks: &mut Stacks<'_>, takes: ValType, gives: ValType) -> 
     }
     stacks.operands.push(OperandType::Known(gives))?;
     Ok(())
+}
+
+// The same, where both operands are mostly known, and are replaced in their place then.
+#[inline(always)]
+pub fn apply_binary(stacks: &mut Stacks<'_>, takes: ValType, gives: ValType) -> Result<(), Fault>
+    ensures { StepsByType stacks.old stacks.new (type_of (takes ∷ takes ∷ []) (gives ∷ [])) result }
+{
+    if replace_two(&mut stacks.operands, &stacks.innermost, takes, gives) {
+        return Ok(());
+    }
+    apply_to_two(stacks, takes, gives)
 }
 
 // Steps over an instruction whose type was looked up.
@@ -167,7 +200,7 @@ fn step_mark<'a>(
 }
 
 // Steps over the operation at an index. Marks and rare operations are apart, as the loop over a body keeps nothing in memory without
-// them.
+// them, and each arm answers its own fault, as all arms else share a test of what they answer.
 #[inline(always)]
 pub fn step<'a>(
     alloc: Global,
@@ -181,55 +214,87 @@ pub fn step<'a>(
         → Steps context.now stacks.old stacks.new op result }
 {
     match ops.get(index) {
-        OpWith::Unreachable => step_control(context, stacks, ControlOp::Unreachable),
-        OpWith::Nop => step_control(context, stacks, ControlOp::Nop),
-        OpWith::Br(label) => step_control(context, stacks, ControlOp::Br(label)),
-        OpWith::BrIf(label) => step_control(context, stacks, ControlOp::BrIf(label)),
-        OpWith::Return => step_control(context, stacks, ControlOp::Return),
-        OpWith::Call(function) => step_control(context, stacks, ControlOp::Call(function)),
-        OpWith::RefNull(ty) => step_reference(context, stacks, ReferenceOp::Null(ty)),
-        OpWith::RefIsNull => step_reference(context, stacks, ReferenceOp::IsNull),
-        OpWith::RefFunc(function) => step_reference(context, stacks, ReferenceOp::Func(function)),
-        OpWith::Parametric(op) => step_parametric(stacks, op),
-        OpWith::LocalGet(index) => step_variable(context, stacks, VariableOp::LocalGet(index)),
-        OpWith::LocalSet(index) => step_variable(context, stacks, VariableOp::LocalSet(index)),
-        OpWith::LocalTee(index) => step_variable(context, stacks, VariableOp::LocalTee(index)),
-        OpWith::GlobalGet(index) => step_variable(context, stacks, VariableOp::GlobalGet(index)),
-        OpWith::GlobalSet(index) => step_variable(context, stacks, VariableOp::GlobalSet(index)),
-        OpWith::Load(width, align, offset) => {
-            step_load(context, stacks, LoadOp::Whole(width), align, offset)
-        }
-        OpWith::Load8(width, sign, align, offset) => {
-            step_load(context, stacks, LoadOp::Bits8(width, sign), align, offset)
-        }
-        OpWith::Load16(width, sign, align, offset) => {
-            step_load(context, stacks, LoadOp::Bits16(width, sign), align, offset)
-        }
-        OpWith::Load32(sign, align, offset) => {
-            step_load(context, stacks, LoadOp::Bits32(sign), align, offset)
-        }
-        OpWith::Store(width, align, offset) => {
-            step_store(context, stacks, StoreOp::Whole(width), align, offset)
-        }
-        OpWith::Store8(width, align, offset) => {
-            step_store(context, stacks, StoreOp::Bits8(width), align, offset)
-        }
-        OpWith::Store16(width, align, offset) => {
-            step_store(context, stacks, StoreOp::Bits16(width), align, offset)
-        }
-        OpWith::Store32(align, offset) => {
-            step_store(context, stacks, StoreOp::Bits32, align, offset)
-        }
-        OpWith::MemorySize => step_memory(context, stacks, MemoryOp::Size),
-        OpWith::MemoryGrow => step_memory(context, stacks, MemoryOp::Grow),
-        OpWith::MemoryFill => step_memory(context, stacks, MemoryOp::Fill),
-        OpWith::MemoryCopy => step_memory(context, stacks, MemoryOp::Copy),
-        OpWith::Numeric(op) => step_numeric(stacks, op),
-        OpWith::I32Const(value) => step_i32_const(stacks, value),
-        OpWith::I64Const(value) => step_i64_const(stacks, u64::from(value)),
-        OpWith::Block(_) | OpWith::Loop(_) | OpWith::If(_) | OpWith::Else | OpWith::End => {
-            step_mark(context, stacks, ops, index)
-        }
-        OpWith::Other(op) => step_other(alloc, context, stacks, op),
+        OpWith::Unreachable => step_control(context, stacks, ControlOp::Unreachable)?,
+        OpWith::Nop => step_control(context, stacks, ControlOp::Nop)?,
+        OpWith::Br(label) => step_control(context, stacks, ControlOp::Br(label))?,
+        OpWith::BrIf(label) => step_control(context, stacks, ControlOp::BrIf(label))?,
+        OpWith::Return => step_control(context, stacks, ControlOp::Return)?,
+        OpWith::Call(function) => step_control(context, stacks, ControlOp::Call(function))?,
+        OpWith::RefNull(ty) => step_reference(context, stacks, ReferenceOp::Null(ty))?,
+        OpWith::RefIsNull => step_reference(context, stacks, ReferenceOp::IsNull)?,
+        OpWith::RefFunc(function) => step_reference(context, stacks, ReferenceOp::Func(function))?,
+        OpWith::Parametric(op) => step_parametric(stacks, op)?,
+        OpWith::LocalGet(index) => step_variable(context, stacks, VariableOp::LocalGet(index))?,
+        OpWith::LocalSet(index) => step_variable(context, stacks, VariableOp::LocalSet(index))?,
+        OpWith::LocalTee(index) => step_variable(context, stacks, VariableOp::LocalTee(index))?,
+        OpWith::GlobalGet(index) => step_variable(context, stacks, VariableOp::GlobalGet(index))?,
+        OpWith::GlobalSet(index) => step_variable(context, stacks, VariableOp::GlobalSet(index))?,
+        OpWith::Load(width, align, offset) => step_load(
+            context,
+            stacks,
+            LoadOp::Whole(width),
+            align,
+            offset,
+        )?,
+        OpWith::Load8(width, sign, align, offset) => step_load(
+            context,
+            stacks,
+            LoadOp::Bits8(width, sign),
+            align,
+            offset,
+        )?,
+        OpWith::Load16(width, sign, align, offset) => step_load(
+            context,
+            stacks,
+            LoadOp::Bits16(width, sign),
+            align,
+            offset,
+        )?,
+        OpWith::Load32(sign, align, offset) => step_load(
+            context,
+            stacks,
+            LoadOp::Bits32(sign),
+            align,
+            offset,
+        )?,
+        OpWith::Store(width, align, offset) => step_store(
+            context,
+            stacks,
+            StoreOp::Whole(width),
+            align,
+            offset,
+        )?,
+        OpWith::Store8(width, align, offset) => step_store(
+            context,
+            stacks,
+            StoreOp::Bits8(width),
+            align,
+            offset,
+        )?,
+        OpWith::Store16(width, align, offset) => step_store(
+            context,
+            stacks,
+            StoreOp::Bits16(width),
+            align,
+            offset,
+        )?,
+        OpWith::Store32(align, offset) => step_store(
+            context,
+            stacks,
+            StoreOp::Bits32,
+            align,
+            offset,
+        )?,
+        OpWith::MemorySize => step_memory(context, stacks, MemoryOp::Size)?,
+        OpWith::MemoryGrow => step_memory(context, stacks, MemoryOp::Grow)?,
+        OpWith::MemoryFill => step_memory(context, stacks, MemoryOp::Fill)?,
+        OpWith::MemoryCopy => step_memory(context, stacks, MemoryOp::Copy)?,
+        OpWith::Numeric(op) => step_numeric(stacks, op)?,
+        OpWith::I32Const(value) => step_i32_const(stacks, value)?,
+        OpWith::I64Const(value) => step_i64_const(stacks, u64::from(value))?,
+        OpWith::Block(_) | OpWith::Loop(_) | OpWith::If(_) | OpWith::Else | OpWith::End =>
+            step_mark(context, stacks, ops, index)?,
+        OpWith::Other(op) => step_other(alloc, context, stacks, op)?,
     }
+    Ok(())
 }

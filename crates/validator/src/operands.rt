@@ -1,7 +1,8 @@
+ghost use Rattle.std.specs.Bool.{OnFalse, OnTrue};
 ghost use Rattle.std.specs.Prelude.{IfErr, IfNone, IfOk, IfSome, IsTrue, OnOk, [], length, ◌++◌, ◌↔◌, ◌∷◌, ◌≡◌};
 ghost use Rattle.meaning.specs.validation.Instructions.{AllFit, Fits, known};
 ghost use Rattle.validator.specs.Errors.{OnInvalid};
-ghost use Rattle.validator.specs.Operands.{IsDry, Pops, PopsOne, RefusesCountOf, TakesOff};
+ghost use Rattle.validator.specs.Operands.{IsDry, Pops, PopsOne, RefusesCountOf, Replaces, TakesOff};
 
 use crate::control_frames::ControlFrame;
 use crate::errors::Fault;
@@ -64,6 +65,52 @@ pub fn pop_two(operands: &mut Vec<OperandType>, frame: &ControlFrame<'_>, wanted
         return false;
     }
     pop_one(operands, frame, wanted)
+}
+
+// Replaces the topmost operand of the frame by one of another type, where its type is known and is this one; answers whether it is.
+#[inline(always)]
+pub fn replace_one(
+    operands: &mut Vec<OperandType>,
+    frame: &ControlFrame<'_>,
+    takes: ValType,
+    gives: ValType,
+) -> bool
+    ensures replaced { OnTrue result (Replaces frame.now operands.old.items (takes ∷ []) (gives ∷ [])
+        operands.new.items) }
+    ensures kept { OnFalse result (operands.new ≡ operands.old) }
+{
+    let count = operands.len();
+    if count <= frame.height || operands[count - 1] != OperandType::Known(takes) {
+        return false;
+    }
+    operands[count - 1] = OperandType::Known(gives);
+    true
+}
+
+// Replaces the two topmost operands of the frame by one of another type, where their types are known and are both this one; answers
+// whether they are.
+#[inline(always)]
+pub fn replace_two(
+    operands: &mut Vec<OperandType>,
+    frame: &ControlFrame<'_>,
+    takes: ValType,
+    gives: ValType,
+) -> bool
+    ensures replaced { OnTrue result (Replaces frame.now operands.old.items (takes ∷ takes ∷ [])
+        (gives ∷ []) operands.new.items) }
+    ensures kept { OnFalse result (operands.new ≡ operands.old) }
+{
+    let count = operands.len();
+    if count < 2 || count - 2 < frame.height {
+        return false;
+    }
+    let wanted = OperandType::Known(takes);
+    if operands[count - 1] != wanted || operands[count - 2] != wanted {
+        return false;
+    }
+    operands.truncate(count - 1);
+    operands[count - 2] = OperandType::Known(gives);
+    true
 }
 
 // Takes operands off that fit the types, the last one first.

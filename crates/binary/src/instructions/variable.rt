@@ -26,6 +26,7 @@ pub fn read_variable(
         0x21 => Ok(VariableOp::LocalSet(index)),
         0x22 => Ok(VariableOp::LocalTee(index)),
         0x23 => Ok(VariableOp::GlobalGet(index)),
-        _ => Ok(VariableOp::GlobalSet(index)),
+        0x24 => Ok(VariableOp::GlobalSet(index)),
+        _ => unreachable!(),
     }
 }

@@ -6,11 +6,11 @@ ghost use Rattle.binary.specs.Instructions.{NotesData};
 ghost use Rattle.binary.specs.Sections.{NotesDataOfAll, code_at, code_section_at, codes_at, functions_at, groups_at, local_group_at, locals_at};
 
 use crate::errors::DecodeError;
-use crate::expressions::read_body;
+use crate::expressions::{OpenBody, read_body};
 use crate::reader::Reader;
 use crate::sections::custom::skip_customs;
 use crate::types::read_val_type;
-use core_types::{Func, Items, Locals, ValType};
+use core_types::{Func, Items, Locals, Stack, ValType};
 use std::alloc::Global;
 
 // A count of locals, and their type.
@@ -47,11 +47,12 @@ fn read_locals(alloc: Global, reader: &mut Reader<'_>) -> Result<Locals, DecodeE
     read_groups(alloc, reader, count)
 }
 
-// A function whose type has this index, behind its size.
+// A function whose type has this index, behind its size, read with the room of a stack.
 #[tactic(auto, unfolding(crate::specs::Sections::code_at, crate::specs::Sections::function_content_at, crate::specs::Values::sized_at))]
 fn read_code(
     alloc: Global,
     reader: &mut Reader<'_>,
+    bodies: &mut Stack<OpenBody>,
     ty: u32,
     data_named: &mut bool,
 ) -> Result<Func, DecodeError>
@@ -61,7 +62,7 @@ fn read_code(
 {
     let mut content = reader.part()?;
     let locals = read_locals(alloc, &mut content)?;
-    let body = read_body(alloc, &mut content, data_named)?;
+    let body = read_body(alloc, &mut content, bodies, data_named)?;
     content.finish()?;
     Ok(Func { ty, locals, body })
 }
@@ -76,9 +77,10 @@ fn read_codes(
     ensures reads { Gives result reader.new (codes_at types.now [] reader.old) }
     ensures data { IfOk result (NotesDataOfAll data_named.new) }
 {
+    let mut bodies = Stack::new(alloc);
     let mut funcs = Vec::new(alloc);
     for ty in types {
-        funcs.push(read_code(alloc, reader, *ty, data_named)?)?;
+        funcs.push(read_code(alloc, reader, &mut bodies, *ty, data_named)?)?;
     }
     Ok(Items::from_vec(funcs))
 }

@@ -1,16 +1,19 @@
-ghost use Rattle.std.specs.Prelude.{IsTrue, ◌^◌, ◌↔◌, ◌≡◌, ◌≤◌};
+ghost use Rattle.std.specs.Prelude.{IfNone, IfSome, IsTrue, List, [], ◌^◌, ◌↔◌, ◌∷◌, ◌≡◌, ◌≤◌};
 ghost use Rattle.core_types.specs.Expressions.{load_at, store_at};
 ghost use Rattle.core_types.specs.declared.op.MemoryOp.TheVariants as memory_op;
 ghost use Rattle.core_types.specs.declared.op.Op.TheVariants as flat;
 ghost use Rattle.core_types.specs.declared.op.PlainOp.TheVariants as plain;
 ghost use Rattle.meaning.specs.validation.Instructions.{load_type as type_of_load, load_width as width_of_load, store_type as type_of_store, store_width as width_of_store};
-ghost use Rattle.validator.specs.InstructionTypes.{HasTypeOf};
+ghost use Rattle.core_types.specs.declared.types.ValType.{ValType as AnyType};
+ghost use Rattle.core_types.specs.declared.types.ValType.TheVariants.{I32};
+ghost use Rattle.meaning.specs.validation.Types.{function_type};
+ghost use Rattle.validator.specs.InstructionTypes.{HasNoType, HasTypeOf, IsTypeOf};
 ghost use Rattle.validator.specs.Steps.{Steps};
 
 use crate::context::{BodyContext, has_data, memory_type};
 use crate::control_frames::Stacks;
 use crate::errors::Fault;
-use crate::instructions::apply_some;
+use crate::instructions::{apply_some, apply_unary};
 use crate::types::{
     InstructionType, integer_type, once, over_i32, takes_gives, takes_i32_gives, twice,
 };
@@ -73,6 +76,20 @@ fn store_type(store: StoreOp) -> ValType
     }
 }
 
+// The type that a load gives, which takes an i32, if the load is valid.
+fn loaded_type(context: &BodyContext<'_>, load: LoadOp, argument: MemArg) -> Option<ValType>
+    ensures some { IfSome result (λ t. (labels : List (List AnyType)) → IsTypeOf context.now labels
+        (plain.Memory (memory_op.Load load argument)) (function_type (I32 ∷ []) (t ∷ []))) }
+    ensures none { IfNone result ((labels : List (List AnyType)) → HasNoType context.now labels
+        (plain.Memory (memory_op.Load load argument))) }
+{
+    let _ = memory_type(context)?;
+    if !is_aligned(argument.align, load_exponent(load)) {
+        return None;
+    }
+    Some(load_type(load))
+}
+
 // The type of a load.
 fn type_of_load(
     context: &BodyContext<'_>,
@@ -81,11 +98,8 @@ fn type_of_load(
 ) -> Option<InstructionType<'static>>
     ensures { HasTypeOf context.now (plain.Memory (memory_op.Load load argument)) result }
 {
-    let _ = memory_type(context)?;
-    if !is_aligned(argument.align, load_exponent(load)) {
-        return None;
-    }
-    Some(takes_i32_gives(&[], once(load_type(load))))
+    let ty = loaded_type(context, load, argument)?;
+    Some(takes_i32_gives(&[], once(ty)))
 }
 
 // The type of a store.
@@ -163,10 +177,10 @@ pub fn step_load(
     ensures { Steps context.now stacks.old stacks.new (load_at load align offset) result }
 {
     let align = u32::from(align);
-    apply_some(
-        stacks,
-        &type_of_load(context, load, MemArg { align, offset }),
-    )
+    let Some(ty) = loaded_type(context, load, MemArg { align, offset }) else {
+        return Err(Fault::Invalid);
+    };
+    apply_unary(stacks, ValType::I32, ty)
 }
 
 // A store with an alignment of eight bits.

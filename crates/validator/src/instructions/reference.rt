@@ -53,6 +53,7 @@ pub fn type_of_ref_func(context: &BodyContext<'_>, index: u32) -> Option<Instruc
 }
 
 // An instruction on references.
+#[inline(always)]
 pub fn step_reference(
     context: &BodyContext<'_>,
     stacks: &mut Stacks<'_>,

@@ -1,15 +1,18 @@
+ghost use Rattle.std.specs.Prelude.{IfNone, IfSome, List, [], ◌∷◌};
 ghost use Rattle.core_types.specs.declared.op.Op.TheVariants as flat;
 ghost use Rattle.core_types.specs.declared.op.PlainOp.TheVariants as plain;
 ghost use Rattle.core_types.specs.declared.op.VariableOp.TheVariants as variable_op;
-ghost use Rattle.validator.specs.InstructionTypes.{HasTypeOf};
+ghost use Rattle.core_types.specs.declared.types.ValType.{ValType as AnyType};
+ghost use Rattle.meaning.specs.validation.Types.{function_type};
+ghost use Rattle.validator.specs.InstructionTypes.{HasNoType, HasTypeOf, IsTypeOf};
 ghost use Rattle.validator.specs.Steps.{Steps};
 
 use crate::context::{BodyContext, global_type, local_type};
 use crate::control_frames::Stacks;
 use crate::errors::Fault;
-use crate::instructions::apply_some;
+use crate::instructions::{apply_nullary, apply_some};
 use crate::types::{InstructionType, once, takes_gives};
-use core_types::{Mutability, VariableOp};
+use core_types::{Mutability, ValType, VariableOp};
 
 // The type of `global.set`, for a global that may be set.
 fn type_of_global_set(context: &BodyContext<'_>, index: u32) -> Option<InstructionType<'static>>
@@ -22,13 +25,40 @@ fn type_of_global_set(context: &BodyContext<'_>, index: u32) -> Option<Instructi
     }
 }
 
+// The type that `local.get` gives, if the local is there.
+#[inline(always)]
+fn read_type(context: &BodyContext<'_>, index: u32) -> Option<ValType>
+    ensures some { IfSome result (λ t. (labels : List (List AnyType)) → IsTypeOf context.now labels
+        (plain.Variable (variable_op.LocalGet index)) (function_type [] (t ∷ []))) }
+    ensures none { IfNone result ((labels : List (List AnyType)) → HasNoType context.now labels
+        (plain.Variable (variable_op.LocalGet index))) }
+{
+    local_type(context, index)
+}
+
+// A `local.get`.
+#[inline(always)]
+fn step_local_get(
+    context: &BodyContext<'_>,
+    stacks: &mut Stacks<'_>,
+    index: u32,
+) -> Result<(), Fault>
+    ensures { Steps context.now stacks.old stacks.new
+        (flat.Plain (plain.Variable (variable_op.LocalGet index))) result }
+{
+    let Some(ty) = read_type(context, index) else {
+        return Err(Fault::Invalid);
+    };
+    apply_nullary(stacks, ty)
+}
+
 // The type of an instruction on a local or a global.
 fn type_of_variable(context: &BodyContext<'_>, op: VariableOp) -> Option<InstructionType<'static>>
     ensures { HasTypeOf context.now (plain.Variable op) result }
 {
     match op {
         VariableOp::LocalGet(index) => {
-            let ty = local_type(context, index)?;
+            let ty = read_type(context, index)?;
             Some(takes_gives(&[], once(ty)))
         }
         VariableOp::LocalSet(index) => {
@@ -56,5 +86,8 @@ pub fn step_variable(
 ) -> Result<(), Fault>
     ensures { Steps context.now stacks.old stacks.new (flat.Plain (plain.Variable op)) result }
 {
+    if let VariableOp::LocalGet(index) = op {
+        return step_local_get(context, stacks, index);
+    }
     apply_some(stacks, &type_of_variable(context, op))
 }

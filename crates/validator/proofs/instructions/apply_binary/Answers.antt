@@ -1,11 +1,13 @@
-use Rattle.std.proofs.Common.{refl}
-use Rattle.validator.proofs.Steps.{type_refused, type_steps}
+use Rattle.std.proofs.Common.{[], ◌∷◌, refl}
+use Rattle.core_types.specs.declared.types.OperandType.TheVariants.{Known}
+use Rattle.meaning.proofs.lemmas.Typing.{AllFit-same}
+use Rattle.validator.proofs.Steps.{type_steps}
 use Rattle.validator.proofs.instructions.apply_binary.Goals as goal
 
-pub returns : goal.returns
-returns c = λ lent o type.
-    let (given, takes, fits) = c.if-not-pop_two.ensures in
-    (type_steps o _ type refl refl takes fits c.in_ok-push.ensures.items, tt)
+pub returns-then-replace_two : goal.returns-then-replace_two
+returns-then-replace_two c = λ lent o type.
+    let (rest, takes, is) = c.if-replace_two.ensures.replaced in
+    (type_steps o _ type refl refl takes (AllFit-same (Known c.args.takes ∷ Known c.args.takes ∷ [])) is, tt)
 
-pub returns-then-not-pop_two : goal.returns-then-not-pop_two
-returns-then-not-pop_two c = λ lent o type. (tt, λ invalid. type_refused o _ type c.if-not-pop_two.ensures)
+pub returns : goal.returns
+returns c = λ lent o type. (rw c.if-replace_two.ensures.kept at c.apply_to_two.ensures) lent o type
