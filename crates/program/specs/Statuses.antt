@@ -1,5 +1,71 @@
 -- The exit statuses of the program.
-use Rattle.std.specs.Prelude.{◌≤◌, ℕ}
+use Rattle.std.specs.Prelude.{◌≡◌, ◌⊎◌, ℕ, zero, suc, Result, Ok, Err}
+use Rattle.meaning.specs.embedding.Commands as machine
+use Rattle.meaning.specs.execution.Runs.{Ending, OutOfDepth, OutOfFuel, OutOfMemory, WithTrap, WithValues}
+use Rattle.embed.specs.Replies.{call_reply, refusal_of}
+use Rattle.program.specs.declared.faults.Fault.{Fault}
+use Rattle.program.specs.declared.faults.Fault.TheVariants as fault
+use Rattle.program.specs.declared.program.End.{End}
+use Rattle.program.specs.declared.program.End.TheVariants as end
+use Rattle.scripts.specs.declared.faults.ScriptFault.{ScriptFault}
+use Rattle.scripts.specs.declared.faults.ScriptFault.TheVariants as script
 
-abbrev pub IsStatus : ℕ → Type 0
-IsStatus status = status ≤ 6
+-- How a call ended: with values, with a trap, or out of fuel, depth or memory.
+abbrev pub ending_status : Ending → ℕ
+ending_status (WithValues values) = 0
+ending_status (WithTrap trap) = 1
+ending_status OutOfFuel = 6
+ending_status OutOfDepth = 6
+ending_status OutOfMemory = 6
+
+-- Why a command was refused: an export or arguments that do not fit, no memory, or a module that is refused.
+abbrev pub refusal_status : machine.Refusal → ℕ
+refusal_status machine.UnknownExport = 2
+refusal_status machine.WrongKind = 2
+refusal_status machine.BadArguments = 2
+refusal_status machine.OutOfMemory = 6
+refusal_status why = 5
+
+-- What the embedding replied.
+abbrev pub reply_status : machine.Reply → ℕ
+reply_status (machine.Ended ending) = ending_status ending
+reply_status (machine.Refused why) = refusal_status why
+reply_status reply = 0
+
+-- How many commands of a script failed.
+abbrev pub script_status : (failed : ℕ) → ℕ
+script_status zero = 0
+script_status (suc failed) = 1
+
+-- How the program did what it was asked for.
+abbrev pub end_status : End → ℕ
+end_status (end.Ran report) = script_status report.failed
+end_status (end.Called call) = reply_status (call_reply (Ok call.outcome))
+end_status end.Valid = 0
+
+-- Why a script was not run to its end: it is not of the form of a command file, a file is missing, or there is no memory.
+abbrev pub script_fault_status : ScriptFault → ℕ
+script_fault_status script.NotJson = 4
+script_fault_status (script.BadCommand command) = 4
+script_fault_status (script.MissingFile command) = 3
+script_fault_status script.OutOfMemory = 6
+
+-- Why the program did not do what it was asked for.
+abbrev pub fault_status : Fault → ℕ
+fault_status fault.Usage = 2
+fault_status (fault.CannotRead path) = 3
+fault_status (fault.CannotReadNamed path) = 3
+fault_status (fault.Script why) = script_fault_status why
+fault_status (fault.Refused why) = refusal_status (refusal_of why)
+fault_status fault.HostNameTaken = 5
+fault_status fault.HostFuncRef = 5
+fault_status fault.BadArguments = 2
+
+-- The status behind lines that were to be printed: this one, or 1 where the writer failed.
+abbrev pub IsPrintedStatus : (wanted status : ℕ) → Type 0
+IsPrintedStatus wanted status = (status ≡ wanted) ⊎ (status ≡ 1)
+
+-- The status of what the program came to.
+abbrev pub IsStatusOf : Result End Fault → (status : ℕ) → Type 0
+IsStatusOf (Ok done) status = IsPrintedStatus (end_status done) status
+IsStatusOf (Err why) status = status ≡ fault_status why

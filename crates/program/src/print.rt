@@ -1,6 +1,8 @@
 //! What the program prints, and the exit status that goes with it.
 
-ghost use Rattle.program.specs.Statuses.{IsStatus};
+ghost use Rattle.std.specs.Prelude.{◌≡◌, Ok};
+ghost use Rattle.embed.specs.Replies.{call_reply, refusal_of};
+ghost use Rattle.program.specs.Statuses.{IsPrintedStatus, fault_status, refusal_status, reply_status, script_fault_status, script_status};
 
 use crate::faults::Fault;
 use crate::program::CallEnd;
@@ -48,7 +50,7 @@ fn print_lines<W: Write>(out: &mut W, end: &CallEnd) -> io::Result<()> {
 }
 
 fn outcome_status(outcome: &Outcome) -> u8
-    ensures { IsStatus result }
+    ensures { result ≡ reply_status (call_reply (Ok outcome.now)) }
 {
     match outcome {
         Outcome::Values(_) => 0,
@@ -59,7 +61,7 @@ fn outcome_status(outcome: &Outcome) -> u8
 
 /// Prints how a call ended, and answers the exit status: 1 where the writer fails.
 pub fn print_end<W: Write>(out: &mut W, end: &CallEnd) -> u8
-    ensures { IsStatus result }
+    ensures { IsPrintedStatus (reply_status (call_reply (Ok end.now.outcome))) result }
 {
     match print_lines(out, end) {
         Ok(()) => outcome_status(&end.outcome),
@@ -83,7 +85,7 @@ fn print_report_lines<W: Write>(out: &mut W, report: &Report) -> io::Result<()> 
 
 /// Prints what a script has come to, and answers the exit status: 1 where a command or the writer fails.
 pub fn print_report<W: Write>(out: &mut W, report: &Report) -> u8
-    ensures { IsStatus result }
+    ensures { IsPrintedStatus (script_status report.now.failed) result }
 {
     match print_report_lines(out, report) {
         Ok(()) if report.failed == 0 => 0,
@@ -98,7 +100,7 @@ fn print_valid_line<W: Write>(out: &mut W) -> io::Result<()> {
 
 /// Prints that a module is valid, and answers the exit status: 1 where the writer fails.
 pub fn print_valid<W: Write>(out: &mut W) -> u8
-    ensures { IsStatus result }
+    ensures { IsPrintedStatus 0 result }
 {
     match print_valid_line(out) {
         Ok(()) => 0,
@@ -107,7 +109,7 @@ pub fn print_valid<W: Write>(out: &mut W) -> u8
 }
 
 fn refusal_status(refusal: Refusal) -> u8
-    ensures { IsStatus result }
+    ensures { result ≡ refusal_status (refusal_of refusal) }
 {
     match refusal {
         Refusal::Malformed(_) => 5,
@@ -127,7 +129,7 @@ fn refusal_status(refusal: Refusal) -> u8
 }
 
 fn script_fault_status(fault: &ScriptFault) -> u8
-    ensures { IsStatus result }
+    ensures { result ≡ script_fault_status fault.now }
 {
     match fault {
         ScriptFault::NotJson => 4,
@@ -138,7 +140,7 @@ fn script_fault_status(fault: &ScriptFault) -> u8
 }
 
 fn fault_status(fault: &Fault<'_>) -> u8
-    ensures { IsStatus result }
+    ensures { result ≡ fault_status fault.now }
 {
     match fault {
         Fault::Usage => 2,
@@ -177,7 +179,7 @@ fn print_fault_line<E: Write>(err: &mut E, fault: &Fault<'_>) -> io::Result<()> 
 
 /// Prints a fault's line, and answers the exit status, also where the writer fails.
 pub fn print_fault<E: Write>(err: &mut E, fault: &Fault<'_>) -> u8
-    ensures { IsStatus result }
+    ensures { result ≡ fault_status fault.now }
 {
     let _ = print_fault_line(err, fault);
     fault_status(fault)

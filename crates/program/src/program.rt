@@ -1,7 +1,9 @@
 //! The program over its words, its files and its writers.
 
-ghost use Rattle.std.specs.Prelude.{◌<◌, ◌^◌, length};
-ghost use Rattle.program.specs.Statuses.{IsStatus};
+ghost use Rattle.std.specs.Prelude.{◌≡◌, ◌<◌, ◌^◌, Result, length};
+ghost use Rattle.program.specs.Statuses.{IsStatusOf, fault_status};
+ghost use Rattle.program.specs.declared.faults.Fault.{Fault as AnyFault};
+ghost use Rattle.program.specs.declared.program.End.{End as AnyEnd};
 
 use crate::calls::{add_spectest, call, new_embedding};
 use crate::faults::Fault;
@@ -124,7 +126,7 @@ pub fn run<F: Files, W: Write, E: Write>(
     err: &mut E,
 ) -> u8
     requires { length hosts.items < 2 ^ 32 }
-    ensures { IsStatus result }
+    ensures { (done : Result AnyEnd AnyFault) × IsStatusOf done result }
 {
     match perform(alloc, words, files, hosts) {
         Ok(End::Ran(report)) => print_report(out, &report),
@@ -145,7 +147,7 @@ fn words_fault(error: &io::Error) -> Fault<'static> {
 
 /// Prints why the words after the program's name, or the prints, cannot be had, and answers the exit status.
 pub fn refuse_words<E: Write>(error: &io::Error, err: &mut E) -> u8
-    ensures { IsStatus result }
+    ensures { (why : AnyFault) × (result ≡ fault_status why) }
 {
     print_fault(err, &words_fault(error))
 }
