@@ -1,4 +1,4 @@
-ghost use Rattle.std.specs.Prelude.{◌≡◌, ◌==◌, List, length};
+ghost use Rattle.std.specs.Prelude.{◌≡◌, ◌==◌, List, length, option_copied, slice_get};
 
 use std::fmt;
 use std::marker::Model;
@@ -51,6 +51,14 @@ impl<T> Items<T> {
     {
         self.items.is_empty()
     }
+}
+
+/// The item at an index of 32 bits, if there is one.
+#[inline(always)]
+pub fn item<T>(items: &[T], index: u32) -> Option<&T>
+    ensures { option_copied result ≡ slice_get items.now index }
+{
+    items.get(index as usize)
 }
 
 impl<T: fmt::Debug> fmt::Debug for Items<T> {

@@ -52,9 +52,9 @@ pub enum OpWith<T> {
 /// A flat operation that is lent.
 pub type LentOp<'a> = OpWith<&'a Op>;
 
-/// The type of a block that takes nothing and gives this.
+// The type of a block that takes nothing and gives this.
 #[inline(always)]
-pub fn block_type(value: Option<ValType>) -> BlockType
+fn block_type(value: Option<ValType>) -> BlockType
     ensures { result ≡ block_type_of value }
 {
     match value {

@@ -20,8 +20,8 @@ mod types;
 pub use appending::append;
 pub use boxed::Boxed;
 pub use expression::Expression;
-pub use items::Items;
-pub use lent_op::{LentOp, Mark, OpWith, block_type, is_mark, mark_of};
+pub use items::{Items, item};
+pub use lent_op::{LentOp, Mark, OpWith, is_mark, mark_of};
 pub use locals::{LocalRun, Locals};
 pub use module::{
     DataMode, DataSegment, ElementItems, ElementMode, ElementSegment, Export, ExportDesc, Func,

@@ -1,13 +1,15 @@
 -- Definitions of host functions, in the terms of the embedding machine.
-use Rattle.std.specs.Prelude.{◌≡◌, List, map, Some, string_bytes}
+use Rattle.std.specs.Prelude.{◌≡◌, ◌+◌, ◌++◌, ◌∷◌, [], List, None, Some, ℕ, length, map, string_bytes}
 use Rattle.meaning.specs.embedding.Creation as machine
-use Rattle.meaning.specs.embedding.Creation.{HostDefinition, fault_of, first_fault}
-use Rattle.meaning.specs.embedding.Names.{NamesContents, no_names}
+use Rattle.meaning.specs.embedding.Creation.{HostDefinition, fault_of, first_fault, store_of_hosts, with_definitions}
+use Rattle.meaning.specs.embedding.Names.{NamesContents, no_names, with_host}
 use Rattle.hostfunc.specs.Boxes.{declared_type, type_of_host}
 use Rattle.hostfunc.specs.declared.host_function.HostFn.{Ghosts}
 use Rattle.hostfunc.specs.declared.host_object.HostObject.{HostObject}
+use Rattle.store.specs.Contents.{host_function, store_of, with_function}
 use Rattle.linker.specs.declared.refusals.NameRefusal.{NameRefusal}
 use Rattle.linker.specs.declared.refusals.NameRefusal.TheVariants as name
+use Rattle.embed.specs.declared.definitions.Defined.{Defined}
 use Rattle.embed.specs.declared.host_definitions.HostDef.{HostDef}
 use Rattle.embed.specs.declared.new_fault.NewFault.{NewFault}
 use Rattle.embed.specs.declared.new_fault.NewFault.TheVariants.{HostFuncRef, NameTaken, OutOfMemory}
@@ -20,6 +22,26 @@ fault_in OutOfMemory = machine.OutOfMemory
 abbrev pub name_fault : NameRefusal → NewFault
 name_fault name.NameTaken = NameTaken
 name_fault name.OutOfMemory = OutOfMemory
+
+module _ {I : Type 0} {F : I → Type 0} where
+  -- A definition is taken in: its name stands for the next function, which is that of the next host object.
+  pub record TakesIn (old : Defined I F) (d : HostDefinition (HostObject I F)) (new : Defined I F)
+      : Type 0 where
+    pub names : new.names ≡ with_host old.names d.module_name d.name
+        (length (store_of old.store).functions)
+    pub faultless : fault_of type_of_host old.names d ≡ None
+    pub store : store_of new.store ≡ with_function (store_of old.store)
+        (host_function (length old.store.code.hosts) d.host.ty)
+    pub counted : length new.store.code.hosts ≡ length old.store.code.hosts + 1
+    pub objects : new.hosts.objects.items ≡ old.hosts.objects.items ++ d.host ∷ []
+
+  -- Definitions are taken in, and none is at fault, where a memory and a table may have so much.
+  pub record AreTakenIn (pages entries : ℕ) (ds : List (HostDefinition (HostObject I F)))
+      (new : Defined I F) : Type 0 where
+    pub names : new.names ≡ with_definitions type_of_host no_names 0 ds
+    pub faultless : first_fault type_of_host no_names 0 ds ≡ None
+    pub store : store_of new.store ≡ store_of_hosts type_of_host pages entries ds
+    pub objects : new.hosts.objects.items ≡ map (λ d. d.host) ds
 
 module _ {I : Type 0} {F : I → Type 0} (members : (i : I) → Ghosts (F i)) where
   -- The host function that is defined, with the type that it declares.

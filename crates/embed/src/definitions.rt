@@ -1,9 +1,7 @@
-ghost use Rattle.std.specs.Prelude.{◌≡◌, ◌↔◌, ◌+◌, ◌<◌, ◌^◌, ◌++◌, ◌∷◌, [], IsTrue, IfOk, IfErr, OnOk, None, length, map, true};
-ghost use Rattle.meaning.specs.embedding.Creation.{fault_of, first_fault, store_of_hosts, with_definitions};
-ghost use Rattle.meaning.specs.embedding.Names.{no_names, with_host};
-ghost use Rattle.hostfunc.specs.Boxes.{HaveHosts, declared_type, type_of_host};
-ghost use Rattle.store.specs.Contents.{host_function, store_of, with_function};
-ghost use Rattle.embed.specs.Definitions.{IsAtFault, IsFirstFault, definition_of};
+ghost use Rattle.std.specs.Prelude.{◌+◌, ◌<◌, ◌^◌, IfOk, IfErr, OnOk, length, map};
+ghost use Rattle.hostfunc.specs.Boxes.{HaveHosts};
+ghost use Rattle.store.specs.Contents.{store_of};
+ghost use Rattle.embed.specs.Definitions.{AreTakenIn, IsAtFault, IsFirstFault, TakesIn, definition_of};
 
 use crate::config::Config;
 use crate::host_definitions::HostDef;
@@ -26,21 +24,8 @@ fn define_host(alloc: Global, definition: HostDef, defined: &mut Defined) -> Res
     requires functions { length (store_of defined.old.store).functions + 1 < 2 ^ 32 }
     requires hosts { length defined.old.store.code.hosts + 1 < 2 ^ 32 }
     requires objects { length defined.old.hosts.objects.items + 1 < 2 ^ 32 }
-    ensures names { OnOk result (defined.new.names ≡ with_host defined.old.names
-        (definition_of ⟦<dyn HostFn as HostFn>⟧ definition).module_name
-        (definition_of ⟦<dyn HostFn as HostFn>⟧ definition).name
-        (length (store_of defined.old.store).functions)) }
-    ensures faultless { OnOk result (fault_of type_of_host defined.old.names
-        (definition_of ⟦<dyn HostFn as HostFn>⟧ definition) ≡ None) }
-    ensures store { OnOk result (store_of defined.new.store ≡
-        with_function (store_of defined.old.store)
-        (host_function (length defined.old.store.code.hosts)
-        (definition_of ⟦<dyn HostFn as HostFn>⟧ definition).host.ty)) }
-    ensures counted { OnOk result
-        (length defined.new.store.code.hosts ≡ length defined.old.store.code.hosts + 1) }
-    ensures objects { OnOk result
-        (defined.new.hosts.objects.items ≡ defined.old.hosts.objects.items ++
-        (definition_of ⟦<dyn HostFn as HostFn>⟧ definition).host ∷ []) }
+    ensures defined { OnOk result (TakesIn defined.old
+        (definition_of ⟦<dyn HostFn as HostFn>⟧ definition) defined.new) }
     ensures refused { IfErr result
         (λ fault. IsAtFault ⟦<dyn HostFn as HostFn>⟧ fault defined.old.names definition) }
 {
@@ -66,14 +51,7 @@ pub fn define_hosts(
     definitions: Vec<HostDef>,
 ) -> Result<Defined, NewFault>
     requires { length definitions.items < 2 ^ 32 }
-    ensures names { IfOk result (λ defined. defined.names ≡ with_definitions type_of_host no_names 0
-        (map (definition_of ⟦<dyn HostFn as HostFn>⟧) definitions.items)) }
-    ensures faultless { IfOk result (λ defined. first_fault type_of_host no_names 0
-        (map (definition_of ⟦<dyn HostFn as HostFn>⟧) definitions.items) ≡ None) }
-    ensures store { IfOk result (λ defined. store_of defined.store ≡ store_of_hosts type_of_host
-        config.now.pages config.now.entries
-        (map (definition_of ⟦<dyn HostFn as HostFn>⟧) definitions.items)) }
-    ensures objects { IfOk result (λ defined. defined.hosts.objects.items ≡ map (λ d. d.host)
+    ensures defined { IfOk result (AreTakenIn config.now.pages config.now.entries
         (map (definition_of ⟦<dyn HostFn as HostFn>⟧) definitions.items)) }
     ensures typed { IfOk result (λ defined. HaveHosts (store_of defined.store)
         defined.hosts.objects.items) }

@@ -2,7 +2,7 @@
 
 use core_types::{
     BlockType, Boxed, BranchTable, Expression, Items, LentOp, Locals, MemArg, MemoryOp, Name, Op,
-    OpWith, PlainOp, Stack, StoreOp, ValType, append, is_mark,
+    OpWith, PlainOp, Stack, StoreOp, ValType, append, is_mark, item,
 };
 use std::alloc::{AllocError, Global};
 use std::mem::size_of;
@@ -95,8 +95,9 @@ fn keeps_elements(alloc: Global) -> Result<bool, AllocError> {
     let items = Items::from_vec(vec![in alloc; 1u32, 2, 3]?);
     let same = Items::from_vec(vec![in alloc; 1u32, 2, 3]?);
     let is_read = items.len() == 3 && !items.is_empty() && items.as_slice() == [1, 2, 3].as_slice();
+    let is_found = item(items.as_slice(), 2) == Some(&3) && item(items.as_slice(), 3).is_none();
     let is_equal = items == same;
-    Ok(is_read && is_equal && items.into_vec().as_slice() == [1, 2, 3].as_slice())
+    Ok(is_read && is_found && is_equal && items.into_vec().as_slice() == [1, 2, 3].as_slice())
 }
 
 #[test]

@@ -20,17 +20,7 @@ use core_types::{
 use intops::{binary_32, binary_64};
 use std::alloc::{AllocError, Global};
 use std::marker::Model;
-use store::{Addresses, State};
-
-// The null of a type.
-fn null_of(ty: RefType) -> Val
-    ensures { result ≡ null_of ty }
-{
-    match ty {
-        RefType::FuncRef => Val::FuncRef(None),
-        RefType::ExternRef => Val::ExternRef(None),
-    }
-}
+use store::{Addresses, State, null_of};
 
 /// The reference to a function of the instance with these addresses, if it has that function.
 pub fn function_reference(addresses: &Addresses, state: &State, x: u32) -> Option<Val>

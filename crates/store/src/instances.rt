@@ -6,8 +6,7 @@ ghost use Rattle.store.specs.declared.instances.Callee.TheVariants.{InModule as 
 
 use crate::entries::push_entries;
 use crate::loaded_modules::LoadedModule;
-use crate::lookups::item;
-use core_types::{Func, FuncType};
+use core_types::{Func, FuncType, item};
 use sidetable::PackedFunction;
 use std::alloc::{AllocError, Global};
 use std::marker::Model;

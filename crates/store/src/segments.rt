@@ -2,8 +2,7 @@ ghost use Rattle.std.specs.Prelude.{◌≡◌, []};
 ghost use Rattle.store.specs.Segments.{bytes_at};
 
 use crate::loaded_modules::LoadedModule;
-use crate::lookups::item;
-use core_types::{Module, RefType, Val};
+use core_types::{Module, RefType, Val, item};
 use std::alloc::Global;
 use std::marker::Model;
 use std::rc::Rc;

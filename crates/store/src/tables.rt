@@ -27,8 +27,8 @@ impl Model for Table {
     ghost invariant = { λ t. HasEntries t.ty.limits.min t.entries.items };
 }
 
-// The null of a type.
-fn null_of(ty: RefType) -> Val
+/// The null of a type (Execution, Runtime Structure, Values).
+pub fn null_of(ty: RefType) -> Val
     ensures { result ≡ null_of ty }
 {
     match ty {

@@ -6,7 +6,7 @@ ghost use Rattle.validator.specs.Contexts.{IsMarked, function_types, local_types
 ghost use Rattle.validator.specs.InstructionTypes.{lent_func_type};
 
 use crate::types::{LentFuncType, lend};
-use core_types::{GlobalType, Limits, Locals, Module, RefType, TableType, ValType};
+use core_types::{GlobalType, Limits, Locals, Module, RefType, TableType, ValType, item};
 
 /// The index spaces of a module, imports first, and which functions `ref.func` may name in a body
 /// (Validation, Conventions, Contexts).
@@ -29,13 +29,6 @@ pub struct BodyContext<'a> {
     pub params: &'a [ValType],
     pub locals: &'a Locals,
     pub results: &'a [ValType],
-}
-
-// The item of this index, if there is one.
-pub fn item<T>(items: &[T], index: u32) -> Option<&T>
-    ensures { option_copied result ≡ slice_get items.now index }
-{
-    items.get(index as usize)
 }
 
 // The type of a local; the parameters come first.

@@ -10,12 +10,12 @@ ghost use Rattle.validator.specs.declared.errors.Place.TheVariants.{Section};
 ghost use Rattle.validator.specs.declared.errors.ValidateError.TheVariants.{Invalid, OutOfMemory};
 ghost use Rattle.validator.specs.Modules.{HasValidBodies};
 
-use crate::context::{BodyContext, IndexSpaces, item};
+use crate::context::{BodyContext, IndexSpaces};
 use crate::control_frames::{Stacks, begin_body};
 use crate::errors::{Fault, Place, ValidateError};
 use crate::instructions::control::blocks::finish;
 use crate::instructions::step;
-use core_types::{Expression, Func, Module};
+use core_types::{Expression, Func, Module, item};
 use std::alloc::Global;
 
 // Whether the type of each function is there, in a module with this number of types (Validation,

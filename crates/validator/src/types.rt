@@ -4,8 +4,7 @@ ghost use Rattle.meaning.specs.validation.Instructions.{integer_type as type_of_
 ghost use Rattle.meaning.specs.validation.Types.{AreOrdered, block_type, function_type as type_of, reference_type as type_of_reference};
 ghost use Rattle.validator.specs.InstructionTypes.{lent_func_type, lent_type};
 
-use crate::context::item;
-use core_types::{BlockType, FuncType, Limits, RefType, ValType, Width};
+use core_types::{BlockType, FuncType, Limits, RefType, ValType, Width, item};
 
 /// The type of an instruction: the operands that it takes, with an i32 over them or not, and its
 /// results.

@@ -24,7 +24,7 @@ define_host-requires-clause-functions g c =
     let turn = YieldsList-turn (YieldsList-from_vec {s = c.into_iter-definition-iterator.result} c.args.definitions.items c.into_iter-definition-iterator.ensures.into_iter_gives.0 len) c.loop-definition.yielded c.loop-definition.definition-iterator c.loop-definition.yielded_by c.next.result c.next.new.self c.in-Some.definition c.in-Some.is c.next.ensures.steps in
     let inside = turn.0 in
     let defs = map (definition_of (λ vtable. (g.dyn-1.0.entry vtable).1)) c.loop-definition.yielded in
-    let count = ap (λ (s : Store). length s.functions) c.loop-definition.invariant.store ∙ length-functions type_of_host 0 defs ∙ length-map c.loop-definition.yielded (definition_of (λ vtable. (g.dyn-1.0.entry vtable).1)) in
+    let count = ap (λ (s : Store). length s.functions) c.loop-definition.invariant.taken.store ∙ length-functions type_of_host 0 defs ∙ length-map c.loop-definition.yielded (definition_of (λ vtable. (g.dyn-1.0.entry vtable).1)) in
     let few = c.requires in
     omega (arith, inside, count, few)
 
@@ -34,7 +34,7 @@ define_host-requires-clause-objects g c =
     let turn = YieldsList-turn (YieldsList-from_vec {s = c.into_iter-definition-iterator.result} c.args.definitions.items c.into_iter-definition-iterator.ensures.into_iter_gives.0 len) c.loop-definition.yielded c.loop-definition.definition-iterator c.loop-definition.yielded_by c.next.result c.next.new.self c.in-Some.definition c.in-Some.is c.next.ensures.steps in
     let inside = turn.0 in
     let defs = map (definition_of (λ vtable. (g.dyn-1.0.entry vtable).1)) c.loop-definition.yielded in
-    let count = ap length c.loop-definition.invariant.objects ∙ length-map defs (λ d. d.host) ∙ length-map c.loop-definition.yielded (definition_of (λ vtable. (g.dyn-1.0.entry vtable).1)) in
+    let count = ap length c.loop-definition.invariant.taken.objects ∙ length-map defs (λ d. d.host) ∙ length-map c.loop-definition.yielded (definition_of (λ vtable. (g.dyn-1.0.entry vtable).1)) in
     let few = c.requires in
     omega (arith, inside, count, few)
 
@@ -44,16 +44,18 @@ loop-definition-preserved g c =
     let next = c.in-Some.definition in
     let defs = map (definition_of (λ vtable. (g.dyn-1.0.entry vtable).1)) taken in
     let size : length defs ≡ length taken = length-map taken (definition_of (λ vtable. (g.dyn-1.0.entry vtable).1)) in
-    let inv = c.loop-definition.invariant in
-    let done = c.in_ok-define_host.ensures in
+    let counted = c.loop-definition.invariant.counted in
+    let inv = c.loop-definition.invariant.taken in
+    let done = c.in_ok-define_host.ensures.defined in
     let address = ap (λ (s : Store). length s.functions) inv.store ∙ length-functions type_of_host 0 defs in
-    let number = inv.counted ∙ sym size in
     record {
-      names = names-taken (λ vtable. (g.dyn-1.0.entry vtable).1) taken next c.loop-definition.defined.names inv.names c.define_host.new.defined.names (length (store_of c.loop-definition.defined.store).functions) address done.names;
-      faultless = faultless-taken (λ vtable. (g.dyn-1.0.entry vtable).1) taken next c.loop-definition.defined.names inv.names inv.faultless done.faultless;
-      store = store-taken (λ vtable. (g.dyn-1.0.entry vtable).1) taken next c.args.config.now.pages c.args.config.now.entries (length c.loop-definition.defined.store.code.hosts) (store_of c.loop-definition.defined.store) (store_of c.define_host.new.defined.store) inv.store number done.store;
-      counted = done.counted ∙ ap (λ (n : ℕ). n + 1) inv.counted ∙ sym (length-append taken (next ∷ []));
-      objects = objects-taken (λ vtable. (g.dyn-1.0.entry vtable).1) taken next c.loop-definition.defined.hosts.objects.items c.define_host.new.defined.hosts.objects.items inv.objects done.objects;
+      taken = record {
+        names = names-taken (λ vtable. (g.dyn-1.0.entry vtable).1) taken next c.loop-definition.defined.names inv.names c.define_host.new.defined.names (length (store_of c.loop-definition.defined.store).functions) address done.names;
+        faultless = faultless-taken (λ vtable. (g.dyn-1.0.entry vtable).1) taken next c.loop-definition.defined.names inv.names inv.faultless done.faultless;
+        store = store-taken (λ vtable. (g.dyn-1.0.entry vtable).1) taken next c.args.config.now.pages c.args.config.now.entries (length c.loop-definition.defined.store.code.hosts) (store_of c.loop-definition.defined.store) (store_of c.define_host.new.defined.store) inv.store (counted ∙ sym size) done.store;
+        objects = objects-taken (λ vtable. (g.dyn-1.0.entry vtable).1) taken next c.loop-definition.defined.hosts.objects.items c.define_host.new.defined.hosts.objects.items inv.objects done.objects;
+      };
+      counted = done.counted ∙ ap (λ (n : ℕ). n + 1) counted ∙ sym (length-append taken (next ∷ []));
     }
 
 pub returns-in_err-define_host-clause-refused : goal.returns-in_err-define_host-clause-refused
@@ -64,40 +66,19 @@ returns-in_err-define_host-clause-refused g c =
     let turn = YieldsList-turn list taken c.loop-definition.definition-iterator c.loop-definition.yielded_by c.next.result c.next.new.self c.in-Some.definition c.in-Some.is c.next.ensures.steps in
     let front = YieldsList-so_far list taken c.loop-definition.definition-iterator c.loop-definition.yielded_by in
     let all = split c.args.definitions.items taken c.in-Some.definition front turn.0 turn.1 in
-    let inv = c.loop-definition.invariant in
+    let inv = c.loop-definition.invariant.taken in
     let passed = err_from_is_err_and c.from_residual.result c.from_residual.ensures.1 in
     rw (passed.1, passed.2, all) (fault-first (λ vtable. (g.dyn-1.0.entry vtable).1) taken c.in-Some.definition c.loop-definition.defined.names inv.names inv.faultless _ (drop (length taken + 1) c.args.definitions.items) c.in_err-define_host.ensures.refused)
 
-pub returns-clause-names : goal.returns-clause-names
-returns-clause-names g c =
+pub returns-clause-defined : goal.returns-clause-defined
+returns-clause-defined g c =
     let len : c.into_iter-definition-iterator.result.rest.len ≡ length c.args.definitions.items = search rules in
     let end = YieldsList-end (YieldsList-from_vec {s = c.into_iter-definition-iterator.result} c.args.definitions.items c.into_iter-definition-iterator.ensures.into_iter_gives.0 len) c.loop-definition.yielded c.loop-definition.definition-iterator c.loop-definition.yielded_by c.next.result c.next.new.self c.in-None.is c.next.ensures.steps in
     let same : c.loop-definition.yielded ≡ c.args.definitions.items = sym (map-id c.loop-definition.yielded) ∙ end.0 in
-    rw (← same) c.loop-definition.invariant.names
-
-pub returns-clause-faultless : goal.returns-clause-faultless
-returns-clause-faultless g c =
-    let len : c.into_iter-definition-iterator.result.rest.len ≡ length c.args.definitions.items = search rules in
-    let end = YieldsList-end (YieldsList-from_vec {s = c.into_iter-definition-iterator.result} c.args.definitions.items c.into_iter-definition-iterator.ensures.into_iter_gives.0 len) c.loop-definition.yielded c.loop-definition.definition-iterator c.loop-definition.yielded_by c.next.result c.next.new.self c.in-None.is c.next.ensures.steps in
-    let same : c.loop-definition.yielded ≡ c.args.definitions.items = sym (map-id c.loop-definition.yielded) ∙ end.0 in
-    rw (← same) c.loop-definition.invariant.faultless
-
-pub returns-clause-store : goal.returns-clause-store
-returns-clause-store g c =
-    let len : c.into_iter-definition-iterator.result.rest.len ≡ length c.args.definitions.items = search rules in
-    let end = YieldsList-end (YieldsList-from_vec {s = c.into_iter-definition-iterator.result} c.args.definitions.items c.into_iter-definition-iterator.ensures.into_iter_gives.0 len) c.loop-definition.yielded c.loop-definition.definition-iterator c.loop-definition.yielded_by c.next.result c.next.new.self c.in-None.is c.next.ensures.steps in
-    let same : c.loop-definition.yielded ≡ c.args.definitions.items = sym (map-id c.loop-definition.yielded) ∙ end.0 in
-    rw (← same) c.loop-definition.invariant.store
-
-pub returns-clause-objects : goal.returns-clause-objects
-returns-clause-objects g c =
-    let len : c.into_iter-definition-iterator.result.rest.len ≡ length c.args.definitions.items = search rules in
-    let end = YieldsList-end (YieldsList-from_vec {s = c.into_iter-definition-iterator.result} c.args.definitions.items c.into_iter-definition-iterator.ensures.into_iter_gives.0 len) c.loop-definition.yielded c.loop-definition.definition-iterator c.loop-definition.yielded_by c.next.result c.next.new.self c.in-None.is c.next.ensures.steps in
-    let same : c.loop-definition.yielded ≡ c.args.definitions.items = sym (map-id c.loop-definition.yielded) ∙ end.0 in
-    rw (← same) c.loop-definition.invariant.objects
+    rw (← same) c.loop-definition.invariant.taken
 
 pub returns-clause-typed : goal.returns-clause-typed
 returns-clause-typed g c =
-    let inv = c.loop-definition.invariant in
+    let inv = c.loop-definition.invariant.taken in
     let definitions = map (definition_of (λ vtable. (g.dyn-1.0.entry vtable).1)) c.loop-definition.yielded in
     rw (inv.store, inv.objects) (fresh-ready type_of_host c.args.config.now.pages c.args.config.now.entries definitions inv.faultless)

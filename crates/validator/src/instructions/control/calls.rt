@@ -4,13 +4,13 @@ ghost use Rattle.core_types.specs.declared.op.PlainOp.TheVariants as plain;
 ghost use Rattle.validator.specs.InstructionTypes.{HasTypeOf};
 ghost use Rattle.validator.specs.Steps.{Steps, StepsByTailCall};
 
-use crate::context::{BodyContext, function_type, item, table_element};
+use crate::context::{BodyContext, function_type, table_element};
 use crate::control_frames::{Stacks, set_unreachable};
 use crate::errors::Fault;
 use crate::instructions::pop_operands;
 use crate::operands::pop_types;
 use crate::types::{InstructionType, takes_gives, takes_i32_gives};
-use core_types::{RefType, are_same_types};
+use core_types::{RefType, are_same_types, item};
 
 // The type of `call`.
 pub fn type_of_call<'a>(context: &BodyContext<'a>, index: u32) -> Option<InstructionType<'a>>
