@@ -6,31 +6,31 @@ use Rattle.binary.specs.Conventions.{OnRead, Reading, ◌>>=◌}
 use Rattle.binary.specs.Errors.{OnRefused}
 use Rattle.binary.specs.declared.errors.DecodeError.{DecodeError}
 use Rattle.binary.specs.Instructions.{op_at}
-use Rattle.binary.specs.declared.expressions.Next.{Next}
-use Rattle.binary.specs.declared.expressions.Next.TheVariants.{Ended, Misplaced, Onward}
+use Rattle.binary.specs.declared.expressions.Flow.{Flow}
+use Rattle.binary.specs.declared.expressions.Flow.TheVariants.{Ended, Misplaced, Continues}
 use Rattle.binary.specs.declared.expressions.OpenBody.{OpenBody}
 use Rattle.binary.specs.declared.expressions.OpenBody.TheVariants.{InBlock, InIf}
 
 -- What an operation does to the expression and to its open bodies, the innermost first.
-abbrev pub next_bodies : List OpenBody → Op → Next × List OpenBody
-next_bodies bodies (Plain op) = (Onward, bodies)
-next_bodies bodies (Block type) = (Onward, InBlock ∷ bodies)
-next_bodies bodies (Loop type) = (Onward, InBlock ∷ bodies)
-next_bodies bodies (If type) = (Onward, InIf ∷ bodies)
+abbrev pub next_bodies : List OpenBody → Op → Flow × List OpenBody
+next_bodies bodies (Plain op) = (Continues, bodies)
+next_bodies bodies (Block type) = (Continues, InBlock ∷ bodies)
+next_bodies bodies (Loop type) = (Continues, InBlock ∷ bodies)
+next_bodies bodies (If type) = (Continues, InIf ∷ bodies)
 next_bodies [] Else = (Misplaced, [])
 next_bodies (InBlock ∷ bodies) Else = (Misplaced, InBlock ∷ bodies)
-next_bodies (InIf ∷ bodies) Else = (Onward, InBlock ∷ bodies)
+next_bodies (InIf ∷ bodies) Else = (Continues, InBlock ∷ bodies)
 next_bodies [] End = (Ended, [])
-next_bodies (body ∷ bodies) End = (Onward, bodies)
+next_bodies (body ∷ bodies) End = (Continues, bodies)
 
 -- The operations, once another one was read, of which the last end is none.
-abbrev pub after_next : Next → List Op → Op → List Op
-after_next Onward ops op = ops ++ op ∷ []
+abbrev pub after_next : Flow → List Op → Op → List Op
+after_next Continues ops op = ops ++ op ∷ []
 after_next Ended ops op = ops
 after_next Misplaced ops op = ops
 
 -- What is read is an operation that does this to the expression, its open bodies and its operations.
-abbrev pub ReadsNext : Result Next DecodeError → (bodies bodies' : List OpenBody)
+abbrev pub ReadsNext : Result Flow DecodeError → (bodies bodies' : List OpenBody)
     → (ops ops' : List Op) → (rest : List ℕ) → Option (Op × List ℕ) → Type 0
 ReadsNext (Ok next) bodies bodies' ops ops' rest read =
     OnRead read (λ op left. (left ≡ rest) × (next_bodies bodies op ≡ (next, bodies'))
@@ -41,15 +41,15 @@ ReadsNext (Err error) bodies bodies' ops ops' rest read = OnRefused error (read 
 abbrev pub ReadsFrequent : Result Bool DecodeError → (ops ops' : List Op) → (bytes rest : List ℕ)
     → Option (Op × List ℕ) → Type 0
 ReadsFrequent (Ok true) ops ops' bytes rest read =
-    (bodies : List OpenBody) → ReadsNext (Ok Onward) bodies bodies ops ops' rest read
+    (bodies : List OpenBody) → ReadsNext (Ok Continues) bodies bodies ops ops' rest read
 ReadsFrequent (Ok false) ops ops' bytes rest read = (ops' ≡ ops) × (rest ≡ bytes)
 ReadsFrequent (Err error) ops ops' bytes rest read = OnRefused error (read ≡ None)
 
 -- The value of the answer to what is next.
-abbrev pub on_next : {V : Type 0} → Next → Option V → Option V → Option V
-on_next Onward onward ended = onward
-on_next Ended onward ended = ended
-on_next Misplaced onward ended = None
+abbrev pub on_next : {V : Type 0} → Flow → Option V → Option V → Option V
+on_next Continues continues ended = continues
+on_next Ended continues ended = ended
+on_next Misplaced continues ended = None
 
 -- The operations down to the end of the outermost body, in a number of steps at most, behind those that were read before.
 unfoldable pub ops_at : ℕ → List OpenBody → List Op → Reading (List Op)

@@ -79,8 +79,13 @@ abbrev pub index_of : ℤ × List ℕ → Option (BlockType × List ℕ)
 index_of (pos n, rest) = Some (block.Index n, rest)
 index_of (negsuc n, rest) = None
 
+-- A block type that is not empty.
+abbrev pub other_block_type_at : Reading BlockType
+other_block_type_at bytes =
+    if begins_negative bytes then mapped_at block.Value val_type_at bytes
+    else (signed_at 33 bytes >>= index_of)
+
 unfoldable pub block_type_at : Reading BlockType
 block_type_at bytes =
     if begins_with 0x40 bytes then Some (block.Empty, drop 1 bytes)
-    else (if begins_negative bytes then mapped_at block.Value val_type_at bytes
-    else (signed_at 33 bytes >>= index_of))
+    else other_block_type_at bytes

@@ -7,7 +7,7 @@ ghost use Rattle.binary.specs.Instructions.{NameNoData, NotesData, NotesMore, op
 ghost use Rattle.binary.specs.Types.{block_type_at};
 ghost use Rattle.binary.specs.Expressions.{ReadsFrequent, ReadsNext, ReadsRow, expression_at};
 ghost use Rattle.binary.specs.declared.errors.DecodeError.TheVariants.{OutOfMemory};
-ghost use Rattle.binary.specs.declared.expressions.Next.TheVariants.{Onward};
+ghost use Rattle.binary.specs.declared.expressions.Flow.TheVariants.{Continues};
 
 use crate::errors::DecodeError;
 use crate::instructions::{
@@ -30,9 +30,9 @@ pub enum OpenBody {
 
 // What an operation does to an expression.
 #[derive(Clone, Copy)]
-pub enum Next {
+pub enum Flow {
     // it goes on
-    Onward,
+    Continues,
     // it ends
     Ended,
     // no open body goes down to such a mark
@@ -44,7 +44,7 @@ fn push_block(
     reader: &mut Reader<'_>,
     bodies: &mut Stack<OpenBody>,
     ops: &mut Expression,
-) -> Result<Next, DecodeError>
+) -> Result<Flow, DecodeError>
     ensures reads { ReadsNext result bodies.old bodies.new ops.old ops.new
         reader.new (mapped_at Block block_type_at reader.old) }
     ensures data { OnOk result (NameNoData ops.old → NameNoData ops.new) }
@@ -52,7 +52,7 @@ fn push_block(
     let ty = read_block_type(reader)?;
     bodies.push(OpenBody::InBlock)?;
     ops.push(Op::Block(ty))?;
-    Ok(Next::Onward)
+    Ok(Flow::Continues)
 }
 
 // A loop begins, behind its opcode.
@@ -60,7 +60,7 @@ fn push_loop(
     reader: &mut Reader<'_>,
     bodies: &mut Stack<OpenBody>,
     ops: &mut Expression,
-) -> Result<Next, DecodeError>
+) -> Result<Flow, DecodeError>
     ensures reads { ReadsNext result bodies.old bodies.new ops.old ops.new
         reader.new (mapped_at Loop block_type_at reader.old) }
     ensures data { OnOk result (NameNoData ops.old → NameNoData ops.new) }
@@ -68,7 +68,7 @@ fn push_loop(
     let ty = read_block_type(reader)?;
     bodies.push(OpenBody::InBlock)?;
     ops.push(Op::Loop(ty))?;
-    Ok(Next::Onward)
+    Ok(Flow::Continues)
 }
 
 // An if begins, behind its opcode.
@@ -76,7 +76,7 @@ fn push_if(
     reader: &mut Reader<'_>,
     bodies: &mut Stack<OpenBody>,
     ops: &mut Expression,
-) -> Result<Next, DecodeError>
+) -> Result<Flow, DecodeError>
     ensures reads { ReadsNext result bodies.old bodies.new ops.old ops.new
         reader.new (mapped_at If block_type_at reader.old) }
     ensures data { OnOk result (NameNoData ops.old → NameNoData ops.new) }
@@ -84,11 +84,11 @@ fn push_if(
     let ty = read_block_type(reader)?;
     bodies.push(OpenBody::InIf)?;
     ops.push(Op::If(ty))?;
-    Ok(Next::Onward)
+    Ok(Flow::Continues)
 }
 
 // The first body of an if ends and the second begins.
-fn push_else(bodies: &mut Stack<OpenBody>, ops: &mut Expression) -> Result<Next, DecodeError>
+fn push_else(bodies: &mut Stack<OpenBody>, ops: &mut Expression) -> Result<Flow, DecodeError>
     ensures reads { (rest : List ℕ) → ReadsNext result bodies.old bodies.new ops.old
         ops.new rest (bare_at Else rest) }
     ensures data { OnOk result (NameNoData ops.old → NameNoData ops.new) }
@@ -97,19 +97,19 @@ fn push_else(bodies: &mut Stack<OpenBody>, ops: &mut Expression) -> Result<Next,
         Some(OpenBody::InIf) => {
             bodies.push(OpenBody::InBlock)?;
             ops.push(Op::Else)?;
-            Ok(Next::Onward)
+            Ok(Flow::Continues)
         }
         Some(OpenBody::InBlock) => {
             bodies.push(OpenBody::InBlock)?;
-            Ok(Next::Misplaced)
+            Ok(Flow::Misplaced)
         }
-        None => Ok(Next::Misplaced),
+        None => Ok(Flow::Misplaced),
     }
 }
 
 // A body ends, or the expression where no body is open.
 #[inline(always)]
-fn push_end(bodies: &mut Stack<OpenBody>, ops: &mut Expression) -> Result<Next, DecodeError>
+fn push_end(bodies: &mut Stack<OpenBody>, ops: &mut Expression) -> Result<Flow, DecodeError>
     ensures reads { (rest : List ℕ) → ReadsNext result bodies.old bodies.new ops.old
         ops.new rest (bare_at End rest) }
     ensures data { OnOk result (NameNoData ops.old → NameNoData ops.new) }
@@ -117,9 +117,9 @@ fn push_end(bodies: &mut Stack<OpenBody>, ops: &mut Expression) -> Result<Next, 
     match bodies.pop() {
         Some(_) => {
             ops.push(Op::End)?;
-            Ok(Next::Onward)
+            Ok(Flow::Continues)
         }
-        None => Ok(Next::Ended),
+        None => Ok(Flow::Ended),
     }
 }
 
@@ -134,7 +134,7 @@ fn read_other(
     code: u8,
     offset: usize,
     data_named: &mut bool,
-) -> Result<Next, DecodeError>
+) -> Result<Flow, DecodeError>
     ensures reads { ReadsNext result bodies.old bodies.new ops.old ops.new
         reader.new (operation_at code reader.old) }
     ensures data { OnOk result (NotesMore ops.old data_named.old ops.new data_named.new) }
@@ -147,7 +147,7 @@ fn read_other(
         0x0B => push_end(bodies, ops),
         _ => {
             push_plain(alloc, reader, ops, code, offset, data_named)?;
-            Ok(Next::Onward)
+            Ok(Flow::Continues)
         }
     }
 }
@@ -163,7 +163,7 @@ fn read_next(
     code: u8,
     offset: usize,
     data_named: &mut bool,
-) -> Result<Next, DecodeError>
+) -> Result<Flow, DecodeError>
     ensures reads { ReadsNext result bodies.old bodies.new ops.old ops.new
         reader.new (operation_at code reader.old) }
     ensures data { OnOk result (NotesMore ops.old data_named.old ops.new data_named.new) }
@@ -246,12 +246,12 @@ fn read_operations(
         let offset = reader.offset();
         let code = reader.byte()?;
         match read_next(alloc, reader, bodies, &mut ops, code, offset, data_named)? {
-            Next::Onward => {}
-            Next::Ended => {
+            Flow::Continues => {}
+            Flow::Ended => {
                 ops.shrink();
                 return Ok(ops);
             }
-            Next::Misplaced => return Err(DecodeError::Malformed(offset)),
+            Flow::Misplaced => return Err(DecodeError::Malformed(offset)),
         }
     }
 }

@@ -1,7 +1,7 @@
 //! Types (Binary Format, Types).
 
 ghost use Rattle.binary.specs.Conventions.{Gives};
-ghost use Rattle.binary.specs.Types.{block_type_at, global_type_at, limits_at, mutability_at, ref_type_at, table_type_at, val_type_at};
+ghost use Rattle.binary.specs.Types.{block_type_at, global_type_at, limits_at, mutability_at, other_block_type_at, ref_type_at, table_type_at, val_type_at};
 
 use crate::errors::DecodeError;
 use crate::reader::Reader;
@@ -140,15 +140,11 @@ pub fn read_global_type(reader: &mut Reader<'_>) -> Result<GlobalType, DecodeErr
     Ok(GlobalType { value, mutability })
 }
 
-// A block type: nothing, a value type, or an index, which is a signed integer of 33 bits that is not negative.
-#[tactic(auto, unfolding(crate::specs::Types::block_type_at))]
+// A block type that is not empty: a value type, or an index, which is a signed integer of 33 bits that is not negative.
 #[inline(never)]
-fn read_any_block_type(reader: &mut Reader<'_>) -> Result<BlockType, DecodeError>
-    ensures { Gives result reader.new (block_type_at reader.old) }
+fn read_other_block_type(reader: &mut Reader<'_>) -> Result<BlockType, DecodeError>
+    ensures { Gives result reader.new (other_block_type_at reader.old) }
 {
-    if reader.accept(0x40) {
-        return Ok(BlockType::Empty);
-    }
     if reader.begins_negative() {
         return Ok(BlockType::Value(read_val_type(reader)?));
     }
@@ -159,7 +155,7 @@ fn read_any_block_type(reader: &mut Reader<'_>) -> Result<BlockType, DecodeError
     }
 }
 
-// The same. Most are nothing.
+// A block type. Most are empty.
 #[tactic(auto, unfolding(crate::specs::Types::block_type_at))]
 #[inline(always)]
 pub fn read_block_type(reader: &mut Reader<'_>) -> Result<BlockType, DecodeError>
@@ -168,5 +164,5 @@ pub fn read_block_type(reader: &mut Reader<'_>) -> Result<BlockType, DecodeError
     if reader.accept(0x40) {
         return Ok(BlockType::Empty);
     }
-    read_any_block_type(reader)
+    read_other_block_type(reader)
 }

@@ -2,7 +2,7 @@
 use Rattle.std.specs.Prelude.{◌≡◌, ℕ, ◌+◌, List, length, Result, Ok, Err, Bool, true, false, nat_le, if◌then◌else◌}
 use Rattle.core_types.specs.declared.outcome.Trap.{Trap}
 use Rattle.core_types.specs.declared.outcome.Trap.TheVariants.{MemoryBounds}
-use Rattle.meaning.specs.execution.Effects.{instruction_cost}
+use Rattle.meaning.specs.execution.Costs.{instruction_cost}
 use Rattle.meaning.specs.execution.Storage.{items_at, number_of_bytes}
 
 -- The number of that many bytes from an offset on, or a trap where they reach past the end.

@@ -2,7 +2,7 @@
 use Rattle.std.specs.Prelude.{◌≡◌, ℕ, Option, Some, None, Result, Ok, Err, if◌then◌else◌}
 use Rattle.std.specs.declared.alloc.AllocError.{AllocError}
 use Rattle.core_types.specs.declared.types.Limits.{Limits}
-use Rattle.meaning.specs.execution.Effects.{instruction_cost}
+use Rattle.meaning.specs.execution.Costs.{instruction_cost}
 use Rattle.meaning.specs.execution.Memories.{can_grow}
 use Rattle.store.specs.State.{StateContents}
 

@@ -1,6 +1,8 @@
 ghost use Rattle.std.specs.Prelude.{◌≡◌, ◌<◌, ◌≤◌, ◌^◌, ℕ, [], length};
-ghost use Rattle.meaning.specs.execution.Effects.{bulk_cost as cost_of_bytes, growth_cost as cost_of_pages};
-ghost use Rattle.meaning.specs.execution.Memories.{copy_bytes as copy_of, fill_bytes as fill_of, grow_by, load_from, most_pages, store_into, store_size};
+ghost use Rattle.meaning.specs.execution.Costs.{bulk_cost as cost_of_bytes, growth_cost as cost_of_pages};
+ghost use Rattle.meaning.specs.execution.Memories.{copy_bytes as copy_of, fill_bytes as fill_of, grow_by, load_from, store_into};
+ghost use Rattle.meaning.specs.validation.Types.{most_pages};
+ghost use Rattle.meaning.specs.validation.Instructions.{store_width};
 ghost use Rattle.store.specs.State.{data_of, memory_of, put_data, put_memory};
 ghost use Rattle.bulkops.specs.Accesses.{Wrote, price_if, price_of_access};
 ghost use Rattle.bulkops.specs.Growth.{DidGrow, price_of_growth, size_to_grow as size_by};
@@ -10,12 +12,9 @@ use crate::bulk::{copy_bytes, fill_bytes, init_bytes, is_within};
 use crate::growth::size_to_grow;
 use crate::loads::load;
 use crate::stores::store;
-use core_types::{LoadOp, StoreOp, Trap, Val};
+use core_types::{LoadOp, MAX_PAGES, StoreOp, Trap, Val};
 use std::alloc::AllocError;
 use store::State;
-
-// How many pages a memory may have.
-const MOST_PAGES: u32 = 65536;
 
 /// What a load from a memory at an offset gives, or its trap (Execution, Memory Instructions).
 ///
@@ -45,7 +44,7 @@ pub fn mem_store(
     requires offset { offset < 2 ^ 33 }
     ensures { Wrote result state.old state.new
         (state_with state.old address
-        (store_into (memory_of state.old address).bytes offset (store_size op) n)) }
+        (store_into (memory_of state.old address).bytes offset (store_width op) n)) }
 {
     let bytes = state.memory_mut(address);
     store(op, bytes, offset, n)
@@ -194,7 +193,7 @@ fn size_for(state: &State, address: u32, pages: u32) -> Option<u32>
         address).limits pages }
 {
     let memory = state.memory(address)?;
-    size_to_grow(state.pages(), MOST_PAGES, memory.limits(), pages)
+    size_to_grow(state.pages(), MAX_PAGES, memory.limits(), pages)
 }
 
 /// What a growth costs (memory.grow).

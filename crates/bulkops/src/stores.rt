@@ -1,6 +1,7 @@
 ghost use Rattle.std.specs.Prelude.{◌≡◌, ◌+◌, ◌<◌, ◌≤◌, ◌^◌, length};
 ghost use Rattle.byteorder.specs.Endian.{little_bytes};
-ghost use Rattle.meaning.specs.execution.Memories.{store_into, store_size};
+ghost use Rattle.meaning.specs.execution.Memories.{store_into};
+ghost use Rattle.meaning.specs.validation.Instructions.{store_width};
 ghost use Rattle.meaning.specs.execution.Storage.{overwrite};
 ghost use Rattle.bulkops.specs.Accesses.{Wrote};
 
@@ -95,7 +96,7 @@ pub fn write_64(bytes: &mut [u8], offset: u64, n: u64) -> Result<(), Trap>
 /// The offset is the sum of an operand and the immediate offset of the instruction, both of which have 32 bits.
 pub fn store(op: StoreOp, bytes: &mut [u8], offset: u64, n: u64) -> Result<(), Trap>
     requires { offset < 2 ^ 33 }
-    ensures { Wrote result bytes.old bytes.new (store_into bytes.old offset (store_size op) n) }
+    ensures { Wrote result bytes.old bytes.new (store_into bytes.old offset (store_width op) n) }
 {
     match op {
         StoreOp::Whole(Width::W32) | StoreOp::Bits32 => write_32(bytes, offset, n),

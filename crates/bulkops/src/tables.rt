@@ -1,6 +1,6 @@
 ghost use Rattle.std.specs.Prelude.{◌≡◌, ◌<◌, ◌≤◌, [], length};
 ghost use Rattle.core_types.specs.declared.outcome.Val.{Val as AnyVal};
-ghost use Rattle.meaning.specs.execution.Effects.{entries_cost as cost_of_entries};
+ghost use Rattle.meaning.specs.execution.Costs.{entries_cost as cost_of_entries};
 ghost use Rattle.meaning.specs.execution.Tables.{copy_entries, fill_entries, grow_entries, most_entries, read_entry, write_entry};
 ghost use Rattle.meaning.specs.execution.Values.{type_of};
 ghost use Rattle.meaning.specs.validation.Types.{reference_type};

@@ -37,6 +37,6 @@ pub use plain::plain_op;
 pub use stack::Stack;
 pub use text::Name;
 pub use types::{
-    ExternType, FuncType, GlobalType, Limits, Mutability, OperandType, RefType, TableType, ValType,
-    are_same_types,
+    ExternType, FuncType, GlobalType, Limits, MAX_PAGES, Mutability, OperandType, RefType,
+    TableType, ValType, are_same_types,
 };

@@ -71,6 +71,9 @@ impl FuncType {
     }
 }
 
+/// How many pages a memory may have: as many as fill an address space of 32 bits (Validation, Types, Memory Types).
+pub const MAX_PAGES: u32 = 65_536;
+
 /// The bounds of a memory or a table (Structure, Types, Limits).
 #[derive(Clone, Copy)]
 pub struct Limits {

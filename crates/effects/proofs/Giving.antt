@@ -4,7 +4,7 @@ use Rattle.std.specs.Prelude.{Some, None, Result, Ok, Err, Bool, true, false, if
 use Rattle.std.specs.declared.alloc.AllocError.{AllocError}
 use Rattle.core_types.specs.declared.outcome.Trap.{Trap}
 use Rattle.core_types.specs.declared.outcome.Val.{Val}
-use Rattle.meaning.specs.execution.Effects.{bulk_cost, entries_cost, growth_cost}
+use Rattle.meaning.specs.execution.Costs.{bulk_cost, entries_cost, growth_cost}
 use Rattle.meaning.specs.execution.Memories.{grow_by}
 use Rattle.meaning.specs.execution.Tables.{grow_entries}
 use Rattle.simulation.specs.Bulk.{grown_memory, written_memory}

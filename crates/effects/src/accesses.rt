@@ -1,8 +1,8 @@
 ghost use Rattle.std.specs.Prelude.{◌≡◌, ◌<◌, ◌^◌};
 ghost use Rattle.core_types.specs.declared.op.LoadOp.TheVariants as from;
 ghost use Rattle.core_types.specs.declared.op.Width.TheVariants.{W32};
-ghost use Rattle.meaning.specs.execution.Memories.{load_from, store_into, store_size};
-ghost use Rattle.meaning.specs.validation.Instructions.{load_type};
+ghost use Rattle.meaning.specs.execution.Memories.{load_from, store_into};
+ghost use Rattle.meaning.specs.validation.Instructions.{store_width, load_type};
 ghost use Rattle.bulkops.specs.Accesses.{Wrote};
 ghost use Rattle.cells.specs.Cells.{value_of_result};
 ghost use Rattle.sidetable.specs.Packing.{load_op, store_op};
@@ -67,7 +67,7 @@ pub fn store_cell(
 ) -> Result<(), Trap>
     requires { offset < 2 ^ 33 }
     ensures { Wrote result bytes.old bytes.new
-        (store_into bytes.old offset (store_size (store_op op)) cell) }
+        (store_into bytes.old offset (store_width (store_op op)) cell) }
 {
     match op {
         StoreInstruction::I32Store => write_32(bytes, offset, cell),

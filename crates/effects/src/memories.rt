@@ -1,5 +1,6 @@
 ghost use Rattle.std.specs.Prelude.{◌<◌, length};
-ghost use Rattle.meaning.specs.execution.Memories.{can_grow, copy_bytes, fill_bytes, most_pages};
+ghost use Rattle.meaning.specs.execution.Memories.{can_grow, copy_bytes, fill_bytes};
+ghost use Rattle.meaning.specs.validation.Types.{most_pages};
 ghost use Rattle.simulation.specs.Bulk.{grown_memory, written_memory};
 ghost use Rattle.store.specs.Contents.{Contents, store_with};
 ghost use Rattle.store.specs.State.{data_of, memory_of};

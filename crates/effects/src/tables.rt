@@ -1,6 +1,6 @@
 ghost use Rattle.std.specs.Prelude.{◌≡◌, ◌<◌, [], ◌∷◌, length};
 ghost use Rattle.core_types.specs.declared.outcome.Val.TheVariants as value;
-ghost use Rattle.meaning.specs.execution.Effects.{entries_cost};
+ghost use Rattle.meaning.specs.execution.Costs.{entries_cost};
 ghost use Rattle.meaning.specs.execution.Memories.{can_grow};
 ghost use Rattle.meaning.specs.execution.Values.{type_of};
 ghost use Rattle.meaning.specs.execution.Tables.{copy_entries, fill_entries, most_entries, read_entry, write_entry};

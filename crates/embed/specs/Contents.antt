@@ -5,6 +5,7 @@ use Rattle.core_types.specs.declared.module.Module.{Module}
 use Rattle.meaning.specs.embedding.Machine.{Embedding}
 use Rattle.exec.specs.Endings.{run_state}
 use Rattle.hostfunc.specs.declared.host_object.HostObject.{HostObject}
+use Rattle.hostfunc.specs.Tables.{hosts_in}
 use Rattle.store.specs.Contents.{store_of}
 use Rattle.store.specs.Loaded.{LoadedContents}
 use Rattle.embed.specs.declared.embedding.Embedding.{Embedding as Kept}
@@ -21,5 +22,5 @@ module _ {I : Type 0} {F : I → Type 0} where
     modules = modules_in e.modules.items;
     instances = e.instances.items;
     names = e.names;
-    state = run_state (store_of e.store) e.hosts.objects.items e.meter.left;
+    state = run_state (store_of e.store) (hosts_in e.hosts) e.meter.left;
   }

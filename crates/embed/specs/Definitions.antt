@@ -6,6 +6,7 @@ use Rattle.meaning.specs.embedding.Names.{NamesContents, no_names, with_host}
 use Rattle.hostfunc.specs.Boxes.{declared_type, type_of_host}
 use Rattle.hostfunc.specs.declared.host_function.HostFn.{Ghosts}
 use Rattle.hostfunc.specs.declared.host_object.HostObject.{HostObject}
+use Rattle.hostfunc.specs.Tables.{hosts_in}
 use Rattle.store.specs.Contents.{host_function, store_of, with_function}
 use Rattle.linker.specs.declared.refusals.NameRefusal.{NameRefusal}
 use Rattle.linker.specs.declared.refusals.NameRefusal.TheVariants as name
@@ -33,7 +34,7 @@ module _ {I : Type 0} {F : I → Type 0} where
     pub store : store_of new.store ≡ with_function (store_of old.store)
         (host_function (length old.store.code.hosts) d.host.ty)
     pub counted : length new.store.code.hosts ≡ length old.store.code.hosts + 1
-    pub objects : new.hosts.objects.items ≡ old.hosts.objects.items ++ d.host ∷ []
+    pub objects : hosts_in new.hosts ≡ hosts_in old.hosts ++ d.host ∷ []
 
   -- Definitions are taken in, and none is at fault, where a memory and a table may have so much.
   pub record AreTakenIn (pages entries : ℕ) (ds : List (HostDefinition (HostObject I F)))
@@ -41,7 +42,7 @@ module _ {I : Type 0} {F : I → Type 0} where
     pub names : new.names ≡ with_definitions type_of_host no_names 0 ds
     pub faultless : first_fault type_of_host no_names 0 ds ≡ None
     pub store : store_of new.store ≡ store_of_hosts type_of_host pages entries ds
-    pub objects : new.hosts.objects.items ≡ map (λ d. d.host) ds
+    pub objects : hosts_in new.hosts ≡ map (λ d. d.host) ds
 
 module _ {I : Type 0} {F : I → Type 0} (members : (i : I) → Ghosts (F i)) where
   -- The host function that is defined, with the type that it declares.

@@ -1,12 +1,11 @@
 ghost use Rattle.std.specs.Prelude.{◌≡◌, ◌↔◌, IsSome, IfSome};
 ghost use Rattle.embed.specs.Setups.{IsInRange};
 
+use core_types::MAX_PAGES;
 use std::marker::Model;
 
 // The bounds of a setup.
 const MAX_DEPTH: u32 = 65_535;
-
-const MAX_PAGES: u32 = 65_536;
 
 const MAX_ENTRIES: u32 = 10_000_000;
 

@@ -1,5 +1,6 @@
 ghost use Rattle.std.specs.Prelude.{◌+◌, ◌<◌, ◌^◌, IfOk, IfErr, OnOk, length, map};
 ghost use Rattle.hostfunc.specs.Boxes.{HaveHosts};
+ghost use Rattle.hostfunc.specs.Tables.{hosts_in};
 ghost use Rattle.store.specs.Contents.{store_of};
 ghost use Rattle.embed.specs.Definitions.{AreTakenIn, IsAtFault, IsFirstFault, TakesIn, definition_of};
 
@@ -23,7 +24,7 @@ pub struct Defined {
 fn define_host(alloc: Global, definition: HostDef, defined: &mut Defined) -> Result<(), NewFault>
     requires functions { length (store_of defined.old.store).functions + 1 < 2 ^ 32 }
     requires hosts { length defined.old.store.code.hosts + 1 < 2 ^ 32 }
-    requires objects { length defined.old.hosts.objects.items + 1 < 2 ^ 32 }
+    requires objects { length (hosts_in defined.old.hosts) + 1 < 2 ^ 32 }
     ensures defined { OnOk result (TakesIn defined.old
         (definition_of ⟦<dyn HostFn as HostFn>⟧ definition) defined.new) }
     ensures refused { IfErr result
@@ -54,7 +55,7 @@ pub fn define_hosts(
     ensures defined { IfOk result (AreTakenIn config.now.pages config.now.entries
         (map (definition_of ⟦<dyn HostFn as HostFn>⟧) definitions.items)) }
     ensures typed { IfOk result (λ defined. HaveHosts (store_of defined.store)
-        defined.hosts.objects.items) }
+        (hosts_in defined.hosts)) }
     ensures refused { IfErr result
         (λ fault. IsFirstFault ⟦<dyn HostFn as HostFn>⟧ fault definitions.items) }
 {

@@ -10,6 +10,7 @@ ghost use Rattle.meaning.specs.execution.Store.{extern_type as type_of, instance
 ghost use Rattle.embed.specs.Exports.{export_view};
 ghost use Rattle.soundness.specs.Embedding.{GoesWell, IsSound, LinksSoundModule, RunsWell};
 ghost use Rattle.hostfunc.specs.Boxes.{HaveHosts, HostStep, type_of_host};
+ghost use Rattle.hostfunc.specs.Tables.{hosts_in};
 ghost use Rattle.store.specs.Contents.{store_of};
 
 use crate::commands::{Command, Reply};
@@ -47,7 +48,7 @@ pub struct Embedding {
     meter: Meter,
     ghost closed: { meter.frames ≡ 0 },
     ghost bound: { meter.bound ≡ config.depth },
-    ghost have_hosts: { HaveHosts (store_of store) hosts.objects.items } by { Prim.hlevel props },
+    ghost have_hosts: { HaveHosts (store_of store) (hosts_in hosts) } by { Prim.hlevel props },
 }
 
 // The number after those of these items, which count up from 0.

@@ -28,17 +28,17 @@ fn commands(alloc: Global) -> Option<Vec<Command>> {
 
 // Whether these are the replies to the six commands.
 fn are_replies(replies: &[Reply]) -> bool {
-    matches!(
-        replies,
+    match replies {
         [
             Reply::Loaded(0),
             Reply::Linked(0),
-            Reply::Values(_),
+            Reply::Values(sum),
             Reply::Refused(Refusal::BadArguments),
             Reply::Done,
-            Reply::Done
-        ]
-    )
+            Reply::Done,
+        ] => matches!(sum.as_slice(), [Val::I32(3)]),
+        _ => false,
+    }
 }
 
 // Whether the six commands get their replies, behind those that were there, and leave the fuel that the last one sets.

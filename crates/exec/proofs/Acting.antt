@@ -10,8 +10,9 @@ use Rattle.core_types.specs.declared.op.TableOp.TheVariants as table
 use Rattle.core_types.specs.declared.outcome.Val.TheVariants as value
 use Rattle.core_types.specs.declared.types.ValType.{ValType}
 use Rattle.core_types.specs.declared.types.ValType.TheVariants.{I32}
-use Rattle.meaning.specs.execution.Effects.{entries_cost}
-use Rattle.meaning.specs.execution.Memories.{MemoryInstance, can_grow, copy_bytes, fill_bytes, most_pages}
+use Rattle.meaning.specs.execution.Costs.{entries_cost}
+use Rattle.meaning.specs.execution.Memories.{MemoryInstance, can_grow, copy_bytes, fill_bytes}
+use Rattle.meaning.specs.validation.Types.{most_pages}
 use Rattle.meaning.specs.execution.Store.{DataInstance, ModuleInstance, Store, instance_of, locate, locate_at, with_data, with_elements}
 use Rattle.meaning.specs.execution.Tables.{ElementInstance, TableInstance, copy_entries, fill_entries, most_entries, read_entry, write_entry}
 use Rattle.cells.specs.Cells.{IsCellOf, value_of}

@@ -1,5 +1,5 @@
 -- Calls of host functions: what they lead to for the whole.
-use Rattle.std.proofs.Common.{◌≡◌, ℕ, suc, ◌+◌, ◌-◌, ◌<◌, ◌≤◌, List, [], ◌∷◌, ◌++◌, length, map, reverse, take, drop, set, refl, ap, sym, subst, ◌∙◌, arith, append_assoc, length-append}
+use Rattle.std.proofs.Common.{IfErr, IfOk, Result, Ok, Err, ◌≡◌, ℕ, suc, ◌+◌, ◌-◌, ◌<◌, ◌≤◌, List, [], ◌∷◌, ◌++◌, length, map, reverse, take, drop, set, refl, ap, sym, subst, ◌∙◌, arith, append_assoc, length-append}
 use Rattle.std.proofs.lemmas.List.{append-nil, length-drop, length-reverse, length-set, reverse-reverse, take-set-le, take-take}
 use Rattle.std.proofs.lemmas.Option.{same_Some}
 use Rattle.std.specs.Prelude.{Option, Some, slice_get}
@@ -46,7 +46,6 @@ use Rattle.simulation.proofs.Hosts.{bytes-lent, calls-reach-hosts, tail-calls-re
 use Rattle.simulation.proofs.Steps.{within}
 use Rattle.store.specs.Contents.{AreOfContext, Contents, IsLoaded, code_store, functions_in, host_function, store_with}
 use Rattle.store.specs.State.{StateContents}
-use Rattle.exec.specs.Endings.{first_memory}
 use Rattle.exec.proofs.Lending.{one_type}
 use Rattle.interpreter.specs.Callers.{Caller, CallerStands, CallersStand, layers_around}
 use Rattle.interpreter.specs.Calling.{frame_waiting}
@@ -65,10 +64,11 @@ use Rattle.interpreter.proofs.Calling.{reached-by}
 use Rattle.interpreter.proofs.Lifting.{layers-out, lifted-there}
 use Rattle.interpreter.proofs.ResultCells.{base-is, caller-held, held_values}
 use Rattle.interpreter.proofs.Resuming.{caller-room, caller-runs, frame-typed, ghost_resumed}
-use Rattle.exec.specs.Hosting.{ComesOver, WaitsForHost, position_answered, with_results}
-use Rattle.exec.specs.Endings.{run_state}
+use Rattle.exec.specs.Hosting.{ComesOver, ComesOverOrEnds, WaitsForHost, position_answered, with_results}
+use Rattle.exec.specs.Endings.{ending_of, first_memory, run_state}
 use Rattle.exec.specs.Resting.{AtRest, Rests, at_rest, fuel_left, loop_of, machine_of, store_around}
 use Rattle.exec.specs.declared.call.Call.{Call}
+use Rattle.exec.specs.declared.outcome.Outcome.{Outcome}
 use Rattle.exec.proofs.Putting.{operands-there, results-below, results-on-top, results-size}
 use Rattle.interpreter.proofs.Worlds.{flat-seen}
 use Rattle.exec.proofs.Seeing.{seen-from}
@@ -721,3 +721,11 @@ module _ (bound : ℕ) (r : AtRest) (w : Whole) (address behind : ℕ) (number :
       comes-back-there =
           comes-back bound r w wait.rests wait.next.op address wait.next.function wait.next.height behind wait.next.lies wait.next.paid wait.next.calls.reached number t found wait.next.calls.results wait.next.calls.step
           host_type Answers hosts hosts' ready state' values told
+
+-- A call that comes over a host function, or ends the run there, does one of both.
+pub comes-or-ends : {H U : Type 0} (HostsAnswer : List H → ℕ → Option ℕ → List Val → Store → Answer → Store → List H → Type 0) (bound : ℕ) (r : AtRest) (hosts : List H) (w : Whole)
+    (r' : AtRest) (hosts' : List H) (result : Result U Outcome) → IfOk result (λ u. ComesOver HostsAnswer bound r hosts w r' hosts')
+    → IfErr result (λ outcome. Run HostsAnswer bound no_frame (run_state (store_around r) hosts (fuel_left r)) (whole w) (ending_of outcome) (run_state (store_around r') hosts' (fuel_left r')))
+    → ComesOverOrEnds HostsAnswer bound r hosts w result r' hosts'
+comes-or-ends HostsAnswer bound r hosts w r' hosts' (Ok u) comes ends = comes
+comes-or-ends HostsAnswer bound r hosts w r' hosts' (Err outcome) comes ends = ends

@@ -1,9 +1,9 @@
 -- Calls of host functions, and where calls go on behind them.
-use Rattle.std.specs.Prelude.{◌≡◌, ℕ, ◌+◌, ◌-◌, ◌≤◌, List, [], ◌∷◌, ◌++◌, Option, length, map, take, drop, get_or}
+use Rattle.std.specs.Prelude.{◌≡◌, ℕ, ◌+◌, ◌-◌, ◌≤◌, List, [], ◌∷◌, ◌++◌, Option, Result, Ok, Err, length, map, take, drop, get_or}
 use Rattle.core_types.specs.declared.outcome.Val.{Val}
 use Rattle.core_types.specs.declared.types.ValType.{ValType}
 use Rattle.meaning.specs.execution.Configurations.{no_frame}
-use Rattle.meaning.specs.execution.Runs.{Answer, Steps, WithValues}
+use Rattle.meaning.specs.execution.Runs.{Answer, Run, Steps, WithValues}
 use Rattle.meaning.specs.execution.Store.{Store}
 use Rattle.cells.specs.Cells.{cell_of}
 use Rattle.interpreter.specs.Whole.{CallsHostNext, Whole, whole}
@@ -12,6 +12,7 @@ use Rattle.interpreter.specs.declared.machine.Frame.{Frame}
 use Rattle.interpreter.specs.declared.machine.Position.{Position}
 use Rattle.exec.specs.Endings.{ending_of, run_state}
 use Rattle.exec.specs.declared.call.Call.{Call}
+use Rattle.exec.specs.declared.hosts.HostCall.{HostCall}
 use Rattle.exec.specs.declared.outcome.Outcome.{Outcome}
 use Rattle.exec.specs.Resting.{AtRest, Rests, fuel_left, machine_of, store_around}
 
@@ -20,6 +21,10 @@ pub record WaitsForHost (bound : ℕ) (r : AtRest) (w : Whole) (kind : CallKind)
     (address behind : ℕ) : Type 0 where
   pub rests : Rests bound r w
   pub next : CallsHostNext (fuel_left r) (machine_of r) w kind address behind
+
+-- The call rests before this call of a host function.
+abbrev pub WaitsFor : (bound : ℕ) → AtRest → Whole → HostCall → Type 0
+WaitsFor bound r w wanted = WaitsForHost bound r w wanted.kind wanted.address wanted.behind
 
 -- The call rests, and leads to results of these types.
 abbrev pub RestsWith : (bound : ℕ) → AtRest → Whole → List ValType → Type 0
@@ -72,3 +77,11 @@ module _ {H : Type 0} (HostStep : List H → ℕ → Option ℕ → List Val →
     pub steps : Steps HostStep bound no_frame (run_state (store_around r) hosts (fuel_left r))
         (whole w) (run_state (store_around r') hosts' (fuel_left r')) (whole new)
     pub rests : Rests bound r' new
+
+  -- The call came over it, or it ended the run.
+  abbrev pub ComesOverOrEnds : {U : Type 0} → AtRest → List H → Whole → Result U Outcome → AtRest
+      → List H → Type 0
+  ComesOverOrEnds r hosts w (Ok u) r' hosts' = ComesOver r hosts w r' hosts'
+  ComesOverOrEnds r hosts w (Err outcome) r' hosts' =
+      Run HostStep bound no_frame (run_state (store_around r) hosts (fuel_left r)) (whole w)
+      (ending_of outcome) (run_state (store_around r') hosts' (fuel_left r'))

@@ -6,11 +6,13 @@ ghost use Rattle.meaning.specs.execution.Runs.{HostTrap, Results, Run};
 ghost use Rattle.meaning.specs.execution.Store.{InHost};
 ghost use Rattle.meaning.specs.execution.Values.{type_of};
 ghost use Rattle.hostfunc.specs.Boxes.{HaveHosts, HostStep, IsHost};
-ghost use Rattle.hostfunc.specs.declared.host_function.HostFault.TheVariants.{Trap as TrapFault, Memory as MemoryFault};
+ghost use Rattle.hostfunc.specs.declared.host_function.HostFault.TheVariants.{Memory as MemoryFault};
+ghost use Rattle.hostfunc.specs.Faults.{IfAnswered};
+ghost use Rattle.hostfunc.specs.Tables.{hosts_in};
 ghost use Rattle.store.specs.Contents.{callee_function, code_store, store_of, store_with};
 ghost use Rattle.exec.specs.Endings.{ending_of, first_memory, run_state};
 ghost use Rattle.interpreter.specs.Whole.{Whole, whole};
-ghost use Rattle.exec.specs.Hosting.{ComesOver, EndsWith, GoesBack, HasRoomForResults, WaitsForHost, position_answered, with_results};
+ghost use Rattle.exec.specs.Hosting.{ComesOverOrEnds, EndsWith, GoesBack, HasRoomForResults, WaitsFor, position_answered, with_results};
 ghost use Rattle.exec.specs.Resting.{at_rest, fuel_left, store_around};
 
 use crate::call::{Call, frame_behind};
@@ -45,18 +47,14 @@ fn call_lent(
     number: u32,
     args: &[Val],
 ) -> Result<Vec<Val>, HostFault>
-    requires there { (t : FuncType) × IsHost hosts.old.objects.items number t
+    requires there { (t : FuncType) × IsHost (hosts_in hosts.old) number t
         × (map type_of args.now ≡ t.params) }
-    ensures answered { IfOk result
-        (λ values. HostStep ⟦<dyn HostFn as HostFn>⟧ hosts.old.objects.items number
-        (first_memory (code_store code.now) instance) args.now (store_with code.now state.old)
-        (Results values.items) (store_with code.now state.new) hosts.new.objects.items) }
-    ensures trapped { (why : ℕ) → result ≡ Err (TrapFault why) → HostStep ⟦<dyn HostFn as HostFn>⟧
-        hosts.old.objects.items number (first_memory (code_store code.now) instance) args.now
-        (store_with code.now state.old) (HostTrap why) (store_with code.now state.new)
-        hosts.new.objects.items }
-    ensures unchanged { result ≡ Err MemoryFault → (hosts.new.objects.items ≡
-        hosts.old.objects.items) × (store_with code.now state.new ≡ store_with code.now state.old) }
+    ensures answered { IfAnswered result (λ answer. HostStep ⟦<dyn HostFn as HostFn>⟧
+        (hosts_in hosts.old) number (first_memory (code_store code.now) instance) args.now
+        (store_with code.now state.old) answer (store_with code.now state.new)
+        (hosts_in hosts.new)) }
+    ensures unchanged { result ≡ Err MemoryFault → (hosts_in hosts.new ≡ hosts_in hosts.old)
+        × (store_with code.now state.new ≡ store_with code.now state.old) }
 {
     match memory_to_lend(code, state, instance) {
         Some(address) => hosts.call(number, args, state.memory_mut(address)),
@@ -120,25 +118,13 @@ pub fn call_host(
     wanted: HostCall,
     call: &mut Call,
 ) -> Result<(), Outcome>
-    requires waits { (w : Whole)
-        × WaitsForHost bound (at_rest code.now state.old call.old) w wanted.kind
-        wanted.address wanted.behind }
-    requires hosts { HaveHosts (store_with code.now state.old) hosts.old.objects.items }
-    ensures answered { IfOk result (λ done. (w : Whole)
-        → WaitsForHost bound (at_rest code.now state.old call.old) w wanted.kind
-        wanted.address wanted.behind
-        → ComesOver (HostStep ⟦<dyn HostFn as HostFn>⟧) bound
-        (at_rest code.now state.old call.old) hosts.old.objects.items w
-        (at_rest code.now state.new call.new) hosts.new.objects.items) }
-    ensures ended { IfErr result (λ outcome. (w : Whole)
-        → WaitsForHost bound (at_rest code.now state.old call.old) w wanted.kind
-        wanted.address wanted.behind
-        → Run (HostStep ⟦<dyn HostFn as HostFn>⟧) bound no_frame
-        (run_state (store_with code.now state.old) hosts.old.objects.items
-        call.old.position.fuel) (whole w) (ending_of outcome)
-        (run_state (store_with code.now state.new) hosts.new.objects.items
-        call.new.position.fuel)) }
-    ensures hosts { HaveHosts (store_with code.now state.new) hosts.new.objects.items }
+    requires waits { (w : Whole) × WaitsFor bound (at_rest code.now state.old call.old) w wanted }
+    requires hosts { HaveHosts (store_with code.now state.old) (hosts_in hosts.old) }
+    ensures came { (w : Whole) → WaitsFor bound (at_rest code.now state.old call.old) w wanted
+        → ComesOverOrEnds (HostStep ⟦<dyn HostFn as HostFn>⟧) bound
+        (at_rest code.now state.old call.old) (hosts_in hosts.old) w result
+        (at_rest code.now state.new call.new) (hosts_in hosts.new) }
+    ensures hosts { HaveHosts (store_with code.now state.new) (hosts_in hosts.new) }
     ensures left { IfOk result (λ done. call.new.position.fuel + 1 ≡ call.old.position.fuel) }
 {
     let Some(Callee::InHost(host)) = code.function(wanted.address) else {
@@ -179,7 +165,7 @@ pub fn call_host(
 fn has_host(callee: &Callee<'_>, hosts: &HostTable) -> bool
     ensures { IsTrue result ↔ ((number : ℕ)
         → (callee_function callee.now).implementation ≡ InHost number →
-        IsHost hosts.now.objects.items number (callee_function callee.now).ty) }
+        IsHost (hosts_in hosts.now) number (callee_function callee.now).ty) }
 {
     match callee {
         Callee::InModule(_) => true,
@@ -196,7 +182,7 @@ fn has_host(callee: &Callee<'_>, hosts: &HostTable) -> bool
 /// Whether each host function of the store has an object of its type: the test of the condition on host functions under which `invoke`
 /// and `instantiate` are called.
 pub fn have_hosts(store: &Store, hosts: &HostTable) -> bool
-    ensures { IsTrue result ↔ HaveHosts (store_of store.now) hosts.now.objects.items }
+    ensures { IsTrue result ↔ HaveHosts (store_of store.now) (hosts_in hosts.now) }
 {
     let _ = store.state();
     let code = store.code();

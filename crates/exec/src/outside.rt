@@ -1,7 +1,7 @@
-ghost use Rattle.std.specs.Prelude.{◌≡◌, ◌≤◌, ℕ, Some, length, map, replicate, reverse, slice_get, IfOk};
+ghost use Rattle.std.specs.Prelude.{◌≡◌, ℕ, Some, length, map, replicate, slice_get, IfOk};
 ghost use Rattle.core_types.specs.declared.outcome.Val.TheVariants as value;
 ghost use Rattle.core_types.specs.declared.types.FuncType.{FuncType};
-ghost use Rattle.meaning.specs.execution.Configurations.{Invoking, no_frame};
+ghost use Rattle.meaning.specs.execution.Configurations.{no_frame};
 ghost use Rattle.meaning.specs.execution.Runs.{Run};
 ghost use Rattle.meaning.specs.execution.Store.{Store as AnyStore};
 ghost use Rattle.meaning.specs.execution.Values.{type_of};
@@ -9,9 +9,11 @@ ghost use Rattle.meaning.specs.soundness.Values.{TakesArguments};
 ghost use Rattle.soundness.specs.Embedding.{results_of};
 ghost use Rattle.soundness.specs.Runs.{EndsWell};
 ghost use Rattle.soundness.specs.Stores.{Extends, StoreIsValid};
+ghost use Rattle.fuel.specs.Metering.{Charges};
 ghost use Rattle.hostfunc.specs.Boxes.{HaveHosts, HostStep, IsHost};
+ghost use Rattle.hostfunc.specs.Tables.{hosts_in};
 ghost use Rattle.store.specs.Contents.{host_function, store_of, store_with};
-ghost use Rattle.exec.specs.Endings.{ending_of, run_state};
+ghost use Rattle.exec.specs.Endings.{RunsCall, ending_of, run_state};
 ghost use Rattle.interpreter.specs.Whole.{Whole, whole};
 ghost use Rattle.exec.specs.Hosting.{RestsWith};
 ghost use Rattle.exec.specs.Resting.{at_rest};
@@ -42,14 +44,14 @@ fn run_to_end<'a>(
 ) -> Outcome
     requires rests { (w : Whole)
         × RestsWith bound (at_rest code.now state.old call.old) w types.now }
-    requires hosts { HaveHosts (store_with code.now state.old) hosts.old.objects.items }
+    requires hosts { HaveHosts (store_with code.now state.old) (hosts_in hosts.old) }
     requires room { length values.items ≡ length types.now }
     ensures run { (w : Whole)
         → RestsWith bound (at_rest code.now state.old call.old) w types.now
         → Run (HostStep ⟦<dyn HostFn as HostFn>⟧) bound no_frame
-        (run_state (store_with code.now state.old) hosts.old.objects.items
+        (run_state (store_with code.now state.old) (hosts_in hosts.old)
         call.old.position.fuel) (whole w) (ending_of result)
-        (run_state (store_with code.now state.new) hosts.new.objects.items
+        (run_state (store_with code.now state.new) (hosts_in hosts.new)
         call.new.position.fuel) }
 {
     loop {
@@ -99,12 +101,11 @@ fn call_code<'a>(
 ) -> Outcome
     requires takes { (address : ℕ)
         × Takes (address_in code.now state.old address) function.now args.now }
-    requires hosts { HaveHosts (store_with code.now state.old) hosts.old.objects.items }
+    requires hosts { HaveHosts (store_with code.now state.old) (hosts_in hosts.old) }
     ensures run { (address : ℕ) → Takes (address_in code.now state.old address) function.now args.now
-        → Run (HostStep ⟦<dyn HostFn as HostFn>⟧) depth no_frame
-        (run_state (store_with code.now state.old) hosts.old.objects.items fuel.old)
-        (Invoking (reverse args.now) address) (ending_of result)
-        (run_state (store_with code.now state.new) hosts.new.objects.items fuel.new) }
+        → RunsCall (HostStep ⟦<dyn HostFn as HostFn>⟧) depth
+        (run_state (store_with code.now state.old) (hosts_in hosts.old) fuel.old) address args.now
+        result (run_state (store_with code.now state.new) (hosts_in hosts.new) fuel.new) }
 {
     if depth == 0 {
         return Outcome::Exhausted(Exhaustion::Depth);
@@ -124,13 +125,13 @@ fn call_code<'a>(
 
 // Calls a host function from outside, which is lent no bytes.
 fn call_host_alone(hosts: &mut HostTable, number: u32, args: &[Val]) -> Outcome
-    requires there { (t : FuncType) × IsHost hosts.old.objects.items number t
+    requires there { (t : FuncType) × IsHost (hosts_in hosts.old) number t
         × (map type_of args.now ≡ t.params) }
     ensures run { (store : AnyStore) (bound fuel address : ℕ) (t : FuncType) →
         slice_get store.functions address ≡ Some (host_function number t) → map type_of args.now ≡
-        t.params → Run (HostStep ⟦<dyn HostFn as HostFn>⟧) bound no_frame
-        (run_state store hosts.old.objects.items fuel) (Invoking (reverse args.now) address)
-        (ending_of result) (run_state store hosts.new.objects.items fuel) }
+        t.params → RunsCall (HostStep ⟦<dyn HostFn as HostFn>⟧) bound
+        (run_state store (hosts_in hosts.old) fuel) address args.now result
+        (run_state store (hosts_in hosts.new) fuel) }
 {
     match hosts.call(number, args, &mut []) {
         Ok(values) => Outcome::Values(Items::from_vec(values)),
@@ -152,11 +153,10 @@ fn call_function(
 ) -> Outcome
     requires arguments { TakesArguments (store_with code.now state.old) address args.now }
     requires valid { StoreIsValid (store_with code.now state.old) }
-    requires hosts { HaveHosts (store_with code.now state.old) hosts.old.objects.items }
-    ensures run { Run (HostStep ⟦<dyn HostFn as HostFn>⟧) depth no_frame
-        (run_state (store_with code.now state.old) hosts.old.objects.items fuel.old)
-        (Invoking (reverse args.now) address) (ending_of result)
-        (run_state (store_with code.now state.new) hosts.new.objects.items fuel.new) }
+    requires hosts { HaveHosts (store_with code.now state.old) (hosts_in hosts.old) }
+    ensures run { RunsCall (HostStep ⟦<dyn HostFn as HostFn>⟧) depth
+        (run_state (store_with code.now state.old) (hosts_in hosts.old) fuel.old) address args.now
+        result (run_state (store_with code.now state.new) (hosts_in hosts.new) fuel.new) }
 {
     match code.function(address) {
         Some(Callee::InModule(function)) => {
@@ -179,11 +179,11 @@ fn call_from_outside(
 ) -> Outcome
     requires arguments { TakesArguments (store_with code.now state.old) address args.now }
     requires valid { StoreIsValid (store_with code.now state.old) }
-    requires hosts { HaveHosts (store_with code.now state.old) hosts.old.objects.items }
-    ensures run { Run (HostStep ⟦<dyn HostFn as HostFn>⟧) meter.old.bound no_frame
-        (run_state (store_with code.now state.old) hosts.old.objects.items meter.old.left)
-        (Invoking (reverse args.now) address) (ending_of result)
-        (run_state (store_with code.now state.new) hosts.new.objects.items meter.new.left) }
+    requires hosts { HaveHosts (store_with code.now state.old) (hosts_in hosts.old) }
+    ensures run { RunsCall (HostStep ⟦<dyn HostFn as HostFn>⟧) meter.old.bound
+        (run_state (store_with code.now state.old) (hosts_in hosts.old) meter.old.left) address
+        args.now result
+        (run_state (store_with code.now state.new) (hosts_in hosts.new) meter.new.left) }
     ensures bound { meter.new.bound ≡ meter.old.bound }
     ensures frames { meter.new.frames ≡ meter.old.frames }
 {
@@ -209,19 +209,16 @@ pub fn invoke(
     args: &[Val],
 ) -> Outcome
     requires arguments { TakesArguments (store_of store.old) address args.now }
-    requires hosts { HaveHosts (store_of store.old) hosts.old.objects.items }
+    requires hosts { HaveHosts (store_of store.old) (hosts_in hosts.old) }
     requires closed { meter.old.frames ≡ 0 }
-    ensures run { Run (HostStep ⟦<dyn HostFn as HostFn>⟧) meter.old.bound no_frame
-        (run_state (store_of store.old) hosts.old.objects.items meter.old.left)
-        (Invoking (reverse args.now) address) (ending_of result)
-        (run_state (store_of store.new) hosts.new.objects.items meter.new.left) }
+    ensures run { RunsCall (HostStep ⟦<dyn HostFn as HostFn>⟧) meter.old.bound
+        (run_state (store_of store.old) (hosts_in hosts.old) meter.old.left) address args.now result
+        (run_state (store_of store.new) (hosts_in hosts.new) meter.new.left) }
     ensures ends { EndsWell (store_of store.new)
         (results_of (slice_get (store_of store.old).functions address)) (ending_of result) }
     ensures extends { Extends (store_of store.old) (store_of store.new) }
-    ensures spends { meter.new.left ≤ meter.old.left }
-    ensures hosts { HaveHosts (store_of store.new) hosts.new.objects.items }
-    ensures bound { meter.new.bound ≡ meter.old.bound }
-    ensures closed { meter.new.frames ≡ 0 }
+    ensures hosts { HaveHosts (store_of store.new) (hosts_in hosts.new) }
+    ensures charges { Charges meter.old meter.new }
 {
     let (code, state) = (&store.code, &mut store.state);
     call_from_outside(alloc, code, state, hosts, meter, address, args)

@@ -5,6 +5,7 @@ ghost use Rattle.std.proofs.Props.{props};
 ghost use Rattle.core_types.specs.declared.outcome.Val.TheVariants.{I32 as I32Value};
 ghost use Rattle.core_types.specs.declared.types.ValType.TheVariants.{I32, I64};
 ghost use Rattle.hostfunc.specs.declared.host_function.HostFault.TheVariants.{Memory as MemoryFault};
+ghost use Rattle.hostfunc.specs.Tables.{hosts_in};
 ghost use Rattle.store.specs.Contents.{store_of};
 
 use core_types::{FuncType, Items, Val, ValType};
@@ -188,11 +189,11 @@ pub struct Hosted {
 
 // Takes in an object that gives no funcref, behind as many host functions.
 fn take_in(hosted: &mut Hosted, alloc: Global, object: Box<dyn HostFn>) -> Result<(), AllocError>
-    requires objects { length hosted.old.hosts.objects.items < 9 }
+    requires objects { length (hosts_in hosted.old.hosts) < 9 }
     requires functions { length (store_of hosted.old.store).functions < 9 }
     requires hosts { length hosted.old.store.code.hosts < 9 }
-    ensures objects { OnOk result (length hosted.new.hosts.objects.items ≡
-        length hosted.old.hosts.objects.items + 1) }
+    ensures objects { OnOk result (length (hosts_in hosted.new.hosts) ≡
+        length (hosts_in hosted.old.hosts) + 1) }
     ensures functions { OnOk result (length (store_of hosted.new.store).functions ≡
         length (store_of hosted.old.store).functions + 1) }
     ensures hosts { OnOk result (length hosted.new.store.code.hosts ≡

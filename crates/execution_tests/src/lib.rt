@@ -25,3 +25,5 @@ mod runs;
 mod stores;
 #[cfg(test)]
 mod tables;
+#[cfg(test)]
+mod tail_calls;

@@ -1,3 +1,4 @@
+pub mod Faults
 pub mod Fitting
 pub mod Funcrefs
 pub mod Own

@@ -1,9 +1,9 @@
-ghost use Rattle.std.specs.Prelude.{◌≡◌, ℕ, IfOk, Err, map};
-ghost use Rattle.meaning.specs.execution.Runs.{HostTrap, Results};
+ghost use Rattle.std.specs.Prelude.{◌≡◌, IfOk, Err, map};
 ghost use Rattle.meaning.specs.execution.Storage.{AreBytes};
 ghost use Rattle.meaning.specs.execution.Values.{FitsWidth, type_of};
 ghost use Rattle.std.specs.List.{All};
-ghost use Rattle.hostfunc.specs.declared.host_function.HostFault.TheVariants.{Trap as TrapFault, Memory as MemoryFault};
+ghost use Rattle.hostfunc.specs.Faults.{IfAnswered};
+ghost use Rattle.hostfunc.specs.declared.host_function.HostFault.TheVariants.{Memory as MemoryFault};
 
 use crate::host_function::{HostFault, HostFn};
 use core_types::{FuncType, Val};
@@ -48,11 +48,8 @@ fn call_lent(
     ensures same_type { declared object.new ≡ declared object.old }
     ensures typed { IfOk result (λ values. map type_of values.items ≡
         (declared object.old).results) }
-    ensures answered { IfOk result (λ values. (w : _) × (object.new ≡ (object.old.0, w))
-        × Answers object.old args.now memory.old (Results values.items) memory.new w) }
-    ensures trapped { (code : ℕ) → result ≡ Err (TrapFault code)
-        → (w : _) × (object.new ≡ (object.old.0, w))
-        × Answers object.old args.now memory.old (HostTrap code) memory.new w }
+    ensures answered { IfAnswered result (λ answer. (w : _) × (object.new ≡ (object.old.0, w))
+        × Answers object.old args.now memory.old answer memory.new w) }
     ensures unchanged { result ≡ Err MemoryFault
         → (object.new ≡ object.old) × (memory.new ≡ memory.old) }
 {
@@ -77,12 +74,9 @@ pub fn call_object(
     ensures same_type { declared object.new ≡ declared object.old }
     ensures typed { IfOk result (λ values. map type_of values.items ≡
         (declared object.old).results) }
-    ensures answered { IfOk result
-        (λ values. (w : _) × (object.new ≡ record object.old { value = w })
-        × Answers object.old args.now memory.old (Results values.items) memory.new w) }
-    ensures trapped { (code : ℕ) → result ≡ Err (TrapFault code)
-        → (w : _) × (object.new ≡ record object.old { value = w })
-        × Answers object.old args.now memory.old (HostTrap code) memory.new w }
+    ensures answered { IfAnswered result
+        (λ answer. (w : _) × (object.new ≡ record object.old { value = w })
+        × Answers object.old args.now memory.old answer memory.new w) }
     ensures unchanged { result ≡ Err MemoryFault
         → (object.new ≡ object.old) × (memory.new ≡ memory.old) }
     ensures fits { IfOk result (λ values. All FitsWidth values.items) }

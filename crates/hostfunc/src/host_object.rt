@@ -1,10 +1,10 @@
-ghost use Rattle.std.specs.Prelude.{◌≡◌, ℕ, IfOk, Err, map};
-ghost use Rattle.meaning.specs.execution.Runs.{HostTrap, Results};
+ghost use Rattle.std.specs.Prelude.{◌≡◌, IfOk, Err, map};
 ghost use Rattle.meaning.specs.execution.Storage.{AreBytes};
 ghost use Rattle.meaning.specs.execution.Values.{FitsWidth, type_of};
 ghost use Rattle.std.specs.List.{All};
 ghost use Rattle.hostfunc.specs.Boxes.{HostAnswers};
-ghost use Rattle.hostfunc.specs.declared.host_function.HostFault.TheVariants.{Trap as TrapFault, Memory as MemoryFault};
+ghost use Rattle.hostfunc.specs.Faults.{IfAnswered};
+ghost use Rattle.hostfunc.specs.declared.host_function.HostFault.TheVariants.{Memory as MemoryFault};
 
 use crate::boxes::{call_object, object_type, show_bytes};
 use crate::host_function::{HostFault, HostFn};
@@ -26,12 +26,8 @@ impl HostObject {
         ensures typed { IfOk result (λ values. (map type_of values.items ≡ self.old.ty.results)
             × All FitsWidth values.items) }
         ensures are_bytes { AreBytes memory.new }
-        ensures answered { IfOk result
-            (λ values. HostAnswers ⟦<dyn HostFn as HostFn>⟧ self.old args.now memory.old
-            (Results values.items) memory.new self.new) }
-        ensures trapped { (code : ℕ) → result ≡ Err (TrapFault code)
-            → HostAnswers ⟦<dyn HostFn as HostFn>⟧ self.old args.now
-            memory.old (HostTrap code) memory.new self.new }
+        ensures answered { IfAnswered result (λ answer. HostAnswers ⟦<dyn HostFn as HostFn>⟧ self.old
+            args.now memory.old answer memory.new self.new) }
         ensures unchanged { result ≡ Err MemoryFault
             → (self.new ≡ self.old) × (memory.new ≡ memory.old) }
     {

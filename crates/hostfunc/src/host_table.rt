@@ -1,13 +1,13 @@
 ghost use Rattle.std.proofs.Props.{props};
 ghost use Rattle.std.specs.List.{All};
-ghost use Rattle.std.specs.Prelude.{◌≡◌, ℕ, ◌<◌, ◌-◌, ◌^◌, ◌++◌, ◌∷◌, [], length, map, IfOk, OnOk, OnErr, Err, false};
+ghost use Rattle.std.specs.Prelude.{◌≡◌, ◌<◌, ◌-◌, ◌^◌, ◌++◌, ◌∷◌, [], length, map, IfOk, OnOk, OnErr, Err, false};
 ghost use Rattle.core_types.specs.declared.types.FuncType.{FuncType as Signature};
 ghost use Rattle.meaning.specs.embedding.Creation.{has_funcref};
-ghost use Rattle.meaning.specs.execution.Runs.{HostTrap, Results};
 ghost use Rattle.meaning.specs.execution.Values.{type_of};
 ghost use Rattle.soundness.specs.Hosts.{GivesNoFuncref};
 ghost use Rattle.hostfunc.specs.Boxes.{HostCall, IsHost, type_of_host};
-ghost use Rattle.hostfunc.specs.declared.host_function.HostFault.TheVariants.{Trap as TrapFault, Memory as MemoryFault};
+ghost use Rattle.hostfunc.specs.Faults.{IfAnswered};
+ghost use Rattle.hostfunc.specs.declared.host_function.HostFault.TheVariants.{Memory as MemoryFault};
 
 use crate::boxes::object_type;
 use crate::host_function::{HostFault, HostFn};
@@ -75,14 +75,9 @@ impl HostTable {
     ) -> Result<Vec<Val>, HostFault>
         requires there { (t : Signature) × IsHost self.old.objects.items number t
             × (map type_of args.now ≡ t.params) }
-        ensures answered { IfOk result
-            (λ values. HostCall ⟦<dyn HostFn as HostFn>⟧ self.old.objects.items number args.now
-            memory.old (Results values.items)
-            memory.new self.new.objects.items) }
-        ensures trapped { (code : ℕ) → result ≡ Err (TrapFault code)
-            → HostCall ⟦<dyn HostFn as HostFn>⟧ self.old.objects.items number args.now memory.old
-            (HostTrap code)
-            memory.new self.new.objects.items }
+        ensures answered { IfAnswered result (λ answer. HostCall ⟦<dyn HostFn as HostFn>⟧
+            self.old.objects.items number args.now memory.old answer memory.new
+            self.new.objects.items) }
         ensures unchanged { result ≡ Err MemoryFault
             → (self.new.objects.items ≡ self.old.objects.items)
             × (memory.new ≡ memory.old) }

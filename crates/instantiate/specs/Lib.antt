@@ -1,4 +1,5 @@
 pub mod Addresses
+pub mod Constants
 pub mod Links
 pub mod Objects
 pub mod Offsets

@@ -1,5 +1,5 @@
 -- What a link runs, in the terms of the definitions.
-use Rattle.std.specs.Prelude.{◌≡◌, ℕ, ◌-◌, ◌<◌, ◌≤◌, List, [], ◌++◌, Option, Some, None, Result, Ok, Err, slice_get}
+use Rattle.std.specs.Prelude.{◌≡◌, ℕ, ◌-◌, ◌<◌, ◌≤◌, ◌^◌, List, [], ◌++◌, length, Option, Some, None, Result, Ok, Err, slice_get}
 use Rattle.core_types.specs.declared.module.Module.{Module}
 use Rattle.core_types.specs.declared.outcome.Exhaustion.TheVariants as exhausted
 use Rattle.core_types.specs.declared.outcome.Val.{Val}
@@ -7,7 +7,7 @@ use Rattle.core_types.specs.declared.outcome.Val.TheVariants.{I32, I64, FuncRef,
 use Rattle.meaning.specs.execution.Configurations.{Configuration, Frame}
 use Rattle.meaning.specs.execution.Modules.{HasNoValues, RunTasks, Task}
 use Rattle.meaning.specs.execution.Runs.{Answer, Ending, IsStep, Run, State, WithValues}
-use Rattle.meaning.specs.execution.Store.{ModuleInstance, Store}
+use Rattle.meaning.specs.execution.Store.{ModuleInstance, Store, instance_of}
 use Rattle.soundness.specs.Progress.{GetsStuck, TasksGetStuck}
 use Rattle.simulation.specs.Outcomes.{Outcome, failed, grown, made}
 use Rattle.effects.specs.Outcomes.{IsTrap, LacksMemory, cost_of}
@@ -16,6 +16,7 @@ use Rattle.exec.specs.declared.outcome.Outcome.TheVariants.{Exhausted, Trap, Val
 use Rattle.exec.specs.Endings.{ending_of, run_state}
 use Rattle.store.specs.Contents.{AddressLists, Contents, instances_in, lists_of, module_instance, store_with}
 use Rattle.store.specs.State.{StateContents}
+use Rattle.instantiate.specs.Offsets.{HasRoomForOffsets}
 use Rattle.instantiate.specs.declared.copies.Linked.{Linked}
 use Rattle.instantiate.specs.declared.link_end.TaskEnd.{TaskEnd}
 use Rattle.instantiate.specs.declared.link_end.TaskEnd.TheVariants.{Ended, Stuck}
@@ -33,6 +34,14 @@ abbrev pub HasInstance : Contents → (instance : ℕ) → Module → Type 0
 HasInstance code instance m =
     (addresses : AddressLists) × (slice_get (instances_in code) instance ≡
     Some (module_instance addresses m))
+
+-- The segments of that module can be run: there is an instance of it under this number, the indices of its segments are of 32 bits,
+-- and there is room for their offsets.
+pub record SegmentsAreReady (code : Contents) (instance : ℕ) (m : Module) (room : ℕ) : Type 0 where
+  pub instance_is : HasInstance code instance m
+  pub elements : length m.elements < 2 ^ 32
+  pub datas : length m.datas < 2 ^ 32
+  pub offsets : HasRoomForOffsets room m
 
 -- Its frame, in which segments are copied.
 abbrev pub frame_in : Linked → Frame
@@ -140,3 +149,9 @@ module _ {H : Type 0} (HostStep : List H → ℕ → Option ℕ → List Val →
       → (old : State H) → List Task → (new : State H) → Type 0
   RanTasks (Ok u) bound instance i old tasks new = DoneTasks bound instance i old tasks new
   RanTasks (Err o) bound instance i old tasks new = EndedTasks bound instance i old tasks o new
+
+  -- The same of tasks of an instance of the store.
+  abbrev pub RanTasksIn : {U : Type 0} → Result U TaskEnd → (bound instance : ℕ) → (old : State H)
+      → List Task → (new : State H) → Type 0
+  RanTasksIn result bound instance old tasks new =
+      RanTasks result bound instance (instance_of old.store (Some instance)) old tasks new

@@ -9,9 +9,10 @@ ghost use Rattle.core_types.specs.declared.op.PlainOp.TheVariants.{Numeric as Nu
 ghost use Rattle.core_types.specs.declared.op.ReferenceOp.TheVariants.{Func as FuncForm};
 ghost use Rattle.core_types.specs.declared.op.VariableOp.TheVariants.{GlobalGet as GlobalGetForm};
 ghost use Rattle.core_types.specs.declared.outcome.Val.{Val as AnyVal};
-ghost use Rattle.meaning.specs.execution.Modules.{constant, constant_operands, constant_step, constant_value, only, operate as operate_of};
+ghost use Rattle.meaning.specs.execution.Modules.{constant, constant_step, constant_value, only, operate as operate_of};
 ghost use Rattle.meaning.specs.execution.Values.{null_of};
-ghost use Rattle.store.specs.Contents.{Contents, lists_of, module_instance, store_with};
+ghost use Rattle.store.specs.Contents.{Contents, store_with};
+ghost use Rattle.instantiate.specs.Constants.{instance_with, operands_behind};
 
 use core_types::{
     BinaryOp, Expression, LentOp, NumericOp, PlainOp, RefType, ReferenceOp, Val, VariableOp, Width,
@@ -25,7 +26,7 @@ use store::{Addresses, State, null_of};
 /// The reference to a function of the instance with these addresses, if it has that function.
 pub fn function_reference(addresses: &Addresses, state: &State, x: u32) -> Option<Val>
     ensures { (code : Contents) (m : Module) → result ≡ constant (store_with code state.now)
-        (module_instance (lists_of addresses.now) m) (ReferenceForm (FuncForm x)) }
+        (instance_with addresses.now m) (ReferenceForm (FuncForm x)) }
 {
     let _ = state;
     match addresses.functions.get(x as usize) {
@@ -37,7 +38,7 @@ pub fn function_reference(addresses: &Addresses, state: &State, x: u32) -> Optio
 // The value of a global of the instance with these addresses, if it is there.
 fn global_value(addresses: &Addresses, state: &State, x: u32) -> Option<Val>
     ensures { (code : Contents) (m : Module) → result ≡ constant (store_with code state.now)
-        (module_instance (lists_of addresses.now) m) (VariableForm (GlobalGetForm x)) }
+        (instance_with addresses.now m) (VariableForm (GlobalGetForm x)) }
 {
     let address = addresses.globals.get(x as usize)?;
     match state.global(*address) {
@@ -49,7 +50,7 @@ fn global_value(addresses: &Addresses, state: &State, x: u32) -> Option<Val>
 // The value of a constant instruction, in the instance with these addresses.
 fn constant(op: &PlainOp, addresses: &Addresses, state: &State) -> Option<Val>
     ensures { (code : Contents) (m : Module) → result ≡ constant (store_with code state.now)
-        (module_instance (lists_of addresses.now) m) op.now }
+        (instance_with addresses.now m) op.now }
 {
     match op {
         PlainOp::I32Const(n) => Some(Val::I32(*n)),
@@ -124,10 +125,10 @@ fn put_constant(op: &PlainOp, addresses: &Addresses, state: &State, operands: &m
     requires no_operator { (n : AnyNumericOp) → op.now ≢ NumericForm n }
     requires room { vec_len operands.old < vec_capacity operands.old }
     ensures done { IsTrue result → (contents : Contents) (m : Module) → constant_step
-        (store_with contents state.now) (module_instance (lists_of addresses.now) m) op.now
+        (store_with contents state.now) (instance_with addresses.now m) op.now
         (reverse operands.old.items) ≡ Some (reverse operands.new.items) }
     ensures none { result ≡ false → (contents : Contents) (m : Module) → constant_step
-        (store_with contents state.now) (module_instance (lists_of addresses.now) m) op.now
+        (store_with contents state.now) (instance_with addresses.now m) op.now
         (reverse operands.old.items) ≡ None }
     ensures len { vec_len operands.new ≤ vec_len operands.old + 1 }
     ensures capacity { vec_capacity operands.old ≤ vec_capacity operands.new }
@@ -150,10 +151,10 @@ fn execute_plain(
 ) -> bool
     requires room { vec_len operands.old < vec_capacity operands.old }
     ensures done { IsTrue result → (contents : Contents) (m : Module) → constant_step
-        (store_with contents state.now) (module_instance (lists_of addresses.now) m) op.now
+        (store_with contents state.now) (instance_with addresses.now m) op.now
         (reverse operands.old.items) ≡ Some (reverse operands.new.items) }
     ensures none { result ≡ false → (contents : Contents) (m : Module) → constant_step
-        (store_with contents state.now) (module_instance (lists_of addresses.now) m) op.now
+        (store_with contents state.now) (instance_with addresses.now m) op.now
         (reverse operands.old.items) ≡ None }
     ensures len { vec_len operands.new ≤ vec_len operands.old + 1 }
     ensures capacity { vec_capacity operands.old ≤ vec_capacity operands.new }
@@ -169,15 +170,12 @@ fn execute_plain(
 fn execute(op: LentOp<'_>, addresses: &Addresses, state: &State, operands: &mut Vec<Val>) -> bool
     requires room { vec_len operands.old < vec_capacity operands.old }
     ensures done { IsTrue result → (contents : Contents) (m : Module) (ops : List AnyOp)
-        → constant_operands (store_with contents state.now)
-        (module_instance (lists_of addresses.now) m) (lent_op op.entry ∷ ops)
-        (reverse operands.old.items)
-        ≡ constant_operands (store_with contents state.now)
-        (module_instance (lists_of addresses.now) m) ops (reverse operands.new.items) }
+        → operands_behind contents state.now (instance_with addresses.now m)
+        (lent_op op.entry ∷ ops) operands.old.items ≡ operands_behind contents state.now
+        (instance_with addresses.now m) ops operands.new.items }
     ensures none { result ≡ false → (contents : Contents) (m : Module) (ops : List AnyOp)
-        → constant_operands (store_with contents state.now)
-        (module_instance (lists_of addresses.now) m) (lent_op op.entry ∷ ops)
-        (reverse operands.old.items) ≡ None }
+        → operands_behind contents state.now (instance_with addresses.now m)
+        (lent_op op.entry ∷ ops) operands.old.items ≡ None }
     ensures len { vec_len operands.new ≤ vec_len operands.old + 1 }
     ensures capacity { vec_capacity operands.old ≤ vec_capacity operands.new }
 {
@@ -222,7 +220,7 @@ fn run_constant(
 ) -> Option<Val>
     requires room { length code.now ≤ vec_capacity operands.old }
     ensures value { (contents : Contents) (m : Module) → result ≡ constant_value
-        (store_with contents state.now) (module_instance (lists_of addresses.now) m) code.now }
+        (store_with contents state.now) (instance_with addresses.now m) code.now }
     ensures capacity { vec_capacity operands.old ≤ vec_capacity operands.new }
 {
     operands.clear();
@@ -268,7 +266,7 @@ impl ConstantOperands {
     ) -> Option<Val>
         requires room { length code.now ≤ self.old }
         ensures value { (contents : Contents) (m : Module) → result ≡ constant_value
-            (store_with contents state.now) (module_instance (lists_of addresses.now) m) code.now }
+            (store_with contents state.now) (instance_with addresses.now m) code.now }
         ensures room { self.new ≡ self.old }
     {
         run_constant(code, addresses, state, &mut self.values)
@@ -282,7 +280,7 @@ impl ConstantOperands {
         state: &State,
     ) -> Result<Option<Val>, AllocError>
         ensures { IfOk result (λ value. (contents : Contents) (m : Module) → value ≡ constant_value
-            (store_with contents state.now) (module_instance (lists_of addresses.now) m) code.now) }
+            (store_with contents state.now) (instance_with addresses.now m) code.now) }
     {
         self.reserve(code.len())?;
         Ok(self.value_of(code, addresses, state))

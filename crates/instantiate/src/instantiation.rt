@@ -4,12 +4,13 @@ ghost use Rattle.meaning.specs.execution.Store.{instance_of};
 ghost use Rattle.meaning.specs.execution.Runs.{NoHosts};
 ghost use Rattle.soundness.specs.Links.{IsLinkable, TasksAreGood};
 ghost use Rattle.soundness.specs.Stores.{Extends};
+ghost use Rattle.fuel.specs.Metering.{Charges};
 ghost use Rattle.hostfunc.specs.Boxes.{HaveHosts, HostStep};
+ghost use Rattle.hostfunc.specs.Tables.{hosts_in};
 ghost use Rattle.exec.specs.Endings.{run_state};
-ghost use Rattle.store.specs.Contents.{code_store, store_of};
+ghost use Rattle.store.specs.Contents.{store_of};
 ghost use Rattle.instantiate.specs.Links.{Allocates, IsCauseOrAllowed, LeavesInstance, Links};
-ghost use Rattle.instantiate.specs.Offsets.{HasRoomForOffsets};
-ghost use Rattle.instantiate.specs.Tasks.{HasInstance, RanTasks, link_state};
+ghost use Rattle.instantiate.specs.Tasks.{RanTasksIn, SegmentsAreReady, link_state};
 
 use crate::addresses::new_addresses;
 use crate::constants::ConstantOperands;
@@ -77,12 +78,8 @@ fn copy_segments(
     wanted: &Module,
     operands: &mut ConstantOperands,
 ) -> Result<(), TaskEnd>
-    requires instance { HasInstance code.now instance wanted.now }
-    requires elements { length wanted.now.elements < 2 ^ 32 }
-    requires datas { length wanted.now.datas < 2 ^ 32 }
-    requires room { HasRoomForOffsets operands.old wanted.now }
-    ensures ran { RanTasks NoHosts result meter.old.bound instance
-        (instance_of (code_store code.now) (Some instance))
+    requires ready { SegmentsAreReady code.now instance wanted.now operands.old }
+    ensures ran { RanTasksIn NoHosts result meter.old.bound instance
         (link_state code.now state.old meter.old.left)
         (element_tasks wanted.now.elements ++ data_tasks wanted.now.datas)
         (link_state code.now state.new meter.new.left) }
@@ -110,15 +107,11 @@ fn run_segments(
     wanted: &Module,
     operands: &mut ConstantOperands,
 ) -> Result<(), TaskEnd>
-    requires instance { HasInstance store.old.code instance wanted.now }
-    requires elements { length wanted.now.elements < 2 ^ 32 }
-    requires datas { length wanted.now.datas < 2 ^ 32 }
-    requires room { HasRoomForOffsets operands.old wanted.now }
+    requires ready { SegmentsAreReady store.old.code instance wanted.now operands.old }
     requires good { TasksAreGood (store_of store.old) instance
-        (instance_of (code_store store.old.code) (Some instance))
+        (instance_of (store_of store.old) (Some instance))
         (element_tasks wanted.now.elements ++ data_tasks wanted.now.datas) }
-    ensures ran { RanTasks NoHosts result meter.old.bound instance
-        (instance_of (code_store store.old.code) (Some instance))
+    ensures ran { RanTasksIn NoHosts result meter.old.bound instance
         (link_state store.old.code store.old.state meter.old.left)
         (element_tasks wanted.now.elements ++ data_tasks wanted.now.datas)
         (link_state store.new.code store.new.state meter.new.left) }
@@ -140,20 +133,15 @@ fn run_tasks(
     wanted: &Module,
     operands: &mut ConstantOperands,
 ) -> Result<(), TaskEnd>
-    requires instance { HasInstance store.old.code instance wanted.now }
-    requires elements { length wanted.now.elements < 2 ^ 32 }
-    requires datas { length wanted.now.datas < 2 ^ 32 }
-    requires room { HasRoomForOffsets operands.old wanted.now }
+    requires ready { SegmentsAreReady store.old.code instance wanted.now operands.old }
     requires good { TasksAreGood (store_of store.old) instance
-        (instance_of (code_store store.old.code) (Some instance)) (tasks_of wanted.now) }
-    requires hosts { HaveHosts (store_of store.old) hosts.old.objects.items }
+        (instance_of (store_of store.old) (Some instance)) (tasks_of wanted.now) }
+    requires hosts { HaveHosts (store_of store.old) (hosts_in hosts.old) }
     requires closed { meter.old.frames ≡ 0 }
-    ensures ran { RanTasks (HostStep ⟦<dyn HostFn as HostFn>⟧) result meter.old.bound instance
-        (instance_of (code_store store.old.code) (Some instance))
-        (run_state (store_of store.old) hosts.old.objects.items meter.old.left)
-        (tasks_of wanted.now)
-        (run_state (store_of store.new) hosts.new.objects.items meter.new.left) }
-    ensures hosts { HaveHosts (store_of store.new) hosts.new.objects.items }
+    ensures ran { RanTasksIn (HostStep ⟦<dyn HostFn as HostFn>⟧) result meter.old.bound instance
+        (run_state (store_of store.old) (hosts_in hosts.old) meter.old.left) (tasks_of wanted.now)
+        (run_state (store_of store.new) (hosts_in hosts.new) meter.new.left) }
+    ensures hosts { HaveHosts (store_of store.new) (hosts_in hosts.new) }
     ensures bound { meter.new.bound ≡ meter.old.bound }
     ensures closed { meter.new.frames ≡ 0 }
 {
@@ -170,13 +158,13 @@ fn link(
     loaded: &Rc<LoadedModule>,
     externs: &[Extern],
 ) -> Result<u32, LinkEnd>
-    requires hosts { HaveHosts (store_of store.old) hosts.old.objects.items }
+    requires hosts { HaveHosts (store_of store.old) (hosts_in hosts.old) }
     requires closed { meter.old.frames ≡ 0 }
     ensures linked { Links (HostStep ⟦<dyn HostFn as HostFn>⟧) result meter.old.bound
         loaded.now.value.source externs.now
-        (run_state (store_of store.old) hosts.old.objects.items meter.old.left)
-        (run_state (store_of store.new) hosts.new.objects.items meter.new.left) }
-    ensures hosts { HaveHosts (store_of store.new) hosts.new.objects.items }
+        (run_state (store_of store.old) (hosts_in hosts.old) meter.old.left)
+        (run_state (store_of store.new) (hosts_in hosts.new) meter.new.left) }
+    ensures hosts { HaveHosts (store_of store.new) (hosts_in hosts.new) }
     ensures bound { meter.new.bound ≡ meter.old.bound }
     ensures closed { meter.new.frames ≡ 0 }
 {
@@ -217,19 +205,17 @@ pub fn instantiate(
     loaded: &Rc<LoadedModule>,
     externs: &[Extern],
 ) -> Result<u32, LinkEnd>
-    requires hosts { HaveHosts (store_of store.old) hosts.old.objects.items }
+    requires hosts { HaveHosts (store_of store.old) (hosts_in hosts.old) }
     requires closed { meter.old.frames ≡ 0 }
     ensures linked { Links (HostStep ⟦<dyn HostFn as HostFn>⟧) result meter.old.bound
         loaded.now.value.source externs.now
-        (run_state (store_of store.old) hosts.old.objects.items meter.old.left)
-        (run_state (store_of store.new) hosts.new.objects.items meter.new.left) }
+        (run_state (store_of store.old) (hosts_in hosts.old) meter.old.left)
+        (run_state (store_of store.new) (hosts_in hosts.new) meter.new.left) }
     ensures extends { Extends (store_of store.old) (store_of store.new) }
     ensures instance_stays { LeavesInstance result loaded.now.value.source externs.now
         (store_of store.old) (store_of store.new) }
-    ensures spends { meter.new.left ≤ meter.old.left }
-    ensures hosts { HaveHosts (store_of store.new) hosts.new.objects.items }
-    ensures bound { meter.new.bound ≡ meter.old.bound }
-    ensures closed { meter.new.frames ≡ 0 }
+    ensures hosts { HaveHosts (store_of store.new) (hosts_in hosts.new) }
+    ensures charges { Charges meter.old meter.new }
 {
     writing_is_read();
     let _ = store.state();

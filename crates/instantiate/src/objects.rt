@@ -4,6 +4,7 @@ ghost use Rattle.core_types.specs.declared.module.Module.{Module as AnyModule};
 ghost use Rattle.core_types.specs.declared.op.PlainOp.TheVariants.{Reference as ReferenceForm};
 ghost use Rattle.core_types.specs.declared.op.ReferenceOp.TheVariants.{Func as FuncForm};
 ghost use Rattle.meaning.specs.execution.Memories.{new_memory};
+ghost use Rattle.meaning.specs.validation.Types.{most_pages};
 ghost use Rattle.meaning.specs.execution.Modules.{HasRoom, constant, constant_value as value_of, map_all, new_data, new_elements, new_global, new_objects, references};
 ghost use Rattle.meaning.specs.execution.Tables.{new_table};
 ghost use Rattle.store.specs.Contents.{Contents, lists_of, module_instance, store_of, store_with};
@@ -60,7 +61,7 @@ fn new_tables(alloc: Global, wanted: &[TableType]) -> Result<Vec<Table>, AllocEr
 
 // The memories of a module, all zero.
 fn new_memories(alloc: Global, wanted: &[Limits]) -> Result<Vec<Memory>, AllocError>
-    requires { All (λ l. l.min ≤ 65536) wanted.now }
+    requires { All (λ l. l.min ≤ most_pages) wanted.now }
     ensures { IfOk result (λ memories. memories.items ≡ map new_memory wanted.now) }
 {
     let mut memories = Vec::new(alloc);

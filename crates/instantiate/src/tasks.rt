@@ -5,11 +5,12 @@ ghost use Rattle.meaning.specs.execution.Store.{instance_of};
 ghost use Rattle.meaning.specs.execution.Runs.{NoHosts};
 ghost use Rattle.store.specs.Contents.{code_store, store_of, store_with};
 ghost use Rattle.hostfunc.specs.Boxes.{HaveHosts, HostStep};
+ghost use Rattle.hostfunc.specs.Tables.{hosts_in};
 ghost use Rattle.exec.specs.Endings.{run_state};
 ghost use Rattle.meaning.specs.execution.Configurations.{Invoking, no_frame};
 ghost use Rattle.meaning.specs.execution.Modules.{item_count as count_of};
 ghost use Rattle.instantiate.specs.Offsets.{HaveRoom, data_offset, element_offset};
-ghost use Rattle.instantiate.specs.Tasks.{EndsAs, HasNoI32, RanTasks, RunsTo, instance_in, link_state};
+ghost use Rattle.instantiate.specs.Tasks.{EndsAs, HasNoI32, RanTasks, RanTasksIn, RunsTo, instance_in, link_state};
 
 use crate::constants::ConstantOperands;
 use crate::copies::{Linked, copy_bytes, copy_elements, drop_element_segment};
@@ -191,13 +192,13 @@ fn call_start(
     meter: &mut Meter,
     address: u32,
 ) -> Result<(), TaskEnd>
-    requires hosts { HaveHosts (store_of store.old) hosts.old.objects.items }
+    requires hosts { HaveHosts (store_of store.old) (hosts_in hosts.old) }
     requires closed { meter.old.frames ≡ 0 }
     ensures run { RunsTo (HostStep ⟦<dyn HostFn as HostFn>⟧) result meter.old.bound no_frame
-        (run_state (store_of store.old) hosts.old.objects.items meter.old.left)
+        (run_state (store_of store.old) (hosts_in hosts.old) meter.old.left)
         (Invoking ([]) address)
-        (run_state (store_of store.new) hosts.new.objects.items meter.new.left) }
-    ensures hosts { HaveHosts (store_of store.new) hosts.new.objects.items }
+        (run_state (store_of store.new) (hosts_in hosts.new) meter.new.left) }
+    ensures hosts { HaveHosts (store_of store.new) (hosts_in hosts.new) }
     ensures bound { meter.new.bound ≡ meter.old.bound }
     ensures closed { meter.new.frames ≡ 0 }
 {
@@ -216,13 +217,12 @@ pub fn run_start(
     instance: u32,
     start: Option<u32>,
 ) -> Result<(), TaskEnd>
-    requires hosts { HaveHosts (store_of store.old) hosts.old.objects.items }
+    requires hosts { HaveHosts (store_of store.old) (hosts_in hosts.old) }
     requires closed { meter.old.frames ≡ 0 }
-    ensures ran { RanTasks (HostStep ⟦<dyn HostFn as HostFn>⟧) result meter.old.bound instance
-        (instance_of (code_store store.old.code) (Some instance))
-        (run_state (store_of store.old) hosts.old.objects.items meter.old.left) (start_task start)
-        (run_state (store_of store.new) hosts.new.objects.items meter.new.left) }
-    ensures hosts { HaveHosts (store_of store.new) hosts.new.objects.items }
+    ensures ran { RanTasksIn (HostStep ⟦<dyn HostFn as HostFn>⟧) result meter.old.bound instance
+        (run_state (store_of store.old) (hosts_in hosts.old) meter.old.left) (start_task start)
+        (run_state (store_of store.new) (hosts_in hosts.new) meter.new.left) }
+    ensures hosts { HaveHosts (store_of store.new) (hosts_in hosts.new) }
     ensures bound { meter.new.bound ≡ meter.old.bound }
     ensures closed { meter.new.frames ≡ 0 }
 {

@@ -10,7 +10,8 @@ use Rattle.core_types.specs.declared.op.VariableOp.TheVariants.{GlobalGet, Globa
 use Rattle.core_types.specs.declared.outcome.Trap.{Trap}
 use Rattle.core_types.specs.declared.types.Mutability.TheVariants.{Var}
 use Rattle.core_types.specs.declared.types.ValType.TheVariants.{I32}
-use Rattle.meaning.specs.execution.Memories.{MemoryInstance, load_from, store_into, store_size}
+use Rattle.meaning.specs.execution.Memories.{MemoryInstance, load_from, store_into}
+use Rattle.meaning.specs.validation.Instructions.{store_width}
 use Rattle.meaning.specs.execution.Store.{GlobalInstance}
 use Rattle.cells.specs.Cells.{IsCellOf, cell_of}
 use Rattle.sidetable.specs.Counts.{counts}
@@ -62,9 +63,9 @@ module _ (w : World) (m : Machine) (g : Ghost) (r : RunsAt w m g) where
         (
           λ result written. stored few address found has_memory result
               (stores result
-              (ap (λ (x : MemoryInstance). store_into x.bytes (get_or (cells_in g m) (height_in m - 2) 0 + offset) (store_size op) (get_or (cells_in g m) (height_in m - 1) 0)) is
-              ∙ ap (λ (n : ℕ). store_into w.bytes (n + offset) (store_size op) (get_or (cells_in g m) (height_in m - 1) 0)) first
-              ∙ ap (λ (n : ℕ). store_into w.bytes (second_of m + offset) (store_size op) n) second ∙ written)),
+              (ap (λ (x : MemoryInstance). store_into x.bytes (get_or (cells_in g m) (height_in m - 2) 0 + offset) (store_width op) (get_or (cells_in g m) (height_in m - 1) 0)) is
+              ∙ ap (λ (n : ℕ). store_into w.bytes (n + offset) (store_width op) (get_or (cells_in g m) (height_in m - 1) 0)) first
+              ∙ ap (λ (n : ℕ). store_into w.bytes (second_of m + offset) (store_width op) n) second ∙ written)),
           dear,
         ),
       )

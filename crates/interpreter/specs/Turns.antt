@@ -10,9 +10,9 @@ use Rattle.core_types.specs.declared.outcome.Val.{Val}
 use Rattle.core_types.specs.declared.types.FuncType.{FuncType}
 use Rattle.core_types.specs.declared.types.Mutability.TheVariants.{Var}
 use Rattle.core_types.specs.declared.types.ValType.TheVariants.{I32}
-use Rattle.meaning.specs.execution.Memories.{load_from, store_into, store_size}
+use Rattle.meaning.specs.execution.Memories.{load_from, store_into}
+use Rattle.meaning.specs.validation.Instructions.{store_width, load_type}
 use Rattle.meaning.specs.execution.Store.{FunctionInstance}
-use Rattle.meaning.specs.validation.Instructions.{load_type}
 use Rattle.meaning.specs.validation.Types.{function_type}
 use Rattle.cells.specs.Cells.{IsCellOf, cell_of, value_of, value_of_result}
 use Rattle.effects.specs.Numeric.{GivesBinary, GivesUnary, operand_type}
@@ -221,7 +221,7 @@ IsWritten w m g (Err trap) = Traps g m trap
 abbrev pub Writes : World → Machine → Ghost → StoreOp → (offset : ℕ) → Type 0
 Writes w m g instruction offset =
     ((result : Result (List ℕ) Trap)
-    → store_into w.bytes (second_of m + offset) (store_size instruction) m.operand ≡ result
+    → store_into w.bytes (second_of m + offset) (store_width instruction) m.operand ≡ result
     → IsWritten w m g result)
     × IsDear g m
 

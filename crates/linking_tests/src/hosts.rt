@@ -4,6 +4,7 @@ ghost use Rattle.std.specs.Prelude.{◌≡◌, ◌+◌, ◌<◌, ◌∷◌, [], 
 ghost use Rattle.std.proofs.Props.{props};
 ghost use Rattle.core_types.specs.declared.types.ValType.TheVariants.{I32};
 ghost use Rattle.store.specs.Contents.{store_of};
+ghost use Rattle.hostfunc.specs.Tables.{hosts_in};
 
 use crate::modules::{ENTRIES, PAGES};
 use core_types::{FuncType, Items, Val, ValType};
@@ -99,7 +100,7 @@ pub struct Hosted {
 
 /// A store without anything in it.
 pub fn empty_hosted(alloc: Global) -> Hosted
-    ensures objects { result.hosts.objects.items ≡ [] }
+    ensures objects { hosts_in result.hosts ≡ [] }
     ensures functions { (store_of result.store).functions ≡ [] }
     ensures hosts { result.store.code.hosts ≡ [] }
 {
@@ -111,11 +112,11 @@ pub fn empty_hosted(alloc: Global) -> Hosted
 
 // Takes in an object that gives no funcref, behind as many host functions.
 fn take_in(hosted: &mut Hosted, alloc: Global, object: Box<dyn HostFn>) -> Result<(), AllocError>
-    requires objects { length hosted.old.hosts.objects.items < 9 }
+    requires objects { length (hosts_in hosted.old.hosts) < 9 }
     requires functions { length (store_of hosted.old.store).functions < 9 }
     requires hosts { length hosted.old.store.code.hosts < 9 }
-    ensures objects { OnOk result (length hosted.new.hosts.objects.items ≡
-        length hosted.old.hosts.objects.items + 1) }
+    ensures objects { OnOk result (length (hosts_in hosted.new.hosts) ≡
+        length (hosts_in hosted.old.hosts) + 1) }
     ensures functions { OnOk result (length (store_of hosted.new.store).functions ≡
         length (store_of hosted.old.store).functions + 1) }
     ensures hosts { OnOk result (length hosted.new.store.code.hosts ≡

@@ -6,6 +6,7 @@ pub mod Storage
 pub mod Memories
 pub mod Tables
 pub mod Configurations
+pub mod Costs
 pub mod Effects
 pub mod Instructions
 pub mod Layers

@@ -117,7 +117,7 @@ fn links_a_print(alloc: Global, at: &mut Embedding) -> bool {
 fn calls_it(alloc: Global, at: &mut Embedding, code: Option<u32>) -> bool {
     match String::from_str(alloc, "p") {
         Ok(name) => match at.apply(&Command::Call(0, name, Vec::new(alloc))) {
-            Reply::Values(_) => code.is_none(),
+            Reply::Values(values) => values.is_empty() && code.is_none(),
             Reply::Trap(Trap::Host(found)) => code == Some(found),
             _ => false,
         },

@@ -21,7 +21,7 @@ use Rattle.scripts.specs.Conversations as part
 use Rattle.scripts.specs.declared.faults.ScriptFault.{ScriptFault}
 use Rattle.scripts.specs.declared.faults.ScriptFault.TheVariants.{NotJson, BadCommand, MissingFile, OutOfMemory}
 use Rattle.scripts.specs.declared.instances.Instances.{Instances}
-use Rattle.scripts.specs.declared.place.Place.{Place}
+use Rattle.scripts.specs.declared.progress.Progress.{Progress}
 use Rattle.scripts.specs.declared.report.Report.{Report}
 
 -- ---- what is kept, in the terms of the definitions
@@ -41,8 +41,8 @@ named_in names name = option_flatten (get_by_text names name)
 abbrev pub instances_view : Instances → runner.Instances
 instances_view i = record { current = i.current; named = named_in i.named }
 
-abbrev pub place_view : Place → runner.Place
-place_view p = record { instances = instances_view p.instances; report = report_view p.report }
+abbrev pub progress_view : Progress → runner.Progress
+progress_view p = record { instances = instances_view p.instances; report = report_view p.report }
 
 -- The files that are handed in, with their names.
 abbrev pub files_view : List (String Global × Vec ℕ Global) → List (List ℕ × List ℕ)

@@ -10,7 +10,7 @@ mod instances;
 mod kinds;
 mod numbers;
 mod passing;
-mod place;
+mod progress;
 mod reading;
 mod report;
 mod running;

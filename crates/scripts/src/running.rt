@@ -8,7 +8,7 @@ ghost use Rattle.scripts.specs.Views.{command_view};
 
 use crate::faults::ScriptFault;
 use crate::file_maps::{files_by_name, missing};
-use crate::place::Place;
+use crate::progress::Progress;
 use crate::report::Report;
 use crate::script::{Script, ScriptCommand};
 use embed::Embedding;
@@ -28,11 +28,11 @@ fn run_commands(
         (map command_view commands.now)
         (embedding_of embedding.old) result (embedding_of embedding.new) }
 {
-    let mut at = Place::new(alloc);
+    let mut at = Progress::new(alloc);
     for k in 0..commands.len() {
         at.advance(alloc, fuel, files, &commands[k], embedding)?;
     }
-    let Place {
+    let Progress {
         instances: _,
         report,
     } = at;

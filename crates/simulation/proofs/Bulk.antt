@@ -11,10 +11,11 @@ use Rattle.core_types.specs.declared.outcome.Val.TheVariants as value
 use Rattle.core_types.specs.declared.types.ValType.{ValType}
 use Rattle.core_types.specs.declared.types.ValType.TheVariants.{I32}
 use Rattle.meaning.specs.execution.Configurations.{Frame}
-use Rattle.meaning.specs.execution.Effects.{Done, Grown, bulk_cost, drop_data, effect, growth_cost, in_memory, init_memory, write_memory}
-use Rattle.meaning.specs.execution.Memories.{MemoryInstance, can_grow, copy_bytes, fill_bytes, grow_by, most_pages}
+use Rattle.meaning.specs.execution.Costs.{bulk_cost, growth_cost}
+use Rattle.meaning.specs.execution.Effects.{Done, Grown, drop_data, effect, in_memory, init_memory, write_memory}
+use Rattle.meaning.specs.execution.Memories.{MemoryInstance, can_grow, copy_bytes, fill_bytes, grow_by}
 use Rattle.meaning.specs.execution.Store.{DataInstance, Store, instance_of, with_data, with_memory}
-use Rattle.meaning.specs.validation.Types.{function_type}
+use Rattle.meaning.specs.validation.Types.{function_type, most_pages}
 use Rattle.soundness.specs.Places.{context_at}
 use Rattle.soundness.specs.Stores.{StoreIsValid}
 use Rattle.soundness.proofs.Extension.{instance-valid}

@@ -23,7 +23,7 @@ use Rattle.core_types.specs.declared.types.FuncType.{FuncType}
 use Rattle.core_types.specs.declared.types.OperandType.{OperandType}
 use Rattle.meaning.specs.structure.Bodies.{Body, Kind, BlockKind, LoopKind, IfKind, Empty, Then, Nested, IfElse}
 use Rattle.meaning.specs.validation.Context.{Context}
-use Rattle.meaning.specs.validation.Instructions.{AllFit, Frames, HasFuncType, HasType, Rule, condition_of, control_rule, known, memory_rule, numeric_instruction_type, parametric_rule, reference_rule, table_rule, variable_rule}
+use Rattle.meaning.specs.validation.Instructions.{AllFit, TakesAndGives, HasFuncType, HasType, Rule, condition_of, control_rule, known, memory_rule, numeric_instruction_type, parametric_rule, reference_rule, table_rule, variable_rule}
 use Rattle.meaning.specs.validation.Types.{block_type}
 use Rattle.sidetable.specs.Counts.{Signatures, behind, block_counts, changed, control_counts, counts_of, memory_counts, numeric_counts, parametric_counts, reference_counts, table_counts, variable_counts}
 use Rattle.sidetable.specs.declared.counts.Counts.{Counts}
@@ -155,7 +155,7 @@ conditions-count LoopKind = refl
 conditions-count IfKind = refl
 
 module _ (context : Context) (s : Signatures) (types : context.types ≡ s.types) (functions : context.functions ≡ s.functions) where
-  framed-length : (operands results before after : List OperandType) → Frames operands results before after → (n : ℕ) × (length before ≡ n + length operands) × (length after ≡ n + length results)
+  framed-length : (operands results before after : List OperandType) → TakesAndGives operands results before after → (n : ℕ) × (length before ≡ n + length operands) × (length after ≡ n + length results)
   framed-length operands results before after frame = (
     length frame.below,
     ap length frame.before_is ∙ length-append frame.below frame.given ∙ ap (λ (n : ℕ). length frame.below + n) (fits-length frame.given operands frame.fits),
@@ -163,14 +163,14 @@ module _ (context : Context) (s : Signatures) (types : context.types ≡ s.types
   )
 
   -- Behind an instruction.
-  behind-counts : (u : ℕ) (operands results before between : List OperandType) (c : Option Counts) → Counted c operands results → Frames operands results before between
+  behind-counts : (u : ℕ) (operands results before between : List OperandType) (c : Option Counts) → Counted c operands results → TakesAndGives operands results before between
       → (goal : Option ℕ → Type 0) → goal None → ((h : ℕ) → h ≡ u + length between → goal (Some h)) → (h : ℕ) → h ≡ u + length before → goal (behind c (Some h))
   behind-counts u operands results before between None counted frame goal none some h is = none
   behind-counts u operands results before between (Some c) counted frame goal none some h is =
       let (n, first, second) = framed-length operands results before between frame in
       some (h - c.takes + c.gives) (omega (arith, counted.0, counted.1, first, second, is))
 
-  pub behind-block : (u : ℕ) (kind : Kind) (t : FuncType) (before between : List OperandType) → Frames (known (t.params ++ condition_of kind)) (known t.results) before between
+  pub behind-block : (u : ℕ) (kind : Kind) (t : FuncType) (before between : List OperandType) → TakesAndGives (known (t.params ++ condition_of kind)) (known t.results) before between
       → (h : ℕ) → h ≡ u + length before → (conditions kind + length t.params ≤ h) × (h - conditions kind - length t.params + length t.results ≡ u + length between)
   behind-block u kind t before between frame h is =
       let (n, first, second) = framed-length _ _ before between frame in

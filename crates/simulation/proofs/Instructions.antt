@@ -21,7 +21,7 @@ use Rattle.meaning.specs.execution.Instructions.{Goes, continue_after, step_inst
 use Rattle.meaning.specs.execution.Store.{Store, instance_of}
 use Rattle.meaning.specs.execution.Values.{null_of}
 use Rattle.meaning.specs.structure.Bodies.{Body}
-use Rattle.meaning.specs.validation.Instructions.{Frames, known}
+use Rattle.meaning.specs.validation.Instructions.{TakesAndGives, known}
 use Rattle.meaning.specs.validation.Types.{function_type, reference_type}
 use Rattle.soundness.proofs.Extension.{instance-valid, types-found}
 use Rattle.soundness.proofs.Operands.{taken}
@@ -57,7 +57,7 @@ always-fails g cells at top b =
 -- ---- parametric instructions
 
 -- The type of an operand that is taken off known types is known.
-first-known : (stack : List ValType) (operands results between : List OperandType) → Frames operands results (known stack) between → (t : OperandType) (others : List OperandType) → operands ≡ t ∷ others → (u : ValType) × (t ≡ Known u)
+first-known : (stack : List ValType) (operands results between : List OperandType) → TakesAndGives operands results (known stack) between → (t : OperandType) (others : List OperandType) → operands ≡ t ∷ others → (u : ValType) × (t ≡ Known u)
 first-known stack operands results between frames t others is =
     let (below, given, parts, known_are, after) = taken operands results stack between frames in by given (sym is ∙ known_are)
   where

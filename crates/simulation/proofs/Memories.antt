@@ -17,10 +17,10 @@ use Rattle.core_types.specs.declared.types.ValType.TheVariants as ty
 use Rattle.meaning.specs.execution.Configurations.{Frame}
 use Rattle.meaning.specs.execution.Effects.{Effect, in_memory, push_read, push_result, store_number, write_memory}
 use Rattle.meaning.specs.execution.Instructions.{continue_after, step_instruction}
-use Rattle.meaning.specs.execution.Memories.{MemoryInstance, load_from, store_into, store_size, stored_number}
+use Rattle.meaning.specs.execution.Memories.{MemoryInstance, load_from, store_into, stored_number}
+use Rattle.meaning.specs.validation.Instructions.{store_width, HasMemory as HasMemoryType, load_type, store_type}
 use Rattle.meaning.specs.execution.Store.{Store, instance_of, with_memory}
 use Rattle.meaning.specs.structure.Bodies.{Body}
-use Rattle.meaning.specs.validation.Instructions.{HasMemory as HasMemoryType, load_type, store_type}
 use Rattle.meaning.specs.validation.Types.{function_type}
 use Rattle.soundness.specs.Places.{context_at}
 use Rattle.soundness.specs.Stores.{StoreIsValid}
@@ -143,11 +143,11 @@ stores-number g cells at top op offset b =
     let i : ℕ = get_or cells (top - 2) 0 in
     let n : ℕ = get_or cells (top - 1) 0 in
     let step : step_instruction g.store (frame_of g) (plain.Memory (memory.Store op argument)) p.values p.rest
-    ≡ continue_after (frame_of g) (write_memory g.store (frame_of g) 1 address m (store_into m.bytes (get_or cells (top - 2) 0 + offset) (store_size op) (get_or cells (top - 1) 0)) w.popped.others) p.rest =
+    ≡ continue_after (frame_of g) (write_memory g.store (frame_of g) 1 address m (store_into m.bytes (get_or cells (top - 2) 0 + offset) (store_width op) (get_or cells (top - 1) 0)) w.popped.others) p.rest =
     ap (λ (vs : List Val). step_instruction g.store (frame_of g) o vs p.rest) w.are
     ∙ ap (λ (found : Option (ℕ × MemoryInstance)). continue_after (frame_of g) (in_memory g.store (frame_of g) found (memory.Store op argument) (value_of (store_type op) n ∷ (I32 i ∷ w.popped.others))) p.rest) located
     ∙ ap (λ (k : Option ℕ). continue_after (frame_of g) (store_number g.store (frame_of g) address m op (i + argument.offset) k w.popped.others) p.rest) (number-stored op n)
-    ∙ ap (λ (k : ℕ). continue_after (frame_of g) (write_memory g.store (frame_of g) 1 address m (store_into m.bytes (i + k) (store_size op) n) w.popped.others) p.rest) offset_is in (
+    ∙ ap (λ (k : ℕ). continue_after (frame_of g) (write_memory g.store (frame_of g) 1 address m (store_into m.bytes (i + k) (store_width op) n) w.popped.others) p.rest) offset_is in (
       address,
       m,
       located,
@@ -157,7 +157,7 @@ stores-number g cells at top op offset b =
       w.fits.0,
       λ result is. writes o g cells at top p refl w.popped address m result
           (step ∙ ap (λ (r : Result (List ℕ) Trap). continue_after (frame_of g) (write_memory g.store (frame_of g) 1 address m r w.popped.others) p.rest) is),
-      dear-here o g cells at top p (subst CostsOne (sym step) (write-costs g.store (frame_of g) p.rest address m (store_into m.bytes (i + offset) (store_size op) n) w.popped.others)),
+      dear-here o g cells at top p (subst CostsOne (sym step) (write-costs g.store (frame_of g) p.rest address m (store_into m.bytes (i + offset) (store_width op) n) w.popped.others)),
     )
 
 -- ---- the size

@@ -9,7 +9,7 @@ use Rattle.core_types.specs.declared.types.OperandType.{OperandType}
 use Rattle.core_types.specs.declared.types.ValType.{ValType}
 use Rattle.meaning.specs.execution.Store.{Store}
 use Rattle.meaning.specs.soundness.Values.{ValueHasType, ValuesHaveTypes}
-use Rattle.meaning.specs.validation.Instructions.{Frames, HasFuncType, known}
+use Rattle.meaning.specs.validation.Instructions.{TakesAndGives, HasFuncType, known}
 use Rattle.soundness.proofs.Operands.{operands-on-top}
 use Rattle.cells.specs.Cells.{IsCellOf, cell_of, value_of}
 use Rattle.simulation.specs.Piles.{cells_of}
@@ -112,7 +112,7 @@ module _ (op : PlainOp) (g : Ghost) (cells : List ℕ) (at top : ℕ) (p : AtPla
       }
 
   pub operands-here : (s : FuncType) (ts : List ValType) → reverse s.params ≡ ts → (operands results between : List OperandType) → HasFuncType s operands results
-      → (f : Inner (here op g cells at top p)) → Frames operands results (known (reverse f.stack)) between → Operands ts
+      → (f : Inner (here op g cells at top p)) → TakesAndGives operands results (known (reverse f.stack)) between → Operands ts
   operands-here s ts params operands results between type f frames =
       let (below, stack_is, between_is) = operands-on-top f.stack s operands results between type frames in
       operands-typed ts below (subst (λ (us : List ValType). ValuesHaveTypes g.store p.values us) (stack_is ∙ ap (λ (us : List ValType). us ++ below) params) f.values)

@@ -11,7 +11,8 @@ use Rattle.core_types.specs.declared.types.RefType.{RefType}
 use Rattle.core_types.specs.declared.types.ValType.{ValType}
 use Rattle.core_types.specs.declared.types.ValType.TheVariants.{I32}
 use Rattle.meaning.specs.execution.Configurations.{Frame}
-use Rattle.meaning.specs.execution.Effects.{Done, Grown, copy_table, drop_elements, effect, elements_at, entries_cost, init_table, on_table, push_read, table_at, write_table}
+use Rattle.meaning.specs.execution.Costs.{entries_cost}
+use Rattle.meaning.specs.execution.Effects.{Done, Grown, copy_table, drop_elements, effect, elements_at, init_table, on_table, push_read, table_at, write_table}
 use Rattle.meaning.specs.execution.Memories.{can_grow}
 use Rattle.meaning.specs.execution.Store.{Store, instance_of, with_elements, with_table}
 use Rattle.meaning.specs.execution.Tables.{ElementInstance, TableInstance, copy_entries, fill_entries, grow_entries, most_entries, read_entry, write_entry}

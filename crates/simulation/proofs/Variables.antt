@@ -10,7 +10,8 @@ use Rattle.core_types.specs.declared.outcome.Val.{Val}
 use Rattle.core_types.specs.declared.types.GlobalType.{GlobalType}
 use Rattle.core_types.specs.declared.types.ValType.{ValType}
 use Rattle.meaning.specs.execution.Configurations.{Running}
-use Rattle.meaning.specs.execution.Effects.{Done, Effect, Lacks, get_global, instruction_cost, set_global}
+use Rattle.meaning.specs.execution.Costs.{instruction_cost}
+use Rattle.meaning.specs.execution.Effects.{Done, Effect, Lacks, get_global, set_global}
 use Rattle.meaning.specs.execution.Instructions.{Goes, continue_after, step_instruction}
 use Rattle.meaning.specs.execution.Store.{GlobalInstance, instance_of, with_global}
 use Rattle.meaning.specs.validation.Types.{function_type}

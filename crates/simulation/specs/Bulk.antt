@@ -5,8 +5,9 @@ use Rattle.core_types.specs.declared.op.PlainOp.TheVariants.{Memory}
 use Rattle.core_types.specs.declared.outcome.Trap.{Trap}
 use Rattle.core_types.specs.declared.outcome.Val.TheVariants as value
 use Rattle.core_types.specs.declared.types.ValType.TheVariants.{I32}
-use Rattle.meaning.specs.execution.Effects.{bulk_cost, growth_cost}
-use Rattle.meaning.specs.execution.Memories.{MemoryInstance, can_grow, copy_bytes, fill_bytes, grow_by, most_pages}
+use Rattle.meaning.specs.execution.Costs.{bulk_cost, growth_cost}
+use Rattle.meaning.specs.execution.Memories.{MemoryInstance, can_grow, copy_bytes, fill_bytes, grow_by}
+use Rattle.meaning.specs.validation.Types.{most_pages}
 use Rattle.meaning.specs.execution.Store.{DataInstance, Store, instance_of, locate, with_data, with_memory}
 use Rattle.sidetable.specs.Flat.{Plain}
 use Rattle.simulation.specs.Memories.{HasMemory}

@@ -6,9 +6,9 @@ use Rattle.core_types.specs.declared.op.PlainOp.TheVariants.{Memory}
 use Rattle.core_types.specs.declared.op.StoreOp.{StoreOp}
 use Rattle.core_types.specs.declared.outcome.Trap.{Trap}
 use Rattle.core_types.specs.declared.types.ValType.TheVariants.{I32}
-use Rattle.meaning.specs.execution.Memories.{MemoryInstance, load_from, store_into, store_size}
+use Rattle.meaning.specs.execution.Memories.{MemoryInstance, load_from, store_into}
+use Rattle.meaning.specs.validation.Instructions.{store_width, load_type, store_type}
 use Rattle.meaning.specs.execution.Store.{instance_of, locate, with_memory}
-use Rattle.meaning.specs.validation.Instructions.{load_type, store_type}
 use Rattle.cells.specs.Cells.{IsCellOf, value_of_result}
 use Rattle.sidetable.specs.Flat.{Plain, at_offset}
 use Rattle.simulation.specs.Instructions.{IsKept, IsPut, IsTrapped, IsAnswered}
@@ -51,7 +51,7 @@ StoresNumber =
     × (2 ≤ top) × (top ≤ length cells) × IsCellOf I32 (get_or cells (top - 2) 0)
     × IsCellOf (store_type op) (get_or cells (top - 1) 0)
     × ((result : Result (List ℕ) Trap)
-    → store_into m.bytes (get_or cells (top - 2) 0 + offset) (store_size op)
+    → store_into m.bytes (get_or cells (top - 2) 0 + offset) (store_width op)
     (get_or cells (top - 1) 0)
     ≡ result
     → IsStored g address m cells at top result)

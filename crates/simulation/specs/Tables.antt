@@ -7,7 +7,7 @@ use Rattle.core_types.specs.declared.outcome.Val.{Val}
 use Rattle.core_types.specs.declared.outcome.Val.TheVariants as value
 use Rattle.core_types.specs.declared.types.ValType.{ValType}
 use Rattle.core_types.specs.declared.types.ValType.TheVariants.{I32}
-use Rattle.meaning.specs.execution.Effects.{entries_cost}
+use Rattle.meaning.specs.execution.Costs.{entries_cost}
 use Rattle.meaning.specs.execution.Memories.{can_grow}
 use Rattle.meaning.specs.execution.Store.{Store, instance_of, locate, with_elements, with_table}
 use Rattle.meaning.specs.execution.Tables.{ElementInstance, TableInstance, copy_entries, fill_entries, grow_entries, most_entries, read_entry, write_entry}

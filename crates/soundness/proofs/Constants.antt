@@ -29,7 +29,7 @@ use Rattle.meaning.specs.execution.Numerics.{binary_operator}
 use Rattle.meaning.specs.execution.Store.{GlobalInstance, ModuleInstance, Store, item_at}
 use Rattle.meaning.specs.execution.Values.{null_of}
 use Rattle.meaning.specs.soundness.Values.{ValueHasType, ValuesHaveTypes}
-use Rattle.meaning.specs.validation.Instructions.{Frames, HasFuncType, HasType, Rule, known}
+use Rattle.meaning.specs.validation.Instructions.{TakesAndGives, HasFuncType, HasType, Rule, known}
 use Rattle.meaning.specs.validation.Modules.{IsConstant, IsConstantExpression, IsConstantOperator, constant_context, functions_of, imported_globals}
 use Rattle.meaning.specs.validation.Types.{function_type, reference_type}
 use Rattle.meaning.proofs.lemmas.OperatorRanges.{binary_range}
@@ -79,7 +79,7 @@ module _ (old new : Store) (m : Module) (i : ModuleInstance)
   abbrev Leads : (after : Option (List Val)) (types : List OperandType) → Type 0
   Leads after types = (stack : List ValType) × (operands : List Val) × (after ≡ Some operands) × ValuesHaveTypes new operands stack × (types ≡ known (reverse stack))
 
-  module _ (stack : List ValType) (operands : List Val) (typed : ValuesHaveTypes new operands stack) (takes gives between : List OperandType) (frame : Frames takes gives (known (reverse stack)) between) where
+  module _ (stack : List ValType) (operands : List Val) (typed : ValuesHaveTypes new operands stack) (takes gives between : List OperandType) (frame : TakesAndGives takes gives (known (reverse stack)) between) where
     -- A value is put on top.
     puts : (v : Val) (t : ValType) → ValueHasType new v t → HasFuncType (function_type [] (t ∷ [])) takes gives → Leads (Some (v ∷ operands)) between
     puts v t v_typed type =

@@ -15,7 +15,7 @@ use Rattle.meaning.specs.execution.Effects.{Effect, Done, Grown, Fails, Lacks}
 use Rattle.meaning.specs.execution.Instructions.{branch_by_table, branch_if, continue_after}
 use Rattle.meaning.specs.execution.Store.{Store}
 use Rattle.meaning.specs.soundness.Values.{ValuesHaveTypes}
-use Rattle.meaning.specs.validation.Instructions.{FitsLabel, Frames, HasType, branch_table_rule, known}
+use Rattle.meaning.specs.validation.Instructions.{FitsLabel, TakesAndGives, HasType, branch_table_rule, known}
 use Rattle.soundness.specs.Configurations.{FrameHasPlace, IsGood}
 use Rattle.soundness.specs.Places.{Place, RunsOn, context_at}
 use Rattle.soundness.specs.Stores.{StoreIsValid}
@@ -26,7 +26,7 @@ use Rattle.soundness.proofs.Operands.{i32-on-top, known-fits, known-same, known-
 
 -- ---- types on top
 
-module _ (stack : List ValType) (operands results between : List OperandType) (frame : Frames operands results (known (reverse stack)) between) where
+module _ (stack : List ValType) (operands results between : List OperandType) (frame : TakesAndGives operands results (known (reverse stack)) between) where
   -- Types that an instruction names above others lie on top.
   pub types-on-top : (below : List OperandType) (types : List ValType) → operands ≡ below ++ known types → (under : List ValType) × (stack ≡ reverse types ++ under)
   types-on-top below types is =
@@ -61,7 +61,7 @@ module _ (store : Store) (place : Place) (frame : Frame) where
 
     -- An instruction that works does what is good.
     pub does : (e : List Val → Effect) (values : List Val) (stack : List ValType) (operands given between : List OperandType) → ValuesHaveTypes store values stack
-        → Works store place operands given e → Frames operands given (known (reverse stack)) between → HasType (context_at store place) rest between (known results)
+        → Works store place operands given e → TakesAndGives operands given (known (reverse stack)) between → HasType (context_at store place) rest between (known results)
         → IsGood store place results (continue_after frame (e values) rest)
     does e values stack operands given between typed works frames runs =
         let (bs, gs, parts, operands_are, after) = taken operands given (reverse stack) between frames in
@@ -98,7 +98,7 @@ module _ (store : Store) (place : Place) (frame : Frame) where
             (label_types, is, (under, subst (λ (z : List ValType). ValuesHaveTypes store others (reverse z ++ under)) (sym same) left))
 
     pub branches-by-table : (table : BranchTable) (operands given between : List OperandType) → branch_table_rule (context_at store place) table operands
-        → Frames operands given (known (reverse stack)) between → IsGood store place results (branch_by_table table values)
+        → TakesAndGives operands given (known (reverse stack)) between → IsGood store place results (branch_by_table table values)
     branches-by-table table operands given between (below, carried, operands_are, listed, default) frames =
         let (types, carried_is) = carried-known stack operands given between frames below carried operands_are in
         let together : carried ++ Known ty.I32 ∷ [] ≡ known (types ++ ty.I32 ∷ []) = ap (λ (z : List OperandType). z ++ Known ty.I32 ∷ []) carried_is ∙ sym (map-append Known types (ty.I32 ∷ [])) in

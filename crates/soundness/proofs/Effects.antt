@@ -11,7 +11,8 @@ use Rattle.core_types.specs.declared.outcome.Val.TheVariants.{I32, I64}
 use Rattle.core_types.specs.declared.types.ValType.{ValType}
 use Rattle.core_types.specs.declared.types.ValType.TheVariants as ty
 use Rattle.meaning.specs.execution.Configurations.{Frame}
-use Rattle.meaning.specs.execution.Effects.{Effect, Done, Grown, Fails, Lacks, instruction_cost, numeric_effect, push_result}
+use Rattle.meaning.specs.execution.Costs.{instruction_cost}
+use Rattle.meaning.specs.execution.Effects.{Effect, Done, Grown, Fails, Lacks, numeric_effect, push_result}
 use Rattle.meaning.specs.execution.Numerics.{binary_operator, comparison_operator, conversion_operator, eqz_operator, unary_operator}
 use Rattle.meaning.specs.execution.Store.{Store}
 use Rattle.meaning.specs.soundness.Values.{ValuesHaveTypes}

@@ -17,7 +17,8 @@ use Rattle.core_types.specs.declared.types.RefType.TheVariants as ref
 use Rattle.core_types.specs.declared.types.ValType.{ValType}
 use Rattle.core_types.specs.declared.types.ValType.TheVariants as ty
 use Rattle.meaning.specs.execution.Configurations.{Frame}
-use Rattle.meaning.specs.execution.Effects.{Effect, Done, instruction_cost, null_flag, parametric_effect, reference_effect, select_operand}
+use Rattle.meaning.specs.execution.Costs.{instruction_cost}
+use Rattle.meaning.specs.execution.Effects.{Effect, Done, null_flag, parametric_effect, reference_effect, select_operand}
 use Rattle.meaning.specs.execution.Store.{Store, instance_of}
 use Rattle.meaning.specs.execution.Values.{null_of}
 use Rattle.meaning.specs.soundness.Values.{ValueHasType, ValuesHaveTypes}

@@ -24,13 +24,14 @@ use Rattle.core_types.specs.declared.types.OperandType.{OperandType}
 use Rattle.core_types.specs.declared.types.ValType.{ValType}
 use Rattle.core_types.specs.declared.types.ValType.TheVariants as ty
 use Rattle.meaning.specs.execution.Configurations.{Frame}
-use Rattle.meaning.specs.execution.Effects.{Done, Grown, bulk_cost, grow_memory, growth_cost, instruction_cost, memory_or_data_effect, push_read, write_memory}
-use Rattle.meaning.specs.execution.Memories.{MemoryInstance, can_grow, copy_bytes, fill_bytes, grow_by, load_from, load_size, loaded_value, most_pages, page_size, store_into, store_size, stored_number}
+use Rattle.meaning.specs.execution.Costs.{bulk_cost, growth_cost, instruction_cost}
+use Rattle.meaning.specs.execution.Effects.{Done, Grown, grow_memory, memory_or_data_effect, push_read, write_memory}
+use Rattle.meaning.specs.execution.Memories.{MemoryInstance, can_grow, copy_bytes, fill_bytes, grow_by, load_from, loaded_value, page_size, store_into, stored_number}
+use Rattle.meaning.specs.validation.Instructions.{load_width, store_width, HasMemory, load_type, memory_rule, store_type}
 use Rattle.meaning.specs.execution.Storage.{AreBytes, bytes_of_number, items_at, number_of_bytes, overwrite}
 use Rattle.meaning.specs.execution.Store.{DataInstance, Store, instance_of, with_data, with_memory}
 use Rattle.meaning.specs.soundness.Values.{ValueHasType, ValuesHaveTypes}
-use Rattle.meaning.specs.validation.Instructions.{HasMemory, load_type, memory_rule, store_type}
-use Rattle.meaning.specs.validation.Types.{function_type}
+use Rattle.meaning.specs.validation.Types.{function_type, most_pages}
 use Rattle.meaning.proofs.lemmas.OperatorRanges.{conversion_range, unary_range}
 use Rattle.soundness.specs.Configurations.{FrameHasPlace}
 use Rattle.soundness.specs.Places.{Place, context_at}
@@ -72,7 +73,7 @@ bytes-are (suc count) n = All-cons (n % 256) (bytes_of_number count (n / 256)) (
 -- ---- what a load gives and a store takes
 
 module _ (store : Store) where
-  loaded-typed : (op : LoadOp) (n : ℕ) → n < 256 ^ load_size op → ValueHasType store (loaded_value op n) (load_type op)
+  loaded-typed : (op : LoadOp) (n : ℕ) → n < 256 ^ load_width op → ValueHasType store (loaded_value op n) (load_type op)
   loaded-typed (load.Whole W32) n fits = (refl, omega (arith, fits))
   loaded-typed (load.Whole W64) n fits = (refl, omega (arith, fits))
   loaded-typed (load.Bits8 W32 Signed) n fits = (refl, unary_range 32 Extend8S n)
@@ -171,14 +172,14 @@ module _ (store : Store) (valid : StoreIsValid store) (place : Place) (frame : F
 
     loaded : (op : LoadOp) (offset : ℕ) (values : List Val) (below : List ValType) → ValuesHaveTypes store values below
         → EffectIsGood store place (load_type op ∷ below) (push_read store frame (load_from op memory.bytes offset) values)
-    loaded op offset values below typed = by (nat_le (offset + load_size op) (length memory.bytes)) refl
+    loaded op offset values below typed = by (nat_le (offset + load_width op) (length memory.bytes)) refl
       where
-        by : (b : Bool) → nat_le (offset + load_size op) (length memory.bytes) ≡ b
+        by : (b : Bool) → nat_le (offset + load_width op) (length memory.bytes) ≡ b
             → EffectIsGood store place (load_type op ∷ below)
-            (push_read store frame (if b then Ok (loaded_value op (number_of_bytes (items_at memory.bytes offset (load_size op)))) else Err MemoryBounds) values)
+            (push_read store frame (if b then Ok (loaded_value op (number_of_bytes (items_at memory.bytes offset (load_width op)))) else Err MemoryBounds) values)
         by true is =
-            let read = items_at memory.bytes offset (load_size op) in
-            let fits = rw (items-at-length memory.bytes offset (load_size op) (at-most _ _ is)) at (number-below read (items-at-all memory.bytes offset IsByte there.bytes (load_size op))) in
+            let read = items_at memory.bytes offset (load_width op) in
+            let fits = rw (items-at-length memory.bytes offset (load_width op) (at-most _ _ is)) at (number-below read (items-at-all memory.bytes offset IsByte there.bytes (load_width op))) in
             good instruction_cost (loaded_value op (number_of_bytes read) ∷ values) (load_type op ∷ below) (loaded-typed store op (number_of_bytes read) fits, typed)
         by false is = tt
 
@@ -223,7 +224,7 @@ module _ (store : Store) (valid : StoreIsValid store) (place : Place) (frame : F
         let (address, memory, at, held) = found in
         let (n, number) = stored-found store op v v_typed in
         rw (top, next, own.0, at, held, number)
-        (written address memory held instruction_cost (store_into memory.bytes (i + arg.offset) (store_size op) n) (stored-bytes address memory held (i + arg.offset) (store_size op) n) rest below left)
+        (written address memory held instruction_cost (store_into memory.bytes (i + arg.offset) (store_width op) n) (stored-bytes address memory held (i + arg.offset) (store_width op) n) rest below left)
 
     sizes : WorksAs store place (function_type [] (ty.I32 ∷ [])) (memory_or_data_effect store frame memory_op.Size)
     sizes values below typed =

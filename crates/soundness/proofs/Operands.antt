@@ -10,7 +10,7 @@ use Rattle.core_types.specs.declared.types.ValType.{ValType}
 use Rattle.core_types.specs.declared.types.ValType.TheVariants as ty
 use Rattle.meaning.specs.execution.Store.{Store}
 use Rattle.meaning.specs.soundness.Values.{ValueHasType, ValuesHaveTypes}
-use Rattle.meaning.specs.validation.Instructions.{AllFit, Frames, HasFuncType, known}
+use Rattle.meaning.specs.validation.Instructions.{AllFit, TakesAndGives, HasFuncType, known}
 
 -- ---- known types
 
@@ -39,7 +39,7 @@ known-parts (t ∷ ts) (b ∷ below) given is =
     (t ∷ bs, gs, ap (λ (z : List ValType). t ∷ z) parts, ap₂ (λ (u : OperandType) (us : List OperandType). u ∷ us) first below_is, given_is)
 
 -- What is taken off known types is known, and so are the types that stay.
-pub taken : (operands results : List OperandType) (before : List ValType) (after : List OperandType) → Frames operands results (known before) after
+pub taken : (operands results : List OperandType) (before : List ValType) (after : List OperandType) → TakesAndGives operands results (known before) after
     → (below given : List ValType) × (before ≡ below ++ given) × (operands ≡ known given) × (after ≡ known below ++ results)
 taken operands results before after frame =
     let (bs, gs, parts, below_is, given_is) = known-parts before frame.below frame.given frame.before_is in
@@ -58,7 +58,7 @@ results-known below results =
 
 module _ (stack : List ValType) (s : FuncType) (operands results between : List OperandType) where
   -- The operands of an instruction of one type lie on top, and its results come in their place.
-  pub operands-on-top : HasFuncType s operands results → Frames operands results (known (reverse stack)) between
+  pub operands-on-top : HasFuncType s operands results → TakesAndGives operands results (known (reverse stack)) between
       → (below : List ValType) × (stack ≡ reverse s.params ++ below) × (between ≡ known (reverse (reverse s.results ++ below)))
   operands-on-top (takes, gives) frame =
       let (below, given, parts, operands_are, after) = taken operands results (reverse stack) between frame in

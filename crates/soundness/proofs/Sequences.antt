@@ -20,12 +20,13 @@ use Rattle.core_types.specs.declared.types.ValType.{ValType}
 use Rattle.core_types.specs.declared.types.ValType.TheVariants as ty
 use Rattle.meaning.specs.structure.Bodies.{Body, Empty, Then, Nested, IfElse, Kind, BlockKind, LoopKind, IfKind}
 use Rattle.meaning.specs.execution.Configurations.{Frame, InLabel, Running, continue_with}
-use Rattle.meaning.specs.execution.Effects.{Done, instruction_cost, memory_or_data_effect, numeric_effect, parametric_effect, reference_effect, select_operand, table_at, table_or_elements_effect, variable_effect}
+use Rattle.meaning.specs.execution.Costs.{instruction_cost}
+use Rattle.meaning.specs.execution.Effects.{Done, memory_or_data_effect, numeric_effect, parametric_effect, reference_effect, select_operand, table_at, table_or_elements_effect, variable_effect}
 use Rattle.meaning.specs.execution.Instructions.{Next, Goes, NotReady, TailCalls, Traps, call_entry, call_function, call_of_type, call_through, choose_body, continuation_of, enter_label, label_of, lent_memory, step_instruction, step_sequence}
 use Rattle.meaning.specs.execution.Store.{FunctionInstance, Store, instance_of}
 use Rattle.meaning.specs.soundness.Values.{ValueHasType, ValuesHaveTypes}
 use Rattle.meaning.specs.validation.Context.{with_label}
-use Rattle.meaning.specs.validation.Instructions.{Frames, HasType, IsTable, Rule, control_rule, known, numeric_instruction_type}
+use Rattle.meaning.specs.validation.Instructions.{TakesAndGives, HasType, IsTable, Rule, control_rule, known, numeric_instruction_type}
 use Rattle.meaning.specs.validation.Types.{block_type, function_type, is_same_function_type, label_types, reference_type}
 use Rattle.meaning.proofs.lemmas.Layers.{if-at-most}
 use Rattle.meaning.proofs.lemmas.SameTypes.{same-function-type}
@@ -135,7 +136,7 @@ module _ (store : Store) (valid : StoreIsValid store) (place : Place) (frame : F
   -- ---- one instruction
 
   module _ (rest : Body) (values : List Val) (stack : List ValType) (typed : ValuesHaveTypes store values stack) (operands given between : List OperandType)
-      (frames : Frames operands given (known (reverse stack)) between) (runs : HasType (context_at store place) rest between (known results)) where
+      (frames : TakesAndGives operands given (known (reverse stack)) between) (runs : HasType (context_at store place) rest between (known results)) where
     controls : (op : ControlOp) → control_rule (context_at store place) op operands given → IsGood store place results (step_instruction store frame (Control op) values rest)
     controls Unreachable rule = tt
     controls Nop type =

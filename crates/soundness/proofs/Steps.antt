@@ -5,7 +5,7 @@ use Rattle.core_types.specs.declared.outcome.Val.{Val}
 use Rattle.core_types.specs.declared.types.ValType.{ValType}
 use Rattle.meaning.specs.structure.Bodies.{Empty}
 use Rattle.meaning.specs.execution.Configurations.{Activation, Configuration, Frame, InFrame, InLabel, Invoking, Label, Running, answered, continue_with}
-use Rattle.meaning.specs.execution.Effects.{instruction_cost}
+use Rattle.meaning.specs.execution.Costs.{instruction_cost}
 use Rattle.meaning.specs.execution.Instructions.{Next, Goes, Grows, Opens, CallsHost, Traps, Branches, Returns, TailCalls, Over, NotReady, branch_to_label, call_function, in_place, next, step_in_frame, step_in_label}
 use Rattle.meaning.specs.execution.Store.{Store}
 use Rattle.meaning.specs.soundness.Values.{ValuesHaveTypes}

@@ -17,7 +17,8 @@ use Rattle.core_types.specs.declared.types.TableType.{TableType}
 use Rattle.core_types.specs.declared.types.ValType.{ValType}
 use Rattle.core_types.specs.declared.types.ValType.TheVariants as ty
 use Rattle.meaning.specs.execution.Configurations.{Frame}
-use Rattle.meaning.specs.execution.Effects.{Done, Grown, entries_cost, grow_table, instruction_cost, push_read, table_or_elements_effect, write_table}
+use Rattle.meaning.specs.execution.Costs.{entries_cost, instruction_cost}
+use Rattle.meaning.specs.execution.Effects.{Done, Grown, grow_table, push_read, table_or_elements_effect, write_table}
 use Rattle.meaning.specs.execution.Memories.{can_grow, is_within, raised}
 use Rattle.meaning.specs.execution.Storage.{items_at, overwrite}
 use Rattle.meaning.specs.execution.Store.{Store, instance_of, with_elements, with_table}

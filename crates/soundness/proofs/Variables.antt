@@ -9,7 +9,8 @@ use Rattle.core_types.specs.declared.types.Mutability.TheVariants.{Var}
 use Rattle.core_types.specs.declared.types.OperandType.{OperandType}
 use Rattle.core_types.specs.declared.types.ValType.{ValType}
 use Rattle.meaning.specs.execution.Configurations.{Frame}
-use Rattle.meaning.specs.execution.Effects.{Done, Lacks, instruction_cost, set_local, variable_effect}
+use Rattle.meaning.specs.execution.Costs.{instruction_cost}
+use Rattle.meaning.specs.execution.Effects.{Done, Lacks, set_local, variable_effect}
 use Rattle.meaning.specs.execution.Store.{GlobalInstance, Store, instance_of, with_global}
 use Rattle.meaning.specs.soundness.Values.{ValueHasType, ValuesHaveTypes}
 use Rattle.meaning.specs.validation.Instructions.{variable_rule}

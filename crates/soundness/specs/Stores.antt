@@ -8,12 +8,12 @@ use Rattle.core_types.specs.declared.outcome.Val.{Val}
 use Rattle.core_types.specs.declared.types.FuncType.{FuncType}
 use Rattle.core_types.specs.declared.types.Limits.{Limits}
 use Rattle.core_types.specs.declared.types.Mutability.TheVariants.{Const}
-use Rattle.meaning.specs.execution.Memories.{MemoryInstance, page_size, most_pages}
+use Rattle.meaning.specs.execution.Memories.{MemoryInstance, page_size}
 use Rattle.meaning.specs.execution.Storage.{AreBytes}
 use Rattle.meaning.specs.execution.Store.{Code, DataInstance, FunctionInstance, GlobalInstance, Implementation, InCode, InHost, ModuleInstance, Store}
 use Rattle.meaning.specs.execution.Tables.{ElementInstance, TableInstance, most_entries}
 use Rattle.meaning.specs.soundness.Values.{ValueHasType}
-use Rattle.meaning.specs.validation.Types.{AreOrdered, reference_type}
+use Rattle.meaning.specs.validation.Types.{AreOrdered, reference_type, most_pages}
 use Rattle.soundness.specs.Places.{Place, RunsOn}
 
 -- ---- functions

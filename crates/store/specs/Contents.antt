@@ -5,7 +5,7 @@ use Rattle.core_types.specs.declared.types.FuncType.{FuncType}
 use Rattle.core_types.specs.declared.module.Func.{Func}
 use Rattle.core_types.specs.declared.module.Module.{Module}
 use Rattle.meaning.specs.structure.Bodies.{Empty, writing}
-use Rattle.meaning.specs.execution.Modules.{code_of, consecutive}
+use Rattle.meaning.specs.execution.Modules.{code_of, consecutive, new_function}
 use Rattle.meaning.specs.execution.Store.{FunctionInstance as Function, InCode, InHost as InHostNumber, ModuleInstance, Store, instance_of}
 use Rattle.meaning.specs.validation.Context.{Context}
 use Rattle.meaning.specs.validation.Modules.{functions_of}
@@ -130,6 +130,12 @@ functions_in s = map (function_at s.hosts s.instances) s.functions
 
 abbrev pub instances_in : Contents → List ModuleInstance
 instances_in s = map module_instance_of s.instances
+
+-- The functions that are kept, and behind them those of the module of an instance that comes next.
+abbrev pub functions_with : Contents → Instance → List Function
+functions_with s i =
+    functions_in s ++ map (new_function (length (instances_in s)) i.loaded.value.source)
+    i.loaded.value.source.funcs
 
 -- The type of a function of a module is the one that the module gives it, and its code is the writing of its body.
 abbrev pub HasDeclaredBody : List Instance → Callee → Type 0

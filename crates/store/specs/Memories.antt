@@ -1,6 +1,7 @@
 -- Memories that the store keeps.
 use Rattle.std.specs.Prelude.{◌≡◌, ℕ, ◌*◌, ◌≤◌, List, ◌++◌, length, take, drop}
-use Rattle.meaning.specs.execution.Memories.{MemoryInstance, most_pages, page_size}
+use Rattle.meaning.specs.execution.Memories.{MemoryInstance, page_size}
+use Rattle.meaning.specs.validation.Types.{most_pages}
 
 -- The bytes are that many whole pages, and no more than a memory may have.
 pub record HasPages (pages : ℕ) (bytes : List ℕ) : Type 0 where

@@ -1,7 +1,6 @@
 ghost use Rattle.std.specs.Prelude.{◌≡◌, [], ◌∷◌, ◌++◌, ◌+◌, ◌<◌, ◌^◌, length, map, slice_get, option_copied, IfOk, IfSome, OnOk, OnErr, IsSome, MatchOption, Some, None};
-ghost use Rattle.meaning.specs.execution.Modules.{new_function};
 ghost use Rattle.meaning.specs.execution.Store.{instance_of};
-ghost use Rattle.store.specs.Contents.{AddsFunctions, callee_function, code_store, contents_of, functions_in, function_of, host_function, HasContextTypes, HasDeclaredBody, HasFlatCode, HasModuleTypes, instance_function, instances_in, IsCalleeAt, lists_of, module_instance};
+ghost use Rattle.store.specs.Contents.{AddsFunctions, callee_function, code_store, contents_of, functions_in, functions_with, function_of, host_function, HasContextTypes, HasDeclaredBody, HasFlatCode, HasModuleTypes, instance_function, instances_in, IsCalleeAt, module_instance_of};
 ghost use Rattle.store.specs.declared.instances.Callee.TheVariants.{InModule as InModuleForm};
 
 use crate::entries::push_entries;
@@ -280,17 +279,12 @@ impl Code {
         requires functions { length self.old.functions
             + length instance.loaded.value.source.funcs < 2 ^ 32 }
         requires instances { length self.old.instances + 1 < 2 ^ 32 }
-        requires types { HasModuleTypes (functions_in self.old ++ map
-            (new_function (length (instances_in self.old)) instance.loaded.value.source)
-            instance.loaded.value.source.funcs) instance }
+        requires types { HasModuleTypes (functions_with self.old instance) instance }
         requires own { AddsFunctions (length self.old.functions) instance }
         ensures functions { OnOk result
-            (functions_in self.new ≡ functions_in self.old ++ map
-            (new_function (length (instances_in self.old)) instance.loaded.value.source)
-            instance.loaded.value.source.funcs) }
+            (functions_in self.new ≡ functions_with self.old instance) }
         ensures instances { OnOk result
-            (instances_in self.new ≡ instances_in self.old ++ module_instance
-            (lists_of instance.addresses) instance.loaded.value.source ∷ []) }
+            (instances_in self.new ≡ instances_in self.old ++ module_instance_of instance ∷ []) }
         ensures unchanged { OnErr result (self.new ≡ self.old) }
     {
         let number = self.instances.len() as u32;

@@ -1,6 +1,7 @@
 ghost use Rattle.std.specs.Prelude.{◌≡◌, ◌+◌, ◌≤◌, OnOk, OnErr, IfOk};
 ghost use Rattle.std.specs.Borrow.{sem};
 ghost use Rattle.meaning.specs.execution.Memories.{grow_by, new_memory};
+ghost use Rattle.meaning.specs.validation.Types.{most_pages};
 ghost use Rattle.store.specs.Lending.{LendsBytes};
 ghost use Rattle.store.specs.Memories.{HasPages};
 ghost use Rattle.store.specs.State.{no_memory};
@@ -10,7 +11,7 @@ use std::alloc::{AllocError, Global};
 use std::marker::Model;
 
 // The bytes of a page.
-const PAGE_SIZE: usize = 65536;
+const PAGE_SIZE: usize = 65_536;
 
 /// A memory: its limits, whose minimum is its present size in pages, and its bytes (Execution, Memory Instances).
 #[derive(Drop)]
@@ -43,7 +44,7 @@ impl Memory {
 
     /// A memory with these limits: as many pages as the minimum says, all zero.
     pub fn new(alloc: Global, limits: Limits) -> Result<Memory, AllocError>
-        requires { limits.min ≤ 65536 }
+        requires { limits.min ≤ most_pages }
         ensures { IfOk result (λ m. m ≡ new_memory limits) }
     {
         let mut bytes = Vec::new(alloc);
@@ -76,7 +77,7 @@ impl Memory {
 
     // Adds pages of zeros. Where memory runs out, the memory is as before.
     pub(crate) fn grow(&mut self, pages: u32) -> Result<(), AllocError>
-        requires { self.old.limits.min + pages ≤ 65536 }
+        requires { self.old.limits.min + pages ≤ most_pages }
         ensures grown { OnOk result (self.new ≡ grow_by self.old pages) }
         ensures unchanged { OnErr result (self.new ≡ self.old) }
     {

@@ -6,7 +6,7 @@ ghost use Rattle.store.specs.Lending.{LendsMemory};
 ghost use Rattle.meaning.specs.execution.Storage.{items_at, overwrite};
 ghost use Rattle.meaning.specs.execution.Tables.{grow_entries};
 ghost use Rattle.meaning.specs.execution.Values.{type_of};
-ghost use Rattle.meaning.specs.validation.Types.{reference_type};
+ghost use Rattle.meaning.specs.validation.Types.{reference_type, most_pages};
 ghost use Rattle.store.specs.State.{AreWithin, Fits, append_objects, data_of, elements_of, global_of, memory_of, no_memory, no_objects, put_data, put_elements, put_global, put_memory, put_table, table_of};
 ghost use Rattle.store.specs.Tables.{with_entries};
 
@@ -329,7 +329,7 @@ impl State {
     /// Adds pages of zeros to a memory. Where memory runs out, nothing has changed.
     pub fn grow_memory(&mut self, address: u32, pages: u32) -> Result<(), AllocError>
         requires there { address < length self.old.contents.memories }
-        requires most { (memory_of self.old address).limits.min + pages ≤ 65536 }
+        requires most { (memory_of self.old address).limits.min + pages ≤ most_pages }
         requires within { (memory_of self.old address).limits.min + pages ≤ self.old.bounds.pages }
         requires declared { IfSome (memory_of self.old address).limits.max
             (λ max. (memory_of self.old address).limits.min + pages ≤ max) }

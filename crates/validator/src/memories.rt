@@ -3,10 +3,7 @@ ghost use Rattle.meaning.specs.validation.Types.{AreFewPages};
 ghost use Rattle.validator.specs.Modules.{IsValidMemory};
 
 use crate::types::are_ordered;
-use core_types::Limits;
-
-// The pages that fill an address space of 32 bits.
-const MAX_PAGES: u32 = 65_536;
+use core_types::{Limits, MAX_PAGES};
 
 // Whether the bounds are of no more pages than there are addresses for (Validation, Memory Types).
 fn are_few_pages(limits: Limits) -> bool

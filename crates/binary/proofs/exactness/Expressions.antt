@@ -11,8 +11,8 @@ use Rattle.meaning.specs.binary.Types.{SpellsBlockType}
 use Rattle.meaning.specs.structure.Bodies.{BlockKind, Body, Empty, IfElse, IfKind, Kind, LoopKind, Nested, Then, mark_of, writing}
 use Rattle.binary.specs.Expressions.{expression_at, next_bodies, on_next, ops_at}
 use Rattle.binary.specs.Instructions.{op_at}
-use Rattle.binary.specs.declared.expressions.Next.{Next}
-use Rattle.binary.specs.declared.expressions.Next.TheVariants.{Ended, Misplaced, Onward}
+use Rattle.binary.specs.declared.expressions.Flow.{Flow}
+use Rattle.binary.specs.declared.expressions.Flow.TheVariants.{Ended, Misplaced, Continues}
 use Rattle.binary.specs.declared.expressions.OpenBody.{OpenBody}
 use Rattle.binary.specs.declared.expressions.OpenBody.TheVariants.{InBlock, InIf}
 use Rattle.binary.proofs.exactness.Nesting.{ClosesBodies, closes_tree, writing_closes}
@@ -144,12 +144,12 @@ ops_sound (suc steps) open_bodies front ops bytes rest e =
     by_case op.0.0 op.0.1 (next_bodies open_bodies op.0.0).0 refl (op_reader.sound bytes op.0.1 op.0.0 op.1) op.2
     (ops_sound steps (next_bodies open_bodies op.0.0).1 (front ++ op.0.0 ∷ []) ops op.0.1 rest)
   where
-    by_case : (op : Op) (after : List ℕ) (next : Next) → (next_bodies open_bodies op).0 ≡ next
+    by_case : (op : Op) (after : List ℕ) (next : Flow) → (next_bodies open_bodies op).0 ≡ next
         → Reads SpellsOp bytes op after
         → on_next next (ops_at steps (next_bodies open_bodies op).1 (front ++ op ∷ []) after) (found front after) ≡ Some (ops, rest)
         → (ops_at steps (next_bodies open_bodies op).1 (front ++ op ∷ []) after ≡ Some (ops, rest) → ReadsOps (next_bodies open_bodies op).1 (front ++ op ∷ []) after ops rest)
         → ReadsOps open_bodies front bytes ops rest
-    by_case op after Onward on reads h others =
+    by_case op after Continues on reads h others =
         let o = others h in record {
           more = op ∷ o.more;
           text = reads.text ++ o.text;

@@ -6,7 +6,7 @@ use Rattle.core_types.specs.declared.op.Op.{Op}
 use Rattle.core_types.specs.declared.op.Op.TheVariants.{Block, Else, End, If, Loop, Plain}
 use Rattle.meaning.specs.structure.Bodies.{BlockKind, Body, Empty, IfElse, IfKind, Kind, LoopKind, Nested, Then, mark_of, writing}
 use Rattle.binary.specs.Expressions.{next_bodies}
-use Rattle.binary.specs.declared.expressions.Next.TheVariants.{Onward}
+use Rattle.binary.specs.declared.expressions.Flow.TheVariants.{Continues}
 use Rattle.binary.specs.declared.expressions.OpenBody.{OpenBody}
 use Rattle.binary.specs.declared.expressions.OpenBody.TheVariants.{InBlock, InIf}
 
@@ -15,7 +15,7 @@ abbrev pub ClosesBodies : List OpenBody → List Op → Type 0
 ClosesBodies [] [] = Unit {0}
 ClosesBodies (open_body ∷ open_bodies) [] = ⊥
 ClosesBodies open_bodies (op ∷ ops) =
-    ((next_bodies open_bodies op).0 ≡ Onward) × ClosesBodies (next_bodies open_bodies op).1 ops
+    ((next_bodies open_bodies op).0 ≡ Continues) × ClosesBodies (next_bodies open_bodies op).1 ops
 
 -- ---- the writing of a tree goes on
 

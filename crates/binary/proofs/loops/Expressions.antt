@@ -8,8 +8,8 @@ use Rattle.binary.specs.Expressions.{IsReadingExpression, ReadsNext, after_next,
 use Rattle.binary.specs.Instructions.{op_at, operation_at}
 use Rattle.binary.specs.Values.{byte_at}
 use Rattle.binary.specs.declared.errors.DecodeError.{DecodeError}
-use Rattle.binary.specs.declared.expressions.Next.{Next}
-use Rattle.binary.specs.declared.expressions.Next.TheVariants.{Ended, Misplaced, Onward}
+use Rattle.binary.specs.declared.expressions.Flow.{Flow}
+use Rattle.binary.specs.declared.expressions.Flow.TheVariants.{Ended, Misplaced, Continues}
 use Rattle.binary.specs.declared.expressions.OpenBody.{OpenBody}
 use Rattle.binary.proofs.Refusals.{OnRefused-map}
 
@@ -22,19 +22,19 @@ pub chosen : (bytes rest : List ℕ) (code : ℕ) → byte_at bytes ≡ Some (co
 unfolding op_at
 chosen bytes rest code is = rw is refl
 
-module _ (result : Result Next DecodeError) (bodies new : List OpenBody) (ops behind : List Op) (bytes rest after : List ℕ) (code : ℕ) (is : byte_at bytes ≡ Some (code, rest)) where
+module _ (result : Result Flow DecodeError) (bodies new : List OpenBody) (ops behind : List Op) (bytes rest after : List ℕ) (code : ℕ) (is : byte_at bytes ≡ Some (code, rest)) where
   -- What is read behind an opcode is read with it.
   pub reads_behind : ReadsNext result bodies new ops behind after (operation_at code rest) → ReadsNext result bodies new ops behind after (op_at bytes)
   reads_behind reads = rw (chosen bytes rest code is) reads
 
 -- What was read.
-pub record HasRead (bytes after : List ℕ) (next : Next) (bodies new : List OpenBody) (ops behind : List Op) : Type 0 where
+pub record HasRead (bytes after : List ℕ) (next : Flow) (bodies new : List OpenBody) (ops behind : List Op) : Type 0 where
   pub op : Op
   pub read_is : op_at bytes ≡ Some (op, after)
   pub passed : next_bodies bodies op ≡ (next, new)
   pub behind_is : behind ≡ after_next next ops op
 
-pub has-read : (bytes after : List ℕ) (next : Next) (bodies new : List OpenBody) (ops behind : List Op) → ReadsNext (Ok next) bodies new ops behind after (op_at bytes) → HasRead bytes after next bodies new ops behind
+pub has-read : (bytes after : List ℕ) (next : Flow) (bodies new : List OpenBody) (ops behind : List Op) → ReadsNext (Ok next) bodies new ops behind after (op_at bytes) → HasRead bytes after next bodies new ops behind
 has-read bytes after next bodies new ops behind h = go (op_at bytes) refl h
   where
     go : (read : Option (Op × List ℕ)) → op_at bytes ≡ read → OnRead read (λ op left. (left ≡ after) × (next_bodies bodies op ≡ (next, new)) × (behind ≡ after_next next ops op))
@@ -44,7 +44,7 @@ has-read bytes after next bodies new ops behind h = go (op_at bytes) refl h
 
 module _ (whole bytes : List ℕ) (open_bodies : List OpenBody) (ops : List Op) (inside : IsReadingExpression whole bytes open_bodies ops) where
   module _ (op : Op) (after : List ℕ) (shorter : length after < length bytes) (read_is : op_at bytes ≡ Some (op, after)) (new : List OpenBody) where
-    pub expression_continues : next_bodies open_bodies op ≡ (Onward, new)
+    pub expression_continues : next_bodies open_bodies op ≡ (Continues, new)
         → IsReadingExpression whole after new (ops ++ op ∷ [])
     unfolding ops_at
     expression_continues passed = step inside.steps inside.enough inside.so_far

@@ -5,7 +5,7 @@ use Rattle.std.specs.Prelude.{Bool, Option, Some, true, false, if◌then◌else�
 use Rattle.core_types.specs.declared.outcome.Trap.{Trap}
 use Rattle.core_types.specs.declared.outcome.Val.{Val}
 use Rattle.meaning.specs.execution.Configurations.{Activation, Configuration, Frame, InFrame, InLabel, Label, Running, answered, continue_with, depth}
-use Rattle.meaning.specs.execution.Effects.{instruction_cost}
+use Rattle.meaning.specs.execution.Costs.{instruction_cost}
 use Rattle.meaning.specs.execution.Instructions.{Branches, CallsHost, Goes, Grows, NotReady, Opens, Returns, TailCalls, Traps, call_function, in_place, next, step_in_frame, step_in_label}
 use Rattle.meaning.specs.execution.Layers.{AroundFrame, AroundLabel, Layer, count_frames, outermost, plug}
 use Rattle.meaning.specs.execution.Store.{FunctionInstance, Store}

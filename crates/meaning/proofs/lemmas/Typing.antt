@@ -6,7 +6,7 @@ use Rattle.core_types.specs.declared.types.OperandType.{OperandType}
 use Rattle.core_types.specs.declared.types.OperandType.TheVariants.{Known, Unknown}
 use Rattle.meaning.specs.structure.Bodies.{Body, Empty, Then, Nested, IfElse, joined, mark_of, writing}
 use Rattle.meaning.specs.validation.Context.{Context}
-use Rattle.meaning.specs.validation.Instructions.{AllFit, Fits, Frames, HasType}
+use Rattle.meaning.specs.validation.Instructions.{AllFit, Fits, TakesAndGives, HasType}
 
 -- ---- what fits
 
@@ -46,8 +46,8 @@ AllFit-parts (t ∷ ts) (w ∷ wanted) more fits =
 -- ---- bodies
 
 -- Operands that fit those of a stack can be given in their place.
-Frames-before : (operands results before given after : List OperandType) → AllFit given before → Frames operands results before after → (now : List OperandType) × Frames operands results given now × AllFit now after
-Frames-before operands results before given after fits frame =
+taken-before : (operands results before given after : List OperandType) → AllFit given before → TakesAndGives operands results before after → (now : List OperandType) × TakesAndGives operands results given now × AllFit now after
+taken-before operands results before given after fits frame =
     let (below, top, parts, fits_below, fits_top) = AllFit-parts given frame.below frame.given (rw frame.before_is at fits) in
     let left : AllFit (below ++ results) (frame.below ++ results) = AllFit-joined below frame.below results results fits_below (AllFit-same results) in (
       below ++ results,
@@ -56,8 +56,8 @@ Frames-before operands results before given after fits frame =
     )
 
 -- What lies below the stacks stays.
-Frames-weakening : (under operands results before after : List OperandType) → Frames operands results before after → Frames operands results (under ++ before) (under ++ after)
-Frames-weakening under operands results before after frame = record {
+taken-weakening : (under operands results before after : List OperandType) → TakesAndGives operands results before after → TakesAndGives operands results (under ++ before) (under ++ after)
+taken-weakening under operands results before after frame = record {
   below = under ++ frame.below;
   given = frame.given;
   before_is = rw (frame.before_is, append_assoc);
@@ -68,11 +68,11 @@ Frames-weakening under operands results before after frame = record {
 pub HasType-weakening : (context : Context) (body : Body) (under before after : List OperandType) → HasType context body before after → HasType context body (under ++ before) (under ++ after)
 HasType-weakening context Empty under before after fits = AllFit-joined under under before after (AllFit-same under) fits
 HasType-weakening context (Then op rest) under before after (operands, results, between, rule, frame, last) =
-    (operands, results, under ++ between, rule, Frames-weakening under _ _ before between frame, HasType-weakening context rest under between after last)
+    (operands, results, under ++ between, rule, taken-weakening under _ _ before between frame, HasType-weakening context rest under between after last)
 HasType-weakening context (Nested kind type inner rest) under before after (s, between, is, inside, other, frame, last) =
-    (s, under ++ between, is, inside, other, Frames-weakening under _ _ before between frame, HasType-weakening context rest under between after last)
+    (s, under ++ between, is, inside, other, taken-weakening under _ _ before between frame, HasType-weakening context rest under between after last)
 HasType-weakening context (IfElse type inner other rest) under before after (s, between, is, inside, second, frame, last) =
-    (s, under ++ between, is, inside, second, Frames-weakening under _ _ before between frame, HasType-weakening context rest under between after last)
+    (s, under ++ between, is, inside, second, taken-weakening under _ _ before between frame, HasType-weakening context rest under between after last)
 
 -- A body that leads to a stack leads to each that it fits.
 pub HasType-after : (context : Context) (body : Body) (before after wanted : List OperandType) → HasType context body before after → AllFit after wanted → HasType context body before wanted
@@ -85,13 +85,13 @@ HasType-after context (IfElse type inner other rest) before after wanted (s, bet
 pub HasType-before : (context : Context) (body : Body) (before given after : List OperandType) → AllFit given before → HasType context body before after → HasType context body given after
 HasType-before context Empty before given after fits typed = AllFit-through given before after fits typed
 HasType-before context (Then op rest) before given after fits (operands, results, between, rule, frame, last) =
-    let (now, framed, left) = Frames-before _ _ before given between fits frame in
+    let (now, framed, left) = taken-before _ _ before given between fits frame in
     (operands, results, now, rule, framed, HasType-before context rest between now after left last)
 HasType-before context (Nested kind type inner rest) before given after fits (s, between, is, inside, other, frame, last) =
-    let (now, framed, left) = Frames-before _ _ before given between fits frame in
+    let (now, framed, left) = taken-before _ _ before given between fits frame in
     (s, now, is, inside, other, framed, HasType-before context rest between now after left last)
 HasType-before context (IfElse type inner other rest) before given after fits (s, between, is, inside, second, frame, last) =
-    let (now, framed, left) = Frames-before _ _ before given between fits frame in
+    let (now, framed, left) = taken-before _ _ before given between fits frame in
     (s, now, is, inside, second, framed, HasType-before context rest between now after left last)
 
 pub HasType-joined : (context : Context) (a b : Body) (before between after : List OperandType) → HasType context a before between → HasType context b between after → HasType context (joined a b) before after

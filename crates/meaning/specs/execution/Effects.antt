@@ -1,5 +1,5 @@
 -- What the instructions without control do (Execution, Instructions), with the cost of each, which is this project's own.
-use Rattle.std.specs.Prelude.{ℕ, zero, suc, ◌+◌, ◌*◌, ◌/◌, List, [], ◌∷◌, length, Option, Some, None, Result, Ok, Err, slice_get, slice_set, nat_lt, if◌then◌else◌}
+use Rattle.std.specs.Prelude.{ℕ, zero, suc, ◌+◌, List, [], ◌∷◌, length, Option, Some, None, Result, Ok, Err, slice_get, slice_set, nat_lt, if◌then◌else◌}
 use Rattle.core_types.specs.declared.op.ControlOp.TheVariants.{Unreachable, Nop}
 use Rattle.core_types.specs.declared.op.Conversion.TheVariants.{I32WrapI64, I64ExtendI32S, I64ExtendI32U, I64Extend32S}
 use Rattle.core_types.specs.declared.op.Width.TheVariants.{W32, W64}
@@ -23,15 +23,14 @@ use Rattle.core_types.specs.declared.outcome.Val.TheVariants.{I32, I64, FuncRef,
 use Rattle.core_types.specs.declared.outcome.Trap.{Trap}
 use Rattle.core_types.specs.declared.outcome.Trap.TheVariants.{Unreachable as UnreachableTrap}
 use Rattle.meaning.specs.execution.Configurations.{Frame}
+use Rattle.meaning.specs.execution.Costs.{bulk_cost, entries_cost, growth_cost, instruction_cost}
 use Rattle.meaning.specs.execution.Numerics.{binary_operator, comparison_operator, conversion_operator, eqz_operator, unary_operator}
-use Rattle.meaning.specs.execution.Memories.{MemoryInstance, can_grow, copy_bytes, fill_bytes, grow_by, load_from, most_pages, store_into, store_size, stored_number}
+use Rattle.meaning.specs.execution.Memories.{MemoryInstance, can_grow, copy_bytes, fill_bytes, grow_by, load_from, store_into, stored_number}
+use Rattle.meaning.specs.validation.Types.{most_pages}
+use Rattle.meaning.specs.validation.Instructions.{store_width}
 use Rattle.meaning.specs.execution.Tables.{ElementInstance, TableInstance, copy_entries, fill_entries, grow_entries, most_entries, read_entry, write_entry}
 use Rattle.meaning.specs.execution.Store.{DataInstance, GlobalInstance, Store, instance_of, locate, with_data, with_elements, with_global, with_memory, with_table}
 use Rattle.meaning.specs.execution.Values.{null_of}
-
--- The cost of a step that executes an instruction. Leaving a label or a frame, and an entry from outside, cost 0.
-abbrev pub instruction_cost : ℕ
-instruction_cost = 1
 
 -- What an instruction without control does: at a cost, a new store, locals and values; the same, for which a memory or a table
 -- grows; a trap; or nothing, as operands are missing or of another type, or what the instruction names is not there.
@@ -167,10 +166,6 @@ reference_effect store frame op values = Lacks
 
 -- ---- tables
 
--- What a bulk instruction on that many entries costs, and a growth by so many; this project's own.
-abbrev pub entries_cost : (count : ℕ) → ℕ
-entries_cost count = instruction_cost + count / 8
-
 -- The address of the table that the frame's instance has under an index, and the table.
 abbrev pub table_at : Store → Frame → ℕ → Option (ℕ × TableInstance)
 table_at store frame x = locate store.tables (slice_get (instance_of store frame.instance).tables x)
@@ -264,13 +259,6 @@ table_or_elements_effect store frame (table_op.Fill x) values =
 
 -- ---- memories
 
--- What a bulk instruction on that many bytes costs, and a growth by that many pages; this project's own.
-abbrev pub bulk_cost : (count : ℕ) → ℕ
-bulk_cost count = instruction_cost + count / 64
-
-abbrev pub growth_cost : (pages : ℕ) → ℕ
-growth_cost pages = instruction_cost + 1024 * pages
-
 -- Other bytes in the memory at an address, at a cost, or a trap.
 abbrev pub write_memory : Store → Frame → (cost address : ℕ) → MemoryInstance
     → Result (List ℕ) Trap → List Val → Effect
@@ -285,7 +273,7 @@ abbrev pub store_number : Store → Frame → (address : ℕ) → MemoryInstance
 store_number store frame address memory op offset None values = Lacks
 store_number store frame address memory op offset (Some n) values =
     write_memory store frame instruction_cost address memory
-    (store_into memory.bytes offset (store_size op) n) values
+    (store_into memory.bytes offset (store_width op) n) values
 
 -- memory.grow: the size before, in pages, or -1 where the memory may not grow so.
 abbrev pub grow_memory : Store → Frame → (address : ℕ) → MemoryInstance → (pages : ℕ) → List Val

@@ -13,7 +13,8 @@ use Rattle.core_types.specs.declared.outcome.Trap.{Trap}
 use Rattle.core_types.specs.declared.outcome.Trap.TheVariants.{IndirectType, UndefinedElement, UninitializedElement}
 use Rattle.meaning.specs.structure.Bodies.{Kind, BlockKind, LoopKind, IfKind, Body, Empty, Then, Nested, IfElse}
 use Rattle.meaning.specs.execution.Configurations.{Frame, Continuation, Onward, Again, continue_with, Label, Activation, Configuration, Running, InLabel, InFrame, Invoking}
-use Rattle.meaning.specs.execution.Effects.{Effect, Done, Grown, Fails, Lacks, effect, instruction_cost, table_at}
+use Rattle.meaning.specs.execution.Costs.{instruction_cost}
+use Rattle.meaning.specs.execution.Effects.{Effect, Done, Grown, Fails, Lacks, effect, table_at}
 use Rattle.meaning.specs.execution.Store.{Code, FunctionInstance, Implementation, InCode, InHost, Store, instance_of, item_at}
 use Rattle.meaning.specs.execution.Tables.{TableInstance}
 use Rattle.meaning.specs.execution.Values.{default_of, type_of}

@@ -12,15 +12,13 @@ use Rattle.core_types.specs.declared.outcome.Trap.TheVariants.{MemoryBounds}
 use Rattle.core_types.specs.declared.outcome.Val.{Val}
 use Rattle.core_types.specs.declared.outcome.Val.TheVariants.{I32, I64}
 use Rattle.core_types.specs.declared.types.Limits.{Limits}
+use Rattle.meaning.specs.validation.Instructions.{load_width}
 use Rattle.meaning.specs.execution.Numerics.{extended}
 use Rattle.meaning.specs.execution.Storage.{items_at, bytes_of_number, number_of_bytes, overwrite}
 
--- The bytes of a page, and how many pages a memory may have.
+-- The bytes of a page.
 abbrev pub page_size : ℕ
 page_size = 65536
-
-abbrev pub most_pages : ℕ
-most_pages = 65536
 
 -- A memory instance: its limits, whose minimum is its present size in pages, and its bytes (Memory Instances).
 pub record MemoryInstance : Type 0 where
@@ -32,14 +30,6 @@ abbrev pub new_memory : Limits → MemoryInstance
 new_memory limits = record { limits = limits; bytes = replicate (page_size * limits.min) 0 }
 
 -- ---- loads and stores
-
--- How many bytes a load reads.
-abbrev pub load_size : LoadOp → ℕ
-load_size (load.Whole W32) = 4
-load_size (load.Whole W64) = 8
-load_size (load.Bits8 width sign) = 1
-load_size (load.Bits16 width sign) = 2
-load_size (load.Bits32 sign) = 4
 
 -- What a load makes of the number that it read (t.load and t.loadN_sx).
 abbrev pub loaded_value : LoadOp → ℕ → Val
@@ -59,17 +49,9 @@ loaded_value (load.Bits32 Unsigned) n = I64 n
 -- The value that a load at an offset gives.
 abbrev pub load_from : LoadOp → List ℕ → (offset : ℕ) → Result Val Trap
 load_from op bytes offset =
-    if nat_le (offset + load_size op) (length bytes)
-    then Ok (loaded_value op (number_of_bytes (items_at bytes offset (load_size op))))
+    if nat_le (offset + load_width op) (length bytes)
+    then Ok (loaded_value op (number_of_bytes (items_at bytes offset (load_width op))))
     else Err MemoryBounds
-
--- How many bytes a store writes.
-abbrev pub store_size : StoreOp → ℕ
-store_size (store.Whole W32) = 4
-store_size (store.Whole W64) = 8
-store_size (store.Bits8 width) = 1
-store_size (store.Bits16 width) = 2
-store_size store.Bits32 = 4
 
 -- The number that a store writes: that of an integer of its width.
 abbrev pub stored_number : StoreOp → Val → Option ℕ

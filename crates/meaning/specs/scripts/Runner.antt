@@ -180,31 +180,31 @@ counted report = report.passed + report.failed + report.skipped
 -- ---- whole scripts
 
 -- Where a script is: its instances, and its report so far.
-pub record Place : Type 0 where
+pub record Progress : Type 0 where
   pub instances : Instances
   pub report : Report
 
-abbrev pub start : Place
+abbrev pub start : Progress
 start = record { instances = no_instances; report = empty_report }
 
-abbrev pub after_skipped : Place → Place
+abbrev pub after_skipped : Progress → Progress
 after_skipped at = record at { report = with_skipped at.report }
 
-abbrev pub after_tried : Place → (line : ℕ) → Task → Reply → Place
+abbrev pub after_tried : Progress → (line : ℕ) → Task → Reply → Progress
 after_tried at line task reply = record {
   instances = instances_after at.instances task reply;
   report = with_tried at.report line (passes task reply);
 }
 
 -- One command, with this fuel. What follows depends on where the script is then.
-abbrev pub turn : (fuel : ℕ) → Files → ScriptCommand → Place → (Place → Dialogue) → Dialogue
+abbrev pub turn : (fuel : ℕ) → Files → ScriptCommand → Progress → (Progress → Dialogue) → Dialogue
 turn fuel files Skipped at next = next (after_skipped at)
 turn fuel files (Tried line task) at next =
     Asks (SetFuel fuel) (λ done. ask files at.instances task
     (λ reply. next (after_tried at line task reply)))
 
 -- What commands ask of an embedding, from this place on, each with this fuel.
-abbrev pub dialogue : (fuel : ℕ) → Files → List ScriptCommand → Place → Dialogue
+abbrev pub dialogue : (fuel : ℕ) → Files → List ScriptCommand → Progress → Dialogue
 dialogue fuel files [] at = Over at.report
 dialogue fuel files (command ∷ commands) at =
     turn fuel files command at (dialogue fuel files commands)

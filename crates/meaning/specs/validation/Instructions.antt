@@ -56,7 +56,7 @@ AllFit [] (u ∷ us) = ⊥
 AllFit (t ∷ ts) [] = ⊥
 
 -- What takes these operands and gives those results leads from one stack to the other: what lies below stays.
-pub record Frames (operands results before after : List OperandType) : Type 0 where
+pub record TakesAndGives (operands results before after : List OperandType) : Type 0 where
   pub below : List OperandType
   pub given : List OperandType
   pub before_is : before ≡ below ++ given
@@ -305,16 +305,16 @@ abbrev pub HasType : Context → Body → List OperandType → List OperandType 
 HasType context Empty before after = AllFit before after
 HasType context (Then op rest) before after =
     (operands results between : List OperandType) × Rule context op operands results
-    × Frames operands results before between × HasType context rest between after
+    × TakesAndGives operands results before between × HasType context rest between after
 HasType context (Nested kind type inner rest) before after =
     (s : FuncType) × (between : List OperandType) × (block_type context.types type ≡ Some s)
     × HasType (with_label context (label_types kind s)) inner (known s.params) (known s.results)
     × FitsWithoutElse kind s
-    × Frames (known (s.params ++ condition_of kind)) (known s.results) before between
+    × TakesAndGives (known (s.params ++ condition_of kind)) (known s.results) before between
     × HasType context rest between after
 HasType context (IfElse type inner other rest) before after =
     (s : FuncType) × (between : List OperandType) × (block_type context.types type ≡ Some s)
     × HasType (with_label context s.results) inner (known s.params) (known s.results)
     × HasType (with_label context s.results) other (known s.params) (known s.results)
-    × Frames (known (s.params ++ I32 ∷ [])) (known s.results) before between ×
+    × TakesAndGives (known (s.params ++ I32 ∷ [])) (known s.results) before between ×
     HasType context rest between after

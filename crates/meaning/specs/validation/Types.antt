@@ -1,5 +1,5 @@
 -- Types (Validation, Types): block types, limits and memory types, and the types that the definitions share.
-use Rattle.std.specs.Prelude.{◌≤◌, ◌^◌, List, [], ◌∷◌, Option, Some, None, slice_get, Bool, true, false, ◌&&◌}
+use Rattle.std.specs.Prelude.{◌≤◌, ℕ, List, [], ◌∷◌, Option, Some, None, slice_get, Bool, true, false, ◌&&◌}
 use Rattle.core_types.specs.declared.op.BlockType.{BlockType}
 use Rattle.core_types.specs.declared.op.BlockType.TheVariants as block
 use Rattle.core_types.specs.declared.types.FuncType.{FuncType}
@@ -50,7 +50,10 @@ label_types IfKind type = type.results
 abbrev pub AreOrdered : Limits → Type 0
 AreOrdered limits = elim limits.max [ None ↦ Unit {0} | Some max ↦ limits.min ≤ max ]
 
--- At most 65,536 pages (Memory Types).
+-- How many pages a memory may have (Memory Types).
+abbrev pub most_pages : ℕ
+most_pages = 65536
+
 abbrev pub AreFewPages : Limits → Type 0
 AreFewPages limits =
-    (limits.min ≤ 2 ^ 16) × elim limits.max [ None ↦ Unit {0} | Some max ↦ max ≤ 2 ^ 16 ]
+    (limits.min ≤ most_pages) × elim limits.max [ None ↦ Unit {0} | Some max ↦ max ≤ most_pages ]

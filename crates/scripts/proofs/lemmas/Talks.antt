@@ -10,7 +10,7 @@ use Rattle.meaning.specs.execution.Store.{Store}
 use Rattle.meaning.specs.scripts.Commands.{Files, Skipped, Task, Tried}
 use Rattle.meaning.specs.scripts.Dialogues.{Dialogue, Asks, IsForMemory, Over, Report}
 use Rattle.meaning.specs.scripts.Dialogues as dialogue
-use Rattle.meaning.specs.scripts.Runner.{Place, after_skipped, after_tried, ask, linking, turn}
+use Rattle.meaning.specs.scripts.Runner.{Progress, after_skipped, after_tried, ask, linking, turn}
 use Rattle.soundness.specs.Embedding.{AppliesWell}
 use Rattle.soundness.proofs.Embedding.{none-well, one-before-well}
 use Rattle.embed.specs.Replies.{reply_of}
@@ -67,25 +67,25 @@ module _ {H : Type 0} (HostStep : List H → ℕ → Option ℕ → List Val →
 
   -- ---- a command that is skipped
 
-  pub skipped-holds : (fuel : ℕ) (files : Files) (at left : Place) (embedding : Embedding H) → left ≡ after_skipped at → (next : Place → Dialogue)
+  pub skipped-holds : (fuel : ℕ) (files : Files) (at left : Progress) (embedding : Embedding H) → left ≡ after_skipped at → (next : Progress → Dialogue)
       → Converses HostStep (turn fuel files Skipped at next) embedding (next left) embedding
   skipped-holds fuel files at left embedding is next =
-      subst (λ (p : Place). Converses HostStep (next (after_skipped at)) embedding (next p) embedding) (sym is) nothing
+      subst (λ (p : Progress). Converses HostStep (next (after_skipped at)) embedding (next p) embedding) (sym is) nothing
 
   -- ---- a task that is tried
 
-  pub telling-breaks : (fuel : ℕ) (files : Files) (at : Place) (line : ℕ) (task : Task) {old between new : Embedding H}
+  pub telling-breaks : (fuel : ℕ) (files : Files) (at : Progress) (line : ℕ) (task : Task) {old between new : Embedding H}
       → AppliesWell HostStep old (SetFuel fuel) Done between → ((next : Reply → Dialogue) → BreaksOff HostStep (ask files at.instances task next) between new)
-      → (next : Place → Dialogue) → BreaksOff HostStep (turn fuel files (Tried line task) at next) old new
+      → (next : Progress → Dialogue) → BreaksOff HostStep (turn fuel files (Tried line task) at next) old new
   telling-breaks fuel files at line task set breaks next = went_on Done set (λ lacks. lacks) (breaks (λ r. next (after_tried at line task r)))
 
-  module _ {T : Type 0} (see : T → Reply) (fuel : ℕ) (files : Files) (at : Place) (line : ℕ) (task : Task) (reply : T) {old between new : Embedding H}
+  module _ {T : Type 0} (see : T → Reply) (fuel : ℕ) (files : Files) (at : Progress) (line : ℕ) (task : Task) (reply : T) {old between new : Embedding H}
       (set : AppliesWell HostStep old (SetFuel fuel) Done between) (held : Holds HostStep see (ask files at.instances task) between (Ok reply) new) where
-    pub tried-holds : (left : Place) → left ≡ after_tried at line task (see reply) → (next : Place → Dialogue) → Converses HostStep (turn fuel files (Tried line task) at next) old (next left) new
+    pub tried-holds : (left : Progress) → left ≡ after_tried at line task (see reply) → (next : Progress → Dialogue) → Converses HostStep (turn fuel files (Tried line task) at next) old (next left) new
     tried-holds left is next =
-        subst (λ (p : Place). Converses HostStep (turn fuel files (Tried line task) at next) old (next p) new) (sym is) (asked Done set (λ lacks. lacks) (held (λ r. next (after_tried at line task r))))
+        subst (λ (p : Progress). Converses HostStep (turn fuel files (Tried line task) at next) old (next p) new) (sym is) (asked Done set (λ lacks. lacks) (held (λ r. next (after_tried at line task r))))
 
-    pub tried-breaks : (next : Place → Dialogue) → BreaksOff HostStep (turn fuel files (Tried line task) at next) old new
+    pub tried-breaks : (next : Progress → Dialogue) → BreaksOff HostStep (turn fuel files (Tried line task) at next) old new
     tried-breaks next = went_on Done set (λ lacks. lacks) (breaks-later (held (λ r. next (after_tried at line task r))) here)
 
   -- ---- to the end

@@ -10,7 +10,7 @@ use Rattle.core_types.specs.declared.types.ValType.{ValType}
 use Rattle.meaning.proofs.lemmas.Typing.{AllFit-same}
 use Rattle.meaning.specs.structure.Bodies.{Body, Empty, Then, Nested, IfElse, BlockKind, LoopKind, IfKind, writing}
 use Rattle.meaning.specs.validation.Context.{Context, with_label}
-use Rattle.meaning.specs.validation.Instructions.{AllFit, Frames, HasType, known}
+use Rattle.meaning.specs.validation.Instructions.{AllFit, TakesAndGives, HasType, known}
 use Rattle.meaning.specs.validation.Types.{block_type}
 use Rattle.validator.specs.declared.context.BodyContext.{BodyContext}
 use Rattle.validator.specs.declared.control_frames.ControlFrame.{ControlFrame}
@@ -33,7 +33,7 @@ pub record BlockStart (context : Context) (kind : FrameKind) (t : BlockType) (be
   pub is : (block_type context.types t ≡ Some s)
   pub inner : Body
   pub typed : HasType (with_label context (label_by kind s.params s.results)) inner (known s.params) (known s.results)
-  pub frame : Frames (known (s.params ++ condition_by kind)) (known s.results) before between
+  pub frame : TakesAndGives (known (s.params ++ condition_by kind)) (known s.results) before between
   pub rest : Body
   pub last : HasType context rest between after
   pub ending : List Op

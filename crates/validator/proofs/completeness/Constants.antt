@@ -14,7 +14,7 @@ use Rattle.core_types.specs.declared.types.OperandType.TheVariants.{Known}
 use Rattle.core_types.specs.declared.types.ValType.TheVariants.{I32, I64, FuncRef}
 use Rattle.core_types.specs.declared.types.ValType.{ValType}
 use Rattle.meaning.specs.validation.Context.{Context}
-use Rattle.meaning.specs.validation.Instructions.{AllFit, Fits, Frames, integer_type, known, Rule}
+use Rattle.meaning.specs.validation.Instructions.{AllFit, Fits, TakesAndGives, integer_type, known, Rule}
 use Rattle.meaning.specs.validation.Modules.{IsConstant, IsConstantOperator}
 use Rattle.meaning.specs.validation.Types.{reference_type}
 use Rattle.validator.specs.Constants.{Operates}
@@ -49,7 +49,7 @@ last_type : (t u : ValType) → AreFit t (known (u ∷ [])) → u ≡ t
 last_type t u fits = let same : Known t ≡ Known u = fits.0 in cc
 
 -- Where all operands behind an instruction that puts one on top fit a type, it is of this type, and so do those before it.
-pub before-put : (t u : ValType) (operands results before between : List OperandType) → operands ≡ [] → results ≡ known (u ∷ []) → Frames operands results before between → AreFit t between
+pub before-put : (t u : ValType) (operands results before between : List OperandType) → operands ≡ [] → results ≡ known (u ∷ []) → TakesAndGives operands results before between → AreFit t between
     → (u ≡ t) × AreFit t before × (length between ≡ suc (length before))
 before-put t u operands results before between none one frame fits =
     let given : frame.given ≡ [] = none_given frame.given (subst (AllFit frame.given) none frame.fits) in
@@ -61,7 +61,7 @@ before-put t u operands results before between none one frame fits =
     (last_type t u last, subst (AreFit t) (sym before_is) below, omega (arith, longer, same))
 
 -- Likewise for one that puts an operand in the place of two of its type.
-pub before-operator : (t u : ValType) (operands results before between : List OperandType) → operands ≡ known (u ∷ u ∷ []) → results ≡ known (u ∷ []) → Frames operands results before between → AreFit t between
+pub before-operator : (t u : ValType) (operands results before between : List OperandType) → operands ≡ known (u ∷ u ∷ []) → results ≡ known (u ∷ []) → TakesAndGives operands results before between → AreFit t between
     → (u ≡ t) × AreFit t before × (2 ≤ length before) × (suc (length between) ≡ length before)
 before-operator t u operands results before between two one frame fits =
     let between_is : between ≡ frame.below ++ known (u ∷ []) = frame.after_is ∙ ap (λ (ts : List OperandType). frame.below ++ ts) one in

@@ -9,7 +9,7 @@ use Rattle.core_types.specs.declared.types.ValType.{ValType}
 use Rattle.meaning.proofs.lemmas.Typing.{AllFit-parts, AllFit-through}
 use Rattle.meaning.specs.structure.Bodies.{Body, Empty, Then, Nested, IfElse, BlockKind, LoopKind, IfKind, writing}
 use Rattle.meaning.specs.validation.Context.{Context}
-use Rattle.meaning.specs.validation.Instructions.{AllFit, Frames, Rule, HasType, known}
+use Rattle.meaning.specs.validation.Instructions.{AllFit, TakesAndGives, Rule, HasType, known}
 use Rattle.validator.specs.declared.control_frames.ControlFrame.{ControlFrame}
 use Rattle.validator.specs.declared.control_frames.FrameKind.TheVariants.{Function, Block, Loop, If, Else}
 use Rattle.validator.specs.declared.control_frames.FrameKind.{FrameKind}
@@ -62,7 +62,7 @@ pub record Next (context : Context) (o : PlainOp) (before after : List OperandTy
   pub results : List OperandType
   pub between : List OperandType
   pub rule : Rule context o operands results
-  pub frame : Frames operands results before between
+  pub frame : TakesAndGives operands results before between
   pub rest : Body
   pub typed : HasType context rest between after
   pub written : ops ≡ writing rest ++ later

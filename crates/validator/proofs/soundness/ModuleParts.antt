@@ -36,7 +36,7 @@ use Rattle.core_types.specs.declared.types.RefType.{RefType}
 use Rattle.core_types.specs.declared.types.ValType.TheVariants.{I32}
 use Rattle.core_types.specs.declared.types.ValType.{ValType}
 use Rattle.meaning.specs.structure.Bodies.{Body, Empty, Then, writing}
-use Rattle.meaning.specs.validation.Instructions.{Frames, HasType, known, Rule}
+use Rattle.meaning.specs.validation.Instructions.{TakesAndGives, HasType, known, Rule}
 use Rattle.meaning.specs.validation.Modules.{constant_context, Exists, function_indices, HasDataMode, HasElementMode, HasItemsOfType, IsConstant, IsConstantExpression, IsValidElement, IsValidStart, type_at}
 use Rattle.meaning.specs.validation.Types.{reference_type}
 use Rattle.validator.specs.declared.constants.ConstantContext.{ConstantContext}
@@ -55,13 +55,13 @@ all_of-parts : (t : ValType) (m n : ℕ) → all_of t (m + n) ≡ all_of t m ++ 
 all_of-parts t m n = ap (λ (ts : List ValType). known ts) (sym (replicate-append-replicate m n t)) ∙ map-append Known (replicate m t) (replicate n t)
 
 -- One more operand is put on top of that many.
-puts_one : (t : ValType) (height : ℕ) → Frames [] (known (t ∷ [])) (all_of t height) (all_of t (suc height))
+puts_one : (t : ValType) (height : ℕ) → TakesAndGives [] (known (t ∷ [])) (all_of t height) (all_of t (suc height))
 puts_one t height =
     let more : suc height ≡ height + 1 = omega (arith) in
     record { below = all_of t height; given = []; before_is = sym (append-nil _); fits = tt; after_is = ap (all_of t) more ∙ all_of-parts t height 1 }
 
 -- Two of that many operands are taken, and one is put in their place.
-takes_two : (t : ValType) (height behind : ℕ) → 2 ≤ height → suc behind ≡ height → Frames (known (t ∷ t ∷ [])) (known (t ∷ [])) (all_of t height) (all_of t behind)
+takes_two : (t : ValType) (height behind : ℕ) → 2 ≤ height → suc behind ≡ height → TakesAndGives (known (t ∷ t ∷ [])) (known (t ∷ [])) (all_of t height) (all_of t behind)
 takes_two t height behind two is =
     let both : height ≡ (height - 2) + 2 = omega (arith, two) in
     let one : behind ≡ (height - 2) + 1 = omega (arith, two, is) in
@@ -161,7 +161,7 @@ module _ {m : Module} {s : IndexSpaces} {context : ConstantContext} (spaces : Ar
       (body : Body) × (ops ≡ writing body) × All (IsConstant (constant_context m)) ops × HasType (constant_context m) body (all_of t height) (known (t ∷ []))
 
   with_instruction : (t : ValType) (height behind : ℕ) (op : PlainOp) (ops : List Op) (operands results : List OperandType) → IsConstant (constant_context m) (Plain op) → Rule (constant_context m) op operands results
-      → Frames operands results (all_of t height) (all_of t behind) → IsBodyFrom t behind ops → IsBodyFrom t height (Plain op ∷ ops)
+      → TakesAndGives operands results (all_of t height) (all_of t behind) → IsBodyFrom t behind ops → IsBodyFrom t height (Plain op ∷ ops)
   unfolding IsBodyFrom
   with_instruction t height behind op ops operands results constant rule frame (body, written, all, typed) = (
     Then op body,

@@ -1,7 +1,7 @@
 use Rattle.std.proofs.Common.{[], arith}
 use Rattle.std.specs.Prelude.{Err, Ok}
 use Rattle.std.proofs.lemmas.Result.{err_from_is_err_and}
-use Rattle.binary.specs.declared.expressions.Next.TheVariants.{Ended, Misplaced, Onward}
+use Rattle.binary.specs.declared.expressions.Flow.TheVariants.{Ended, Misplaced, Continues}
 use Rattle.binary.proofs.exactness.instructions.Operations.{op_shorter}
 use Rattle.binary.proofs.loops.Expressions.{expression_begins, expression_continues, expression_ends, expression_fails, expression_misplaced, has-read, no_opcode, reads_behind}
 use Rattle.binary.proofs.expressions.read_operations.Goals as goal
@@ -37,13 +37,13 @@ returns-in_err-read_next-clause-reads c =
 
 pub loop-ops-smaller : goal.loop-ops-smaller
 loop-ops-smaller c =
-    let r = has-read _ _ Onward _ _ _ _ (reads_behind (Ok Onward) _ _ _ _ _ _ _ _ c.in_ok-code.ensures (rw c.in-Onward.is at c.in_ok-read_next.ensures.reads)) in
+    let r = has-read _ _ Continues _ _ _ _ (reads_behind (Ok Continues) _ _ _ _ _ _ _ _ c.in_ok-code.ensures (rw c.in-Continues.is at c.in_ok-read_next.ensures.reads)) in
     omega (arith, op_shorter _ _ r.op r.read_is, c.in_ok-read_row.ensures.forward)
 
 pub loop-ops-preserved : goal.loop-ops-preserved
 loop-ops-preserved c =
     let row = c.in_ok-read_row.ensures.reads c.args.reader.now c.loop-ops.bodies c.loop-ops.invariant.reads in
-    let r = has-read _ _ Onward _ _ _ _ (reads_behind (Ok Onward) _ _ _ _ _ _ _ _ c.in_ok-code.ensures (rw c.in-Onward.is at c.in_ok-read_next.ensures.reads)) in
+    let r = has-read _ _ Continues _ _ _ _ (reads_behind (Ok Continues) _ _ _ _ _ _ _ _ c.in_ok-code.ensures (rw c.in-Continues.is at c.in_ok-read_next.ensures.reads)) in
     record {
       reads = rw r.behind_is
           (expression_continues c.args.reader.now _ c.loop-ops.bodies _ row.0 r.op _ (op_shorter _ _ r.op r.read_is) r.read_is _ r.passed);

@@ -6,6 +6,7 @@ use Rattle.std.proofs.lemmas.Result.{err_from_is_err_and}
 use Rattle.meaning.specs.execution.Store.{Store}
 use Rattle.soundness.proofs.Creation.{fresh-ready}
 use Rattle.hostfunc.specs.Boxes.{type_of_host}
+use Rattle.hostfunc.specs.Tables.{hosts_in}
 use Rattle.store.specs.Contents.{store_of}
 use Rattle.embed.specs.Definitions.{definition_of}
 use Rattle.embed.proofs.lemmas.Definitions.{fault-first, faultless-taken, length-functions, names-taken, objects-taken, store-taken}
@@ -53,7 +54,7 @@ loop-definition-preserved g c =
         names = names-taken (λ vtable. (g.dyn-1.0.entry vtable).1) taken next c.loop-definition.defined.names inv.names c.define_host.new.defined.names (length (store_of c.loop-definition.defined.store).functions) address done.names;
         faultless = faultless-taken (λ vtable. (g.dyn-1.0.entry vtable).1) taken next c.loop-definition.defined.names inv.names inv.faultless done.faultless;
         store = store-taken (λ vtable. (g.dyn-1.0.entry vtable).1) taken next c.args.config.now.pages c.args.config.now.entries (length c.loop-definition.defined.store.code.hosts) (store_of c.loop-definition.defined.store) (store_of c.define_host.new.defined.store) inv.store (counted ∙ sym size) done.store;
-        objects = objects-taken (λ vtable. (g.dyn-1.0.entry vtable).1) taken next c.loop-definition.defined.hosts.objects.items c.define_host.new.defined.hosts.objects.items inv.objects done.objects;
+        objects = objects-taken (λ vtable. (g.dyn-1.0.entry vtable).1) taken next (hosts_in c.loop-definition.defined.hosts) (hosts_in c.define_host.new.defined.hosts) inv.objects done.objects;
       };
       counted = done.counted ∙ ap (λ (n : ℕ). n + 1) counted ∙ sym (length-append taken (next ∷ []));
     }

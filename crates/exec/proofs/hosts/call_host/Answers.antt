@@ -8,6 +8,7 @@ use Rattle.meaning.specs.execution.Values.{type_of}
 use Rattle.soundness.proofs.Hosts.{ready-kept}
 use Rattle.cells.specs.Cells.{AreCellsOf, values_of}
 use Rattle.hostfunc.specs.Boxes.{type_of_host}
+use Rattle.hostfunc.specs.Tables.{hosts_in}
 use Rattle.store.specs.Contents.{code_store, host_function, store_with}
 use Rattle.exec.specs.Endings.{first_memory}
 use Rattle.interpreter.specs.Calling.{frame_waiting}
@@ -17,7 +18,8 @@ use Rattle.interpreter.proofs.Forms.{inside}
 use Rattle.interpreter.proofs.Turning.{place-fits}
 use Rattle.exec.specs.Hosting.{WaitsForHost, position_answered, with_results}
 use Rattle.exec.specs.Resting.{at_rest, machine_of}
-use Rattle.exec.proofs.Answering.{arguments-fit-there, behind-there, cells_held, comes-back-there, comes-behind, ends-there, out-of-memory, room-back-there, room-behind, slice-there, traps-there, types-there}
+use Rattle.hostfunc.specs.Boxes.{HostStep}
+use Rattle.exec.proofs.Answering.{comes-or-ends, arguments-fit-there, behind-there, cells_held, comes-back-there, comes-behind, ends-there, out-of-memory, room-back-there, room-behind, slice-there, traps-there, types-there}
 use Rattle.exec.proofs.hosts.call_host.Goals as goal
 
 pub values_of-requires : goal.values_of-requires
@@ -30,12 +32,12 @@ values_of-requires g c =
     (subst (AreCellsOf f.ty.now.params) (sym (slice-there c.args.bound r w c.args.wanted.kind c.args.wanted.address c.args.wanted.behind wait f.number f.ty.now is c.deref.result.now c.len.result c.deref.ensures.value c.len.ensures))
     (arguments-fit-there c.args.bound r w c.args.wanted.kind c.args.wanted.address c.args.wanted.behind wait f.number f.ty.now is))
 
-pub returns-in_default-values_of-clause-ended : goal.returns-in_default-values_of-clause-ended
-returns-in_default-values_of-clause-ended g c = λ w wait. (
+pub returns-in_default-values_of-clause-came : goal.returns-in_default-values_of-clause-came
+returns-in_default-values_of-clause-came g c = λ w wait. (
     let r = at_rest c.args.code.now c.args.state.now c.args.call.now in
     let f = c.in-Some-InHost.host in
     let is = rw c.in-Some-InHost.field-0-is at c.in-Some-InHost.ensures.found in
-    out-of-memory c.args.bound r w c.args.wanted.address c.args.wanted.behind f.number f.ty.now is type_of_host _ c.args.hosts.now.objects.items c.args.hosts.now.objects.items c.args.wanted.kind wait)
+    out-of-memory c.args.bound r w c.args.wanted.address c.args.wanted.behind f.number f.ty.now is type_of_host _ (hosts_in c.args.hosts.now) (hosts_in c.args.hosts.now) c.args.wanted.kind wait)
 
 pub call_lent-requires : goal.call_lent-requires
 call_lent-requires g c =
@@ -49,28 +51,28 @@ call_lent-requires g c =
 
 pub returns-in-Ok-call_lent-clause-hosts : goal.returns-in-Ok-call_lent-clause-hosts
 returns-in-Ok-call_lent-clause-hosts g c =
-    ready-kept type_of_host _ c.args.hosts.now.objects.items c.call_lent.new.hosts.objects.items c.in-Some-InHost.host.number (first_memory (code_store c.args.code.now) c.args.call.now.position.instance) c.deref-2.result.now (store_with c.args.code.now c.args.state.now) (store_with c.args.code.now c.call_lent.new.state) (Results c.in-Ok-call_lent.values.items) c.in-Ok-call_lent.ensures.answered c.requires.hosts
+    ready-kept type_of_host _ (hosts_in c.args.hosts.now) (hosts_in c.call_lent.new.hosts) c.in-Some-InHost.host.number (first_memory (code_store c.args.code.now) c.args.call.now.position.instance) c.deref-2.result.now (store_with c.args.code.now c.args.state.now) (store_with c.args.code.now c.call_lent.new.state) (Results c.in-Ok-call_lent.values.items) c.in-Ok-call_lent.ensures.answered c.requires.hosts
 
-pub returns-in-Err-Trap-clause-ended : goal.returns-in-Err-Trap-clause-ended
-returns-in-Err-Trap-clause-ended g c = λ w wait. (
+pub returns-in-Err-Trap-clause-came : goal.returns-in-Err-Trap-clause-came
+returns-in-Err-Trap-clause-came g c = λ w wait. (
     let r = at_rest c.args.code.now c.args.state.now c.args.call.now in
     let f = c.in-Some-InHost.host in
     let is = rw c.in-Some-InHost.field-0-is at c.in-Some-InHost.ensures.found in
     let passed = c.deref-2.ensures.value ∙ c.in-Ok.ensures ∙ ap (λ (ts : List ValType). values_of ts (take (c.args.wanted.behind - (c.args.wanted.behind - c.len.result)) (drop (c.args.wanted.behind - c.len.result) c.deref.result.now))) c.as_slice-types.ensures
     ∙ ap (values_of f.ty.now.params) (slice-there c.args.bound r w c.args.wanted.kind c.args.wanted.address c.args.wanted.behind wait f.number f.ty.now is c.deref.result.now c.len.result c.deref.ensures.value c.len.ensures) in
-    rw c.in-Err-Trap.why-is (traps-there c.args.bound r w c.args.wanted.address c.args.wanted.behind f.number f.ty.now is type_of_host _ c.args.hosts.now.objects.items c.call_lent.new.hosts.objects.items c.args.wanted.kind wait (store_with c.args.code.now c.call_lent.new.state) c.in-Err-Trap.why (rw passed at (c.in-Err-Trap.ensures.trapped c.in-Err-Trap.why (cc)))))
+    rw c.in-Err-Trap.why-is (traps-there c.args.bound r w c.args.wanted.address c.args.wanted.behind f.number f.ty.now is type_of_host _ (hosts_in c.args.hosts.now) (hosts_in c.call_lent.new.hosts) c.args.wanted.kind wait (store_with c.args.code.now c.call_lent.new.state) c.in-Err-Trap.why (rw (passed, c.in-Err-Trap.field-0-is) at c.in-Err-Trap.ensures.answered)))
 
 pub returns-in-Err-Trap-clause-hosts : goal.returns-in-Err-Trap-clause-hosts
 returns-in-Err-Trap-clause-hosts g c =
-    ready-kept type_of_host _ c.args.hosts.now.objects.items c.call_lent.new.hosts.objects.items c.in-Some-InHost.host.number (first_memory (code_store c.args.code.now) c.args.call.now.position.instance) c.deref-2.result.now (store_with c.args.code.now c.args.state.now) (store_with c.args.code.now c.call_lent.new.state) (HostTrap c.in-Err-Trap.why) (c.in-Err-Trap.ensures.trapped c.in-Err-Trap.why (cc)) c.requires.hosts
+    ready-kept type_of_host _ (hosts_in c.args.hosts.now) (hosts_in c.call_lent.new.hosts) c.in-Some-InHost.host.number (first_memory (code_store c.args.code.now) c.args.call.now.position.instance) c.deref-2.result.now (store_with c.args.code.now c.args.state.now) (store_with c.args.code.now c.call_lent.new.state) (HostTrap c.in-Err-Trap.why) (rw c.in-Err-Trap.field-0-is at c.in-Err-Trap.ensures.answered) c.requires.hosts
 
-pub returns-clause-ended : goal.returns-clause-ended
-returns-clause-ended g c = λ w wait. (
+pub returns-clause-came : goal.returns-clause-came
+returns-clause-came g c = λ w wait. (
     let r = at_rest c.args.code.now c.args.state.now c.args.call.now in
     let f = c.in-Some-InHost.host in
     let is = rw c.in-Some-InHost.field-0-is at c.in-Some-InHost.ensures.found in
     let (hosts_same, store_same) = c.in-Err-Memory.ensures.unchanged (cc) in
-    rw (hosts_same, store_same) (out-of-memory c.args.bound r w c.args.wanted.address c.args.wanted.behind f.number f.ty.now is type_of_host _ c.args.hosts.now.objects.items c.args.hosts.now.objects.items c.args.wanted.kind wait))
+    rw (hosts_same, store_same) (out-of-memory c.args.bound r w c.args.wanted.address c.args.wanted.behind f.number f.ty.now is type_of_host _ (hosts_in c.args.hosts.now) (hosts_in c.args.hosts.now) c.args.wanted.kind wait))
 
 pub index_mut-requires : goal.index_mut-requires
 index_mut-requires g c =
@@ -110,14 +112,14 @@ put_results-requires-clause-room g c =
     let passed = c.deref-2.ensures.value ∙ c.in-Ok.ensures ∙ ap (λ (ts : List ValType). values_of ts (take (c.args.wanted.behind - (c.args.wanted.behind - c.len.result)) (drop (c.args.wanted.behind - c.len.result) c.deref.result.now))) c.as_slice-types.ensures
     ∙ ap (values_of f.ty.now.params) (slice-there c.args.bound r w c.args.wanted.kind c.args.wanted.address c.args.wanted.behind wait f.number f.ty.now is c.deref.result.now c.len.result c.deref.ensures.value c.len.ensures) in
     let nested = subst (λ (kind : CallKind). WaitsForHost c.args.bound r w kind c.args.wanted.address c.args.wanted.behind) c.in-Nested.is wait in
-    let fits = room-behind c.args.bound r w c.args.wanted.address c.args.wanted.behind f.number f.ty.now is type_of_host _ c.args.hosts.now.objects.items c.call_lent.new.hosts.objects.items c.requires.hosts c.call_lent.new.state c.in-Ok-call_lent.values.items (rw passed at c.in-Ok-call_lent.ensures.answered) nested in
+    let fits = room-behind c.args.bound r w c.args.wanted.address c.args.wanted.behind f.number f.ty.now is type_of_host _ (hosts_in c.args.hosts.now) (hosts_in c.call_lent.new.hosts) c.requires.hosts c.call_lent.new.state c.in-Ok-call_lent.values.items (rw passed at c.in-Ok-call_lent.ensures.answered) nested in
     let params = c.len.ensures in
     let many = ap (λ (vs : List Val). length vs) c.deref-in-Nested.ensures.value in
     let size = length-set c.args.call.now.cells.items c.args.call.now.position.top c.args.call.now.position.operand in
     omega (arith, fits, params, many, size)
 
-pub returns-in-Nested-clause-answered : goal.returns-in-Nested-clause-answered
-returns-in-Nested-clause-answered g c = λ w wait. (
+pub returns-in-Nested-clause-came : goal.returns-in-Nested-clause-came
+returns-in-Nested-clause-came g c = λ w wait. (
     let r = at_rest c.args.code.now c.args.state.now c.args.call.now in
     let f = c.in-Some-InHost.host in
     let is = rw c.in-Some-InHost.field-0-is at c.in-Some-InHost.ensures.found in
@@ -126,7 +128,7 @@ returns-in-Nested-clause-answered g c = λ w wait. (
     let told = rw passed at c.in-Ok-call_lent.ensures.answered in
     let values = c.deref-in-Nested.ensures.value in
     let nested = subst (λ (kind : CallKind). WaitsForHost c.args.bound r w kind c.args.wanted.address c.args.wanted.behind) c.in-Nested.is wait in
-    comes-behind c.args.bound r w c.args.wanted.address c.args.wanted.behind f.number f.ty.now is type_of_host _ c.args.hosts.now.objects.items c.call_lent.new.hosts.objects.items c.requires.hosts c.call_lent.new.state c.in-Ok-call_lent.values.items told nested c.put_results.new.call
+    comes-behind c.args.bound r w c.args.wanted.address c.args.wanted.behind f.number f.ty.now is type_of_host _ (hosts_in c.args.hosts.now) (hosts_in c.call_lent.new.hosts) c.requires.hosts c.call_lent.new.state c.in-Ok-call_lent.values.items told nested c.put_results.new.call
     (c.put_results.ensures.cells ∙ ap (λ (n : ℕ). with_results (cells_held r) (c.args.wanted.behind - n) c.deref-in-Nested.result.now) c.len.ensures ∙ ap (with_results (cells_held r) (c.args.wanted.behind - length f.ty.now.params)) values)
     (c.put_results.ensures.position ∙ ap (λ (fr : Frame). position_answered fr c.args.call.now.position (c.args.wanted.behind - c.len.result) c.deref-in-Nested.result.now (cells_held r)) c.frame_behind-frame.ensures
     ∙ ap (λ (n : ℕ). position_answered (frame_waiting c.args.call.now.position) c.args.call.now.position (c.args.wanted.behind - n) c.deref-in-Nested.result.now (cells_held r)) c.len.ensures
@@ -135,7 +137,7 @@ returns-in-Nested-clause-answered g c = λ w wait. (
 
 pub returns-in-Nested-clause-hosts : goal.returns-in-Nested-clause-hosts
 returns-in-Nested-clause-hosts g c =
-    ready-kept type_of_host _ c.args.hosts.now.objects.items c.call_lent.new.hosts.objects.items c.in-Some-InHost.host.number (first_memory (code_store c.args.code.now) c.args.call.now.position.instance) c.deref-2.result.now (store_with c.args.code.now c.args.state.now) (store_with c.args.code.now c.call_lent.new.state) (Results c.in-Ok-call_lent.values.items) c.in-Ok-call_lent.ensures.answered c.requires.hosts
+    ready-kept type_of_host _ (hosts_in c.args.hosts.now) (hosts_in c.call_lent.new.hosts) c.in-Some-InHost.host.number (first_memory (code_store c.args.code.now) c.args.call.now.position.instance) c.deref-2.result.now (store_with c.args.code.now c.args.state.now) (store_with c.args.code.now c.call_lent.new.state) (Results c.in-Ok-call_lent.values.items) c.in-Ok-call_lent.ensures.answered c.requires.hosts
 
 pub return_results-requires-clause-room : goal.return_results-requires-clause-room
 return_results-requires-clause-room g c = λ frame others are. (
@@ -146,10 +148,10 @@ return_results-requires-clause-room g c = λ frame others are. (
     let passed = c.deref-2.ensures.value ∙ c.in-Ok.ensures ∙ ap (λ (ts : List ValType). values_of ts (take (c.args.wanted.behind - (c.args.wanted.behind - c.len.result)) (drop (c.args.wanted.behind - c.len.result) c.deref.result.now))) c.as_slice-types.ensures
     ∙ ap (values_of f.ty.now.params) (slice-there c.args.bound r w c.args.wanted.kind c.args.wanted.address c.args.wanted.behind wait f.number f.ty.now is c.deref.result.now c.len.result c.deref.ensures.value c.len.ensures) in
     let tail = subst (λ (kind : CallKind). WaitsForHost c.args.bound r w kind c.args.wanted.address c.args.wanted.behind) c.in-Tail.is wait in
-    room-back-there c.args.bound r w c.args.wanted.address c.args.wanted.behind f.number f.ty.now is type_of_host _ c.args.hosts.now.objects.items c.call_lent.new.hosts.objects.items c.requires.hosts c.call_lent.new.state c.in-Ok-call_lent.values.items (rw passed at c.in-Ok-call_lent.ensures.answered) tail frame others are)
+    room-back-there c.args.bound r w c.args.wanted.address c.args.wanted.behind f.number f.ty.now is type_of_host _ (hosts_in c.args.hosts.now) (hosts_in c.call_lent.new.hosts) c.requires.hosts c.call_lent.new.state c.in-Ok-call_lent.values.items (rw passed at c.in-Ok-call_lent.ensures.answered) tail frame others are)
 
-pub returns-in-Ok-call_lent-clause-answered : goal.returns-in-Ok-call_lent-clause-answered
-returns-in-Ok-call_lent-clause-answered g c = IfOk-weaker c.return_results.result _ _ (λ done back w wait. (
+pub returns-in-Ok-call_lent-clause-came : goal.returns-in-Ok-call_lent-clause-came
+returns-in-Ok-call_lent-clause-came g c = λ w wait. (
     let r = at_rest c.args.code.now c.args.state.now c.args.call.now in
     let f = c.in-Some-InHost.host in
     let is = rw c.in-Some-InHost.field-0-is at c.in-Some-InHost.ensures.found in
@@ -157,17 +159,10 @@ returns-in-Ok-call_lent-clause-answered g c = IfOk-weaker c.return_results.resul
     ∙ ap (values_of f.ty.now.params) (slice-there c.args.bound r w c.args.wanted.kind c.args.wanted.address c.args.wanted.behind wait f.number f.ty.now is c.deref.result.now c.len.result c.deref.ensures.value c.len.ensures) in
     let told = rw passed at c.in-Ok-call_lent.ensures.answered in
     let tail = subst (λ (kind : CallKind). WaitsForHost c.args.bound r w kind c.args.wanted.address c.args.wanted.behind) c.in-Tail.is wait in
+    comes-or-ends (HostStep (λ vtable. (g.dyn-1.0.entry vtable).1)) c.args.bound r (hosts_in c.args.hosts.now) w _ _ c.return_results.result
+    (IfOk-weaker c.return_results.result _ _ (λ done back. (
     let (frame, are, cells, position) = back in
-    comes-back-there c.args.bound r w c.args.wanted.address c.args.wanted.behind f.number f.ty.now is type_of_host _ c.args.hosts.now.objects.items c.call_lent.new.hosts.objects.items c.requires.hosts c.call_lent.new.state c.in-Ok-call_lent.values.items told tail frame c.return_results.new.call.callers are c.return_results.new.call cells position refl)) c.return_results.ensures.back
-
-pub returns-in-Ok-call_lent-clause-ended : goal.returns-in-Ok-call_lent-clause-ended
-returns-in-Ok-call_lent-clause-ended g c = IfErr-weaker c.return_results.result _ _ (λ outcome over w wait. (
-    let r = at_rest c.args.code.now c.args.state.now c.args.call.now in
-    let f = c.in-Some-InHost.host in
-    let is = rw c.in-Some-InHost.field-0-is at c.in-Some-InHost.ensures.found in
-    let passed = c.deref-2.ensures.value ∙ c.in-Ok.ensures ∙ ap (λ (ts : List ValType). values_of ts (take (c.args.wanted.behind - (c.args.wanted.behind - c.len.result)) (drop (c.args.wanted.behind - c.len.result) c.deref.result.now))) c.as_slice-types.ensures
-    ∙ ap (values_of f.ty.now.params) (slice-there c.args.bound r w c.args.wanted.kind c.args.wanted.address c.args.wanted.behind wait f.number f.ty.now is c.deref.result.now c.len.result c.deref.ensures.value c.len.ensures) in
-    let told = rw passed at c.in-Ok-call_lent.ensures.answered in
-    let tail = subst (λ (kind : CallKind). WaitsForHost c.args.bound r w kind c.args.wanted.address c.args.wanted.behind) c.in-Tail.is wait in
+    comes-back-there c.args.bound r w c.args.wanted.address c.args.wanted.behind f.number f.ty.now is type_of_host _ (hosts_in c.args.hosts.now) (hosts_in c.call_lent.new.hosts) c.requires.hosts c.call_lent.new.state c.in-Ok-call_lent.values.items told tail frame c.return_results.new.call.callers are c.return_results.new.call cells position refl)) c.return_results.ensures.back)
+    (IfErr-weaker c.return_results.result _ _ (λ outcome over. (
     let (none, ending, left) = over in
-    rw (ending, left) (ends-there c.args.bound r w c.args.wanted.address c.args.wanted.behind f.number f.ty.now is type_of_host _ c.args.hosts.now.objects.items c.call_lent.new.hosts.objects.items c.requires.hosts c.call_lent.new.state c.in-Ok-call_lent.values.items told tail none))) c.return_results.ensures.over
+    rw (ending, left) (ends-there c.args.bound r w c.args.wanted.address c.args.wanted.behind f.number f.ty.now is type_of_host _ (hosts_in c.args.hosts.now) (hosts_in c.call_lent.new.hosts) c.requires.hosts c.call_lent.new.state c.in-Ok-call_lent.values.items told tail none))) c.return_results.ensures.over))

@@ -24,8 +24,10 @@ returns g c =
       run = run;
       ends = ended.ends;
       extends = ended.extends;
-      spends = run-spends (HostStep (λ vtable. (g.dyn-1.0.entry vtable).1)) c.args.meter.now.bound no_frame run;
       hosts = ended.there;
-      bound = c.call_from_outside.ensures.bound;
-      closed = c.call_from_outside.ensures.frames ∙ c.requires.closed;
+      charges = record {
+        spends = run-spends (HostStep (λ vtable. (g.dyn-1.0.entry vtable).1)) c.args.meter.now.bound no_frame run;
+        bound = c.call_from_outside.ensures.bound;
+        closed = c.call_from_outside.ensures.frames ∙ c.requires.closed;
+      };
     })

@@ -1,8 +1,8 @@
 use Rattle.std.proofs.Common.{◌≡◌, IfOk, ap, map, ◌∙◌, sym, subst}
-use Rattle.std.proofs.lemmas.Result.{IfOk-weaker}
 use Rattle.std.specs.DynBox.{dyn_box_with}
-use Rattle.meaning.specs.execution.Runs.{HostTrap, Results}
 use Rattle.meaning.specs.execution.Values.{type_of}
+use Rattle.hostfunc.specs.Faults.{IfAnswered}
+use Rattle.hostfunc.proofs.Faults.{IfAnswered-weaker}
 use Rattle.hostfunc.proofs.boxes.call_object.Goals as goal
 
 pub call_lent-answer-requires : goal.call_lent-answer-requires
@@ -20,19 +20,11 @@ returns-clause-typed g c =
 
 pub returns-clause-answered : goal.returns-clause-answered
 returns-clause-answered g c =
-    subst (λ p. IfOk c.call_lent-answer.result (λ values. (w : _)
+    subst (λ p. IfAnswered c.call_lent-answer.result (λ answer. (w : _)
     × (dyn_box_with c.args.object.now c.as_mut.result.now.0 c.call_lent-answer.new.object ≡ dyn_box_with c.args.object.now p.0 w)
-    × (goal.HostFn-dyn g p).Answers p.1 c.args.args.now c.args.memory.now (Results values.items) c.call_lent-answer.new.memory w))
+    × (goal.HostFn-dyn g p).Answers p.1 c.args.args.now c.args.memory.now answer c.call_lent-answer.new.memory w))
     c.as_mut.ensures.value.1
-    (IfOk-weaker c.call_lent-answer.result _ _ (λ values h. (h.0, ap (λ p. dyn_box_with c.args.object.now p.0 p.1) h.1, h.2)) c.call_lent-answer.ensures.answered)
-
-pub returns-clause-trapped : goal.returns-clause-trapped
-returns-clause-trapped g c = λ code e.
-    subst (λ p. (w : _)
-    × (dyn_box_with c.args.object.now c.as_mut.result.now.0 c.call_lent-answer.new.object ≡ dyn_box_with c.args.object.now p.0 w)
-    × (goal.HostFn-dyn g p).Answers p.1 c.args.args.now c.args.memory.now (HostTrap code) c.call_lent-answer.new.memory w)
-    c.as_mut.ensures.value.1
-    (let h = c.call_lent-answer.ensures.trapped code e in (h.0, ap (λ p. dyn_box_with c.args.object.now p.0 p.1) h.1, h.2))
+    (IfAnswered-weaker c.call_lent-answer.result _ _ (λ answer h. (h.0, ap (λ p. dyn_box_with c.args.object.now p.0 p.1) h.1, h.2)) c.call_lent-answer.ensures.answered)
 
 pub returns-clause-unchanged : goal.returns-clause-unchanged
 returns-clause-unchanged g c = λ e.

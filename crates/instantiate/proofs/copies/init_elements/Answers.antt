@@ -5,7 +5,8 @@ use Rattle.core_types.specs.declared.op.TableOp.TheVariants.{Init}
 use Rattle.core_types.specs.declared.outcome.Val.TheVariants.{I32}
 use Rattle.meaning.specs.structure.Bodies.{Then}
 use Rattle.meaning.specs.execution.Configurations.{Running}
-use Rattle.meaning.specs.execution.Effects.{Effect, elements_at, entries_cost, init_table}
+use Rattle.meaning.specs.execution.Costs.{entries_cost}
+use Rattle.meaning.specs.execution.Effects.{Effect, elements_at, init_table}
 use Rattle.meaning.specs.execution.Instructions.{continue_after}
 use Rattle.meaning.specs.execution.Tables.{ElementInstance, TableInstance, copy_entries}
 use Rattle.simulation.specs.Tables.{written_table}

@@ -1,10 +1,11 @@
-use Rattle.std.proofs.Common.{length, refl, sym, take, ap, ◌∙◌}
+use Rattle.std.proofs.Common.{length, refl, rules, sym, take, ap, ◌∙◌}
 use Rattle.std.proofs.lemmas.List.{length-take-le}
 use Rattle.meaning.specs.execution.Modules.{tasks_of}
 use Rattle.exec.specs.Endings.{run_state}
 use Rattle.store.specs.Contents.{store_of}
 use Rattle.store.specs.Loaded.{LoadedContents}
 use Rattle.hostfunc.specs.Boxes.{type_of_host}
+use Rattle.hostfunc.specs.Tables.{hosts_in}
 use Rattle.instantiate.specs.declared.link_end.TaskEnd.TheVariants as end
 use Rattle.instantiate.proofs.lemmas.Validity.{is-linkable, never-stuck-tasks}
 use Rattle.instantiate.proofs.lemmas.Links.{allocated-good, allocated-instance, allocated-ready, done-links, ended-links, given-enough}
@@ -16,10 +17,15 @@ slice_bounds-given-end g c =
     let enough = given-enough (store_of c.args.store.now) m m.imports c.args.externs.now c.in_default.ensures.given in
     rw c.len.ensures (sym (length-take-le (length m.imports) c.args.externs.now enough))
 
-pub run_tasks-requires-clause-instance : goal.run_tasks-requires-clause-instance
-run_tasks-requires-clause-instance g c =
+pub run_tasks-requires-clause-ready : goal.run_tasks-requires-clause-ready
+run_tasks-requires-clause-ready g c =
     let m = c.args.loaded.now.value.source in
-    rw (c.module-wanted.ensures.same, c.as_ref.ensures) (allocated-instance c.in_ok-instance.instance m (take c.len.result c.args.externs.now) (store_of c.args.store.now) c.allocate.new.store.code c.allocate.new.store.state c.in_ok-instance.ensures)
+    record {
+      instance_is = rw (c.module-wanted.ensures.same, c.as_ref.ensures) (allocated-instance c.in_ok-instance.instance m (take c.len.result c.args.externs.now) (store_of c.args.store.now) c.allocate.new.store.code c.allocate.new.store.state c.in_ok-instance.ensures);
+      elements = search rules;
+      datas = search rules;
+      offsets = search rules;
+    }
 
 pub returns-in-Ok-clause-linked : goal.returns-in-Ok-clause-linked
 returns-in-Ok-clause-linked g c =
@@ -30,7 +36,7 @@ returns-in-Ok-clause-linked g c =
     record {
       allowed = rw module_is at c.in_default.ensures;
       number_is = allocated.number_is;
-      run = done-links c.in_ok-instance.instance m (take (length m.imports) c.args.externs.now) (store_of c.args.store.now) c.allocate.new.store.code c.allocate.new.store.state allocated _ c.args.hosts.now.objects.items c.args.meter.now.bound c.args.meter.now.left _ (rw module_is at c.in-Ok.ensures.ran);
+      run = done-links c.in_ok-instance.instance m (take (length m.imports) c.args.externs.now) (store_of c.args.store.now) c.allocate.new.store.code c.allocate.new.store.state allocated _ (hosts_in c.args.hosts.now) c.args.meter.now.bound c.args.meter.now.left _ (rw module_is at c.in-Ok.ensures.ran);
     }
 
 pub returns-in-Err-Ended-clause-linked : goal.returns-in-Err-Ended-clause-linked
@@ -43,7 +49,7 @@ returns-in-Err-Ended-clause-linked g c =
     record {
       allowed = rw module_is at c.in_default.ensures;
       no_values = ran.no_values;
-      run = ended-links c.in_ok-instance.instance m (take (length m.imports) c.args.externs.now) (store_of c.args.store.now) c.allocate.new.store.code c.allocate.new.store.state allocated _ c.args.hosts.now.objects.items c.args.meter.now.bound c.args.meter.now.left (end.Ended c.in-Err-Ended.outcome) _ _ refl ran;
+      run = ended-links c.in_ok-instance.instance m (take (length m.imports) c.args.externs.now) (store_of c.args.store.now) c.allocate.new.store.code c.allocate.new.store.state allocated _ (hosts_in c.args.hosts.now) c.args.meter.now.bound c.args.meter.now.left (end.Ended c.in-Err-Ended.outcome) _ _ refl ran;
     }
 
 pub allocate-requires-clause-linkable : goal.allocate-requires-clause-linkable
@@ -63,7 +69,7 @@ run_tasks-requires-clause-good g c =
 
 pub run_tasks-requires-clause-hosts : goal.run_tasks-requires-clause-hosts
 run_tasks-requires-clause-hosts g c =
-    allocated-ready c.in_ok-instance.instance c.args.loaded.now.value.source (take c.len.result c.args.externs.now) (store_of c.args.store.now) c.allocate.new.store.code c.allocate.new.store.state c.in_ok-instance.ensures type_of_host c.args.hosts.now.objects.items c.requires.hosts
+    allocated-ready c.in_ok-instance.instance c.args.loaded.now.value.source (take c.len.result c.args.externs.now) (store_of c.args.store.now) c.allocate.new.store.code c.allocate.new.store.state c.in_ok-instance.ensures type_of_host (hosts_in c.args.hosts.now) c.requires.hosts
 
 pub unreachable-requires : goal.unreachable-requires
 unreachable-requires g c =
@@ -72,6 +78,6 @@ unreachable-requires g c =
     let allowed = rw module_is at c.in_default.ensures in
     let linkable = is-linkable (store_of c.args.store.now) m c.args.externs.now c.len.result (rw module_is at c.len.ensures) (rw c.as_ref.ensures at c.module-wanted.ensures.sound) allowed in
     let good = allocated-good c.in_ok-instance.instance m (take c.len.result c.args.externs.now) (store_of c.args.store.now) c.allocate.new.store.code c.allocate.new.store.state c.in_ok-instance.ensures c.writing_is_read.ensures.whole c.state.ensures.valid linkable in
-    let ready = allocated-ready c.in_ok-instance.instance m (take c.len.result c.args.externs.now) (store_of c.args.store.now) c.allocate.new.store.code c.allocate.new.store.state c.in_ok-instance.ensures type_of_host c.args.hosts.now.objects.items c.requires.hosts in
+    let ready = allocated-ready c.in_ok-instance.instance m (take c.len.result c.args.externs.now) (store_of c.args.store.now) c.allocate.new.store.code c.allocate.new.store.state c.in_ok-instance.ensures type_of_host (hosts_in c.args.hosts.now) c.requires.hosts in
     let ran = rw (module_is, c.in-Err-Stuck.field-0-is) at c.in-Err-Stuck.ensures.ran in
-    never-stuck-tasks (λ vtable. (g.dyn-1.0.entry vtable).1) c.args.meter.now.bound c.in_ok-instance.instance _ (run_state (store_of c.allocate.new.store) c.args.hosts.now.objects.items c.args.meter.now.left) _ (tasks_of m) c.state-2.ensures.valid ready good ran
+    never-stuck-tasks (λ vtable. (g.dyn-1.0.entry vtable).1) c.args.meter.now.bound c.in_ok-instance.instance _ (run_state (store_of c.allocate.new.store) (hosts_in c.args.hosts.now) c.args.meter.now.left) _ (tasks_of m) c.state-2.ensures.valid ready good ran

@@ -7,12 +7,13 @@ use Rattle.instantiate.proofs.lemmas.Starts.{start-refused}
 use Rattle.exec.specs.Endings.{run_state}
 use Rattle.meaning.specs.execution.Configurations.{no_frame}
 use Rattle.instantiate.proofs.lemmas.Tasks.{called}
+use Rattle.hostfunc.specs.Tables.{hosts_in}
 use Rattle.instantiate.proofs.tasks.call_start.Goals as goal
 
 pub returns-then-not-accepts-clause-run : goal.returns-then-not-accepts-clause-run
 returns-then-not-accepts-clause-run g c = record {
   ends = record {
-    at = run_state (store_of c.args.store.now) c.args.hosts.now.objects.items c.args.meter.now.left;
+    at = run_state (store_of c.args.store.now) (hosts_in c.args.hosts.now) c.args.meter.now.left;
     reached = Invoking [] c.args.address;
     steps = none;
     stuck = waiting-stuck (start-refused (store_of c.args.store.now) c.args.address (λ takes. absurd (let no = c.if-not-accepts.ensures.1 takes in cc)));
@@ -22,4 +23,4 @@ returns-then-not-accepts-clause-run g c = record {
 
 pub returns-clause-run : goal.returns-clause-run
 returns-clause-run g c =
-    called _ c.end_of.result c.invoke.result c.args.meter.now.bound no_frame (run_state (store_of c.args.store.now) c.args.hosts.now.objects.items c.args.meter.now.left) (run_state (store_of c.invoke.new.store) c.invoke.new.hosts.objects.items c.invoke.new.meter.left) (Invoking [] c.args.address) c.end_of.ensures c.invoke.ensures.run
+    called _ c.end_of.result c.invoke.result c.args.meter.now.bound no_frame (run_state (store_of c.args.store.now) (hosts_in c.args.hosts.now) c.args.meter.now.left) (run_state (store_of c.invoke.new.store) (hosts_in c.invoke.new.hosts) c.invoke.new.meter.left) (Invoking [] c.args.address) c.end_of.ensures c.invoke.ensures.run

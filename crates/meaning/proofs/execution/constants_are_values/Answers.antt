@@ -12,7 +12,8 @@ use Rattle.core_types.specs.declared.outcome.Trap.{Trap}
 use Rattle.core_types.specs.declared.outcome.Val.{Val}
 use Rattle.core_types.specs.declared.outcome.Val.TheVariants.{ExternRef, FuncRef, I32, I64}
 use Rattle.meaning.specs.execution.Configurations.{Frame}
-use Rattle.meaning.specs.execution.Effects.{Done, Effect, effect, get_global, instruction_cost, numeric_effect, push_result, refer_to_function}
+use Rattle.meaning.specs.execution.Costs.{instruction_cost}
+use Rattle.meaning.specs.execution.Effects.{Done, Effect, effect, get_global, numeric_effect, push_result, refer_to_function}
 use Rattle.meaning.specs.execution.Modules.{constant, constant_step, constant_value, operate, with_integer}
 use Rattle.meaning.specs.execution.Numerics.{binary_operator}
 use Rattle.meaning.specs.execution.Store.{GlobalInstance, ModuleInstance, Store, instance_of, item_of, locate, locate_at}

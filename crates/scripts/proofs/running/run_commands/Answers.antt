@@ -1,7 +1,7 @@
 use Rattle.std.proofs.Common.{◌+◌, ℕ, ◌∙◌, ap, arith, drop, map}
 use Rattle.std.proofs.Math.ListN.{drop_of_length-le}
 use Rattle.embed.specs.Contents.{embedding_of}
-use Rattle.meaning.specs.scripts.Runner.{Place, counted, dialogue}
+use Rattle.meaning.specs.scripts.Runner.{Progress, counted, dialogue}
 use Rattle.scripts.specs.Conversations.{nothing}
 use Rattle.scripts.specs.FileMaps.{files_kept}
 use Rattle.scripts.specs.Views.{command_view}
@@ -11,7 +11,7 @@ use Rattle.scripts.proofs.running.run_commands.Goals as goal
 
 pub loop-k-init : goal.loop-k-init
 loop-k-init g c = record {
-  counts = ap (λ (at : Place). counted at.report) c.new-at.ensures;
+  counts = ap (λ (at : Progress). counted at.report) c.new-at.ensures;
   held = rw c.new-at.ensures nothing;
 }
 

@@ -13,24 +13,24 @@ use std::alloc::Global;
 
 // Where a script is: its instances, and its report so far.
 #[derive(Drop)]
-pub struct Place {
+pub struct Progress {
     pub instances: Instances,
     pub report: Report,
 }
 
-impl Place {
+impl Progress {
     ghost use Rattle.embed.specs.Contents.{embedding_of};
     ghost use Rattle.meaning.specs.scripts.Commands.{Tried};
     ghost use Rattle.meaning.specs.scripts.Runner.{counted, start, turn};
     ghost use Rattle.scripts.specs.FileMaps.{files_kept};
-    ghost use Rattle.scripts.specs.Runs.{HoldsPart, place_view};
+    ghost use Rattle.scripts.specs.Runs.{HoldsPart, progress_view};
     ghost use Rattle.scripts.specs.Views.{command_view, task_view};
 
     // At the beginning of a script.
-    pub fn new(alloc: Global) -> Place
-        ensures { place_view result ≡ start }
+    pub fn new(alloc: Global) -> Progress
+        ensures { progress_view result ≡ start }
     {
-        Place {
+        Progress {
             instances: Instances::new(alloc),
             report: Report {
                 passed: 0,
@@ -51,13 +51,13 @@ impl Place {
         task: &Task,
         embedding: &mut Embedding,
     ) -> Result<(), ScriptFault>
-        requires { counted (place_view self.old).report + 1 < 2 ^ 64 }
-        ensures held { HoldsPart ⟦<dyn HostFn as HostFn>⟧ (λ _. place_view self.new)
+        requires { counted (progress_view self.old).report + 1 < 2 ^ 64 }
+        ensures held { HoldsPart ⟦<dyn HostFn as HostFn>⟧ (λ _. progress_view self.new)
             (turn fuel (files_kept files.now)
-            (Tried line (task_view task.now)) (place_view self.old)) (embedding_of embedding.old)
+            (Tried line (task_view task.now)) (progress_view self.old)) (embedding_of embedding.old)
             result (embedding_of embedding.new) }
-        ensures counts { OnOk result (counted (place_view self.new).report
-            ≡ counted (place_view self.old).report + 1) }
+        ensures counts { OnOk result (counted (progress_view self.new).report
+            ≡ counted (progress_view self.old).report + 1) }
     {
         embedding.set_fuel(fuel);
         let reply = ask_for_task(alloc, files, &self.instances, task, embedding)?;
@@ -75,13 +75,13 @@ impl Place {
         command: &ScriptCommand,
         embedding: &mut Embedding,
     ) -> Result<(), ScriptFault>
-        requires { counted (place_view self.old).report + 1 < 2 ^ 64 }
-        ensures held { HoldsPart ⟦<dyn HostFn as HostFn>⟧ (λ _. place_view self.new)
+        requires { counted (progress_view self.old).report + 1 < 2 ^ 64 }
+        ensures held { HoldsPart ⟦<dyn HostFn as HostFn>⟧ (λ _. progress_view self.new)
             (turn fuel (files_kept files.now)
-            (command_view command.now) (place_view self.old)) (embedding_of embedding.old) result
+            (command_view command.now) (progress_view self.old)) (embedding_of embedding.old) result
             (embedding_of embedding.new) }
-        ensures counts { OnOk result (counted (place_view self.new).report
-            ≡ counted (place_view self.old).report + 1) }
+        ensures counts { OnOk result (counted (progress_view self.new).report
+            ≡ counted (progress_view self.old).report + 1) }
     {
         match command {
             ScriptCommand::Skipped => {
