@@ -1,7 +1,8 @@
 ghost use Rattle.std.specs.Prelude.{◌≡◌, IfOk};
+ghost use Rattle.meaning.specs.validation.Modules.{IsValid};
 ghost use Rattle.module_info.specs.Verdicts.{IsFound, IsFoundOf, decode_verdict, validate_verdict};
 
-use crate::index_spaces::index_spaces;
+use crate::index_spaces::{IndexSpaces, index_spaces};
 use crate::modules::write_module;
 use crate::reasons::{rule, unsupported};
 use binary::{DecodeError, bytes_spell_one_module, decode};
@@ -60,6 +61,34 @@ fn write_validate_error<W: Write>(out: &mut W, error: &ValidateError) -> io::Res
     }
 }
 
+// Writes what a valid module has, over its index spaces.
+fn write_valid<W: Write>(
+    out: &mut W,
+    len: usize,
+    module: &Module,
+    spaces: &IndexSpaces,
+) -> io::Result<()> {
+    writeln!(out, "valid, {len} bytes")?;
+    write_module(out, module, spaces)
+}
+
+// Writes what a valid module has.
+fn describe_valid<W: Write>(
+    alloc: Global,
+    out: &mut W,
+    len: usize,
+    module: &Module,
+) -> io::Result<Verdict>
+    requires { IsValid module.now }
+    ensures { IfOk result (λ verdict. IsFoundOf module.now verdict) }
+{
+    let Ok(spaces) = index_spaces(alloc, module) else {
+        return Ok(Verdict::OutOfMemory);
+    };
+    write_valid(out, len, module, &spaces)?;
+    Ok(Verdict::Valid)
+}
+
 // Writes what a module has, or why it is not valid.
 fn describe_module<W: Write>(
     alloc: Global,
@@ -69,16 +98,10 @@ fn describe_module<W: Write>(
 ) -> io::Result<Verdict>
     ensures { IfOk result (λ verdict. IsFoundOf decoded verdict) }
 {
-    let valid = match validate(alloc, decoded) {
-        Ok(valid) => valid,
-        Err(error) => return write_validate_error(out, &error),
-    };
-    let Ok(spaces) = index_spaces(alloc, valid.module()) else {
-        return Ok(Verdict::OutOfMemory);
-    };
-    writeln!(out, "valid, {len} bytes")?;
-    write_module(out, valid.module(), &spaces)?;
-    Ok(Verdict::Valid)
+    match validate(alloc, decoded) {
+        Ok(valid) => describe_valid(alloc, out, len, valid.module()),
+        Err(error) => write_validate_error(out, &error),
+    }
 }
 
 /// Writes what bytes are.

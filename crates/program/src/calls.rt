@@ -32,8 +32,8 @@ pub fn new_embedding<'a>(
     }
 }
 
-/// Loads, links and registers the stored module as `spectest`, in an embedding to which no command was given. That spends no fuel.
-pub fn add_spectest<'a>(embedding: &mut Embedding) -> Result<(), Fault<'a>> {
+// Loads, links and registers the stored module as `spectest`, in an embedding to which no command was given. That spends no fuel.
+fn add_spectest<'a>(embedding: &mut Embedding) -> Result<(), Fault<'a>> {
     let stored = embedding.load(SPECTEST)?;
     match embedding.link(stored)? {
         LinkOutcome::Linked(instance) => Ok(embedding.register(instance, "spectest")?),
@@ -41,6 +41,20 @@ pub fn add_spectest<'a>(embedding: &mut Embedding) -> Result<(), Fault<'a>> {
             Err(Fault::Refused(Refusal::UnknownInstance))
         }
     }
+}
+
+/// An embedding in which the stored module is registered as `spectest`, else as a new one.
+pub fn embedding_with_spectest<'a>(
+    alloc: Global,
+    fuel: u64,
+    depth: u32,
+    hosts: Vec<HostDef>,
+) -> Result<Embedding, Fault<'a>>
+    requires { length hosts.items < 2 ^ 32 }
+{
+    let mut embedding = new_embedding(alloc, fuel, depth, hosts)?;
+    add_spectest(&mut embedding)?;
+    Ok(embedding)
 }
 
 // The type of the function that an instance exports under a name.

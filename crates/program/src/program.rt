@@ -5,7 +5,7 @@ ghost use Rattle.program.specs.Statuses.{IsStatusOf, fault_status};
 ghost use Rattle.program.specs.declared.faults.Fault.{Fault as AnyFault};
 ghost use Rattle.program.specs.declared.program.End.{End as AnyEnd};
 
-use crate::calls::{add_spectest, call, new_embedding};
+use crate::calls::{call, embedding_with_spectest, new_embedding};
 use crate::faults::Fault;
 use crate::inputs::{Files, ReadFault};
 use crate::print::{print_end, print_fault, print_report, print_valid};
@@ -14,7 +14,7 @@ use command_line::{
     CallOrder, DEFAULT_DEPTH, DEFAULT_FUEL, Order, ScriptOrder, WordsFault, read_words,
 };
 use embed::{HostDef, Outcome, Refusal};
-use scripts::{Report, read_script, run_script};
+use scripts::{Report, Script, read_script, run_script};
 use std::alloc::Global;
 use std::io::{self, Write};
 
@@ -45,6 +45,30 @@ fn read_file<'a, F: Files>(files: &mut F, path: &'a str) -> Result<Vec<u8>, Faul
     }
 }
 
+// Runs a script over its files, each command within the fuel of the order.
+fn run_over_files<'a>(
+    alloc: Global,
+    order: &ScriptOrder<'a>,
+    script: &Script,
+    named: &[(String, Vec<u8>)],
+    hosts: Vec<HostDef>,
+) -> Result<Report, Fault<'a>>
+    requires { length hosts.items < 2 ^ 32 }
+{
+    let mut embedding = embedding_with_spectest(alloc, order.fuel, order.depth, hosts)?;
+    Ok(run_script(alloc, script, named, &mut embedding)?)
+}
+
+// The script in a file.
+fn read_script_in_file<'a, F: Files>(
+    alloc: Global,
+    files: &mut F,
+    path: &'a str,
+) -> Result<Script, Fault<'a>> {
+    let bytes = read_file(files, path)?;
+    Ok(read_script(alloc, bytes.as_slice())?)
+}
+
 // Runs the script in the file that the order names, each command within its fuel. Modules may import the stored one.
 fn run_script_in_file<'a, F: Files>(
     alloc: Global,
@@ -54,12 +78,26 @@ fn run_script_in_file<'a, F: Files>(
 ) -> Result<Report, Fault<'a>>
     requires { length hosts.items < 2 ^ 32 }
 {
-    let bytes = read_file(files, order.file)?;
-    let script = read_script(alloc, bytes.as_slice())?;
+    let script = read_script_in_file(alloc, files, order.file)?;
     let named = read_named(alloc, files, order.file, script.filenames())?;
-    let mut embedding = new_embedding(alloc, order.fuel, order.depth, hosts)?;
-    add_spectest(&mut embedding)?;
-    Ok(run_script(alloc, &script, named.as_slice(), &mut embedding)?)
+    run_over_files(alloc, order, &script, named.as_slice(), hosts)
+}
+
+// Calls the function that the order names, of the module that these bytes are, within its fuel.
+fn call_in_bytes<'a>(
+    alloc: Global,
+    order: &CallOrder<'a>,
+    bytes: &[u8],
+    hosts: Vec<HostDef>,
+) -> Result<CallEnd, Fault<'a>>
+    requires { length hosts.items < 2 ^ 32 }
+{
+    let mut embedding = embedding_with_spectest(alloc, order.fuel, order.depth, hosts)?;
+    let outcome = call(alloc, order, &mut embedding, bytes)?;
+    Ok(CallEnd {
+        outcome,
+        fuel_left: embedding.fuel_left(),
+    })
 }
 
 // Calls the function that the order names, of the module in its file, within its fuel. The module may import the stored one.
@@ -72,13 +110,16 @@ fn call_in_file<'a, F: Files>(
     requires { length hosts.items < 2 ^ 32 }
 {
     let bytes = read_file(files, order.file)?;
-    let mut embedding = new_embedding(alloc, order.fuel, order.depth, hosts)?;
-    add_spectest(&mut embedding)?;
-    let outcome = call(alloc, order, &mut embedding, bytes.as_slice())?;
-    Ok(CallEnd {
-        outcome,
-        fuel_left: embedding.fuel_left(),
-    })
+    call_in_bytes(alloc, order, bytes.as_slice(), hosts)
+}
+
+// Loads a module.
+fn check_bytes<'a>(alloc: Global, bytes: &[u8], hosts: Vec<HostDef>) -> Result<(), Fault<'a>>
+    requires { length hosts.items < 2 ^ 32 }
+{
+    let mut embedding = new_embedding(alloc, DEFAULT_FUEL, DEFAULT_DEPTH, hosts)?;
+    embedding.load(bytes)?;
+    Ok(())
 }
 
 // Loads the module in a file.
@@ -91,9 +132,7 @@ fn check_file<'a, F: Files>(
     requires { length hosts.items < 2 ^ 32 }
 {
     let bytes = read_file(files, path)?;
-    let mut embedding = new_embedding(alloc, DEFAULT_FUEL, DEFAULT_DEPTH, hosts)?;
-    embedding.load(bytes.as_slice())?;
-    Ok(())
+    check_bytes(alloc, bytes.as_slice(), hosts)
 }
 
 // Reads the words and does what they ask for.
