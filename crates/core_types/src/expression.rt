@@ -1,7 +1,7 @@
 ghost use Rattle.std.specs.Prelude.{◌≡◌, ◌≢◌, ◌<◌, ◌∷◌, [], ◌++◌, Some, false, length, slice_get, IfOk, IsTrue, OnErr, OnOk};
 ghost use Rattle.core_types.specs.declared.op.Op.TheVariants as flat;
 ghost use Rattle.core_types.specs.declared.op.PlainOp.{PlainOp as Plain};
-ghost use Rattle.core_types.specs.Expressions.{lent_op};
+ghost use Rattle.core_types.specs.Expressions.{IsWithin, lent_op, stored_op};
 
 use crate::appending::append;
 use crate::lent_op::{LentOp, OpWith, is_mark};
@@ -31,6 +31,52 @@ impl Model for Expression {
     ghost view = { λ e. map (stored_op e.others.items) e.operations.items };
 
     ghost invariant = { λ e. All (IsWithin (length e.others.items)) e.operations.items };
+}
+
+// A stored operation, lent.
+#[inline(always)]
+fn lend<'a>(operation: &StoredOp, others: &'a [Op]) -> LentOp<'a>
+    requires { IsWithin (length others.now) operation.now }
+    ensures { stored_op others.now operation.now ≡ lent_op result }
+{
+    match *operation {
+        OpWith::Unreachable => OpWith::Unreachable,
+        OpWith::Nop => OpWith::Nop,
+        OpWith::Br(label) => OpWith::Br(label),
+        OpWith::BrIf(label) => OpWith::BrIf(label),
+        OpWith::Return => OpWith::Return,
+        OpWith::Call(function) => OpWith::Call(function),
+        OpWith::RefNull(ty) => OpWith::RefNull(ty),
+        OpWith::RefIsNull => OpWith::RefIsNull,
+        OpWith::RefFunc(function) => OpWith::RefFunc(function),
+        OpWith::Parametric(op) => OpWith::Parametric(op),
+        OpWith::LocalGet(index) => OpWith::LocalGet(index),
+        OpWith::LocalSet(index) => OpWith::LocalSet(index),
+        OpWith::LocalTee(index) => OpWith::LocalTee(index),
+        OpWith::GlobalGet(index) => OpWith::GlobalGet(index),
+        OpWith::GlobalSet(index) => OpWith::GlobalSet(index),
+        OpWith::Load(width, align, offset) => OpWith::Load(width, align, offset),
+        OpWith::Load8(width, sign, align, offset) => OpWith::Load8(width, sign, align, offset),
+        OpWith::Load16(width, sign, align, offset) => OpWith::Load16(width, sign, align, offset),
+        OpWith::Load32(sign, align, offset) => OpWith::Load32(sign, align, offset),
+        OpWith::Store(width, align, offset) => OpWith::Store(width, align, offset),
+        OpWith::Store8(width, align, offset) => OpWith::Store8(width, align, offset),
+        OpWith::Store16(width, align, offset) => OpWith::Store16(width, align, offset),
+        OpWith::Store32(align, offset) => OpWith::Store32(align, offset),
+        OpWith::MemorySize => OpWith::MemorySize,
+        OpWith::MemoryGrow => OpWith::MemoryGrow,
+        OpWith::MemoryFill => OpWith::MemoryFill,
+        OpWith::MemoryCopy => OpWith::MemoryCopy,
+        OpWith::Numeric(op) => OpWith::Numeric(op),
+        OpWith::I32Const(n) => OpWith::I32Const(n),
+        OpWith::I64Const(n) => OpWith::I64Const(n),
+        OpWith::Block(value) => OpWith::Block(value),
+        OpWith::Loop(value) => OpWith::Loop(value),
+        OpWith::If(value) => OpWith::If(value),
+        OpWith::Else => OpWith::Else,
+        OpWith::End => OpWith::End,
+        OpWith::Other(number) => OpWith::Other(&others[number as usize]),
+    }
 }
 
 impl Expression {
@@ -78,46 +124,7 @@ impl Expression {
         requires { index < length self.now }
         ensures { slice_get self.now index ≡ Some (lent_op result) }
     {
-        match self.operations[index] {
-            OpWith::Unreachable => OpWith::Unreachable,
-            OpWith::Nop => OpWith::Nop,
-            OpWith::Br(label) => OpWith::Br(label),
-            OpWith::BrIf(label) => OpWith::BrIf(label),
-            OpWith::Return => OpWith::Return,
-            OpWith::Call(function) => OpWith::Call(function),
-            OpWith::RefNull(ty) => OpWith::RefNull(ty),
-            OpWith::RefIsNull => OpWith::RefIsNull,
-            OpWith::RefFunc(function) => OpWith::RefFunc(function),
-            OpWith::Parametric(op) => OpWith::Parametric(op),
-            OpWith::LocalGet(index) => OpWith::LocalGet(index),
-            OpWith::LocalSet(index) => OpWith::LocalSet(index),
-            OpWith::LocalTee(index) => OpWith::LocalTee(index),
-            OpWith::GlobalGet(index) => OpWith::GlobalGet(index),
-            OpWith::GlobalSet(index) => OpWith::GlobalSet(index),
-            OpWith::Load(width, align, offset) => OpWith::Load(width, align, offset),
-            OpWith::Load8(width, sign, align, offset) => OpWith::Load8(width, sign, align, offset),
-            OpWith::Load16(width, sign, align, offset) => OpWith::Load16(
-                width, sign, align, offset,
-            ),
-            OpWith::Load32(sign, align, offset) => OpWith::Load32(sign, align, offset),
-            OpWith::Store(width, align, offset) => OpWith::Store(width, align, offset),
-            OpWith::Store8(width, align, offset) => OpWith::Store8(width, align, offset),
-            OpWith::Store16(width, align, offset) => OpWith::Store16(width, align, offset),
-            OpWith::Store32(align, offset) => OpWith::Store32(align, offset),
-            OpWith::MemorySize => OpWith::MemorySize,
-            OpWith::MemoryGrow => OpWith::MemoryGrow,
-            OpWith::MemoryFill => OpWith::MemoryFill,
-            OpWith::MemoryCopy => OpWith::MemoryCopy,
-            OpWith::Numeric(op) => OpWith::Numeric(op),
-            OpWith::I32Const(n) => OpWith::I32Const(n),
-            OpWith::I64Const(n) => OpWith::I64Const(n),
-            OpWith::Block(value) => OpWith::Block(value),
-            OpWith::Loop(value) => OpWith::Loop(value),
-            OpWith::If(value) => OpWith::If(value),
-            OpWith::Else => OpWith::Else,
-            OpWith::End => OpWith::End,
-            OpWith::Other(number) => OpWith::Other(&self.others[number as usize]),
-        }
+        lend(&self.operations[index], &self.others)
     }
 
     /// Whether the operation at an index is a mark, at which a body begins or ends.

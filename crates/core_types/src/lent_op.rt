@@ -1,15 +1,16 @@
-ghost use Rattle.std.specs.Prelude.{◌≡◌, false, ◌≢◌, IfNone, IfSome, IsTrue};
+ghost use Rattle.std.specs.Prelude.{◌≡◌, false, ◌≢◌, IfNone, IfSome, IsTrue, ⊤};
 ghost use Rattle.core_types.specs.declared.op.Op.TheVariants as flat;
 ghost use Rattle.core_types.specs.declared.op.PlainOp.{PlainOp as Plain};
 ghost use Rattle.core_types.specs.Expressions.{block_type_of, lent_op, mark_op};
 
 use crate::op::{BlockType, NumericOp, Op, ParametricOp, Sign, Width};
 use crate::types::{RefType, ValType};
+use std::alloc::AllocError;
 
 /// A flat operation that has room in eight bytes, or a `T` for one that takes more: a branch by number, a call through a table, a
 /// select with types, an instruction on a table or a segment, a block with a type of the module, a constant of more than 32
 /// bits, an access with an alignment of more than eight bits.
-#[derive(Clone, Copy)]
+#[derive(Copy)]
 pub enum OpWith<T> {
     Unreachable,
     Nop,
@@ -47,6 +48,16 @@ pub enum OpWith<T> {
     Else,
     End,
     Other(T),
+}
+
+impl<T: Copy> Clone for OpWith<T> {
+    ghost is_clone = { λ x y. y ≡ x };
+
+    ghost is_infallible = { λ _. ⊤ };
+
+    fn clone(&self) -> Result<Self, AllocError> {
+        Ok(*self)
+    }
 }
 
 /// A flat operation that is lent.

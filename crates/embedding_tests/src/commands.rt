@@ -317,16 +317,21 @@ fn commands_get_their_answers(rt: HostRuntime) {
     }
 }
 
-// Whether the first bytes of the module that adds are loaded where they are a module (without sections, with its type alone, and
-// whole), and are malformed at one of them or at their end elsewhere.
-fn loads_first(alloc: Global, count: usize) -> bool {
-    let Some(mut at) = fresh_embedding(alloc) else {
-        return false;
-    };
-    match at.load(&ADD[..count.min(ADD.len())]) {
+// Whether so many of the first bytes of the module that adds are answered so: they are loaded where they are a module (without
+// sections, with its type alone, and whole), and are malformed at one of them or at their end elsewhere.
+fn is_answer_to_first(answer: Result<ModuleNumber, Refusal>, count: usize) -> bool {
+    match answer {
         Ok(number) => matches!(count, 8 | 17 | 41) && number == ModuleNumber(0),
         Err(Refusal::Malformed(offset)) => !matches!(count, 8 | 17 | 41) && offset <= count,
         Err(_) => false,
+    }
+}
+
+// Whether so many of the first bytes get their answer.
+fn loads_first(alloc: Global, count: usize) -> bool {
+    match fresh_embedding(alloc) {
+        Some(mut at) => is_answer_to_first(at.load(&ADD[..count.min(ADD.len())]), count),
+        None => false,
     }
 }
 

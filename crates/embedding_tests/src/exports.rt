@@ -1,9 +1,11 @@
 //! The types of what an instance exports.
 
+use crate::commands::Answer::{Number, Values};
+use crate::commands::Step::{self, Call, Link, Load};
+use crate::commands::{fresh_embedding, steps_hold};
 use core_types::{ExternType, Mutability, ValType};
-use embed::{Command, Config, Embedding, ExportType, InstanceNumber};
+use embed::{Embedding, ExportType, InstanceNumber};
 use std::alloc::{AllocError, Global};
-use testing::assemble;
 
 // An export of each kind, and a function that grows the memory by two pages.
 const TEXT: &str =
@@ -72,15 +74,22 @@ fn is_type(found: Option<&ExternType>, wanted: Type) -> bool {
     }
 }
 
-// An embedding with an instance of the module, whose memory is grown.
-fn grown(alloc: Global) -> Option<Embedding> {
-    let mut at = Embedding::new(alloc, Config::new(10_000, 10, 10, 10)?, Vec::new(alloc)).ok()?;
-    let bytes = assemble(alloc, TEXT).ok()?;
-    let _ = at.apply(&Command::Load(bytes));
-    let _ = at.apply(&Command::Link(0));
-    let name = String::from_str(alloc, "grow").ok()?;
-    let _ = at.apply(&Command::Call(0, name, Vec::new(alloc)));
-    Some(at)
+// An instance of the module, whose memory is grown.
+static GROWN: [Step; 3] = [
+    Load(TEXT, Number(0)),
+    Link(0, Number(0)),
+    Call(0, "grow", &[], Values(&[])),
+];
+
+// An embedding with that instance.
+fn embedding_with_instance(alloc: Global) -> Option<Embedding> {
+    let mut at = fresh_embedding(alloc)?;
+    steps_hold(alloc, &mut at, &GROWN).then_some(at)
+}
+
+// The rows.
+fn rows() -> &'static [Row] {
+    &ROWS
 }
 
 // Whether an answer is the type of a row.
@@ -98,11 +107,11 @@ fn is_so(at: &Embedding, row: &Row) -> bool {
 
 // Whether all exports have their types.
 fn all_are_so(alloc: Global) -> bool {
-    let Some(at) = grown(alloc) else {
+    let Some(at) = embedding_with_instance(alloc) else {
         return false;
     };
     let mut all = true;
-    for row in &ROWS {
+    for row in rows() {
         all &= is_so(&at, row);
     }
     all
@@ -115,30 +124,35 @@ fn exports_have_their_types(rt: HostRuntime) {
 
 #[test]
 fn call_always_out_of_memory(rt: HostRuntime) {
-    for row in &ROWS {
+    for row in rows() {
         assert!(rt; !is_right(Err(AllocError), row), "{}", row.name);
     }
 }
 
-// Whether these are the exports of the instance.
-fn are_exports(found: &[ExportType]) -> bool {
-    found.len() == EXPORTS.len()
-        && found.iter().zip(&EXPORTS).all(|(export, (name, ty))| export.name.as_str() == *name
+// Whether exports are these.
+fn are_exports(found: &[ExportType], wanted: &[(&str, Type)]) -> bool {
+    found.len() == wanted.len()
+        && found.iter().zip(wanted).all(|(export, (name, ty))| export.name.as_str() == *name
             && is_type(Some(&export.ty), *ty))
 }
 
+// Whether an instance has these exports.
+fn has_exports(at: &Embedding, instance: u64, wanted: &[(&str, Type)]) -> bool {
+    match at.exports(InstanceNumber(instance)) {
+        Ok(found) => are_exports(&found, wanted),
+        Err(_) => false,
+    }
+}
+
 // Whether the instance has its exports, and one that is not there has none.
-fn has_exports(alloc: Global) -> bool {
-    let Some(at) = grown(alloc) else {
-        return false;
-    };
-    match (at.exports(InstanceNumber(0)), at.exports(InstanceNumber(1))) {
-        (Ok(found), Ok(nothing)) => are_exports(&found) && nothing.is_empty(),
-        _ => false,
+fn exports_are_so(alloc: Global) -> bool {
+    match embedding_with_instance(alloc) {
+        Some(at) => has_exports(&at, 0, &EXPORTS) && has_exports(&at, 1, &[]),
+        None => false,
     }
 }
 
 #[test]
 fn exports_are_in_order(rt: HostRuntime) {
-    assert!(rt; has_exports(rt.alloc()));
+    assert!(rt; exports_are_so(rt.alloc()));
 }

@@ -1,6 +1,6 @@
 //! Host functions: what they answer, what they are lent, and which definitions are refused.
 
-ghost use Rattle.std.specs.Prelude.{◌≡◌, ◌∷◌, [], IfOk, IfErr, map};
+ghost use Rattle.std.specs.Prelude.{◌≡◌, ◌<◌, ◌^◌, ◌∷◌, [], IfOk, IfErr, length, map};
 ghost use Rattle.std.proofs.Props.{props};
 ghost use Rattle.core_types.specs.declared.outcome.Val.{Val as AnyVal};
 ghost use Rattle.core_types.specs.declared.outcome.Val.TheVariants.{I32 as I32Value};
@@ -255,8 +255,27 @@ fn is_refusal(fault: &NewFault, refused: Option<u8>) -> bool {
     refused == Some(fault.number())
 }
 
-/// Whether all steps are as they say in a fresh embedding with these host functions, where so many frames may be open; or whether
-/// there is none for the reason of this number.
+// Whether all steps are as they say in a fresh embedding with these host functions, where so many frames may be open; or whether
+// there is none for the reason of this number.
+fn steps_hold_in(
+    alloc: Global,
+    hosts: Vec<HostDef>,
+    depth: u32,
+    refused: Option<u8>,
+    steps: &[Step],
+) -> bool
+    requires { length hosts.items < 2 ^ 32 }
+{
+    let Some(config) = Config::new(1_000_000_000, depth, 1_024, 1_000_000) else {
+        return false;
+    };
+    match Embedding::new(alloc, config, hosts) {
+        Ok(mut at) => refused.is_none() && steps_hold(alloc, &mut at, steps),
+        Err(fault) => is_refusal(&fault, refused),
+    }
+}
+
+/// The same, with host functions of these names and kinds.
 pub fn steps_hold_with(
     alloc: Global,
     defs: &[(&str, Kind)],
@@ -269,16 +288,7 @@ pub fn steps_hold_with(
         let host = new_host(alloc, *kind)?;
         hosts.push(defined(alloc, name, Box::new(alloc, host)?)?)?;
     }
-    let Some(config) = Config::new(1_000_000_000, depth, 1_024, 1_000_000) else {
-        return Ok(false);
-    };
-    if hosts.len() > 10 {
-        return Ok(false);
-    }
-    Ok(match Embedding::new(alloc, config, hosts) {
-        Ok(mut at) => refused.is_none() && steps_hold(alloc, &mut at, steps),
-        Err(fault) => is_refusal(&fault, refused),
-    })
+    Ok(hosts.len() <= 10 && steps_hold_in(alloc, hosts, depth, refused, steps))
 }
 
 // Whether a row is as it says.
@@ -286,16 +296,21 @@ fn is_so(alloc: Global, row: &Row) -> Result<bool, AllocError> {
     steps_hold_with(alloc, row.hosts, 1_024, row.refused, row.steps)
 }
 
+// The rows.
+fn rows() -> &'static [Row] {
+    &ROWS
+}
+
 #[test]
 fn host_functions_are_called(rt: HostRuntime) {
-    for row in &ROWS {
+    for row in rows() {
         assert!(rt; is_so(rt.alloc(), row) == Ok(true), "{}", row.name);
     }
 }
 
 #[test]
 fn call_always_out_of_memory(rt: HostRuntime) {
-    for row in &ROWS {
+    for row in rows() {
         assert!(rt;
             !is_refusal(&NewFault::OutOfMemory, row.refused),
             "{}",

@@ -8,22 +8,27 @@ use testing::assemble;
 const ADD: &str =
     "(func (param i32 i32) (result i32) local.get 0 local.get 1 i32.add) (export \"add\" (func 0))";
 
+// A call of the function with these arguments.
+fn call(alloc: Global, args: &[Val]) -> Option<Command> {
+    let name = String::from_str(alloc, "add").ok()?;
+    Some(Command::Call(0, name, Vec::from_slice(alloc, args).ok()?))
+}
+
 // Six commands: a load, a link, a call, a refused call, a registration and more fuel.
 fn commands(alloc: Global) -> Option<Vec<Command>> {
-    let bytes = assemble(alloc, ADD).ok()?;
-    let two = Vec::from_slice(alloc, &[Val::I32(1), Val::I32(2)]).ok()?;
-    let one = Vec::from_slice(alloc, &[Val::I32(1)]).ok()?;
-    let mut list = Vec::new(alloc);
-    list.push(Command::Load(bytes)).ok()?;
-    list.push(Command::Link(0)).ok()?;
-    list.push(Command::Call(0, String::from_str(alloc, "add").ok()?, two))
-        .ok()?;
-    list.push(Command::Call(0, String::from_str(alloc, "add").ok()?, one))
-        .ok()?;
-    list.push(Command::Register(0, String::from_str(alloc, "m").ok()?))
-        .ok()?;
-    list.push(Command::SetFuel(9)).ok()?;
-    Some(list)
+    let load = Command::Load(assemble(alloc, ADD).ok()?);
+    let right = call(alloc, &[Val::I32(1), Val::I32(2)])?;
+    let wrong = call(alloc, &[Val::I32(1)])?;
+    let register = Command::Register(0, String::from_str(alloc, "m").ok()?);
+    vec![in alloc;
+        load,
+        Command::Link(0),
+        right,
+        wrong,
+        register,
+        Command::SetFuel(9),
+    ]
+    .ok()
 }
 
 // Whether these are the replies to the six commands.
@@ -41,18 +46,36 @@ fn are_replies(replies: &[Reply]) -> bool {
     }
 }
 
-// Whether the six commands get their replies, behind those that were there, and leave the fuel that the last one sets.
-fn list_is_answered(alloc: Global) -> bool {
-    let (Some(config), Some(list)) = (Config::new(10, 1, 1, 1), commands(alloc)) else {
-        return false;
-    };
-    let Ok(mut at) = Embedding::new(alloc, config, Vec::new(alloc)) else {
-        return false;
-    };
+// The replies to one command, which sets the fuel, and behind them those to a list.
+fn replies_to(alloc: Global, at: &mut Embedding, list: &[Command]) -> Option<Vec<Reply>> {
     let mut replies = Vec::new(alloc);
-    let first = at.apply_all(&[Command::SetFuel(20)], &mut replies).is_ok();
-    let second = at.apply_all(&list, &mut replies).is_ok();
-    first && second && replies.len() == 7 && are_replies(&replies[1..]) && at.fuel_left() == 9
+    at.apply_all(&[Command::SetFuel(20)], &mut replies).ok()?;
+    at.apply_all(list, &mut replies).ok()?;
+    Some(replies)
+}
+
+// Whether the six commands get their replies, behind those that were there, and leave the fuel that the last one sets.
+fn is_answered(alloc: Global, at: &mut Embedding, list: &[Command]) -> bool {
+    match replies_to(alloc, at, list) {
+        Some(replies) => { replies.len() == 7 && are_replies(&replies[1..]) && at.fuel_left() == 9 }
+        None => false,
+    }
+}
+
+// An embedding with little fuel and no room.
+fn small_embedding(alloc: Global) -> Option<Embedding> {
+    Embedding::new(alloc, Config::new(10, 1, 1, 1)?, Vec::new(alloc)).ok()
+}
+
+// Whether the six commands are answered in such an embedding.
+fn list_is_answered(alloc: Global) -> bool {
+    let Some(list) = commands(alloc) else {
+        return false;
+    };
+    match small_embedding(alloc) {
+        Some(mut at) => is_answered(alloc, &mut at, &list),
+        None => false,
+    }
 }
 
 #[test]

@@ -186,24 +186,39 @@ fn keeps_stacks(rt: HostRuntime) {
     assert!(rt; takes_all(rt.alloc()));
 }
 
-// An expression with operations in eight bytes and others that take more, in turn.
-fn expression_of(alloc: Global, room: usize) -> Result<Expression, AllocError> {
-    let mut expression = Expression::with_room(alloc, room);
+// A branch by number to two labels, and to a third one else.
+fn branch_by_number(alloc: Global) -> Result<Op, AllocError> {
     let labels = Items::from_vec(vec![in alloc; 1u32, 2]?);
     let table = BranchTable { labels, default: 3 };
+    Ok(Op::Plain(PlainOp::BrTable(Boxed::new(alloc, table)?)))
+}
+
+// A select with a type.
+fn typed_select(alloc: Global) -> Result<Op, AllocError> {
     let types = Items::from_vec(vec![in alloc; ValType::I64]?);
+    Ok(Op::Plain(PlainOp::SelectTyped(Boxed::new(alloc, types)?)))
+}
+
+// Puts operations in eight bytes and others that take more, in turn, behind the others.
+fn push_operations(alloc: Global, expression: &mut Expression) -> Result<(), AllocError> {
     let argument = MemArg {
         align: 256,
         offset: 9,
     };
     expression.push(Op::Plain(PlainOp::I64Const(7)))?;
-    expression.push(Op::Plain(PlainOp::BrTable(Boxed::new(alloc, table)?)))?;
+    expression.push(branch_by_number(alloc)?)?;
     expression.push(Op::Plain(PlainOp::I64Const(u64::MAX)))?;
-    expression.push(Op::Plain(PlainOp::SelectTyped(Boxed::new(alloc, types)?)))?;
+    expression.push(typed_select(alloc)?)?;
     expression.push(Op::Else)?;
     expression.push(Op::Block(BlockType::Index(4)))?;
     expression.push(Op::Loop(BlockType::Value(ValType::I32)))?;
-    expression.push(Op::Plain(PlainOp::Memory(MemoryOp::Store(StoreOp::Bits32, argument))))?;
+    expression.push(Op::Plain(PlainOp::Memory(MemoryOp::Store(StoreOp::Bits32, argument))))
+}
+
+// An expression of these operations.
+fn expression_of(alloc: Global, room: usize) -> Result<Expression, AllocError> {
+    let mut expression = Expression::with_room(alloc, room);
+    push_operations(alloc, &mut expression)?;
     expression.shrink();
     Ok(expression)
 }

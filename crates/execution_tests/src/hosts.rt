@@ -208,15 +208,34 @@ fn take_in(hosted: &mut Hosted, alloc: Global, object: Box<dyn HostFn>) -> Resul
     Ok(())
 }
 
-/// A store with four host functions alone: a difference, a sum, four results, and none.
+// Four host functions: a difference, a sum, four results, and none.
+#[derive(Drop)]
+struct Functions {
+    difference: Box<Difference>,
+    sum: Box<Sum>,
+    four: Box<Four>,
+    marker: Box<Marker>,
+}
+
+fn new_functions(alloc: Global) -> Result<Functions, AllocError> {
+    Ok(Functions {
+        difference: Box::new(alloc, new_difference(alloc)?)?,
+        sum: Box::new(alloc, new_sum(alloc)?)?,
+        four: Box::new(alloc, new_four(alloc)?)?,
+        marker: Box::new(alloc, new_marker(alloc)?)?,
+    })
+}
+
+/// A store with these four host functions alone.
 pub fn new_hosted(alloc: Global) -> Result<Hosted, AllocError> {
+    let functions = new_functions(alloc)?;
     let mut hosted = Hosted {
         store: Store::new(alloc, 1, 2),
         hosts: HostTable::new(alloc),
     };
-    take_in(&mut hosted, alloc, Box::new(alloc, new_difference(alloc)?)?)?;
-    take_in(&mut hosted, alloc, Box::new(alloc, new_sum(alloc)?)?)?;
-    take_in(&mut hosted, alloc, Box::new(alloc, new_four(alloc)?)?)?;
-    take_in(&mut hosted, alloc, Box::new(alloc, new_marker(alloc)?)?)?;
+    take_in(&mut hosted, alloc, functions.difference)?;
+    take_in(&mut hosted, alloc, functions.sum)?;
+    take_in(&mut hosted, alloc, functions.four)?;
+    take_in(&mut hosted, alloc, functions.marker)?;
     Ok(hosted)
 }

@@ -9,3 +9,5 @@ mod links;
 mod modules;
 #[cfg(test)]
 mod names;
+#[cfg(test)]
+mod tail_calls;

@@ -44,13 +44,17 @@ static CALLS: [(&str, &[Val]); 11] = [
     ("add", &[Val::I32(1), Val::I32(2)]),
 ];
 
-// An embedding with the contract in it.
-fn start(alloc: Global, bytes: &[u8]) -> Result<(Embedding, InstanceNumber), Fault> {
+// An embedding with the most fuel that a call may buy.
+fn new_embedding(alloc: Global) -> Result<Embedding, Fault> {
     let config = Config::new(LIMIT, 16, 16, 100).ok_or(NewFault::OutOfMemory)?;
-    let mut embedding = Embedding::new(alloc, config, Vec::new(alloc))?;
+    Ok(Embedding::new(alloc, config, Vec::new(alloc))?)
+}
+
+// Links the contract that bytes spell.
+fn link(embedding: &mut Embedding, bytes: &[u8]) -> Result<InstanceNumber, Fault> {
     let loaded = embedding.load(bytes)?;
     match embedding.link(loaded)? {
-        LinkOutcome::Linked(contract) => Ok((embedding, contract)),
+        LinkOutcome::Linked(contract) => Ok(contract),
         LinkOutcome::Trap(_) | LinkOutcome::Exhausted(_) => Err(Fault::Start),
     }
 }
@@ -83,20 +87,36 @@ fn call<W: Write>(
     writeln!(out)
 }
 
-// Makes the calls of a caller of the contract in the file.
-fn main(rt: HostRuntime) -> Result<(), Fault> {
-    let bytes = fs::read(&rt, "contract.wasm")?;
-    let (mut embedding, contract) = start(rt.alloc(), bytes.as_slice())?;
+// Makes the calls of a caller who has this money, and prints what each cost.
+fn make_calls<W: Write>(
+    embedding: &mut Embedding,
+    contract: InstanceNumber,
+    out: &mut W,
+) -> io::Result<()> {
     let mut account = Account { balance: MONEY };
-    let mut out = rt.stdout();
     for (export, args) in &CALLS {
-        call(
-            &mut embedding,
-            contract,
-            &mut account,
-            (export, args),
-            &mut out,
-        )?;
+        call(embedding, contract, &mut account, (export, args), out)?;
     }
     Ok(())
+}
+
+// Links the contract that bytes spell in an embedding, and makes the calls.
+fn run<W: Write>(embedding: &mut Embedding, bytes: &[u8], out: &mut W) -> Result<(), Fault> {
+    let contract = link(embedding, bytes)?;
+    make_calls(embedding, contract, out)?;
+    Ok(())
+}
+
+// Makes the calls to the contract that bytes spell.
+fn run_contract<W: Write>(alloc: Global, bytes: &[u8], out: &mut W) -> Result<(), Fault> {
+    match new_embedding(alloc) {
+        Ok(mut embedding) => run(&mut embedding, bytes, out),
+        Err(fault) => Err(fault),
+    }
+}
+
+// Makes the calls to the contract in the file.
+fn main(rt: HostRuntime) -> Result<(), Fault> {
+    let bytes = fs::read(&rt, "contract.wasm")?;
+    run_contract(rt.alloc(), bytes.as_slice(), &mut rt.stdout())
 }

@@ -116,24 +116,37 @@ fn count_bytes(datas: &[DataSegment]) -> u64 {
     count
 }
 
-// Lines for what is the module's own.
-fn write_sizes<W: Write>(out: &mut W, module: &Module) -> io::Result<()> {
+// Lines for functions and globals.
+fn write_functions<W: Write>(out: &mut W, module: &Module) -> io::Result<()> {
+    let count = module.funcs.len();
     let operations = count_operations(module.funcs.as_slice());
+    writeln!(out, "functions {count}, operations {operations}")?;
+    writeln!(out, "globals {}", module.globals.len())
+}
+
+// Lines for segments.
+fn write_segments<W: Write>(out: &mut W, module: &Module) -> io::Result<()> {
+    let count = module.datas.len();
     let bytes = count_bytes(module.datas.as_slice());
-    write_tables(out, module.tables.as_slice())?;
-    write_memories(out, module.memories.as_slice())?;
-    writeln!(
-        out,
-        "functions {}, operations {operations}",
-        module.funcs.len()
-    )?;
-    writeln!(out, "globals {}", module.globals.len())?;
     writeln!(out, "element segments {}", module.elements.len())?;
-    writeln!(out, "data segments {}, bytes {bytes}", module.datas.len())?;
+    writeln!(out, "data segments {count}, bytes {bytes}")
+}
+
+// A line for the start function, if there is one.
+fn write_start<W: Write>(out: &mut W, module: &Module) -> io::Result<()> {
     match module.start {
         Some(index) => writeln!(out, "start function {index}"),
         None => Ok(()),
     }
+}
+
+// Lines for what is the module's own.
+fn write_sizes<W: Write>(out: &mut W, module: &Module) -> io::Result<()> {
+    write_tables(out, module.tables.as_slice())?;
+    write_memories(out, module.memories.as_slice())?;
+    write_functions(out, module)?;
+    write_segments(out, module)?;
+    write_start(out, module)
 }
 
 /// Writes what a module imports, exports and has of its own, a line each.

@@ -7,7 +7,8 @@ use crate::faults::Fault;
 use crate::spectest::SPECTEST;
 use command_line::CallOrder;
 use embed::{
-    Config, Embedding, ExternType, FuncType, HostDef, InstanceNumber, LinkOutcome, Outcome, Refusal,
+    Config, Embedding, ExternType, FuncType, HostDef, InstanceNumber, LinkOutcome, Outcome,
+    Refusal, Val,
 };
 use std::alloc::Global;
 
@@ -43,7 +44,7 @@ fn add_spectest<'a>(embedding: &mut Embedding) -> Result<(), Fault<'a>> {
     }
 }
 
-/// An embedding in which the stored module is registered as `spectest`, else as a new one.
+/// A new embedding, in which the stored module is registered as `spectest`.
 pub fn embedding_with_spectest<'a>(
     alloc: Global,
     fuel: u64,
@@ -70,6 +71,17 @@ fn function_type(
     }
 }
 
+// The arguments of the order, for the function of an instance that it names.
+fn args_for<'a>(
+    alloc: Global,
+    order: &CallOrder<'a>,
+    embedding: &Embedding,
+    instance: InstanceNumber,
+) -> Result<Vec<Val>, Fault<'a>> {
+    let ty = function_type(embedding, instance, order.export)?;
+    Ok(read_args(alloc, ty.params.as_slice(), order.args.as_slice())?)
+}
+
 // Calls the function of an instance that the order names.
 fn call_export<'a>(
     alloc: Global,
@@ -77,8 +89,7 @@ fn call_export<'a>(
     embedding: &mut Embedding,
     instance: InstanceNumber,
 ) -> Result<Outcome, Fault<'a>> {
-    let ty = function_type(embedding, instance, order.export)?;
-    let args = read_args(alloc, ty.params.as_slice(), order.args.as_slice())?;
+    let args = args_for(alloc, order, embedding, instance)?;
     Ok(embedding.call(instance, order.export, args.as_slice())?)
 }
 

@@ -13,7 +13,7 @@ use crate::script_files::read_named;
 use command_line::{
     CallOrder, DEFAULT_DEPTH, DEFAULT_FUEL, Order, ScriptOrder, WordsFault, read_words,
 };
-use embed::{HostDef, Outcome, Refusal};
+use embed::{Embedding, HostDef, Outcome, Refusal};
 use scripts::{Report, Script, read_script, run_script};
 use std::alloc::Global;
 use std::io::{self, Write};
@@ -45,6 +45,16 @@ fn read_file<'a, F: Files>(files: &mut F, path: &'a str) -> Result<Vec<u8>, Faul
     }
 }
 
+// Runs a script over its files in an embedding.
+fn run_in<'a>(
+    alloc: Global,
+    script: &Script,
+    named: &[(String, Vec<u8>)],
+    embedding: &mut Embedding,
+) -> Result<Report, Fault<'a>> {
+    Ok(run_script(alloc, script, named, embedding)?)
+}
+
 // Runs a script over its files, each command within the fuel of the order.
 fn run_over_files<'a>(
     alloc: Global,
@@ -55,8 +65,10 @@ fn run_over_files<'a>(
 ) -> Result<Report, Fault<'a>>
     requires { length hosts.items < 2 ^ 32 }
 {
-    let mut embedding = embedding_with_spectest(alloc, order.fuel, order.depth, hosts)?;
-    Ok(run_script(alloc, script, named, &mut embedding)?)
+    match embedding_with_spectest(alloc, order.fuel, order.depth, hosts) {
+        Ok(mut embedding) => run_in(alloc, script, named, &mut embedding),
+        Err(fault) => Err(fault),
+    }
 }
 
 // The script in a file.
@@ -83,6 +95,20 @@ fn run_script_in_file<'a, F: Files>(
     run_over_files(alloc, order, &script, named.as_slice(), hosts)
 }
 
+// Calls the function that the order names, of the module that these bytes are, in an embedding.
+fn call_in<'a>(
+    alloc: Global,
+    order: &CallOrder<'a>,
+    bytes: &[u8],
+    embedding: &mut Embedding,
+) -> Result<CallEnd, Fault<'a>> {
+    let outcome = call(alloc, order, embedding, bytes)?;
+    Ok(CallEnd {
+        outcome,
+        fuel_left: embedding.fuel_left(),
+    })
+}
+
 // Calls the function that the order names, of the module that these bytes are, within its fuel.
 fn call_in_bytes<'a>(
     alloc: Global,
@@ -92,12 +118,10 @@ fn call_in_bytes<'a>(
 ) -> Result<CallEnd, Fault<'a>>
     requires { length hosts.items < 2 ^ 32 }
 {
-    let mut embedding = embedding_with_spectest(alloc, order.fuel, order.depth, hosts)?;
-    let outcome = call(alloc, order, &mut embedding, bytes)?;
-    Ok(CallEnd {
-        outcome,
-        fuel_left: embedding.fuel_left(),
-    })
+    match embedding_with_spectest(alloc, order.fuel, order.depth, hosts) {
+        Ok(mut embedding) => call_in(alloc, order, bytes, &mut embedding),
+        Err(fault) => Err(fault),
+    }
 }
 
 // Calls the function that the order names, of the module in its file, within its fuel. The module may import the stored one.
@@ -113,13 +137,20 @@ fn call_in_file<'a, F: Files>(
     call_in_bytes(alloc, order, bytes.as_slice(), hosts)
 }
 
+// Loads a module in an embedding.
+fn load_in<'a>(bytes: &[u8], embedding: &mut Embedding) -> Result<(), Fault<'a>> {
+    embedding.load(bytes)?;
+    Ok(())
+}
+
 // Loads a module.
 fn check_bytes<'a>(alloc: Global, bytes: &[u8], hosts: Vec<HostDef>) -> Result<(), Fault<'a>>
     requires { length hosts.items < 2 ^ 32 }
 {
-    let mut embedding = new_embedding(alloc, DEFAULT_FUEL, DEFAULT_DEPTH, hosts)?;
-    embedding.load(bytes)?;
-    Ok(())
+    match new_embedding(alloc, DEFAULT_FUEL, DEFAULT_DEPTH, hosts) {
+        Ok(mut embedding) => load_in(bytes, &mut embedding),
+        Err(fault) => Err(fault),
+    }
 }
 
 // Loads the module in a file.

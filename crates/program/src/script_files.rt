@@ -43,6 +43,29 @@ fn add_beside<'a, F: Files>(
     Ok(())
 }
 
+// The names of files, each once, in the order in which they come first.
+fn distinct_names(alloc: Global, filenames: &[String]) -> Result<IndexSet<&str>, AllocError> {
+    let mut names = IndexSet::new(alloc);
+    for filename in filenames {
+        let _ = names.insert(filename.as_str())?;
+    }
+    Ok(names)
+}
+
+// Reads the files of these names, in their order.
+fn read_all<'a, F: Files>(
+    alloc: Global,
+    files: &mut F,
+    path: &str,
+    names: &[&str],
+) -> Result<Vec<(String, Vec<u8>)>, Fault<'a>> {
+    let mut read = Vec::new(alloc);
+    for name in names {
+        add_beside(alloc, files, path, name, &mut read)?;
+    }
+    Ok(read)
+}
+
 /// Reads the files that the script at a path names, from the folder that it lies in: each once, however often it is named.
 pub fn read_named<'a, F: Files>(
     alloc: Global,
@@ -50,12 +73,6 @@ pub fn read_named<'a, F: Files>(
     path: &str,
     filenames: &[String],
 ) -> Result<Vec<(String, Vec<u8>)>, Fault<'a>> {
-    let mut seen = IndexSet::new(alloc);
-    let mut read = Vec::new(alloc);
-    for filename in filenames {
-        if seen.insert(filename.as_str())? {
-            add_beside(alloc, files, path, filename.as_str(), &mut read)?;
-        }
-    }
-    Ok(read)
+    let names = distinct_names(alloc, filenames)?;
+    read_all(alloc, files, path, names.as_slice())
 }

@@ -1,4 +1,4 @@
-//! Calls that are made once more where they wanted memory.
+//! Calls that are made once more where they wanted memory, alone or one after the other.
 
 use crate::padding::pad;
 use crate::verdicts::{Answer, Verdict};
@@ -31,5 +31,22 @@ pub fn judge<T: Attempt + Drop>(
             Answer::Ample => Verdict::Wanting(place),
             _ => Verdict::Wrong(place),
         },
+    }
+}
+
+/// Calls one after the other, of which each is made once more where it wanted memory, with all that they need.
+pub trait Conversation {
+    /// Makes the calls, and says what they came to.
+    fn hold(&mut self) -> Verdict;
+}
+
+/// Makes calls one after the other. So many allocations come before the first one.
+pub fn hold<T: Conversation + Drop>(prepared: Option<T>, alloc: Global, before: usize) -> Verdict {
+    let Some(mut subject) = prepared else {
+        return Verdict::Unready(0);
+    };
+    match pad(alloc, before) {
+        Ok(()) => subject.hold(),
+        Err(verdict) => verdict,
     }
 }

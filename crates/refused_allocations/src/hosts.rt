@@ -37,6 +37,11 @@ impl Counter {
             },
         })
     }
+
+    /// The same, in a box.
+    pub fn boxed(alloc: Global) -> Result<Box<Counter>, AllocError> {
+        Ok(Box::new(alloc, Counter::new(alloc)?)?)
+    }
 }
 
 impl HostFn for Counter {
@@ -74,8 +79,8 @@ fn take_in(hosts: &mut HostTable, object: Box<dyn HostFn>) -> Answer {
 
 // Takes a host function in, and another one where there was no memory; none where there is no memory before that.
 fn take_in_twice(alloc: Global, before: usize) -> Result<Verdict, AllocError> {
-    let first = Box::new(alloc, Counter::new(alloc)?)?;
-    let second = Box::new(alloc, Counter::new(alloc)?)?;
+    let first = Counter::boxed(alloc)?;
+    let second = Counter::boxed(alloc)?;
     let mut hosts = HostTable::new(alloc);
     if let Err(verdict) = pad(alloc, before) {
         return Ok(verdict);
@@ -110,7 +115,7 @@ impl Parts {
     // Whether a type, a definition and a result are as they were asked for.
     fn are_made(&self) -> Result<bool, AllocError> {
         let ty = func_type(self.alloc, &[ValType::I32, ValType::I64], &[ValType::I64])?;
-        let counter = Box::new(self.alloc, Counter::new(self.alloc)?)?;
+        let counter = Counter::boxed(self.alloc)?;
         let made = HostDef::new(self.alloc, "host", "count", counter)?;
         let Ok(results) = one_result(self.alloc, Val::I32(5)) else {
             return Err(AllocError);

@@ -1,5 +1,7 @@
 //! The list is given to an embedding, and each reply judged.
 
+ghost use Rattle.std.specs.Prelude.{◌<◌, ◌^◌, length};
+
 use crate::embeddings::{load_of, usual_config};
 use crate::hosts::Counter;
 use crate::machine::{Left, Machine};
@@ -9,7 +11,6 @@ use crate::steps::{Kind, STEPS, Step};
 use crate::verdicts::Verdict;
 use core_types::Val;
 use embed::{Command, Embedding, HostDef};
-use hostfunc::HostFn;
 use scripts::{Script, read_script, run_script};
 use std::alloc::{AllocError, Global};
 use std::mem;
@@ -158,28 +159,47 @@ fn give_list(alloc: Global, at: &mut Embedding, stock: &Stock, judge: &mut Judge
     }
 }
 
-// Gives the list to a fresh embedding with a host function.
-fn give_list_to_fresh(alloc: Global, before: usize) -> Result<Verdict, AllocError> {
-    let (Some(stock), Some(config)) = (new_stock(alloc), usual_config()) else {
-        return Ok(Verdict::Unready(0));
+// Gives the list to an embedding, with so many allocations before its first command.
+fn give_padded_list(alloc: Global, before: usize, at: &mut Embedding, stock: &Stock) -> Verdict {
+    let Ok(mut judge) = Judge::new(alloc) else {
+        return Verdict::Unready(0);
     };
-    let mut judge = Judge::new(alloc)?;
-    let func = Box::new(alloc, Counter::new(alloc)?)?;
+    match pad(alloc, before) {
+        Ok(()) => give_list(alloc, at, stock, &mut judge),
+        Err(verdict) => verdict,
+    }
+}
+
+// Gives the list to a fresh embedding with these host functions.
+fn give_list_with(alloc: Global, before: usize, stock: &Stock, hosts: Vec<HostDef>) -> Verdict
+    requires { length hosts.items < 2 ^ 32 }
+{
+    let Some(config) = usual_config() else {
+        return Verdict::Unready(0);
+    };
+    match Embedding::new(alloc, config, hosts) {
+        Ok(mut at) => give_padded_list(alloc, before, &mut at, stock),
+        Err(_) => Verdict::Unready(0),
+    }
+}
+
+// Gives the list to a fresh embedding with a host function; none where there is no memory for that.
+fn give_list_with_counter(alloc: Global, before: usize, stock: &Stock) -> Option<Verdict> {
+    let counter = HostDef::new(alloc, "host", "count", Counter::boxed(alloc).ok()?).ok()?;
     let mut hosts = Vec::new(alloc);
-    hosts.push(HostDef::new(alloc, "host", "count", func)?)?;
+    hosts.push(counter).ok()?;
     if hosts.len() > 1 {
-        return Ok(Verdict::Unready(0));
+        return None;
     }
-    let Ok(mut at) = Embedding::new(alloc, config, hosts) else {
-        return Ok(Verdict::Unready(0));
-    };
-    if let Err(verdict) = pad(alloc, before) {
-        return Ok(verdict);
-    }
-    Ok(give_list(alloc, &mut at, &stock, &mut judge))
+    Some(give_list_with(alloc, before, stock, hosts))
 }
 
 /// Gives the list to a fresh embedding with a host function. So many allocations come before the first command.
 pub fn judge_list(alloc: Global, before: usize) -> Verdict {
-    give_list_to_fresh(alloc, before).unwrap_or(Verdict::Unready(0))
+    match new_stock(alloc) {
+        Some(stock) => {
+            give_list_with_counter(alloc, before, &stock).unwrap_or(Verdict::Unready(0))
+        }
+        None => Verdict::Unready(0),
+    }
 }

@@ -6,6 +6,7 @@
 
 mod attempts;
 mod calls;
+mod conversations;
 mod embeddings;
 mod hosts;
 mod linking;

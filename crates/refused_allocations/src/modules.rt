@@ -62,9 +62,9 @@ impl Decoding {
 impl Attempt for Decoding {
     fn attempt(&mut self) -> Answer {
         match decode(self.alloc, &self.bytes) {
-            Ok(module) if is_whole(&module) => Answer::Ample,
+            Ok(module) => Answer::with_memory(is_whole(&module)),
             Err(DecodeError::OutOfMemory) => Answer::Wanting,
-            _ => Answer::Wrong,
+            Err(_) => Answer::Wrong,
         }
     }
 }
@@ -118,8 +118,7 @@ impl Flattening {
 impl Attempt for Flattening {
     fn attempt(&mut self) -> Answer {
         match flatten(self.alloc, &self.module) {
-            Ok(flat) if flat.functions.len() == 3 => Answer::Ample,
-            Ok(_) => Answer::Wrong,
+            Ok(flat) => Answer::with_memory(flat.functions.len() == 3),
             Err(_) => Answer::Wanting,
         }
     }
@@ -149,8 +148,7 @@ impl Attempt for Loading {
             return Answer::Wrong;
         };
         match LoadedModule::new(self.alloc, module) {
-            Ok(loaded) if is_whole(loaded.module()) => Answer::Ample,
-            Ok(_) => Answer::Wrong,
+            Ok(loaded) => Answer::with_memory(is_whole(loaded.module())),
             Err(_) => Answer::Wanting,
         }
     }

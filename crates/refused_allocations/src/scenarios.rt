@@ -1,10 +1,11 @@
 //! The scenarios, by name.
 
-use crate::attempts::judge;
+use crate::attempts::{hold, judge};
 use crate::calls::{Calling, Rounds};
+use crate::conversations::{prepare_all, prepare_growth, prepare_link, prepare_start};
 use crate::embeddings::{
-    judge_all, judge_created, judge_growth, judge_link, judge_start, prepare_export_type,
-    prepare_exports, prepare_global, prepare_load, prepare_register,
+    judge_created, prepare_export_type, prepare_exports, prepare_global, prepare_load,
+    prepare_register,
 };
 use crate::hosts::{Parts, judge_push};
 use crate::linking::{Defining, Describing, Instantiating, Registering};
@@ -154,12 +155,12 @@ pub fn run_scenario(alloc: Global, scenario: Scenario, before: usize) -> Verdict
         Scenario::PushHost => judge_push(alloc, before),
         Scenario::NewEmbedding => judge_created(alloc, before),
         Scenario::Load => judge(prepare_load(alloc), alloc, before, "Load"),
-        Scenario::Link => judge_link(alloc, before),
-        Scenario::FailedStart => judge_start(alloc, before),
+        Scenario::Link => hold(prepare_link(alloc), alloc, before),
+        Scenario::FailedStart => hold(prepare_start(alloc), alloc, before),
         Scenario::Register => judge(prepare_register(alloc), alloc, before, "Register"),
         Scenario::GetGlobal => judge(prepare_global(alloc), alloc, before, "GetGlobal"),
-        Scenario::GrowthInCall => judge_growth(alloc, before),
-        Scenario::ApplyAll => judge_all(alloc, before),
+        Scenario::GrowthInCall => hold(prepare_growth(alloc), alloc, before),
+        Scenario::ApplyAll => hold(prepare_all(alloc), alloc, before),
         Scenario::ExportType => judge(prepare_export_type(alloc), alloc, before, "export_type"),
         Scenario::Exports => judge(prepare_exports(alloc), alloc, before, "exports"),
         Scenario::HostParts => judge(Parts::prepare(alloc), alloc, before, "host parts"),

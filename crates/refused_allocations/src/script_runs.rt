@@ -45,11 +45,23 @@ impl Reading {
 impl Attempt for Reading {
     fn attempt(&mut self) -> Answer {
         match read_script(self.alloc, SCRIPT.as_bytes()) {
-            Ok(script) if is_whole(&script) => Answer::Ample,
+            Ok(script) => Answer::with_memory(is_whole(&script)),
             Err(ScriptFault::OutOfMemory) => Answer::Wanting,
-            _ => Answer::Wrong,
+            Err(_) => Answer::Wrong,
         }
     }
+}
+
+// A file of a name.
+fn file(alloc: Global, name: &str, bytes: Vec<u8>) -> Option<(String, Vec<u8>)> {
+    Some((String::from_str(alloc, name).ok()?, bytes))
+}
+
+// The files that the script names.
+fn files(alloc: Global) -> Option<Vec<(String, Vec<u8>)>> {
+    let counter = file(alloc, "counter.wasm", assemble(alloc, COUNTER).ok()?)?;
+    let empty = file(alloc, "empty.wasm", Vec::new(alloc))?;
+    vec![in alloc; counter, empty].ok()
 }
 
 /// A script is run.
@@ -65,11 +77,7 @@ impl Running {
     /// All that it needs.
     pub fn prepare(alloc: Global) -> Option<Running> {
         let script = read_script(alloc, SCRIPT.as_bytes()).ok()?;
-        let mut files = Vec::new(alloc);
-        let counter = String::from_str(alloc, "counter.wasm").ok()?;
-        files.push((counter, assemble(alloc, COUNTER).ok()?)).ok()?;
-        let empty = String::from_str(alloc, "empty.wasm").ok()?;
-        files.push((empty, Vec::new(alloc))).ok()?;
+        let files = files(alloc)?;
         Some(Running {
             alloc,
             script,
@@ -82,9 +90,9 @@ impl Running {
 impl Attempt for Running {
     fn attempt(&mut self) -> Answer {
         match run_script(self.alloc, &self.script, &self.files, &mut self.embedding) {
-            Ok(report) if is_right(&report) => Answer::Ample,
+            Ok(report) => Answer::with_memory(is_right(&report)),
             Err(ScriptFault::OutOfMemory) => Answer::Wanting,
-            _ => Answer::Wrong,
+            Err(_) => Answer::Wrong,
         }
     }
 }

@@ -23,3 +23,14 @@ pub enum Answer {
     /// Another one.
     Wrong,
 }
+
+impl Answer {
+    /// An answer with memory, which may be right.
+    pub fn with_memory(is_right: bool) -> Answer {
+        if is_right {
+            Answer::Ample
+        } else {
+            Answer::Wrong
+        }
+    }
+}

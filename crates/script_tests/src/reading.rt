@@ -71,6 +71,11 @@ static ROWS: [Row; 45] = [
     Row { name: "an argument of a vector", bytes: b"{\"commands\":[{\"type\":\"assert_trap\",\"line\":1,\"action\":{\"args\":[{\"type\":\"v128\"}]}}]}", outcome: Files(&[]) },
 ];
 
+// The rows.
+fn rows() -> &'static [Row] {
+    &ROWS
+}
+
 // Whether a script needs these files.
 fn needs(script: &Script, files: &[&str]) -> bool {
     let names = script.filenames();
@@ -98,7 +103,7 @@ fn is_read(alloc: Global, row: &Row) -> bool {
 
 #[test]
 fn texts_are_read(rt: HostRuntime) {
-    for row in &ROWS {
+    for row in rows() {
         assert!(rt; is_read(rt.alloc(), row), "{}", row.name);
     }
 }
@@ -118,7 +123,7 @@ fn refusals_have_numbers(rt: HostRuntime) {
 
 #[test]
 fn call_always_out_of_memory(rt: HostRuntime) {
-    for row in &ROWS {
+    for row in rows() {
         assert!(rt;
             !is_outcome(Err(ScriptFault::OutOfMemory), row),
             "{}",

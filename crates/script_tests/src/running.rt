@@ -1,7 +1,7 @@
 //! What scripts report.
 
 use embed::{Config, Embedding};
-use scripts::{Report, ScriptFault, read_script, run_script};
+use scripts::{Report, Script, ScriptFault, read_script, run_script};
 use std::alloc::Global;
 use testing::assemble;
 
@@ -79,6 +79,11 @@ static ROWS: [Row; 22] = [
     Row { name: "a wrong number of arguments", commands: "{\"type\":\"module\",\"line\":1,\"filename\":\"a\"},{\"type\":\"assert_trap\",\"line\":2,\"action\":{\"type\":\"invoke\",\"field\":\"add\",\"args\":[]},\"text\":\"\"}", files: &[("a", ADD)], end: Counts(1, 1, 0, &[2]) },
 ];
 
+// The rows.
+fn rows() -> &'static [Row] {
+    &ROWS
+}
+
 // The bytes of a script of these commands.
 fn script_bytes(alloc: Global, commands: &str) -> Option<String> {
     let mut text = String::from_str(alloc, "{\"source_filename\":\"a.wast\",\"commands\":[").ok()?;
@@ -125,34 +130,41 @@ fn is_end(run: Result<Report, ScriptFault>, end: End) -> bool {
     }
 }
 
+// The script of these commands.
+fn script_of(alloc: Global, commands: &str) -> Option<Script> {
+    let text = script_bytes(alloc, commands)?;
+    read_script(alloc, text.as_bytes()).ok()
+}
+
+// A fresh embedding without host functions.
+fn fresh_embedding(alloc: Global) -> Option<Embedding> {
+    Embedding::new(alloc, Config::new(1000, 100, 10, 10)?, Vec::new(alloc)).ok()
+}
+
 /// Whether a script ends as its row says.
 pub fn is_run(alloc: Global, row: &Row) -> bool {
-    let (Some(text), Some(handed), Some(config)) = (
-        script_bytes(alloc, row.commands),
-        files(alloc, row.files),
-        Config::new(1000, 100, 10, 10),
-    ) else {
+    let (Some(script), Some(handed)) = (script_of(alloc, row.commands), files(alloc, row.files))
+    else {
         return false;
     };
-    let Ok(script) = read_script(alloc, text.as_bytes()) else {
-        return false;
-    };
-    let Ok(mut embedding) = Embedding::new(alloc, config, Vec::new(alloc)) else {
-        return false;
-    };
-    is_end(run_script(alloc, &script, &handed, &mut embedding), row.end)
+    match fresh_embedding(alloc) {
+        Some(mut embedding) => {
+            is_end(run_script(alloc, &script, &handed, &mut embedding), row.end)
+        }
+        None => false,
+    }
 }
 
 #[test]
 fn scripts_are_run(rt: HostRuntime) {
-    for row in &ROWS {
+    for row in rows() {
         assert!(rt; is_run(rt.alloc(), row), "{}", row.name);
     }
 }
 
 #[test]
 fn call_always_out_of_memory(rt: HostRuntime) {
-    for row in &ROWS {
+    for row in rows() {
         assert!(rt;
             !is_end(Err(ScriptFault::OutOfMemory), row.end),
             "{}",

@@ -1,3 +1,5 @@
+ghost use Rattle.std.specs.Prelude.{◌<◌, ◌^◌, length};
+
 use crate::answer::Answer;
 use crate::causes::Cause;
 use crate::client::Client;
@@ -5,10 +7,11 @@ use crate::ending::Ending;
 use crate::obeying::obey;
 use callback::Callback;
 use core_types::FuncType;
-use embed::{Config, Embedding, HostDef, Refusal};
+use embed::{Config, Embedding, HostDef, NewFault, Refusal};
 use messages::ReadFault;
 use orders::{Order, read_order};
 use std::alloc::{AllocError, Global};
+use std::mem;
 
 // The names and the type of a host function.
 #[derive(Drop)]
@@ -125,54 +128,93 @@ fn serve_embedding(
     Ok(())
 }
 
-/// Serves a client that is asked over one descriptor and heard on another, until it says that this is the end: host functions are
-/// defined, an embedding is made of them, and orders are obeyed, each with one reply.
-pub fn serve(alloc: Global, ask: i32, hear: i32) -> Ending {
-    let Ok(mut client) = Client::new(alloc, ask, hear) else {
-        return Ending::OutOfMemory;
-    };
+// How it ended, once the last message was answered.
+fn ending_of(sent: Result<(), Ending>) -> Ending {
+    match sent {
+        Ok(()) => Ending::Told,
+        Err(ending) => ending,
+    }
+}
+
+// Tells that the embedding is there, and answers messages until one is the end.
+fn serve_new_embedding(
+    alloc: Global,
+    client: &mut Client,
+    embedding: &mut Embedding,
+) -> Result<(), Ending>
+    requires nothing { Unit {0} }
+{
+    client.send(&Answer::Done)?;
+    serve_embedding(alloc, client, embedding)
+}
+
+// Makes the embedding of these host functions, and serves it to its end.
+fn serve_host_functions(
+    alloc: Global,
+    client: &mut Client,
+    config: Config,
+    hosts: Vec<HostDef>,
+) -> Result<Ending, NewFault>
+    requires { length hosts.items < 2 ^ 32 }
+{
+    let mut embedding = Embedding::new(alloc, config, hosts)?;
+    Ok(ending_of(serve_new_embedding(alloc, client, &mut embedding)))
+}
+
+// A host function that the client answers, with its names.
+#[derive(Drop)]
+struct ClientFunction {
+    module: String,
+    name: String,
+    func: Box<Callback>,
+}
+
+// The host function of a definition, behind so many others.
+fn make_function(
+    alloc: Global,
+    before: usize,
+    (ask, hear): (i32, i32),
+    definition: Definition,
+) -> Result<ClientFunction, AllocError> {
+    let number = u32::try_from(before).map_err(|_| AllocError)?;
+    let Definition { module, name, ty } = definition;
+    let func = Box::new(alloc, Callback::new(alloc, number, ask, hear, ty))?;
+    Ok(ClientFunction { module, name, func })
+}
+
+// The answer to a definition: it is done, or there was no memory for it.
+fn answer_definition(is_defined: bool) -> Answer {
+    if is_defined {
+        Answer::Done
+    } else {
+        unread(ReadFault::OutOfMemory)
+    }
+}
+
+// Answers messages until there is an embedding, and serves it to its end.
+fn serve_client(alloc: Global, descriptors: (i32, i32), client: &mut Client) -> Ending {
     let mut hosts = Vec::new(alloc);
     for _ in 0..u64::MAX {
-        let answer = match next_preparation(alloc, &mut client) {
+        let answer = match next_preparation(alloc, client) {
             Err(ending) => return ending,
             Ok(Preparation::Answered(answer)) => answer,
-            Ok(Preparation::End) => {
-                return match client.send(&Answer::Done) {
-                    Ok(()) => Ending::Told,
-                    Err(ending) => ending,
-                };
-            }
+            Ok(Preparation::End) => return ending_of(client.send(&Answer::Done)),
             Ok(Preparation::Define(definition)) => {
-                let Definition { module, name, ty } = definition;
-                let Ok(number) = u32::try_from(hosts.len()) else {
-                    return Ending::OutOfMemory;
-                };
-                match Box::new(alloc, Callback::new(alloc, number, ask, hear, ty)) {
-                    Ok(func) => match hosts.push(HostDef { module, name, func }) {
-                        Ok(()) => Answer::Done,
-                        Err(_) => unread(ReadFault::OutOfMemory),
-                    },
-                    Err(_) => unread(ReadFault::OutOfMemory),
+                match make_function(alloc, hosts.len(), descriptors, definition) {
+                    Ok(ClientFunction { module, name, func }) => {
+                        answer_definition(hosts.push(HostDef { module, name, func }).is_ok())
+                    }
+                    Err(_) => answer_definition(false),
                 }
             }
             Ok(Preparation::Begin(config)) => {
                 if hosts.len() > 0xFFFF_FFFF {
                     return Ending::OutOfMemory;
                 }
-                match Embedding::new(alloc, config, hosts) {
-                    Ok(mut embedding) => {
-                        if let Err(ending) = client.send(&Answer::Done) {
-                            return ending;
-                        }
-                        return match serve_embedding(alloc, &mut client, &mut embedding) {
-                            Ok(()) => Ending::Told,
-                            Err(ending) => ending,
-                        };
-                    }
-                    Err(fault) => {
-                        hosts = Vec::new(alloc);
-                        Answer::Refused(Cause::Creation(fault))
-                    }
+                let defined = mem::replace(&mut hosts, Vec::new(alloc));
+                match serve_host_functions(alloc, client, config, defined) {
+                    Ok(ending) => return ending,
+                    Err(fault) => Answer::Refused(Cause::Creation(fault)),
                 }
             }
         };
@@ -181,4 +223,13 @@ pub fn serve(alloc: Global, ask: i32, hear: i32) -> Ending {
         }
     }
     Ending::InputOver
+}
+
+/// Serves a client that is asked over one descriptor and heard on another, until it says that this is the end: host functions are
+/// defined, an embedding is made of them, and orders are obeyed, each with one reply.
+pub fn serve(alloc: Global, ask: i32, hear: i32) -> Ending {
+    match Client::new(alloc, ask, hear) {
+        Ok(mut client) => serve_client(alloc, (ask, hear), &mut client),
+        Err(_) => Ending::OutOfMemory,
+    }
 }

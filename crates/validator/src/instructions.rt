@@ -199,8 +199,106 @@ fn step_mark<'a>(
     }
 }
 
-// Steps over the operation at an index. Marks and rare operations are apart, as the loop over a body keeps nothing in memory without
-// them, and each arm answers its own fault, as all arms else share a test of what they answer.
+// Steps over the operation at an index, whichever it is.
+#[inline(never)]
+fn step_any<'a>(
+    alloc: Global,
+    context: &BodyContext<'a>,
+    stacks: &mut Stacks<'a>,
+    ops: &Expression,
+    index: usize,
+) -> Result<(), Fault>
+    requires { index < length ops.now }
+    ensures { (op : Operation) → slice_get ops.now index ≡ Some op
+        → Steps context.now stacks.old stacks.new op result }
+{
+    match ops.get(index) {
+        OpWith::Unreachable => step_control(context, stacks, ControlOp::Unreachable),
+        OpWith::Nop => step_control(context, stacks, ControlOp::Nop),
+        OpWith::Br(label) => step_control(context, stacks, ControlOp::Br(label)),
+        OpWith::BrIf(label) => step_control(context, stacks, ControlOp::BrIf(label)),
+        OpWith::Return => step_control(context, stacks, ControlOp::Return),
+        OpWith::Call(function) => step_control(context, stacks, ControlOp::Call(function)),
+        OpWith::RefNull(ty) => step_reference(context, stacks, ReferenceOp::Null(ty)),
+        OpWith::RefIsNull => step_reference(context, stacks, ReferenceOp::IsNull),
+        OpWith::RefFunc(function) => step_reference(context, stacks, ReferenceOp::Func(function)),
+        OpWith::Parametric(op) => step_parametric(stacks, op),
+        OpWith::LocalGet(index) => step_variable(context, stacks, VariableOp::LocalGet(index)),
+        OpWith::LocalSet(index) => step_variable(context, stacks, VariableOp::LocalSet(index)),
+        OpWith::LocalTee(index) => step_variable(context, stacks, VariableOp::LocalTee(index)),
+        OpWith::GlobalGet(index) => step_variable(context, stacks, VariableOp::GlobalGet(index)),
+        OpWith::GlobalSet(index) => step_variable(context, stacks, VariableOp::GlobalSet(index)),
+        OpWith::Load(width, align, offset) => step_load(
+            context,
+            stacks,
+            LoadOp::Whole(width),
+            align,
+            offset,
+        ),
+        OpWith::Load8(width, sign, align, offset) => step_load(
+            context,
+            stacks,
+            LoadOp::Bits8(width, sign),
+            align,
+            offset,
+        ),
+        OpWith::Load16(width, sign, align, offset) => step_load(
+            context,
+            stacks,
+            LoadOp::Bits16(width, sign),
+            align,
+            offset,
+        ),
+        OpWith::Load32(sign, align, offset) => step_load(
+            context,
+            stacks,
+            LoadOp::Bits32(sign),
+            align,
+            offset,
+        ),
+        OpWith::Store(width, align, offset) => step_store(
+            context,
+            stacks,
+            StoreOp::Whole(width),
+            align,
+            offset,
+        ),
+        OpWith::Store8(width, align, offset) => step_store(
+            context,
+            stacks,
+            StoreOp::Bits8(width),
+            align,
+            offset,
+        ),
+        OpWith::Store16(width, align, offset) => step_store(
+            context,
+            stacks,
+            StoreOp::Bits16(width),
+            align,
+            offset,
+        ),
+        OpWith::Store32(align, offset) => step_store(
+            context,
+            stacks,
+            StoreOp::Bits32,
+            align,
+            offset,
+        ),
+        OpWith::MemorySize => step_memory(context, stacks, MemoryOp::Size),
+        OpWith::MemoryGrow => step_memory(context, stacks, MemoryOp::Grow),
+        OpWith::MemoryFill => step_memory(context, stacks, MemoryOp::Fill),
+        OpWith::MemoryCopy => step_memory(context, stacks, MemoryOp::Copy),
+        OpWith::Numeric(op) => step_numeric(stacks, op),
+        OpWith::I32Const(value) => step_i32_const(stacks, value),
+        OpWith::I64Const(value) => step_i64_const(stacks, u64::from(value)),
+        OpWith::Block(_) | OpWith::Loop(_) | OpWith::If(_) | OpWith::Else | OpWith::End =>
+            step_mark(context, stacks, ops, index),
+        OpWith::Other(op) => step_other(alloc, context, stacks, op),
+    }
+}
+
+// Steps over the operation at an index. The most frequent ones are stepped over here, as the loop over a body keeps nothing in memory
+// without the others, and each arm answers its own fault, as all arms else share a test of what they answer.
 #[inline(always)]
 pub fn step<'a>(
     alloc: Global,
@@ -214,46 +312,15 @@ pub fn step<'a>(
         → Steps context.now stacks.old stacks.new op result }
 {
     match ops.get(index) {
-        OpWith::Unreachable => step_control(context, stacks, ControlOp::Unreachable)?,
-        OpWith::Nop => step_control(context, stacks, ControlOp::Nop)?,
-        OpWith::Br(label) => step_control(context, stacks, ControlOp::Br(label))?,
-        OpWith::BrIf(label) => step_control(context, stacks, ControlOp::BrIf(label))?,
-        OpWith::Return => step_control(context, stacks, ControlOp::Return)?,
-        OpWith::Call(function) => step_control(context, stacks, ControlOp::Call(function))?,
-        OpWith::RefNull(ty) => step_reference(context, stacks, ReferenceOp::Null(ty))?,
-        OpWith::RefIsNull => step_reference(context, stacks, ReferenceOp::IsNull)?,
-        OpWith::RefFunc(function) => step_reference(context, stacks, ReferenceOp::Func(function))?,
-        OpWith::Parametric(op) => step_parametric(stacks, op)?,
         OpWith::LocalGet(index) => step_variable(context, stacks, VariableOp::LocalGet(index))?,
         OpWith::LocalSet(index) => step_variable(context, stacks, VariableOp::LocalSet(index))?,
         OpWith::LocalTee(index) => step_variable(context, stacks, VariableOp::LocalTee(index))?,
-        OpWith::GlobalGet(index) => step_variable(context, stacks, VariableOp::GlobalGet(index))?,
-        OpWith::GlobalSet(index) => step_variable(context, stacks, VariableOp::GlobalSet(index))?,
+        OpWith::I32Const(value) => step_i32_const(stacks, value)?,
+        OpWith::Numeric(op) => step_numeric(stacks, op)?,
         OpWith::Load(width, align, offset) => step_load(
             context,
             stacks,
             LoadOp::Whole(width),
-            align,
-            offset,
-        )?,
-        OpWith::Load8(width, sign, align, offset) => step_load(
-            context,
-            stacks,
-            LoadOp::Bits8(width, sign),
-            align,
-            offset,
-        )?,
-        OpWith::Load16(width, sign, align, offset) => step_load(
-            context,
-            stacks,
-            LoadOp::Bits16(width, sign),
-            align,
-            offset,
-        )?,
-        OpWith::Load32(sign, align, offset) => step_load(
-            context,
-            stacks,
-            LoadOp::Bits32(sign),
             align,
             offset,
         )?,
@@ -264,6 +331,13 @@ pub fn step<'a>(
             align,
             offset,
         )?,
+        OpWith::Load8(width, sign, align, offset) => step_load(
+            context,
+            stacks,
+            LoadOp::Bits8(width, sign),
+            align,
+            offset,
+        )?,
         OpWith::Store8(width, align, offset) => step_store(
             context,
             stacks,
@@ -271,30 +345,12 @@ pub fn step<'a>(
             align,
             offset,
         )?,
-        OpWith::Store16(width, align, offset) => step_store(
-            context,
-            stacks,
-            StoreOp::Bits16(width),
-            align,
-            offset,
-        )?,
-        OpWith::Store32(align, offset) => step_store(
-            context,
-            stacks,
-            StoreOp::Bits32,
-            align,
-            offset,
-        )?,
-        OpWith::MemorySize => step_memory(context, stacks, MemoryOp::Size)?,
-        OpWith::MemoryGrow => step_memory(context, stacks, MemoryOp::Grow)?,
-        OpWith::MemoryFill => step_memory(context, stacks, MemoryOp::Fill)?,
-        OpWith::MemoryCopy => step_memory(context, stacks, MemoryOp::Copy)?,
-        OpWith::Numeric(op) => step_numeric(stacks, op)?,
-        OpWith::I32Const(value) => step_i32_const(stacks, value)?,
-        OpWith::I64Const(value) => step_i64_const(stacks, u64::from(value))?,
+        OpWith::Br(label) => step_control(context, stacks, ControlOp::Br(label))?,
+        OpWith::BrIf(label) => step_control(context, stacks, ControlOp::BrIf(label))?,
+        OpWith::Call(function) => step_control(context, stacks, ControlOp::Call(function))?,
         OpWith::Block(_) | OpWith::Loop(_) | OpWith::If(_) | OpWith::Else | OpWith::End =>
             step_mark(context, stacks, ops, index)?,
-        OpWith::Other(op) => step_other(alloc, context, stacks, op)?,
+        _ => step_any(alloc, context, stacks, ops, index)?,
     }
     Ok(())
 }

@@ -3,8 +3,8 @@ use Rattle.std.proofs.lemmas.Option.{slice_get-get_or, slice_get_within}
 use Rattle.core_types.specs.declared.op.Op.TheVariants.{End, Plain}
 use Rattle.sidetable.proofs.Growth.{grows-more}
 use Rattle.sidetable.proofs.PlainOps.{drop_at}
-use Rattle.sidetable.proofs.flattening.pass_row.Goals as goal
-use Rattle.sidetable.proofs.flattening.pass_row.Goals.{else-loop-index-test, then-loop-index-test+in_ok-pass_at+then-not-branch}
+use Rattle.sidetable.proofs.flattening.rows.pass_row.Goals as goal
+use Rattle.sidetable.proofs.flattening.rows.pass_row.Goals.{else-loop-index-test, then-loop-index-test+in_ok-pass_at+then-not-branch}
 
 pub pass_at-requires-clause-stand : goal.pass_at-requires-clause-stand
 pass_at-requires-clause-stand c =

@@ -10,7 +10,7 @@ use Rattle.sidetable.specs.declared.counts.Counts.{Counts}
 use Rattle.sidetable.specs.declared.flattening.Flattening.{Flattening}
 use Rattle.sidetable.proofs.Passing.{plain-passes}
 use Rattle.sidetable.proofs.PlainOps.{packed_is_plain}
-use Rattle.sidetable.proofs.flattening.pass_plain.Goals as goal
+use Rattle.sidetable.proofs.flattening.rows.pass_plain.Goals as goal
 
 pub returns : goal.returns
 returns c =

@@ -1,7 +1,7 @@
 use Rattle.std.proofs.Common.{◌≤◌, ◌-◌, drop, length}
 use Rattle.sidetable.specs.Flattening.{PassesTo, with_heights}
 use Rattle.sidetable.specs.Signatures.{signatures_of}
-use Rattle.sidetable.proofs.flattening.pass_row.Given as goal
+use Rattle.sidetable.proofs.flattening.rows.pass_row.Given as goal
 
 abbrev pub invariant-loop-index : goal.invariant-loop-index
 invariant-loop-index l = record {

@@ -1,0 +1,339 @@
+//! The operations of an embedding, each as a method and as a command (Appendix, Embedding).
+
+ghost use Rattle.std.specs.Prelude.{◌≡◌, ◌++◌, ◌∷◌, [], ◌+◌, ◌<◌, ◌≤◌, List, OnOk, OnErr, MatchOption, map, slice_get, vec_len, vec_capacity, length, Some, None};
+ghost use Rattle.embed.specs.Contents.{embedding_of};
+ghost use Rattle.embed.specs.Replies.{call_reply, command_of, global_reply, link_reply, load_reply, register_reply, reply_of, values_reply};
+ghost use Rattle.embed.specs.declared.commands.Reply.{Reply as Answer};
+ghost use Rattle.meaning.specs.embedding.Commands.{Call as CallCommand, Done as DoneReply, GetGlobal as GetGlobalCommand, Link as LinkCommand, Load as LoadCommand, Register as RegisterCommand, SetFuel as SetFuelCommand};
+ghost use Rattle.meaning.specs.embedding.Machine.{Applies, CallsAt, GetsAt, LinksAt, Loads, RegistersAt, SetsFuel, as_function, as_global, export_at};
+ghost use Rattle.soundness.specs.Embedding.{GoesWell, IsSound, LinksSoundModule, RunsWell};
+ghost use Rattle.hostfunc.specs.Boxes.{HostStep, type_of_host};
+
+use crate::commands::{Command, Reply};
+use crate::embedding::Embedding;
+use crate::imports::resolve_imports;
+use crate::link_outcome::{LinkOutcome, without_instance};
+use crate::modules::load_module;
+use crate::numbers::{InstanceNumber, ModuleNumber};
+use crate::refusals::Refusal;
+use core_types::Val;
+use exec::{Outcome, invoke};
+use hostfunc::HostFn;
+use instantiate::{LinkEnd, instantiate};
+use meaning::writing_is_read;
+use std::alloc::AllocError;
+use std::rc::Rc;
+use store::{LoadedModule, accepts};
+
+// The number after those of these items, which count up from 0.
+fn next_number<T>(items: &[T]) -> u64
+    ensures { result ≡ length items.now }
+{
+    items.len() as u64
+}
+
+// Appends an item, where there is room for it.
+fn append<T: Drop>(items: &mut Vec<T>, item: T)
+    requires room { vec_len items.old < vec_capacity items.old }
+    ensures appended { items.new.items ≡ items.old.items ++ item ∷ [] }
+    ensures len { vec_len items.new ≡ vec_len items.old + 1 }
+    ensures capacity { vec_capacity items.old ≤ vec_capacity items.new }
+{
+    let _ = items.push(item);
+}
+
+// The module of a number, if there is one.
+fn module_at(modules: &[Rc<LoadedModule>], number: u64) -> Option<&Rc<LoadedModule>>
+    ensures { MatchOption result (slice_get modules.now number ≡ None)
+        (λ loaded. slice_get modules.now number ≡ Some loaded.now) }
+{
+    modules.get(number as usize)
+}
+
+impl Embedding {
+    // Loads the module that bytes spell.
+    fn load_bytes(&mut self, bytes: &[u8]) -> Result<ModuleNumber, Refusal>
+        ensures { Loads (embedding_of self.old) bytes.now (load_reply result)
+            (embedding_of self.new) }
+    {
+        let loaded = load_module(self.alloc, bytes)?;
+        let number = next_number(&self.modules);
+        self.modules.push(loaded)?;
+        Ok(ModuleNumber(number))
+    }
+
+    // Links the module of a number.
+    fn link_module(&mut self, number: u64) -> Result<LinkOutcome, Refusal>
+        ensures { LinksAt (HostStep ⟦<dyn HostFn as HostFn>⟧) (embedding_of self.old)
+            (slice_get (embedding_of self.old).modules number)
+            (link_reply result) (embedding_of self.new) }
+    {
+        let Some(loaded) = module_at(&self.modules, number) else {
+            return Err(Refusal::UnknownModule);
+        };
+        let imports = loaded.as_ref().module().imports.as_slice();
+        let externs = resolve_imports(self.alloc, &self.names, &self.store, imports)?;
+        self.instances.try_reserve(1)?;
+        match instantiate(
+            self.alloc,
+            &mut self.store,
+            &mut self.hosts,
+            &mut self.meter,
+            loaded,
+            &externs,
+        ) {
+            Ok(address) => {
+                let count = next_number(&self.instances);
+                append(&mut self.instances, address);
+                Ok(LinkOutcome::Linked(InstanceNumber(count)))
+            }
+            Err(LinkEnd::Refused(refusal)) => Err(Refusal::from(refusal)),
+            Err(LinkEnd::Ended(outcome)) => Ok(without_instance(&outcome)),
+        }
+    }
+
+    // Registers the instance of a number under a name.
+    fn give_name(&mut self, number: u64, name: &str) -> Result<(), Refusal>
+        ensures { RegistersAt (embedding_of self.old) name.now
+            (slice_get (embedding_of self.old).instances number)
+            (register_reply result) (embedding_of self.new) }
+    {
+        let Some(instance) = self.instance(number) else {
+            return Err(Refusal::UnknownInstance);
+        };
+        self.names.register(name, instance)?;
+        Ok(())
+    }
+
+    // Calls the function that the instance of a number exports under a name.
+    fn call_function(&mut self, number: u64, name: &str, args: &[Val]) -> Result<Outcome, Refusal>
+        ensures { CallsAt (HostStep ⟦<dyn HostFn as HostFn>⟧) (embedding_of self.old)
+            (as_function (export_at (embedding_of self.old) number name.now)) args.now
+            (call_reply result) (embedding_of self.new) }
+    {
+        let address = self.exported_function(number, name)?;
+        if !accepts(&self.store, address, args) {
+            return Err(Refusal::BadArguments);
+        }
+        Ok(invoke(
+            self.alloc,
+            &mut self.store,
+            &mut self.hosts,
+            &mut self.meter,
+            address,
+            args,
+        ))
+    }
+
+    // Reads the global that the instance of a number exports under a name.
+    fn read_global(&self, number: u64, name: &str) -> Result<Val, Refusal>
+        ensures { GetsAt (embedding_of self.now)
+            (as_global (export_at (embedding_of self.now) number name.now)) (global_reply result)
+            (embedding_of self.now) }
+    {
+        let address = self.exported_global(number, name)?;
+        let Some(variable) = self.store.state().global(address) else {
+            unreachable!()
+        };
+        Ok(variable.value())
+    }
+
+    // Puts another number in the place of the fuel that is left.
+    fn replace_fuel(&mut self, fuel: u64)
+        ensures { SetsFuel (embedding_of self.old) fuel DoneReply (embedding_of self.new) }
+    {
+        self.meter.set(fuel);
+    }
+
+    // The module of a number, if there is one, may be linked: one that is loaded is valid, and its numbers fit their types.
+    fn show_linked_module(&self, number: u64)
+        ensures { LinksSoundModule (embedding_of self.now) (LinkCommand number) }
+    {
+        if let Some(loaded) = module_at(&self.modules, number) {
+            let _ = loaded.as_ref().module();
+        }
+    }
+
+    /// Loads the module that bytes spell, and answers its number.
+    ///
+    /// Refused with `Malformed`, `Unsupported` or `Limit` where the bytes spell no module within the limits, with `Invalid` where it is not
+    /// valid, and with `OutOfMemory`. A refused call changes nothing (Appendix, Embedding, Modules).
+    pub fn load(&mut self, bytes: &[u8]) -> Result<ModuleNumber, Refusal>
+        requires nothing { Unit {0} }
+        ensures applied { Applies (HostStep ⟦<dyn HostFn as HostFn>⟧) (embedding_of self.old)
+            (LoadCommand bytes.now) (load_reply result) (embedding_of self.new) }
+        ensures goes_well { GoesWell (embedding_of self.old) (LoadCommand bytes.now)
+            (load_reply result) (embedding_of self.new) }
+        ensures sound { IsSound type_of_host (embedding_of self.new) }
+    {
+        writing_is_read();
+        self.show_sound();
+        self.load_bytes(bytes)
+    }
+
+    /// Links a module with what the names of its imports stand for: answers the number of the new instance, or the trap or the exhaustion
+    /// in which a segment or the start function ended; then there is no number, and what was done stays.
+    ///
+    /// Refused with `UnknownModule`; with `UnknownImport` where an import's names stand for nothing; then with `IncompatibleImport` where
+    /// what they stand for does not match; then with `Limit` where a table, a memory or the store would be larger than it may be; and
+    /// with `OutOfMemory`. A refused call changes nothing (Execution, Modules, Instantiation).
+    pub fn link(&mut self, number: ModuleNumber) -> Result<LinkOutcome, Refusal>
+        requires nothing { Unit {0} }
+        ensures applied { Applies (HostStep ⟦<dyn HostFn as HostFn>⟧) (embedding_of self.old)
+            (LinkCommand number.0) (link_reply result) (embedding_of self.new) }
+        ensures goes_well { GoesWell (embedding_of self.old) (LinkCommand number.0)
+            (link_reply result) (embedding_of self.new) }
+        ensures sound { IsSound type_of_host (embedding_of self.new) }
+    {
+        writing_is_read();
+        self.show_sound();
+        self.show_linked_module(number.0);
+        self.link_module(number.0)
+    }
+
+    /// Registers an instance under a name, in the place of the one that was registered under it.
+    ///
+    /// Refused with `UnknownInstance`, then with `NameTaken` where a host function is defined under this name of a module, and with
+    /// `OutOfMemory`. A refused call changes nothing.
+    pub fn register(&mut self, instance: InstanceNumber, name: &str) -> Result<(), Refusal>
+        requires nothing { Unit {0} }
+        ensures applied { Applies (HostStep ⟦<dyn HostFn as HostFn>⟧) (embedding_of self.old)
+            (RegisterCommand instance.0 name.now) (register_reply result)
+            (embedding_of self.new) }
+        ensures goes_well { GoesWell (embedding_of self.old) (RegisterCommand instance.0 name.now)
+            (register_reply result) (embedding_of self.new) }
+        ensures sound { IsSound type_of_host (embedding_of self.new) }
+    {
+        writing_is_read();
+        self.show_sound();
+        self.give_name(instance.0, name)
+    }
+
+    /// Calls the function that an instance exports under a name: answers its results, or the trap or the exhaustion in which it ended.
+    ///
+    /// Refused with `UnknownInstance`, `UnknownExport`, `WrongKind` where the export is no function, and `BadArguments` where the arguments
+    /// are too many or too few, or one has not its parameter's type or names a function that is not there. A refused call changes nothing
+    /// (Execution, Modules, Invocation).
+    pub fn call(
+        &mut self,
+        instance: InstanceNumber,
+        name: &str,
+        args: &[Val],
+    ) -> Result<Outcome, Refusal>
+        requires nothing { Unit {0} }
+        ensures applied { Applies (HostStep ⟦<dyn HostFn as HostFn>⟧) (embedding_of self.old)
+            (CallCommand instance.0 name.now args.now) (call_reply result)
+            (embedding_of self.new) }
+        ensures goes_well { GoesWell (embedding_of self.old) (CallCommand instance.0 name.now
+            args.now) (call_reply result) (embedding_of self.new) }
+        ensures sound { IsSound type_of_host (embedding_of self.new) }
+    {
+        writing_is_read();
+        self.show_sound();
+        self.call_function(instance.0, name, args)
+    }
+
+    /// The value of the global that an instance exports under a name.
+    ///
+    /// Refused with `UnknownInstance`, `UnknownExport` and `WrongKind` where the export is no global (Appendix, Embedding, Globals).
+    pub fn get_global(&self, instance: InstanceNumber, name: &str) -> Result<Val, Refusal>
+        requires nothing { Unit {0} }
+        ensures applied { Applies (HostStep ⟦<dyn HostFn as HostFn>⟧) (embedding_of self.now)
+            (GetGlobalCommand instance.0 name.now) (global_reply result)
+            (embedding_of self.now) }
+        ensures goes_well { GoesWell (embedding_of self.now) (GetGlobalCommand instance.0 name.now)
+            (global_reply result) (embedding_of self.now) }
+    {
+        writing_is_read();
+        self.show_sound();
+        self.read_global(instance.0, name)
+    }
+
+    /// Sets the fuel that is left.
+    pub fn set_fuel(&mut self, fuel: u64)
+        requires nothing { Unit {0} }
+        ensures applied { Applies (HostStep ⟦<dyn HostFn as HostFn>⟧) (embedding_of self.old)
+            (SetFuelCommand fuel) DoneReply (embedding_of self.new) }
+        ensures goes_well { GoesWell (embedding_of self.old) (SetFuelCommand fuel) DoneReply
+            (embedding_of self.new) }
+        ensures sound { IsSound type_of_host (embedding_of self.new) }
+    {
+        writing_is_read();
+        self.show_sound();
+        self.replace_fuel(fuel);
+    }
+
+    // The value of a global, as the values of a reply.
+    fn values_of_global(&self, number: u64, name: &str) -> Result<Vec<Val>, Refusal>
+        ensures { GetsAt (embedding_of self.now)
+            (as_global (export_at (embedding_of self.now) number name.now)) (values_reply result)
+            (embedding_of self.now) }
+    {
+        let value = self.read_global(number, name)?;
+        let mut values = Vec::new(self.alloc);
+        values.push(value)?;
+        Ok(values)
+    }
+
+    /// Applies a command, as the method does that bears its name. A refused one changes nothing, and of a link or a call that ends in a trap
+    /// or an exhaustion what was done stays. It goes well: values have the types of the function or the global, the store is valid and
+    /// extends the one before, and no command but `SetFuel` leaves more fuel than there was.
+    pub fn apply(&mut self, command: &Command) -> Reply
+        requires nothing { Unit {0} }
+        ensures applied { Applies (HostStep ⟦<dyn HostFn as HostFn>⟧) (embedding_of self.old)
+            (command_of command.now)
+            (reply_of result) (embedding_of self.new) }
+        ensures goes_well { GoesWell (embedding_of self.old) (command_of command.now)
+            (reply_of result) (embedding_of self.new) }
+        ensures sound { IsSound type_of_host (embedding_of self.new) }
+    {
+        writing_is_read();
+        self.show_sound();
+        match command {
+            Command::Load(bytes) => Reply::from(self.load(bytes.as_slice())),
+            Command::Link(number) => Reply::from(self.link(ModuleNumber(*number))),
+            Command::Register(number, name) => {
+                Reply::from(self.register(InstanceNumber(*number), name.as_str()))
+            }
+            Command::Call(number, name, args) => {
+                Reply::from(self.call(InstanceNumber(*number), name.as_str(), args.as_slice()))
+            }
+            Command::GetGlobal(number, name) => {
+                Reply::from(self.values_of_global(*number, name.as_str()))
+            }
+            Command::SetFuel(fuel) => {
+                self.set_fuel(*fuel);
+                Reply::Done
+            }
+        }
+    }
+
+    /// Applies all commands, in order, and appends one reply a command. They and what is left are a run of the embedding machine, each
+    /// command of which goes well, from a sound embedding to a sound one. There is room for all replies before the first command is
+    /// applied; where there is none, nothing has changed.
+    pub fn apply_all(
+        &mut self,
+        commands: &[Command],
+        replies: &mut Vec<Reply>,
+    ) -> Result<(), AllocError>
+        requires nothing { Unit {0} }
+        ensures applied { OnOk result ((answers : List Answer) × (replies.new.items ≡
+            replies.old.items ++ answers) ×
+            RunsWell (HostStep ⟦<dyn HostFn as HostFn>⟧) (embedding_of self.old)
+            (map command_of commands.now) (map reply_of answers) (embedding_of self.new)) }
+        ensures from_sound { IsSound type_of_host (embedding_of self.old) }
+        ensures sound { IsSound type_of_host (embedding_of self.new) }
+        ensures unchanged { OnErr result
+            ((embedding_of self.new ≡ embedding_of self.old) × (replies.new.items ≡
+            replies.old.items)) }
+    {
+        self.show_sound();
+        replies.try_reserve(commands.len())?;
+        for command in commands {
+            let reply = self.apply(command);
+            append(replies, reply);
+        }
+        self.show_sound();
+        Ok(())
+    }
+}
