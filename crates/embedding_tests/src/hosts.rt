@@ -2,7 +2,6 @@
 
 ghost use Rattle.std.specs.Prelude.{◌≡◌, ◌<◌, ◌^◌, ◌∷◌, [], IfOk, IfErr, length, map};
 ghost use Rattle.std.proofs.Props.{props};
-ghost use Rattle.core_types.specs.declared.outcome.Val.{Val as AnyVal};
 ghost use Rattle.core_types.specs.declared.outcome.Val.TheVariants.{I32 as I32Value};
 ghost use Rattle.core_types.specs.declared.types.ValType.TheVariants.{I32, I64};
 ghost use Rattle.meaning.specs.execution.Values.{type_of};
@@ -177,7 +176,7 @@ const STARTS_A_MARK: &str =
 const STARTS_A_TRAP: &str = "(import \"host\" \"h\" (func)) (start 0)";
 
 #[rattlefmt::skip]
-static ROWS: [Row; 18] = [
+static CALLS: [Row; 11] = [
     Row { name: "calls are counted from 1", hosts: &[("c", Kind::Counts)], refused: None, steps: &[
         Load(CALLS_TWICE, Number(0)), Link(0, Number(0)), SetFuel(10),
         Call(0, "f", &[], Values(&[Val::I32(1), Val::I32(2)])), Left(8),
@@ -192,36 +191,9 @@ static ROWS: [Row; 18] = [
         Load(CALLS_TWICE, Number(0)), Link(0, Number(0)), SetFuel(1), Call(0, "f", &[], Lacks(Exhaustion::Fuel)), Left(0),
         SetFuel(2), Call(0, "f", &[], Values(&[Val::I32(2), Val::I32(3)])), Left(0),
     ] },
-    Row { name: "what a host function writes is read", hosts: &[("w", Kind::Writes)], refused: None, steps: &[
-        Load(READS_WHAT_WAS_WRITTEN, Number(0)), Link(0, Number(0)), SetFuel(3),
-        Call(0, "f", &[], Values(&[Val::I32(5), Val::I32(7)])), Left(0),
-    ] },
-    Row { name: "the memory of the caller is lent", hosts: &[("m", Kind::Measures)], refused: None, steps: &[
-        Load(MEASURES, Number(0)), Link(0, Number(0)), Call(0, "f", &[], Values(&[Val::I32(131_072)])),
-    ] },
-    Row { name: "nothing is lent where the caller has no memory", hosts: &[("m", Kind::Measures)], refused: None, steps: &[
-        Load(MEASURES_NOTHING, Number(0)), Link(0, Number(0)), Call(0, "f", &[], Values(&[Val::I32(0)])),
-    ] },
-    Row { name: "nothing is lent from outside", hosts: &[("m", Kind::Measures)], refused: None, steps: &[
-        Load(MEASURES, Number(0)), Link(0, Number(0)), SetFuel(3), Call(0, "m", &[], Values(&[Val::I32(0)])), Left(3),
-    ] },
     Row { name: "a call through a table", hosts: &[("c", Kind::Counts)], refused: None, steps: &[
         SetFuel(100), Load(CALLS_THROUGH_A_TABLE, Number(0)), Link(0, Number(0)), SetFuel(2),
         Call(0, "f", &[], Values(&[Val::I32(1)])), Left(0),
-    ] },
-    Row { name: "the memory of the caller is lent, and not that of the table's owner", hosts: &[("w", Kind::Writes)], refused: None, steps: &[
-        Load(LENDS_A_TABLE, Number(0)), Link(0, Number(0)), Register(0, "a", Done),
-        Load(CALLS_THROUGH_THAT_TABLE, Number(1)), Link(1, Number(1)), Call(1, "f", &[], Values(&[Val::I32(5)])),
-        Call(1, "byte", &[], Values(&[Val::I32(7)])), Call(0, "byte", &[], Values(&[Val::I32(0)])),
-    ] },
-    Row { name: "each of two instances has the byte in its own memory", hosts: &[("w", Kind::Writes)], refused: None, steps: &[
-        Load(WRITES_AND_READS, Number(0)), Link(0, Number(0)), Link(0, Number(1)), Call(0, "f", &[], Values(&[Val::I32(5)])),
-        Call(0, "byte", &[], Values(&[Val::I32(7)])), Call(1, "byte", &[], Values(&[Val::I32(0)])),
-        Call(1, "f", &[], Values(&[Val::I32(5)])), Call(1, "byte", &[], Values(&[Val::I32(7)])),
-    ] },
-    Row { name: "a start function of the host is lent nothing", hosts: &[("s", Kind::Marks)], refused: None, steps: &[
-        Load(STARTS_A_MARK, Number(0)), Link(0, Number(0)), Call(0, "byte", &[], Values(&[Val::I32(0)])),
-        Call(0, "f", &[], Values(&[])), Call(0, "byte", &[], Values(&[Val::I32(7)])),
     ] },
     Row { name: "a start function of the host that traps", hosts: &[("h", Kind::Traps)], refused: None, steps: &[
         SetFuel(4), Load(STARTS_A_TRAP, Number(0)), Link(0, Trapped(Trap::Host(5))), Left(4),
@@ -238,6 +210,37 @@ static ROWS: [Row; 18] = [
     Row { name: "two pairs", hosts: &[("c", Kind::Counts), ("h", Kind::Traps)], refused: None, steps: &[
         Load(CALLS_TWICE, Number(0)), Link(0, Number(0)), Call(0, "f", &[], Values(&[Val::I32(1), Val::I32(2)])),
         Load(CALLS_AFTER_TWO, Number(1)), Link(1, Number(1)), Call(1, "f", &[], Trapped(Trap::Host(5))),
+    ] },
+];
+
+#[rattlefmt::skip]
+static LENT: [Row; 7] = [
+    Row { name: "what a host function writes is read", hosts: &[("w", Kind::Writes)], refused: None, steps: &[
+        Load(READS_WHAT_WAS_WRITTEN, Number(0)), Link(0, Number(0)), SetFuel(3),
+        Call(0, "f", &[], Values(&[Val::I32(5), Val::I32(7)])), Left(0),
+    ] },
+    Row { name: "the memory of the caller is lent", hosts: &[("m", Kind::Measures)], refused: None, steps: &[
+        Load(MEASURES, Number(0)), Link(0, Number(0)), Call(0, "f", &[], Values(&[Val::I32(131_072)])),
+    ] },
+    Row { name: "nothing is lent where the caller has no memory", hosts: &[("m", Kind::Measures)], refused: None, steps: &[
+        Load(MEASURES_NOTHING, Number(0)), Link(0, Number(0)), Call(0, "f", &[], Values(&[Val::I32(0)])),
+    ] },
+    Row { name: "nothing is lent from outside", hosts: &[("m", Kind::Measures)], refused: None, steps: &[
+        Load(MEASURES, Number(0)), Link(0, Number(0)), SetFuel(3), Call(0, "m", &[], Values(&[Val::I32(0)])), Left(3),
+    ] },
+    Row { name: "the memory of the caller is lent, and not that of the table's owner", hosts: &[("w", Kind::Writes)], refused: None, steps: &[
+        Load(LENDS_A_TABLE, Number(0)), Link(0, Number(0)), Register(0, "a", Done),
+        Load(CALLS_THROUGH_THAT_TABLE, Number(1)), Link(1, Number(1)), Call(1, "f", &[], Values(&[Val::I32(5)])),
+        Call(1, "byte", &[], Values(&[Val::I32(7)])), Call(0, "byte", &[], Values(&[Val::I32(0)])),
+    ] },
+    Row { name: "each of two instances has the byte in its own memory", hosts: &[("w", Kind::Writes)], refused: None, steps: &[
+        Load(WRITES_AND_READS, Number(0)), Link(0, Number(0)), Link(0, Number(1)), Call(0, "f", &[], Values(&[Val::I32(5)])),
+        Call(0, "byte", &[], Values(&[Val::I32(7)])), Call(1, "byte", &[], Values(&[Val::I32(0)])),
+        Call(1, "f", &[], Values(&[Val::I32(5)])), Call(1, "byte", &[], Values(&[Val::I32(7)])),
+    ] },
+    Row { name: "a start function of the host is lent nothing", hosts: &[("s", Kind::Marks)], refused: None, steps: &[
+        Load(STARTS_A_MARK, Number(0)), Link(0, Number(0)), Call(0, "byte", &[], Values(&[Val::I32(0)])),
+        Call(0, "f", &[], Values(&[])), Call(0, "byte", &[], Values(&[Val::I32(7)])),
     ] },
 ];
 
@@ -275,7 +278,8 @@ fn steps_hold_in(
     }
 }
 
-/// The same, with host functions of these names and kinds.
+/// Whether all steps are as they say in a fresh embedding with host functions of these names and kinds, where so many frames may be open;
+/// or whether there is none for the reason of this number.
 pub fn steps_hold_with(
     alloc: Global,
     defs: &[(&str, Kind)],
@@ -296,21 +300,28 @@ fn is_so(alloc: Global, row: &Row) -> Result<bool, AllocError> {
     steps_hold_with(alloc, row.hosts, 1_024, row.refused, row.steps)
 }
 
-// The rows.
-fn rows() -> &'static [Row] {
-    &ROWS
+// The rows of calls.
+fn calls() -> &'static [Row] {
+    &CALLS
 }
 
 #[test]
 fn host_functions_are_called(rt: HostRuntime) {
-    for row in rows() {
+    for row in calls() {
+        assert!(rt; is_so(rt.alloc(), row) == Ok(true), "{}", row.name);
+    }
+}
+
+#[test]
+fn host_functions_are_lent_the_memory_of_the_caller(rt: HostRuntime) {
+    for row in &LENT {
         assert!(rt; is_so(rt.alloc(), row) == Ok(true), "{}", row.name);
     }
 }
 
 #[test]
 fn call_always_out_of_memory(rt: HostRuntime) {
-    for row in rows() {
+    for row in calls() {
         assert!(rt;
             !is_refusal(&NewFault::OutOfMemory, row.refused),
             "{}",

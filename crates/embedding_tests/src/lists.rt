@@ -31,19 +31,31 @@ fn commands(alloc: Global) -> Option<Vec<Command>> {
     .ok()
 }
 
-// Whether these are the replies to the six commands.
-fn are_replies(replies: &[Reply]) -> bool {
+// Whether these are the replies to the load, the link and the call.
+fn are_first_replies(replies: &[Reply]) -> bool {
     match replies {
+        [Reply::Loaded(0), Reply::Linked(0), Reply::Values(sum)] => {
+            matches!(sum.as_slice(), [Val::I32(3)])
+        }
+        _ => false,
+    }
+}
+
+// Whether these are the replies to the refused call, the registration and the fuel.
+fn are_last_replies(replies: &[Reply]) -> bool {
+    matches!(
+        replies,
         [
-            Reply::Loaded(0),
-            Reply::Linked(0),
-            Reply::Values(sum),
             Reply::Refused(Refusal::BadArguments),
             Reply::Done,
             Reply::Done,
-        ] => matches!(sum.as_slice(), [Val::I32(3)]),
-        _ => false,
-    }
+        ]
+    )
+}
+
+// Whether these are the replies to the six commands.
+fn are_replies(replies: &[Reply]) -> bool {
+    replies.len() == 6 && are_first_replies(&replies[..3]) && are_last_replies(&replies[3..])
 }
 
 // The replies to one command, which sets the fuel, and behind them those to a list.

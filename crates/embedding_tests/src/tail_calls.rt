@@ -81,11 +81,39 @@ const CALLS_BEFORE: &str =
     "(import \"host\" \"c\" (func (result i32))) (func (result i32) call 0 drop call 0 drop return_call 0) (func (result i32) i64.const 8 return_call 1) (export \"f\" (func 2))";
 
 #[rattlefmt::skip]
-static OUTERMOST: [Row; 13] = [
+static RESULTS: [Row; 7] = [
     Row { name: "the results are those of the call", hosts: COUNTS, depth: 1, steps: &[
         Load(CALLS_LAST, Number(0)), Link(0, Number(0)), SetFuel(1), Call(0, "f", &[], Values(&[Val::I32(1)])), Left(0),
         Call(0, "f", &[], Lacks(Exhaustion::Fuel)), Left(0), SetFuel(2), Call(0, "f", &[], Values(&[Val::I32(2)])), Left(1),
     ] },
+    Row { name: "arguments above an operand", hosts: SWAPS, depth: 1, steps: &[
+        Load(SWAPS_LAST, Number(0)), Link(0, Number(0)), SetFuel(4),
+        Call(0, "f", &[Val::I64(6), Val::I32(5)], Values(&[Val::I64(6), Val::I32(5)])), Left(0),
+    ] },
+    Row { name: "inside of blocks and a loop", hosts: SWAPS, depth: 1, steps: &[
+        Load(SWAPS_INSIDE, Number(0)), Link(0, Number(0)), SetFuel(9),
+        Call(0, "f", &[Val::I32(5), Val::I64(6)], Values(&[Val::I64(6), Val::I32(5)])), Left(0),
+        SetFuel(8), Call(0, "f", &[Val::I32(5), Val::I64(6)], Lacks(Exhaustion::Fuel)), Left(0),
+    ] },
+    Row { name: "five results from a frame without operands", hosts: GIVES_FIVE, depth: 1, steps: &[
+        Load(FIVE_LAST, Number(0)), Link(0, Number(0)), SetFuel(1), Call(0, "f", &[], Values(&FIVE)), Left(0),
+    ] },
+    Row { name: "in a start function", hosts: MARKS, depth: 1, steps: &[
+        Load(STARTS_A_MARK, Number(0)), SetFuel(0), Link(0, Lacks(Exhaustion::Fuel)), Left(0),
+        SetFuel(2), Link(0, Number(0)), Left(1), SetFuel(2), Call(0, "byte", &[], Values(&[Val::I32(7)])),
+    ] },
+    Row { name: "behind two tail calls", hosts: COUNTS, depth: 1, steps: &[
+        Load(CHAIN, Number(0)), Link(0, Number(0)), SetFuel(3), Call(0, "f", &[], Values(&[Val::I32(1)])), Left(0),
+        SetFuel(2), Call(0, "f", &[], Lacks(Exhaustion::Fuel)), Left(0),
+        SetFuel(4), Call(0, "f", &[], Values(&[Val::I32(2)])), Left(1),
+    ] },
+    Row { name: "behind calls of the same host function", hosts: COUNTS, depth: 1, steps: &[
+        Load(CALLS_BEFORE, Number(0)), Link(0, Number(0)), SetFuel(10), Call(0, "f", &[], Values(&[Val::I32(3)])), Left(3),
+    ] },
+];
+
+#[rattlefmt::skip]
+static FAULTS: [Row; 6] = [
     Row { name: "a host function traps", hosts: TRAPS, depth: 1, steps: &[
         Load(FAILS_LAST, Number(0)), Link(0, Number(0)), SetFuel(10), Call(0, "f", &[], Trapped(Trap::Host(5))), Left(7),
         SetFuel(3), Call(0, "f", &[], Trapped(Trap::Host(5))), Left(0), SetFuel(2), Call(0, "f", &[], Lacks(Exhaustion::Fuel)), Left(0),
@@ -109,32 +137,8 @@ static OUTERMOST: [Row; 13] = [
         Call(0, "f", &[Val::I32(0)], Lacks(Exhaustion::Fuel)), Left(0),
         SetFuel(2), Call(0, "f", &[Val::I32(0)], Values(&[Val::I32(2)])), Left(0),
     ] },
-    Row { name: "arguments above an operand", hosts: SWAPS, depth: 1, steps: &[
-        Load(SWAPS_LAST, Number(0)), Link(0, Number(0)), SetFuel(4),
-        Call(0, "f", &[Val::I64(6), Val::I32(5)], Values(&[Val::I64(6), Val::I32(5)])), Left(0),
-    ] },
-    Row { name: "inside of blocks and a loop", hosts: SWAPS, depth: 1, steps: &[
-        Load(SWAPS_INSIDE, Number(0)), Link(0, Number(0)), SetFuel(9),
-        Call(0, "f", &[Val::I32(5), Val::I64(6)], Values(&[Val::I64(6), Val::I32(5)])), Left(0),
-        SetFuel(8), Call(0, "f", &[Val::I32(5), Val::I64(6)], Lacks(Exhaustion::Fuel)), Left(0),
-    ] },
-    Row { name: "five results from a frame without operands", hosts: GIVES_FIVE, depth: 1, steps: &[
-        Load(FIVE_LAST, Number(0)), Link(0, Number(0)), SetFuel(1), Call(0, "f", &[], Values(&FIVE)), Left(0),
-    ] },
-    Row { name: "in a start function", hosts: MARKS, depth: 1, steps: &[
-        Load(STARTS_A_MARK, Number(0)), SetFuel(0), Link(0, Lacks(Exhaustion::Fuel)), Left(0),
-        SetFuel(2), Link(0, Number(0)), Left(1), SetFuel(2), Call(0, "byte", &[], Values(&[Val::I32(7)])),
-    ] },
     Row { name: "in a start function, and it traps", hosts: TRAPS, depth: 1, steps: &[
         Load(STARTS_A_TRAP, Number(0)), SetFuel(4), Link(0, Trapped(Trap::Host(5))), Left(2),
-    ] },
-    Row { name: "behind two tail calls", hosts: COUNTS, depth: 1, steps: &[
-        Load(CHAIN, Number(0)), Link(0, Number(0)), SetFuel(3), Call(0, "f", &[], Values(&[Val::I32(1)])), Left(0),
-        SetFuel(2), Call(0, "f", &[], Lacks(Exhaustion::Fuel)), Left(0),
-        SetFuel(4), Call(0, "f", &[], Values(&[Val::I32(2)])), Left(1),
-    ] },
-    Row { name: "behind calls of the same host function", hosts: COUNTS, depth: 1, steps: &[
-        Load(CALLS_BEFORE, Number(0)), Link(0, Number(0)), SetFuel(10), Call(0, "f", &[], Values(&[Val::I32(3)])), Left(3),
     ] },
 ];
 
@@ -243,7 +247,7 @@ const GROWS_BEFORE: &str =
     "(import \"host\" \"m\" (func (result i32))) (memory 1 3) (func (result i32) i32.const 1 memory.grow drop return_call 0) (export \"f\" (func 1))";
 
 #[rattlefmt::skip]
-static LENT: [Row; 9] = [
+static LENT: [Row; 5] = [
     Row { name: "by name, under a caller with another memory", hosts: WRITES, depth: 2, steps: &[
         Load(WRITES_LAST, Number(0)), Link(0, Number(0)), Register(0, "a", Done), Load(CALLS_A, Number(1)), Link(1, Number(1)),
         SetFuel(4), Call(1, "f", &[], Values(&[Val::I32(5), Val::I32(0)])), Left(0), SetFuel(10),
@@ -253,6 +257,27 @@ static LENT: [Row; 9] = [
         Load(WRITES_LAST, Number(0)), Link(0, Number(0)), Register(0, "a", Done), Load(CALLS_A, Number(1)), Link(1, Number(1)),
         SetFuel(2), Call(1, "last", &[], Values(&[Val::I32(5)])), Left(0), SetFuel(10),
         Call(0, "byte", &[], Values(&[Val::I32(7)])), Call(1, "byte", &[], Values(&[Val::I32(0)])),
+    ] },
+    Row { name: "nothing where the instance has no memory, though the caller has", hosts: MEASURES, depth: 2, steps: &[
+        Load(MEASURES_NOTHING, Number(0)), Link(0, Number(0)), Register(0, "a", Done), Load(CALLS_A, Number(1)), Link(1, Number(1)),
+        Call(1, "f", &[], Values(&[Val::I32(0), Val::I32(0)])), Call(1, "last", &[], Values(&[Val::I32(0)])),
+        Call(0, "f", &[], Values(&[Val::I32(0)])),
+    ] },
+    Row { name: "a memory that has grown", hosts: MEASURES, depth: 1, steps: &[
+        Load(GROWS_BEFORE, Number(0)), Link(0, Number(0)), SetFuel(1_028), Call(0, "f", &[], Values(&[Val::I32(131_072)])), Left(0),
+    ] },
+    Row { name: "each instance of a module its own", hosts: WRITES, depth: 1, steps: &[
+        Load(WRITES_LAST, Number(0)), Link(0, Number(0)), Link(0, Number(1)), Call(1, "f", &[], Values(&[Val::I32(5)])),
+        Call(0, "byte", &[], Values(&[Val::I32(0)])), Call(1, "byte", &[], Values(&[Val::I32(7)])),
+    ] },
+];
+
+#[rattlefmt::skip]
+static LENT_THROUGH_TABLES: [Row; 4] = [
+    Row { name: "behind tail calls into another instance and back", hosts: MEASURES, depth: 1, steps: &[
+        Load(GOES, Number(0)), Link(0, Number(0)), Register(0, "a", Done), Load(COMES_BACK, Number(1)), Link(1, Number(1)),
+        SetFuel(4), Call(0, "go", &[], Values(&[Val::I32(131_072)])), Left(0),
+        SetFuel(3), Call(0, "go", &[], Lacks(Exhaustion::Fuel)), Left(0),
     ] },
     Row { name: "through the table of a third instance, under a caller", hosts: WRITES, depth: 2, steps: &[
         Load(LENDS_A_TABLE, Number(0)), Link(0, Number(0)), Register(0, "t", Done),
@@ -273,23 +298,6 @@ static LENT: [Row; 9] = [
         Load(CALLS_THROUGH_THAT_TABLE, Number(1)), Link(1, Number(1)), SetFuel(3), Call(1, "f", &[], Values(&[Val::I32(5)])), Left(0),
         SetFuel(10), Call(0, "byte", &[], Values(&[Val::I32(7)])), Call(1, "byte", &[], Values(&[Val::I32(0)])),
     ] },
-    Row { name: "nothing where the instance has no memory, though the caller has", hosts: MEASURES, depth: 2, steps: &[
-        Load(MEASURES_NOTHING, Number(0)), Link(0, Number(0)), Register(0, "a", Done), Load(CALLS_A, Number(1)), Link(1, Number(1)),
-        Call(1, "f", &[], Values(&[Val::I32(0), Val::I32(0)])), Call(1, "last", &[], Values(&[Val::I32(0)])),
-        Call(0, "f", &[], Values(&[Val::I32(0)])),
-    ] },
-    Row { name: "behind tail calls into another instance and back", hosts: MEASURES, depth: 1, steps: &[
-        Load(GOES, Number(0)), Link(0, Number(0)), Register(0, "a", Done), Load(COMES_BACK, Number(1)), Link(1, Number(1)),
-        SetFuel(4), Call(0, "go", &[], Values(&[Val::I32(131_072)])), Left(0),
-        SetFuel(3), Call(0, "go", &[], Lacks(Exhaustion::Fuel)), Left(0),
-    ] },
-    Row { name: "a memory that has grown", hosts: MEASURES, depth: 1, steps: &[
-        Load(GROWS_BEFORE, Number(0)), Link(0, Number(0)), SetFuel(1_028), Call(0, "f", &[], Values(&[Val::I32(131_072)])), Left(0),
-    ] },
-    Row { name: "each instance of a module its own", hosts: WRITES, depth: 1, steps: &[
-        Load(WRITES_LAST, Number(0)), Link(0, Number(0)), Link(0, Number(1)), Call(1, "f", &[], Values(&[Val::I32(5)])),
-        Call(0, "byte", &[], Values(&[Val::I32(0)])), Call(1, "byte", &[], Values(&[Val::I32(7)])),
-    ] },
 ];
 
 // Whether a row is as it says.
@@ -299,7 +307,14 @@ fn is_so(alloc: Global, row: &Row) -> Result<bool, AllocError> {
 
 #[test]
 fn results_are_those_of_the_call(rt: HostRuntime) {
-    for row in &OUTERMOST {
+    for row in &RESULTS {
+        assert!(rt; is_so(rt.alloc(), row) == Ok(true), "{}", row.name);
+    }
+}
+
+#[test]
+fn faults_are_those_of_the_call(rt: HostRuntime) {
+    for row in &FAULTS {
         assert!(rt; is_so(rt.alloc(), row) == Ok(true), "{}", row.name);
     }
 }
@@ -314,6 +329,13 @@ fn callers_go_on_with_the_results(rt: HostRuntime) {
 #[test]
 fn the_memory_of_the_instance_is_lent(rt: HostRuntime) {
     for row in &LENT {
+        assert!(rt; is_so(rt.alloc(), row) == Ok(true), "{}", row.name);
+    }
+}
+
+#[test]
+fn the_memory_of_the_instance_is_lent_through_tables(rt: HostRuntime) {
+    for row in &LENT_THROUGH_TABLES {
         assert!(rt; is_so(rt.alloc(), row) == Ok(true), "{}", row.name);
     }
 }

@@ -13,7 +13,7 @@ struct Row {
 }
 
 #[rattlefmt::skip]
-static ROWS: [Row; 22] = [
+static SEGMENTS: [Row; 12] = [
     Row { name: "an active segment, which costs memory.init and data.drop", words: "call module.wasm f --fuel 100", ending: Out("i32 9\nfuel left 96\n", 0),
         sections: "0105016000017F 03020100 0503010001 07050101660000 0A0901070041012D00000B 0B08010041000B020709" },
     Row { name: "two active segments, the second over the first", words: "call module.wasm f --fuel 100", ending: Out("i32 67307521\nfuel left 94\n", 0),
@@ -38,6 +38,10 @@ static ROWS: [Row; 22] = [
         sections: "0105016000017F 03020100 0503010001 07050101660000 0C0101 0A13011100410041004100FC08000041082D00000B 0B07010041080B0101" },
     Row { name: "a passive segment, which costs nothing at the link", words: "call module.wasm f --fuel 100", ending: Out("i32 9\nfuel left 93\n", 0),
         sections: "0105016000017F 03020100 0503010001 07050101660000 0C0101 0A16011400410041014101FC080000FC090041002D00000B 0B050101020709" },
+];
+
+#[rattlefmt::skip]
+static MEMORIES_AND_GLOBALS: [Row; 10] = [
     Row { name: "a global that is set", words: "call module.wasm f --fuel 100", ending: Out("i32 11\nfuel left 95\n", 0),
         sections: "0105016000017F 03020100 0606017F0141050B 07050101660000 0A0D010B0023004106240023006A0B" },
     Row { name: "an i64 global", words: "call module.wasm f --fuel 100", ending: Out("i64 18446744073709551615\nfuel left 99\n", 0),
@@ -65,8 +69,15 @@ fn agrees(alloc: Global, row: &Row) -> Result<bool, AllocError> {
 }
 
 #[test]
+fn links_data_segments(rt: HostRuntime) {
+    for row in &SEGMENTS {
+        assert!(rt; agrees(rt.alloc(), row) == Ok(true), "{}", row.name);
+    }
+}
+
+#[test]
 fn links_memories_and_globals(rt: HostRuntime) {
-    for row in &ROWS {
+    for row in &MEMORIES_AND_GLOBALS {
         assert!(rt; agrees(rt.alloc(), row) == Ok(true), "{}", row.name);
     }
 }

@@ -1,5 +1,6 @@
 //! What scripts report.
 
+use crate::modules::module_text;
 use embed::{Config, Embedding};
 use scripts::{Report, Script, ScriptFault, read_script, run_script};
 use std::alloc::Global;
@@ -15,68 +16,38 @@ pub enum End {
 
 use End::{Counts, Missing};
 
-/// Commands of a script, and files: their names and the texts of their modules.
+/// Commands of a script, and files: words, each a name and what its module is called.
 pub struct Row {
     pub name: &'static str,
     pub commands: &'static str,
-    pub files: &'static [(&'static str, &'static str)],
+    pub files: &'static str,
     pub end: End,
 }
 
-const ADD: &str =
-    "(func (param i32 i32) (result i32) local.get 0 local.get 1 i32.add) (export \"add\" (func 0))";
-
-// Adds, calls an entry of a table whose entries are null, and has a global.
-const ADD_AND_CALL: &str =
-    "(type (func (param i32 i32) (result i32))) (type (func (param i32) (result i32))) (type (func (result i32))) (table 1 funcref) (global i32 i32.const 666) (func (type 0) local.get 0 local.get 1 i32.add) (func (type 1) local.get 0 call_indirect (type 2)) (export \"add\" (func 0)) (export \"call\" (func 1)) (export \"g\" (global 0))";
-
-pub const ONE: &str = "(func (result i32) i32.const 1) (export \"f\" (func 0))";
-
-const TWO: &str = "(func (result i32) i32.const 2) (export \"f\" (func 0))";
-
-const CALLS_F: &str =
-    "(import \"M\" \"f\" (func (result i32))) (func (result i32) call 0) (export \"g\" (func 1))";
-
-const MISSING: &str = "(import \"M\" \"missing\" (func))";
-
-// A loop without end, and a function that calls only itself.
-const ENDLESS: &str =
-    "(func loop br 0 end) (func call 1) (export \"loop\" (func 0)) (export \"deep\" (func 1))";
-
-const TRAPS_AT_START: &str = "(func unreachable) (start 0)";
-
-const INVALID: &str = "(func (result i32) i64.const 1)";
-
-const RETURNS_BOTH: &str =
-    "(func (param i32 i64) (result i64 i32) local.get 1 local.get 0) (export \"swap\" (func 0))";
-
-const REFERENCES: &str =
-    "(func (param externref) (result externref) local.get 0) (func (result funcref) ref.null func) (export \"same\" (func 0)) (export \"null\" (func 1))";
-
 #[rattlefmt::skip]
 static ROWS: [Row; 22] = [
-    Row { name: "nothing", commands: "", files: &[], end: Counts(0, 0, 0, &[]) },
-    Row { name: "a module in text", commands: "{\"type\":\"module\",\"line\":1,\"filename\":\"a.wat\",\"module_type\":\"text\"}", files: &[], end: Counts(0, 0, 1, &[]) },
-    Row { name: "an action without an instance", commands: "{\"type\":\"action\",\"line\":2,\"action\":{\"type\":\"invoke\",\"field\":\"add\",\"args\":[]}}", files: &[], end: Counts(0, 1, 0, &[2]) },
-    Row { name: "a file that is missing", commands: "{\"type\":\"module\",\"line\":1,\"filename\":\"a\"},{\"type\":\"module\",\"line\":2,\"filename\":\"b\"}", files: &[("a", ADD)], end: Missing(1) },
-    Row { name: "a file that is missing behind a skipped command", commands: "{\"type\":\"module\",\"line\":1,\"filename\":\"a\",\"module_type\":\"text\"},{\"type\":\"module\",\"line\":2,\"filename\":\"b\"}", files: &[], end: Missing(1) },
-    Row { name: "a right and a wrong sum", commands: "{\"type\":\"module\",\"line\":1,\"filename\":\"a.0.wasm\"},{\"type\":\"assert_return\",\"line\":5,\"action\":{\"type\":\"invoke\",\"field\":\"add\",\"args\":[{\"type\":\"i32\",\"value\":\"1\"},{\"type\":\"i32\",\"value\":\"2\"}]},\"expected\":[{\"type\":\"i32\",\"value\":\"3\"}]},{\"type\":\"assert_return\",\"line\":6,\"action\":{\"type\":\"invoke\",\"field\":\"add\",\"args\":[{\"type\":\"i32\",\"value\":\"1\"},{\"type\":\"i32\",\"value\":\"2\"}]},\"expected\":[{\"type\":\"i32\",\"value\":\"4\"}]}", files: &[("a.0.wasm", ADD)], end: Counts(2, 1, 0, &[6]) },
-    Row { name: "zeros in front of a number", commands: "{\"type\":\"module\",\"line\":1,\"filename\":\"a\"},{\"type\":\"assert_return\",\"line\":2,\"action\":{\"type\":\"invoke\",\"field\":\"add\",\"args\":[{\"type\":\"i32\",\"value\":\"007\"},{\"type\":\"i32\",\"value\":\"0\"}]},\"expected\":[{\"type\":\"i32\",\"value\":\"7\"}]}", files: &[("a", ADD)], end: Counts(2, 0, 0, &[]) },
-    Row { name: "module, register, assert_return, assert_unlinkable and assert_trap", commands: "{\"type\":\"module\",\"line\":1,\"filename\":\"a\"},{\"type\":\"register\",\"line\":2,\"as\":\"M\"},{\"type\":\"assert_return\",\"line\":3,\"action\":{\"type\":\"invoke\",\"field\":\"add\",\"args\":[{\"type\":\"i32\",\"value\":\"1\"},{\"type\":\"i32\",\"value\":\"2\"}]},\"expected\":[{\"type\":\"i32\",\"value\":\"3\"}]},{\"type\":\"assert_unlinkable\",\"line\":4,\"filename\":\"b\",\"text\":\"unknown import\"},{\"type\":\"assert_trap\",\"line\":5,\"action\":{\"type\":\"invoke\",\"field\":\"call\",\"args\":[{\"type\":\"i32\",\"value\":\"0\"}]},\"text\":\"uninitialized element 2\"}", files: &[("a", ADD_AND_CALL), ("b", MISSING)], end: Counts(5, 0, 0, &[]) },
-    Row { name: "a trap of another text", commands: "{\"type\":\"module\",\"line\":1,\"filename\":\"a\"},{\"type\":\"assert_trap\",\"line\":2,\"action\":{\"type\":\"invoke\",\"field\":\"call\",\"args\":[{\"type\":\"i32\",\"value\":\"0\"}]},\"text\":\"uninitialized\"}", files: &[("a", ADD_AND_CALL)], end: Counts(1, 1, 0, &[2]) },
-    Row { name: "a name that is registered twice", commands: "{\"type\":\"module\",\"line\":1,\"filename\":\"1\"},{\"type\":\"register\",\"line\":2,\"as\":\"M\"},{\"type\":\"module\",\"line\":3,\"filename\":\"2\"},{\"type\":\"register\",\"line\":4,\"as\":\"M\"},{\"type\":\"module\",\"line\":5,\"filename\":\"g\"},{\"type\":\"assert_return\",\"line\":6,\"action\":{\"type\":\"invoke\",\"field\":\"g\",\"args\":[]},\"expected\":[{\"type\":\"i32\",\"value\":\"2\"}]}", files: &[("1", ONE), ("2", TWO), ("g", CALLS_F)], end: Counts(6, 0, 0, &[]) },
-    Row { name: "names of the script", commands: "{\"type\":\"module\",\"line\":1,\"filename\":\"1\",\"name\":\"$a\"},{\"type\":\"module\",\"line\":2,\"filename\":\"2\"},{\"type\":\"assert_return\",\"line\":3,\"action\":{\"type\":\"invoke\",\"field\":\"f\",\"args\":[]},\"expected\":[{\"type\":\"i32\",\"value\":\"2\"}]},{\"type\":\"assert_return\",\"line\":4,\"action\":{\"type\":\"invoke\",\"module\":\"$a\",\"field\":\"f\",\"args\":[]},\"expected\":[{\"type\":\"i32\",\"value\":\"1\"}]},{\"type\":\"register\",\"line\":5,\"as\":\"M\",\"name\":\"$a\"},{\"type\":\"action\",\"line\":6,\"action\":{\"type\":\"invoke\",\"module\":\"$b\",\"field\":\"f\",\"args\":[]}}", files: &[("1", ONE), ("2", TWO)], end: Counts(5, 1, 0, &[6]) },
-    Row { name: "a module that fails", commands: "{\"type\":\"module\",\"line\":1,\"filename\":\"1\",\"name\":\"$a\"},{\"type\":\"module\",\"line\":2,\"filename\":\"x\",\"name\":\"$a\"},{\"type\":\"action\",\"line\":3,\"action\":{\"type\":\"invoke\",\"field\":\"f\",\"args\":[]}},{\"type\":\"action\",\"line\":4,\"action\":{\"type\":\"invoke\",\"module\":\"$a\",\"field\":\"f\",\"args\":[]}}", files: &[("1", ONE), ("x", INVALID)], end: Counts(1, 3, 0, &[2, 3, 4]) },
-    Row { name: "asserted modules are not current", commands: "{\"type\":\"module\",\"line\":1,\"filename\":\"1\"},{\"type\":\"assert_invalid\",\"line\":2,\"filename\":\"x\"},{\"type\":\"assert_unlinkable\",\"line\":3,\"filename\":\"2\"},{\"type\":\"assert_return\",\"line\":4,\"action\":{\"type\":\"invoke\",\"field\":\"f\",\"args\":[]},\"expected\":[{\"type\":\"i32\",\"value\":\"1\"}]}", files: &[("1", ONE), ("2", TWO), ("x", INVALID)], end: Counts(3, 1, 0, &[3]) },
-    Row { name: "exhaustion of fuel and depth", commands: "{\"type\":\"module\",\"line\":1,\"filename\":\"e\"},{\"type\":\"assert_exhaustion\",\"line\":2,\"action\":{\"type\":\"invoke\",\"field\":\"loop\",\"args\":[]}},{\"type\":\"assert_exhaustion\",\"line\":3,\"action\":{\"type\":\"invoke\",\"field\":\"deep\",\"args\":[]}},{\"type\":\"action\",\"line\":4,\"action\":{\"type\":\"invoke\",\"field\":\"loop\",\"args\":[]}}", files: &[("e", ENDLESS)], end: Counts(3, 1, 0, &[4]) },
-    Row { name: "a start function that traps", commands: "{\"type\":\"assert_uninstantiable\",\"line\":1,\"filename\":\"t\",\"text\":\"unreachable executed\"},{\"type\":\"assert_uninstantiable\",\"line\":2,\"filename\":\"t\",\"text\":\"integer overflow\"},{\"type\":\"module\",\"line\":3,\"filename\":\"t\"}", files: &[("t", TRAPS_AT_START)], end: Counts(1, 2, 0, &[2, 3]) },
-    Row { name: "invalid and malformed", commands: "{\"type\":\"assert_invalid\",\"line\":1,\"filename\":\"x\"},{\"type\":\"assert_malformed\",\"line\":2,\"filename\":\"x\"},{\"type\":\"assert_malformed\",\"line\":3,\"filename\":\"bytes\"},{\"type\":\"assert_invalid\",\"line\":4,\"filename\":\"bytes\"}", files: &[("x", INVALID), ("bytes", "")], end: Counts(2, 2, 0, &[2, 4]) },
-    Row { name: "a global", commands: "{\"type\":\"module\",\"line\":1,\"filename\":\"a\"},{\"type\":\"assert_return\",\"line\":2,\"action\":{\"type\":\"get\",\"field\":\"g\"},\"expected\":[{\"type\":\"i32\",\"value\":\"666\"}]},{\"type\":\"action\",\"line\":3,\"action\":{\"type\":\"get\",\"field\":\"add\"}}", files: &[("a", ADD_AND_CALL)], end: Counts(2, 1, 0, &[3]) },
-    Row { name: "results in their order", commands: "{\"type\":\"module\",\"line\":1,\"filename\":\"s\"},{\"type\":\"assert_return\",\"line\":2,\"action\":{\"type\":\"invoke\",\"field\":\"swap\",\"args\":[{\"type\":\"i32\",\"value\":\"1\"},{\"type\":\"i64\",\"value\":\"2\"}]},\"expected\":[{\"type\":\"i64\",\"value\":\"2\"},{\"type\":\"i32\",\"value\":\"1\"}]},{\"type\":\"assert_return\",\"line\":3,\"action\":{\"type\":\"invoke\",\"field\":\"swap\",\"args\":[{\"type\":\"i32\",\"value\":\"1\"},{\"type\":\"i64\",\"value\":\"2\"}]},\"expected\":[{\"type\":\"i64\",\"value\":\"2\"}]}", files: &[("s", RETURNS_BOTH)], end: Counts(2, 1, 0, &[3]) },
-    Row { name: "references", commands: "{\"type\":\"module\",\"line\":1,\"filename\":\"r\"},{\"type\":\"assert_return\",\"line\":2,\"action\":{\"type\":\"invoke\",\"field\":\"same\",\"args\":[{\"type\":\"externref\",\"value\":\"5\"}]},\"expected\":[{\"type\":\"externref\",\"value\":\"5\"}]},{\"type\":\"assert_return\",\"line\":3,\"action\":{\"type\":\"invoke\",\"field\":\"same\",\"args\":[{\"type\":\"externref\",\"value\":\"5\"}]},\"expected\":[{\"type\":\"externref\",\"value\":\"null\"}]},{\"type\":\"assert_return\",\"line\":4,\"action\":{\"type\":\"invoke\",\"field\":\"null\",\"args\":[]},\"expected\":[{\"type\":\"funcref\",\"value\":\"null\"}]}", files: &[("r", REFERENCES)], end: Counts(3, 1, 0, &[3]) },
-    Row { name: "values that are left out", commands: "{\"type\":\"module\",\"line\":1,\"filename\":\"a\"},{\"type\":\"assert_return\",\"line\":2,\"action\":{\"type\":\"invoke\",\"field\":\"add\",\"args\":[{\"type\":\"f32\",\"value\":\"1\"}]},\"expected\":[]},{\"type\":\"assert_return\",\"line\":3,\"action\":{\"type\":\"invoke\",\"field\":\"add\",\"args\":[]},\"expected\":[{\"type\":\"f64\",\"value\":\"nan:canonical\"}]}", files: &[("a", ADD)], end: Counts(1, 0, 2, &[]) },
-    Row { name: "two files of one name", commands: "{\"type\":\"module\",\"line\":1,\"filename\":\"a\"},{\"type\":\"assert_return\",\"line\":2,\"action\":{\"type\":\"invoke\",\"field\":\"f\",\"args\":[]},\"expected\":[{\"type\":\"i32\",\"value\":\"1\"}]}", files: &[("a", ONE), ("a", TWO)], end: Counts(2, 0, 0, &[]) },
-    Row { name: "a wrong number of arguments", commands: "{\"type\":\"module\",\"line\":1,\"filename\":\"a\"},{\"type\":\"assert_trap\",\"line\":2,\"action\":{\"type\":\"invoke\",\"field\":\"add\",\"args\":[]},\"text\":\"\"}", files: &[("a", ADD)], end: Counts(1, 1, 0, &[2]) },
+    Row { name: "nothing", commands: "", files: "", end: Counts(0, 0, 0, &[]) },
+    Row { name: "a module in text", commands: "{\"type\":\"module\",\"line\":1,\"filename\":\"a.wat\",\"module_type\":\"text\"}", files: "", end: Counts(0, 0, 1, &[]) },
+    Row { name: "an action without an instance", commands: "{\"type\":\"action\",\"line\":2,\"action\":{\"type\":\"invoke\",\"field\":\"add\",\"args\":[]}}", files: "", end: Counts(0, 1, 0, &[2]) },
+    Row { name: "a file that is missing", commands: "{\"type\":\"module\",\"line\":1,\"filename\":\"a\"},{\"type\":\"module\",\"line\":2,\"filename\":\"b\"}", files: "a=add", end: Missing(1) },
+    Row { name: "a file that is missing behind a skipped command", commands: "{\"type\":\"module\",\"line\":1,\"filename\":\"a\",\"module_type\":\"text\"},{\"type\":\"module\",\"line\":2,\"filename\":\"b\"}", files: "", end: Missing(1) },
+    Row { name: "a right and a wrong sum", commands: "{\"type\":\"module\",\"line\":1,\"filename\":\"a.0.wasm\"},{\"type\":\"assert_return\",\"line\":5,\"action\":{\"type\":\"invoke\",\"field\":\"add\",\"args\":[{\"type\":\"i32\",\"value\":\"1\"},{\"type\":\"i32\",\"value\":\"2\"}]},\"expected\":[{\"type\":\"i32\",\"value\":\"3\"}]},{\"type\":\"assert_return\",\"line\":6,\"action\":{\"type\":\"invoke\",\"field\":\"add\",\"args\":[{\"type\":\"i32\",\"value\":\"1\"},{\"type\":\"i32\",\"value\":\"2\"}]},\"expected\":[{\"type\":\"i32\",\"value\":\"4\"}]}", files: "a.0.wasm=add", end: Counts(2, 1, 0, &[6]) },
+    Row { name: "zeros in front of a number", commands: "{\"type\":\"module\",\"line\":1,\"filename\":\"a\"},{\"type\":\"assert_return\",\"line\":2,\"action\":{\"type\":\"invoke\",\"field\":\"add\",\"args\":[{\"type\":\"i32\",\"value\":\"007\"},{\"type\":\"i32\",\"value\":\"0\"}]},\"expected\":[{\"type\":\"i32\",\"value\":\"7\"}]}", files: "a=add", end: Counts(2, 0, 0, &[]) },
+    Row { name: "module, register, assert_return, assert_unlinkable and assert_trap", commands: "{\"type\":\"module\",\"line\":1,\"filename\":\"a\"},{\"type\":\"register\",\"line\":2,\"as\":\"M\"},{\"type\":\"assert_return\",\"line\":3,\"action\":{\"type\":\"invoke\",\"field\":\"add\",\"args\":[{\"type\":\"i32\",\"value\":\"1\"},{\"type\":\"i32\",\"value\":\"2\"}]},\"expected\":[{\"type\":\"i32\",\"value\":\"3\"}]},{\"type\":\"assert_unlinkable\",\"line\":4,\"filename\":\"b\",\"text\":\"unknown import\"},{\"type\":\"assert_trap\",\"line\":5,\"action\":{\"type\":\"invoke\",\"field\":\"call\",\"args\":[{\"type\":\"i32\",\"value\":\"0\"}]},\"text\":\"uninitialized element 2\"}", files: "a=add_and_call b=missing", end: Counts(5, 0, 0, &[]) },
+    Row { name: "a trap of another text", commands: "{\"type\":\"module\",\"line\":1,\"filename\":\"a\"},{\"type\":\"assert_trap\",\"line\":2,\"action\":{\"type\":\"invoke\",\"field\":\"call\",\"args\":[{\"type\":\"i32\",\"value\":\"0\"}]},\"text\":\"uninitialized\"}", files: "a=add_and_call", end: Counts(1, 1, 0, &[2]) },
+    Row { name: "a name that is registered twice", commands: "{\"type\":\"module\",\"line\":1,\"filename\":\"1\"},{\"type\":\"register\",\"line\":2,\"as\":\"M\"},{\"type\":\"module\",\"line\":3,\"filename\":\"2\"},{\"type\":\"register\",\"line\":4,\"as\":\"M\"},{\"type\":\"module\",\"line\":5,\"filename\":\"g\"},{\"type\":\"assert_return\",\"line\":6,\"action\":{\"type\":\"invoke\",\"field\":\"g\",\"args\":[]},\"expected\":[{\"type\":\"i32\",\"value\":\"2\"}]}", files: "1=one 2=two g=calls_f", end: Counts(6, 0, 0, &[]) },
+    Row { name: "names of the script", commands: "{\"type\":\"module\",\"line\":1,\"filename\":\"1\",\"name\":\"$a\"},{\"type\":\"module\",\"line\":2,\"filename\":\"2\"},{\"type\":\"assert_return\",\"line\":3,\"action\":{\"type\":\"invoke\",\"field\":\"f\",\"args\":[]},\"expected\":[{\"type\":\"i32\",\"value\":\"2\"}]},{\"type\":\"assert_return\",\"line\":4,\"action\":{\"type\":\"invoke\",\"module\":\"$a\",\"field\":\"f\",\"args\":[]},\"expected\":[{\"type\":\"i32\",\"value\":\"1\"}]},{\"type\":\"register\",\"line\":5,\"as\":\"M\",\"name\":\"$a\"},{\"type\":\"action\",\"line\":6,\"action\":{\"type\":\"invoke\",\"module\":\"$b\",\"field\":\"f\",\"args\":[]}}", files: "1=one 2=two", end: Counts(5, 1, 0, &[6]) },
+    Row { name: "a module that fails", commands: "{\"type\":\"module\",\"line\":1,\"filename\":\"1\",\"name\":\"$a\"},{\"type\":\"module\",\"line\":2,\"filename\":\"x\",\"name\":\"$a\"},{\"type\":\"action\",\"line\":3,\"action\":{\"type\":\"invoke\",\"field\":\"f\",\"args\":[]}},{\"type\":\"action\",\"line\":4,\"action\":{\"type\":\"invoke\",\"module\":\"$a\",\"field\":\"f\",\"args\":[]}}", files: "1=one x=invalid", end: Counts(1, 3, 0, &[2, 3, 4]) },
+    Row { name: "asserted modules are not current", commands: "{\"type\":\"module\",\"line\":1,\"filename\":\"1\"},{\"type\":\"assert_invalid\",\"line\":2,\"filename\":\"x\"},{\"type\":\"assert_unlinkable\",\"line\":3,\"filename\":\"2\"},{\"type\":\"assert_return\",\"line\":4,\"action\":{\"type\":\"invoke\",\"field\":\"f\",\"args\":[]},\"expected\":[{\"type\":\"i32\",\"value\":\"1\"}]}", files: "1=one 2=two x=invalid", end: Counts(3, 1, 0, &[3]) },
+    Row { name: "exhaustion of fuel and depth", commands: "{\"type\":\"module\",\"line\":1,\"filename\":\"e\"},{\"type\":\"assert_exhaustion\",\"line\":2,\"action\":{\"type\":\"invoke\",\"field\":\"loop\",\"args\":[]}},{\"type\":\"assert_exhaustion\",\"line\":3,\"action\":{\"type\":\"invoke\",\"field\":\"deep\",\"args\":[]}},{\"type\":\"action\",\"line\":4,\"action\":{\"type\":\"invoke\",\"field\":\"loop\",\"args\":[]}}", files: "e=endless", end: Counts(3, 1, 0, &[4]) },
+    Row { name: "a start function that traps", commands: "{\"type\":\"assert_uninstantiable\",\"line\":1,\"filename\":\"t\",\"text\":\"unreachable executed\"},{\"type\":\"assert_uninstantiable\",\"line\":2,\"filename\":\"t\",\"text\":\"integer overflow\"},{\"type\":\"module\",\"line\":3,\"filename\":\"t\"}", files: "t=traps_at_start", end: Counts(1, 2, 0, &[2, 3]) },
+    Row { name: "invalid and malformed", commands: "{\"type\":\"assert_invalid\",\"line\":1,\"filename\":\"x\"},{\"type\":\"assert_malformed\",\"line\":2,\"filename\":\"x\"},{\"type\":\"assert_malformed\",\"line\":3,\"filename\":\"bytes\"},{\"type\":\"assert_invalid\",\"line\":4,\"filename\":\"bytes\"}", files: "x=invalid bytes=none", end: Counts(2, 2, 0, &[2, 4]) },
+    Row { name: "a global", commands: "{\"type\":\"module\",\"line\":1,\"filename\":\"a\"},{\"type\":\"assert_return\",\"line\":2,\"action\":{\"type\":\"get\",\"field\":\"g\"},\"expected\":[{\"type\":\"i32\",\"value\":\"666\"}]},{\"type\":\"action\",\"line\":3,\"action\":{\"type\":\"get\",\"field\":\"add\"}}", files: "a=add_and_call", end: Counts(2, 1, 0, &[3]) },
+    Row { name: "results in their order", commands: "{\"type\":\"module\",\"line\":1,\"filename\":\"s\"},{\"type\":\"assert_return\",\"line\":2,\"action\":{\"type\":\"invoke\",\"field\":\"swap\",\"args\":[{\"type\":\"i32\",\"value\":\"1\"},{\"type\":\"i64\",\"value\":\"2\"}]},\"expected\":[{\"type\":\"i64\",\"value\":\"2\"},{\"type\":\"i32\",\"value\":\"1\"}]},{\"type\":\"assert_return\",\"line\":3,\"action\":{\"type\":\"invoke\",\"field\":\"swap\",\"args\":[{\"type\":\"i32\",\"value\":\"1\"},{\"type\":\"i64\",\"value\":\"2\"}]},\"expected\":[{\"type\":\"i64\",\"value\":\"2\"}]}", files: "s=returns_both", end: Counts(2, 1, 0, &[3]) },
+    Row { name: "references", commands: "{\"type\":\"module\",\"line\":1,\"filename\":\"r\"},{\"type\":\"assert_return\",\"line\":2,\"action\":{\"type\":\"invoke\",\"field\":\"same\",\"args\":[{\"type\":\"externref\",\"value\":\"5\"}]},\"expected\":[{\"type\":\"externref\",\"value\":\"5\"}]},{\"type\":\"assert_return\",\"line\":3,\"action\":{\"type\":\"invoke\",\"field\":\"same\",\"args\":[{\"type\":\"externref\",\"value\":\"5\"}]},\"expected\":[{\"type\":\"externref\",\"value\":\"null\"}]},{\"type\":\"assert_return\",\"line\":4,\"action\":{\"type\":\"invoke\",\"field\":\"null\",\"args\":[]},\"expected\":[{\"type\":\"funcref\",\"value\":\"null\"}]}", files: "r=references", end: Counts(3, 1, 0, &[3]) },
+    Row { name: "values that are left out", commands: "{\"type\":\"module\",\"line\":1,\"filename\":\"a\"},{\"type\":\"assert_return\",\"line\":2,\"action\":{\"type\":\"invoke\",\"field\":\"add\",\"args\":[{\"type\":\"f32\",\"value\":\"1\"}]},\"expected\":[]},{\"type\":\"assert_return\",\"line\":3,\"action\":{\"type\":\"invoke\",\"field\":\"add\",\"args\":[]},\"expected\":[{\"type\":\"f64\",\"value\":\"nan:canonical\"}]}", files: "a=add", end: Counts(1, 0, 2, &[]) },
+    Row { name: "two files of one name", commands: "{\"type\":\"module\",\"line\":1,\"filename\":\"a\"},{\"type\":\"assert_return\",\"line\":2,\"action\":{\"type\":\"invoke\",\"field\":\"f\",\"args\":[]},\"expected\":[{\"type\":\"i32\",\"value\":\"1\"}]}", files: "a=one a=two", end: Counts(2, 0, 0, &[]) },
+    Row { name: "a wrong number of arguments", commands: "{\"type\":\"module\",\"line\":1,\"filename\":\"a\"},{\"type\":\"assert_trap\",\"line\":2,\"action\":{\"type\":\"invoke\",\"field\":\"add\",\"args\":[]},\"text\":\"\"}", files: "a=add", end: Counts(1, 1, 0, &[2]) },
 ];
 
 // The rows.
@@ -100,11 +71,12 @@ fn module_bytes(alloc: Global, text: &str) -> Option<Vec<u8>> {
     assemble(alloc, text).ok()
 }
 
-// The files of these names.
-fn files(alloc: Global, texts: &[(&str, &str)]) -> Option<Vec<(String, Vec<u8>)>> {
+// The files of these words, each a name and what its module is called.
+fn read_files(alloc: Global, words: &str) -> Option<Vec<(String, Vec<u8>)>> {
     let mut list = Vec::new(alloc);
-    for (name, text) in texts {
-        let bytes = module_bytes(alloc, text)?;
+    for word in words.split_whitespace() {
+        let (name, module) = word.split_once('=').unwrap_or((word, ""));
+        let bytes = module_bytes(alloc, module_text(module))?;
         list.push((String::from_str(alloc, name).ok()?, bytes))
             .ok()?;
     }
@@ -141,17 +113,19 @@ fn fresh_embedding(alloc: Global) -> Option<Embedding> {
     Embedding::new(alloc, Config::new(1000, 100, 10, 10)?, Vec::new(alloc)).ok()
 }
 
+// Whether a script over these files ends so in a fresh embedding.
+fn ends_so(alloc: Global, script: &Script, files: &[(String, Vec<u8>)], end: End) -> bool {
+    match fresh_embedding(alloc) {
+        Some(mut embedding) => is_end(run_script(alloc, script, files, &mut embedding), end),
+        None => false,
+    }
+}
+
 /// Whether a script ends as its row says.
 pub fn is_run(alloc: Global, row: &Row) -> bool {
-    let (Some(script), Some(handed)) = (script_of(alloc, row.commands), files(alloc, row.files))
-    else {
-        return false;
-    };
-    match fresh_embedding(alloc) {
-        Some(mut embedding) => {
-            is_end(run_script(alloc, &script, &handed, &mut embedding), row.end)
-        }
-        None => false,
+    match (script_of(alloc, row.commands), read_files(alloc, row.files)) {
+        (Some(script), Some(files)) => ends_so(alloc, &script, &files, row.end),
+        _ => false,
     }
 }
 
