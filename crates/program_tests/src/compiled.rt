@@ -68,7 +68,7 @@ struct Row {
 }
 
 #[rattlefmt::skip]
-static PRIMES: [Row; 10] = [
+static SIEVE_CALLS: [Row; 10] = [
     Row { call: "count_primes 0", line: "i32 0\nfuel left " },
     Row { call: "count_primes 2", line: "i32 0\nfuel left " },
     Row { call: "count_primes 3", line: "i32 1\nfuel left " },
@@ -82,7 +82,7 @@ static PRIMES: [Row; 10] = [
 ];
 
 #[rattlefmt::skip]
-static SORTED: [Row; 7] = [
+static SORT_CALLS: [Row; 7] = [
     Row { call: "sorted_at 1 1 0", line: "i32 3967065\nfuel left " },
     Row { call: "sorted_at 1 100 0", line: "i32 187240\nfuel left " },
     Row { call: "sorted_at 1 100 50", line: "i32 8257753\nfuel left " },
@@ -93,7 +93,7 @@ static SORTED: [Row; 7] = [
 ];
 
 #[rattlefmt::skip]
-static DIGESTS: [Row; 8] = [
+static HASH_CALLS: [Row; 8] = [
     Row { call: "digest_part 1 0", line: "i64 13436514500253700074\nfuel left " },
     Row { call: "digest_part 1 1", line: "i64 4702110809750118947\nfuel left " },
     Row { call: "digest_part 1 2", line: "i64 12683088330831133340\nfuel left " },
@@ -114,21 +114,21 @@ fn agrees(alloc: Global, sections: &'static str, row: &Row) -> Result<bool, Allo
 
 #[test]
 fn runs_a_sieve(rt: HostRuntime) {
-    for row in &PRIMES {
+    for row in &SIEVE_CALLS {
         assert!(rt; agrees(rt.alloc(), SIEVE, row) == Ok(true), "{}", row.call);
     }
 }
 
 #[test]
 fn runs_a_sort(rt: HostRuntime) {
-    for row in &SORTED {
+    for row in &SORT_CALLS {
         assert!(rt; agrees(rt.alloc(), SORT, row) == Ok(true), "{}", row.call);
     }
 }
 
 #[test]
 fn runs_a_hash(rt: HostRuntime) {
-    for row in &DIGESTS {
+    for row in &HASH_CALLS {
         assert!(rt; agrees(rt.alloc(), HASH, row) == Ok(true), "{}", row.call);
     }
 }
