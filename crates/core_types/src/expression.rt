@@ -1,4 +1,5 @@
-ghost use Rattle.std.specs.Prelude.{◌≡◌, ◌≢◌, ◌<◌, ◌∷◌, [], ◌++◌, Some, false, length, slice_get, IfOk, IsTrue, OnErr, OnOk};
+ghost use Rattle.std.specs.Prelude.{ℕ, ◌≡◌, ◌≢◌, ◌<◌, ◌∷◌, [], ◌++◌, Some, false, length, slice_get, IfOk, IsTrue, OnErr, OnOk};
+ghost use Rattle.core_types.specs.declared.lent_op.OpWith.{OpWith as AnyStored};
 ghost use Rattle.core_types.specs.declared.op.Op.TheVariants as flat;
 ghost use Rattle.core_types.specs.declared.op.PlainOp.{PlainOp as Plain};
 ghost use Rattle.core_types.specs.Expressions.{IsWithin, lent_op, stored_op};
@@ -145,11 +146,8 @@ impl Expression {
     pub fn push(&mut self, op: Op) -> Result<(), AllocError>
         ensures { OnOk result (self.new ≡ self.old ++ op ∷ []) }
     {
-        if let Some(stored) = store_op(&op) {
-            return append(&mut self.operations, stored);
-        }
-        let number = add(&mut self.others, op)?;
-        append(&mut self.operations, OpWith::Other(number))
+        let stored = store(&mut self.others, op)?;
+        append(&mut self.operations, stored)
     }
 }
 
@@ -165,4 +163,19 @@ fn add(others: &mut Vec<Op>, op: Op) -> Result<u32, AllocError>
     };
     append(others, op)?;
     Ok(number)
+}
+
+// An operation in eight bytes: one that takes more is put behind the others, and stands for its number.
+#[inline(always)]
+fn store(others: &mut Vec<Op>, op: Op) -> Result<StoredOp, AllocError>
+    ensures within { IfOk result (IsWithin (length others.new.items)) }
+    ensures stored { IfOk result (λ o. stored_op others.new.items o ≡ op) }
+    ensures kept { (o : AnyStored ℕ) → IsWithin (length others.old.items) o
+        → IsWithin (length others.new.items) o
+        × (stored_op others.new.items o ≡ stored_op others.old.items o) }
+{
+    match store_op(&op) {
+        Some(stored) => Ok(stored),
+        None => Ok(OpWith::Other(add(others, op)?)),
+    }
 }

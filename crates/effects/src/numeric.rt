@@ -45,6 +45,15 @@ pub fn compute_unary(op: UnaryInstruction, x: u64) -> u64
     }
 }
 
+// The integer of a cell of 32 bits.
+#[inline(always)]
+fn integer_32(x: u64) -> u32
+    requires { x < 2 ^ 32 }
+    ensures { result ≡ x }
+{
+    low(x)
+}
+
 // What an operator gives from the cells of two integers of 32 bits, or its trap.
 #[inline(always)]
 fn binary_low(op: BinaryOp, x: u64, y: u64) -> Result<u64, Trap>
@@ -52,7 +61,7 @@ fn binary_low(op: BinaryOp, x: u64, y: u64) -> Result<u64, Trap>
     requires y { y < 2 ^ 32 }
     ensures { result ≡ binary_operator 32 op x y }
 {
-    Ok(binary_32(op, low(x), low(y))? as u64)
+    Ok(binary_32(op, integer_32(x), integer_32(y))? as u64)
 }
 
 // Whether the cells of two integers of 32 bits compare so, as a cell.
@@ -62,7 +71,7 @@ fn compare_low(op: Comparison, x: u64, y: u64) -> u64
     requires y { y < 2 ^ 32 }
     ensures { result ≡ comparison_operator 32 op x y }
 {
-    compare_32(op, low(x), low(y)) as u64
+    compare_32(op, integer_32(x), integer_32(y)) as u64
 }
 
 /// The cell of what an instruction on two integers gives from those of two cells, the first operand before the second, or its trap:

@@ -1,7 +1,9 @@
-//! Tests of what instructions do over cells.
+//! Tests of cells, and of what instructions do over them.
 #![tactic(auto)]
 
 #[cfg(test)]
 mod accesses;
 #[cfg(test)]
 mod numeric;
+#[cfg(test)]
+mod values;

@@ -7,7 +7,7 @@ use Rattle.hostfunc.specs.Boxes.{declared_type, type_of_host}
 use Rattle.hostfunc.specs.declared.host_function.HostFn.{Ghosts}
 use Rattle.hostfunc.specs.declared.host_object.HostObject.{HostObject}
 use Rattle.hostfunc.specs.Tables.{hosts_in}
-use Rattle.store.specs.Contents.{host_function, store_of, with_function}
+use Rattle.store.specs.Contents.{BothParts, host_function, store_of, with_function}
 use Rattle.linker.specs.declared.refusals.NameRefusal.{NameRefusal}
 use Rattle.linker.specs.declared.refusals.NameRefusal.TheVariants as name
 use Rattle.embed.specs.declared.definitions.Defined.{Defined}
@@ -25,16 +25,20 @@ name_fault name.NameTaken = NameTaken
 name_fault name.OutOfMemory = OutOfMemory
 
 module _ {I : Type 0} {F : I → Type 0} where
-  -- A definition is taken in: its name stands for the next function, which is that of the next host object.
+  -- A definition is named: its name stands for the next function, which is that of the next host object.
+  pub record IsNamed (d : HostDefinition (HostObject I F)) (names names' : NamesContents)
+      (store store' : BothParts) : Type 0 where
+    pub name : names' ≡ with_host names d.module_name d.name (length (store_of store).functions)
+    pub faultless : fault_of type_of_host names d ≡ None
+    pub function : store_of store' ≡ with_function (store_of store)
+        (host_function (length store.code.hosts) d.host.ty)
+    pub counted : length store'.code.hosts ≡ length store.code.hosts + 1
+
+  -- A definition is taken in: it is named, and its object is the next one.
   pub record TakesIn (old : Defined I F) (d : HostDefinition (HostObject I F)) (new : Defined I F)
       : Type 0 where
-    pub names : new.names ≡ with_host old.names d.module_name d.name
-        (length (store_of old.store).functions)
-    pub faultless : fault_of type_of_host old.names d ≡ None
-    pub store : store_of new.store ≡ with_function (store_of old.store)
-        (host_function (length old.store.code.hosts) d.host.ty)
-    pub counted : length new.store.code.hosts ≡ length old.store.code.hosts + 1
-    pub objects : hosts_in new.hosts ≡ hosts_in old.hosts ++ d.host ∷ []
+    pub named : IsNamed d old.names new.names old.store new.store
+    pub object : hosts_in new.hosts ≡ hosts_in old.hosts ++ d.host ∷ []
 
   -- Definitions are taken in, and none is at fault, where a memory and a table may have so much.
   pub record AreTakenIn (pages entries : ℕ) (ds : List (HostDefinition (HostObject I F)))

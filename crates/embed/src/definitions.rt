@@ -2,7 +2,7 @@ ghost use Rattle.std.specs.Prelude.{◌+◌, ◌<◌, ◌^◌, IfOk, IfErr, OnOk
 ghost use Rattle.hostfunc.specs.Boxes.{HaveHosts};
 ghost use Rattle.hostfunc.specs.Tables.{hosts_in};
 ghost use Rattle.store.specs.Contents.{store_of};
-ghost use Rattle.embed.specs.Definitions.{AreTakenIn, IsAtFault, IsFirstFault, TakesIn, definition_of};
+ghost use Rattle.embed.specs.Definitions.{AreTakenIn, IsAtFault, IsFirstFault, IsNamed, TakesIn, definition_of};
 
 use crate::config::Config;
 use crate::host_definitions::HostDef;
@@ -20,6 +20,34 @@ pub struct Defined {
     pub hosts: HostTable,
 }
 
+// Names a host function, and takes in its type, as of the next host function.
+fn name_host(
+    alloc: Global,
+    definition: &HostDef,
+    names: &mut Names,
+    store: &mut Store,
+) -> Result<(), NewFault>
+    requires functions { length (store_of store.old).functions + 1 < 2 ^ 32 }
+    requires hosts { length store.old.code.hosts + 1 < 2 ^ 32 }
+    ensures named { OnOk result (IsNamed (definition_of ⟦<dyn HostFn as HostFn>⟧ definition.now)
+        names.old names.new store.old store.new) }
+    ensures refused { IfErr result
+        (λ fault. IsAtFault ⟦<dyn HostFn as HostFn>⟧ fault names.old definition.now) }
+{
+    let ty = object_type(&definition.func);
+    if has_funcref(ty.results.as_slice()) {
+        return Err(NewFault::HostFuncRef);
+    }
+    let address = store.code().function_count() as u32;
+    names.define_host(
+        definition.module.as_str(),
+        definition.name.as_str(),
+        address,
+    )?;
+    store.append_host(ty.copy(alloc)?)?;
+    Ok(())
+}
+
 // Takes in one host function.
 fn define_host(alloc: Global, definition: HostDef, defined: &mut Defined) -> Result<(), NewFault>
     requires functions { length (store_of defined.old.store).functions + 1 < 2 ^ 32 }
@@ -30,18 +58,8 @@ fn define_host(alloc: Global, definition: HostDef, defined: &mut Defined) -> Res
     ensures refused { IfErr result
         (λ fault. IsAtFault ⟦<dyn HostFn as HostFn>⟧ fault defined.old.names definition) }
 {
-    let HostDef { module, name, func } = definition;
-    let ty = object_type(&func);
-    if has_funcref(ty.results.as_slice()) {
-        return Err(NewFault::HostFuncRef);
-    }
-    let address = defined.store.code().function_count() as u32;
-    let copied = ty.copy(alloc)?;
-    defined
-        .names
-        .define_host(module.as_str(), name.as_str(), address)?;
-    defined.store.append_host(copied)?;
-    defined.hosts.push(func)?;
+    name_host(alloc, &definition, &mut defined.names, &mut defined.store)?;
+    defined.hosts.push(definition.func)?;
     Ok(())
 }
 

@@ -338,10 +338,16 @@ fn is_answer_to_first(answer: Result<ModuleNumber, Refusal>, count: usize) -> bo
     }
 }
 
+// Whether so many of the first bytes get their answer from an embedding.
+fn loads_first_in(at: &mut Embedding, count: usize) -> bool {
+    let first = &ADD[..count.min(ADD.len())];
+    is_answer_to_first(at.load(first), count)
+}
+
 // Whether so many of the first bytes get their answer.
 fn loads_first(alloc: Global, count: usize) -> bool {
     match fresh_embedding(alloc) {
-        Some(mut at) => is_answer_to_first(at.load(&ADD[..count.min(ADD.len())]), count),
+        Some(mut at) => loads_first_in(&mut at, count),
         None => false,
     }
 }

@@ -90,14 +90,24 @@ fn keeps_many_locals(rt: HostRuntime) {
     assert!(rt; counts_locals(rt.alloc()) == Ok(true));
 }
 
+// A list of three elements.
+fn three_items(alloc: Global) -> Result<Items<u32>, AllocError> {
+    let elements = vec![in alloc; 1u32, 2, 3]?;
+    Ok(Items::from_vec(elements))
+}
+
+// Whether a list has these three elements.
+fn has_three(items: &Items<u32>) -> bool {
+    let is_read = items.len() == 3 && !items.is_empty() && items.as_slice() == [1, 2, 3].as_slice();
+    is_read && item(items.as_slice(), 2) == Some(&3) && item(items.as_slice(), 3).is_none()
+}
+
 // Whether a list keeps its elements.
 fn keeps_elements(alloc: Global) -> Result<bool, AllocError> {
-    let items = Items::from_vec(vec![in alloc; 1u32, 2, 3]?);
-    let same = Items::from_vec(vec![in alloc; 1u32, 2, 3]?);
-    let is_read = items.len() == 3 && !items.is_empty() && items.as_slice() == [1, 2, 3].as_slice();
-    let is_found = item(items.as_slice(), 2) == Some(&3) && item(items.as_slice(), 3).is_none();
-    let is_equal = items == same;
-    Ok(is_read && is_found && is_equal && items.into_vec().as_slice() == [1, 2, 3].as_slice())
+    let items = three_items(alloc)?;
+    let same = three_items(alloc)?;
+    let is_right = has_three(&items) && items == same;
+    Ok(is_right && items.into_vec().as_slice() == [1, 2, 3].as_slice())
 }
 
 #[test]

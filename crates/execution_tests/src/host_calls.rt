@@ -125,25 +125,39 @@ fn link(alloc: Global, hosted: &mut Hosted, text: &str) -> bool {
     instantiate(alloc, store, hosts, &mut meter, &loaded, &given).is_ok()
 }
 
-// The first call that does not go so in a store of the host functions and a module.
-fn first_at_fault(alloc: Global, text: &str, calls: &[Call]) -> Option<&'static str> {
-    let Ok(mut hosted) = new_hosted(alloc) else {
-        return Some("no store");
-    };
-    if !link(alloc, &mut hosted, text) {
+// Whether a call ends so and leaves so much fuel.
+fn goes_so(alloc: Global, hosted: &mut Hosted, row: &Call) -> bool {
+    let call = (row.address, row.args);
+    let wanted = (row.ends, row.left);
+    let Hosted { store, hosts } = hosted;
+    calls_so(alloc, store, hosts, call, row.bounds, wanted)
+}
+
+// The first call that does not go so once a module is linked.
+fn first_behind_link(
+    alloc: Global,
+    hosted: &mut Hosted,
+    text: &str,
+    calls: &[Call],
+) -> Option<&'static str> {
+    if !link(alloc, hosted, text) {
         return Some("no link");
     }
     let mut first = None;
     for row in calls {
-        let call = (row.address, row.args);
-        let wanted = (row.ends, row.left);
-        let Hosted { store, hosts } = &mut hosted;
-        let goes = calls_so(alloc, store, hosts, call, row.bounds, wanted);
-        if first.is_none() && !goes {
+        if first.is_none() && !goes_so(alloc, hosted, row) {
             first = Some(row.name);
         }
     }
     first
+}
+
+// The first call that does not go so in a store of the host functions and a module.
+fn first_at_fault(alloc: Global, text: &str, calls: &[Call]) -> Option<&'static str> {
+    match new_hosted(alloc) {
+        Ok(mut hosted) => first_behind_link(alloc, &mut hosted, text, calls),
+        Err(_) => Some("no store"),
+    }
 }
 
 #[test]

@@ -56,9 +56,9 @@ struct Difference {
     ghost gives_number: { ty.results ≡ I32 ∷ [] } by { Prim.hlevel props },
 }
 
-fn new_difference(alloc: Global) -> Result<Difference, AllocError> {
+fn new_difference(alloc: Global) -> Result<Box<Difference>, AllocError> {
     let ty = function_type(alloc, &[ValType::I32, ValType::I32], &[ValType::I32])?;
-    Ok(Difference { alloc, ty })
+    Ok(Box::new(alloc, Difference { alloc, ty })?)
 }
 
 impl HostFn for Difference {
@@ -92,9 +92,9 @@ struct Sum {
     ghost gives_number: { ty.results ≡ I32 ∷ [] } by { Prim.hlevel props },
 }
 
-fn new_sum(alloc: Global) -> Result<Sum, AllocError> {
+fn new_sum(alloc: Global) -> Result<Box<Sum>, AllocError> {
     let ty = function_type(alloc, &[ValType::I32], &[ValType::I32])?;
-    Ok(Sum { alloc, sum: 0, ty })
+    Ok(Box::new(alloc, Sum { alloc, sum: 0, ty })?)
 }
 
 impl HostFn for Sum {
@@ -128,10 +128,10 @@ struct Four {
     ghost gives_four: { ty.results ≡ I32 ∷ I64 ∷ I32 ∷ I32 ∷ [] } by { Prim.hlevel props },
 }
 
-fn new_four(alloc: Global) -> Result<Four, AllocError> {
+fn new_four(alloc: Global) -> Result<Box<Four>, AllocError> {
     let results = [ValType::I32, ValType::I64, ValType::I32, ValType::I32];
     let ty = function_type(alloc, &[], &results)?;
-    Ok(Four { alloc, ty })
+    Ok(Box::new(alloc, Four { alloc, ty })?)
 }
 
 impl HostFn for Four {
@@ -160,9 +160,9 @@ struct Marker {
     ghost gives_nothing: { ty.results ≡ [] } by { Prim.hlevel props },
 }
 
-fn new_marker(alloc: Global) -> Result<Marker, AllocError> {
+fn new_marker(alloc: Global) -> Result<Box<Marker>, AllocError> {
     let ty = function_type(alloc, &[], &[])?;
-    Ok(Marker { alloc, ty })
+    Ok(Box::new(alloc, Marker { alloc, ty })?)
 }
 
 impl HostFn for Marker {
@@ -199,13 +199,34 @@ fn take_in(hosted: &mut Hosted, alloc: Global, object: Box<dyn HostFn>) -> Resul
     ensures hosts { OnOk result (length hosted.new.store.code.hosts ≡
         length hosted.old.store.code.hosts + 1) }
 {
-    let ty = object_type(&object).copy(alloc)?;
     if has_funcref(object_type(&object).results.as_slice()) {
         return Err(AllocError);
     }
-    hosted.hosts.push(object)?;
+    let number = hosted.hosts.push(object)?;
+    let ty = hosted.hosts.ty(number).copy(alloc)?;
     hosted.store.append_host(ty)?;
     Ok(())
+}
+
+// Takes in two such objects, one after the other.
+fn take_in_both(
+    hosted: &mut Hosted,
+    alloc: Global,
+    first: Box<dyn HostFn>,
+    second: Box<dyn HostFn>,
+) -> Result<(), AllocError>
+    requires objects { length (hosts_in hosted.old.hosts) < 8 }
+    requires functions { length (store_of hosted.old.store).functions < 8 }
+    requires hosts { length hosted.old.store.code.hosts < 8 }
+    ensures objects { OnOk result (length (hosts_in hosted.new.hosts) ≡
+        length (hosts_in hosted.old.hosts) + 2) }
+    ensures functions { OnOk result (length (store_of hosted.new.store).functions ≡
+        length (store_of hosted.old.store).functions + 2) }
+    ensures hosts { OnOk result (length hosted.new.store.code.hosts ≡
+        length hosted.old.store.code.hosts + 2) }
+{
+    take_in(hosted, alloc, first)?;
+    take_in(hosted, alloc, second)
 }
 
 // Four host functions: a difference, a sum, four results, and none.
@@ -219,10 +240,10 @@ struct Functions {
 
 fn new_functions(alloc: Global) -> Result<Functions, AllocError> {
     Ok(Functions {
-        difference: Box::new(alloc, new_difference(alloc)?)?,
-        sum: Box::new(alloc, new_sum(alloc)?)?,
-        four: Box::new(alloc, new_four(alloc)?)?,
-        marker: Box::new(alloc, new_marker(alloc)?)?,
+        difference: new_difference(alloc)?,
+        sum: new_sum(alloc)?,
+        four: new_four(alloc)?,
+        marker: new_marker(alloc)?,
     })
 }
 
@@ -233,9 +254,7 @@ pub fn new_hosted(alloc: Global) -> Result<Hosted, AllocError> {
         store: Store::new(alloc, 1, 2),
         hosts: HostTable::new(alloc),
     };
-    take_in(&mut hosted, alloc, functions.difference)?;
-    take_in(&mut hosted, alloc, functions.sum)?;
-    take_in(&mut hosted, alloc, functions.four)?;
-    take_in(&mut hosted, alloc, functions.marker)?;
+    take_in_both(&mut hosted, alloc, functions.difference, functions.sum)?;
+    take_in_both(&mut hosted, alloc, functions.four, functions.marker)?;
     Ok(hosted)
 }

@@ -193,18 +193,25 @@ fn takes(state: &mut State, step: Step) -> bool {
     }
 }
 
-// How many steps of a case are taken so, up to the first one that is not.
-fn count_steps(alloc: Global, case: &Case) -> usize {
-    let Some(store) = store_with(alloc, &[case.text]) else {
-        return 0;
-    };
-    let mut state = store.state;
-    for (index, step) in case.steps.iter().enumerate() {
-        if !takes(&mut state, *step) {
+// How many steps are taken so, up to the first one that is not.
+fn count_taken(state: &mut State, steps: &[Step]) -> usize {
+    for (index, step) in steps.iter().enumerate() {
+        if !takes(state, *step) {
             return index;
         }
     }
-    case.steps.len()
+    steps.len()
+}
+
+// How many steps of a case are taken so in a store of its own.
+fn count_steps(alloc: Global, case: &Case) -> usize {
+    match store_with(alloc, &[case.text]) {
+        Some(store) => {
+            let mut state = store.state;
+            count_taken(&mut state, case.steps)
+        }
+        None => 0,
+    }
 }
 
 #[test]

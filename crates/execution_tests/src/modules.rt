@@ -60,11 +60,23 @@ pub fn append(alloc: Global, store: &mut Store, loaded: &Rc<LoadedModule>) -> Op
     instantiate(alloc, store, &mut hosts, &mut meter, loaded, &[]).ok()
 }
 
+// Links the module of a text, which has no imports, and answers the number of its instance.
+fn append_text(alloc: Global, store: &mut Store, text: &str) -> Option<u32> {
+    append(alloc, store, &loaded_module(alloc, text)?)
+}
+
+// Whether the modules of all these texts can be linked, one after the other.
+fn can_append_all(alloc: Global, store: &mut Store, texts: &[&str]) -> bool {
+    for text in texts {
+        if append_text(alloc, store, text).is_none() {
+            return false;
+        }
+    }
+    true
+}
+
 /// A store with an instance of each of these modules, which have no imports.
 pub fn store_with(alloc: Global, texts: &[&str]) -> Option<Store> {
     let mut store = empty_store(alloc);
-    for text in texts {
-        append(alloc, &mut store, &loaded_module(alloc, text)?)?;
-    }
-    Some(store)
+    can_append_all(alloc, &mut store, texts).then_some(store)
 }

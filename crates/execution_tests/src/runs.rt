@@ -307,20 +307,36 @@ fn parts_agree(alloc: Global, parts: &[&str]) -> bool {
     }
 }
 
-/// Whether a row is run as it says.
-pub fn agrees(alloc: Global, line: &str) -> bool {
+// Whether a row is run as it says.
+fn agrees(alloc: Global, line: &str) -> bool {
     match parts_of(alloc, line) {
         Ok(parts) => parts_agree(alloc, &parts),
         Err(_) => false,
     }
 }
 
+/// The first of so many rows that is not run as it says.
+pub fn first_row_at_fault(alloc: Global, rows: &str, count: usize) -> Option<&str> {
+    if rows.lines().count() != count {
+        return Some("another count of rows");
+    }
+    for line in rows.lines() {
+        if !agrees(alloc, line) {
+            return Some(line);
+        }
+    }
+    None
+}
+
+// The rows.
+fn rows() -> &'static str {
+    ROWS
+}
+
 #[test]
 fn runs_functions(rt: HostRuntime) {
-    assert!(rt; ROWS.lines().count() == 178);
-    for line in ROWS.lines() {
-        assert!(rt; agrees(rt.alloc(), line), "{line}");
-    }
+    let first = first_row_at_fault(rt.alloc(), rows(), 178);
+    assert!(rt; first.is_none(), "{first:?}");
 }
 
 // Two modules, of which the first function of the second calls the last one of its own.

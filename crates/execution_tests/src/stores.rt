@@ -251,25 +251,34 @@ fn is_described(ty: &ExternType, wanted: Described) -> bool {
     }
 }
 
-// Whether an external value is as described in a store of a module, whose table and memory were grown by one.
-fn describes(alloc: Global, value: Extern, wanted: Described) -> bool {
-    let text =
-        "(table 2 5 externref) (memory 1) (global i32 i32.const 1) (global (mut i64) i64.const 1) (func (param i32 funcref) (result i64) i64.const 0) (func ref.null extern i32.const 1 table.grow drop i32.const 1 memory.grow drop)";
-    let Some(mut store) = store_with(alloc, &[text]) else {
-        return false;
-    };
+// Whether the function at address 1 ends, which grows a table and a memory by one.
+fn can_grow(alloc: Global, store: &mut Store) -> bool {
     let mut hosts = HostTable::new(alloc);
     let call = (1, [].as_slice());
-    let wanted_end = ("values", 969);
-    if !calls_so(alloc, &mut store, &mut hosts, call, (2000, 1), wanted_end) {
-        return false;
-    }
+    let wanted = ("values", 969);
+    calls_so(alloc, store, &mut hosts, call, (2000, 1), wanted)
+}
+
+// Whether an external value is as described in a store.
+fn describes_in(alloc: Global, store: &Store, value: Extern, wanted: Described) -> bool {
     if !store.has_extern(value) {
         return matches!(wanted, Described::Missing);
     }
     match store.extern_type(alloc, value) {
         Ok(ty) => is_described(&ty, wanted),
         Err(_) => false,
+    }
+}
+
+// Whether an external value is as described in a store of a module, whose table and memory were grown by one.
+fn describes(alloc: Global, value: Extern, wanted: Described) -> bool {
+    let text =
+        "(table 2 5 externref) (memory 1) (global i32 i32.const 1) (global (mut i64) i64.const 1) (func (param i32 funcref) (result i64) i64.const 0) (func ref.null extern i32.const 1 table.grow drop i32.const 1 memory.grow drop)";
+    match store_with(alloc, &[text]) {
+        Some(mut store) => {
+            can_grow(alloc, &mut store) && describes_in(alloc, &store, value, wanted)
+        }
+        None => false,
     }
 }
 

@@ -3,11 +3,12 @@
 
 use crate::listing::list;
 use binary::{DecodeError, decode};
+use core_types::Module;
 use sidetable::{FlatModule, PackedFunction, PackedOp, flatten};
 use std::alloc::{AllocError, Global};
 use std::mem::size_of;
 use testing::{AssembleError, assemble};
-use validator::{ValidateError, validate};
+use validator::{ValidModule, ValidateError, validate};
 
 // What a row says of a function.
 enum Expected {
@@ -138,15 +139,36 @@ fn is_so(
     }
 }
 
+// The module of a source.
+fn module_of(alloc: Global, source: &str) -> Result<Module, Refused> {
+    let bytes = assemble(alloc, source)?;
+    Ok(decode(alloc, &bytes)?)
+}
+
+// The module of a source, which is valid.
+fn valid_module_of(alloc: Global, source: &str) -> Result<ValidModule, Refused> {
+    let module = module_of(alloc, source)?;
+    Ok(validate(alloc, module)?)
+}
+
+// The flat code of a source's module.
+fn flat_module_of(alloc: Global, source: &str) -> Result<FlatModule, Refused> {
+    let validated = valid_module_of(alloc, source)?;
+    Ok(flatten(alloc, &validated)?)
+}
+
+// Whether the last function of a module is so.
+fn is_last_so(alloc: Global, flat: &FlatModule, expected: &Expected) -> Result<bool, AllocError> {
+    match flat.functions.last() {
+        Some(last) => is_so(alloc, flat, last, expected),
+        None => Ok(false),
+    }
+}
+
 // Whether the last function of a row's module is flattened so.
 fn is_flattened(alloc: Global, row: &Row) -> Result<bool, Refused> {
-    let bytes = assemble(alloc, row.source)?;
-    let validated = validate(alloc, decode(alloc, &bytes)?)?;
-    let flat = flatten(alloc, &validated)?;
-    let Some(last) = flat.functions.last() else {
-        return Ok(false);
-    };
-    Ok(is_so(alloc, &flat, last, &row.expected)?)
+    let flat = flat_module_of(alloc, row.source)?;
+    Ok(is_last_so(alloc, &flat, &row.expected)?)
 }
 
 #[test]

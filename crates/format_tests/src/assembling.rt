@@ -22,12 +22,23 @@ fn function_of(alloc: Global, codes: &str, instruction: &str) -> Result<String, 
     Ok(text)
 }
 
+// The body of one instruction.
+fn body_of(alloc: Global, codes: &str) -> Result<Vec<u8>, AllocError> {
+    let instruction = bytes_of(alloc, codes)?;
+    join(alloc, &[&instruction, &[0x0B]])
+}
+
+// Whether the text of an instruction gives its bytes.
+fn gives_bytes(alloc: Global, codes: &str, text: &str) -> Result<bool, AllocError> {
+    let body = body_of(alloc, codes)?;
+    Ok(ends_with(alloc, text, &body))
+}
+
 // Whether the text of a row gives its bytes; a row whose number is not spelled in the shortest way does not.
 fn gives_operation(alloc: Global, row: &str) -> Result<bool, AllocError> {
     let (codes, instruction) = row.split_once(" = ").unwrap_or((row, ""));
-    let body = join(alloc, &[&bytes_of(alloc, codes)?, &[0x0B]])?;
     let text = function_of(alloc, codes, instruction)?;
-    Ok(ends_with(alloc, text.as_str(), &body) != codes.starts_with("fc 8b"))
+    Ok(gives_bytes(alloc, codes, text.as_str())? != codes.starts_with("fc 8b"))
 }
 
 #[test]

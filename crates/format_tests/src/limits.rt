@@ -103,13 +103,18 @@ fn functions_and_locals(decoded: &Module) -> Option<(usize, u32)> {
     Some((decoded.funcs.len(), last.locals.len()))
 }
 
+// Whether bytes are decoded to a module with so many functions and locals.
+fn has_locals(alloc: Global, bytes: &[u8], wanted: (usize, u32)) -> bool {
+    match decode(alloc, bytes) {
+        Ok(decoded) => functions_and_locals(&decoded) == Some(wanted),
+        Err(_) => false,
+    }
+}
+
 // Whether the module of many groups is decoded with all its functions and locals.
 fn keeps_groups(alloc: Global) -> Result<bool, AllocError> {
     let bytes = many_groups(alloc)?;
-    match decode(alloc, &bytes) {
-        Ok(decoded) => Ok(functions_and_locals(&decoded) == Some((100_000, 50_000))),
-        Err(_) => Ok(false),
-    }
+    Ok(has_locals(alloc, &bytes, (100_000, 50_000)))
 }
 
 #[test]

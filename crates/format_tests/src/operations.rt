@@ -168,14 +168,25 @@ fn first_operation(alloc: Global, decoded: &Module) -> Result<String, AllocError
     Ok(text)
 }
 
+// Whether the first operation of a module has this text.
+fn begins_so(alloc: Global, decoded: &Module, text: &str) -> Result<bool, AllocError> {
+    Ok(first_operation(alloc, decoded)?.as_str() == text)
+}
+
+// Whether bytes are decoded to a module whose first operation has this text.
+fn decodes_so(alloc: Global, bytes: &[u8], text: &str) -> Result<bool, AllocError> {
+    match decode(alloc, bytes) {
+        Ok(decoded) => begins_so(alloc, &decoded, text),
+        Err(_) => Ok(false),
+    }
+}
+
 // Whether the bytes of a row are decoded to an operation of its text.
 fn agrees(alloc: Global, row: &str) -> Result<bool, AllocError> {
     let (codes, text) = row.split_once(" = ").unwrap_or((row, ""));
-    let bytes = module_around(alloc, &bytes_of(alloc, codes)?)?;
-    match decode(alloc, &bytes) {
-        Ok(decoded) => Ok(first_operation(alloc, &decoded)?.as_str() == text),
-        Err(_) => Ok(false),
-    }
+    let body = bytes_of(alloc, codes)?;
+    let bytes = module_around(alloc, &body)?;
+    decodes_so(alloc, &bytes, text)
 }
 
 #[test]

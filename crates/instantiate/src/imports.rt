@@ -1,11 +1,12 @@
-ghost use Rattle.std.specs.Prelude.{◌↔◌, ◌≤◌, length, IfNone, IfSome, IsTrue};
+ghost use Rattle.std.specs.Prelude.{◌↔◌, ◌≤◌, length, IfNone, IfSome, IsTrue, Some};
 ghost use Rattle.core_types.specs.declared.module.ImportDesc.TheVariants.{Func as FuncImport};
-ghost use Rattle.core_types.specs.declared.outcome.Extern.TheVariants.{Func as FuncValue};
+ghost use Rattle.core_types.specs.declared.outcome.Extern.TheVariants.{Func as FuncValue, Global as GlobalValue, Memory as MemoryValue, Table as TableValue};
+ghost use Rattle.core_types.specs.declared.types.ExternType.TheVariants.{Global, Memory, Table};
 ghost use Rattle.meaning.specs.execution.Modules.{AreGiven, IsGiven, import_type};
 ghost use Rattle.store.specs.Contents.{store_of};
 ghost use Rattle.instantiate.specs.Links.{IsMismatch};
 
-use core_types::{Extern, ExternType, ImportDesc, Module};
+use core_types::{Extern, ExternType, GlobalType, ImportDesc, Limits, Module, TableType};
 use matching::matches;
 use store::Store;
 
@@ -23,6 +24,47 @@ fn is_function_given(store: &Store, address: u32, wanted: &Module, x: u32) -> bo
     }
 }
 
+// Whether the table at an address matches this type.
+fn is_table_given(store: &Store, address: u32, wanted: TableType) -> bool
+    ensures { IsTrue result ↔ IsGiven (store_of store.now) (TableValue address)
+        (Some (Table wanted)) }
+{
+    match store.state().table(address) {
+        Some(table) => matches(&ExternType::Table(table.ty()), &ExternType::Table(wanted)),
+        None => false,
+    }
+}
+
+// Whether the memory at an address matches this type.
+fn is_memory_given(store: &Store, address: u32, wanted: Limits) -> bool
+    ensures { IsTrue result ↔ IsGiven (store_of store.now) (MemoryValue address)
+        (Some (Memory wanted)) }
+{
+    match store.state().memory(address) {
+        Some(memory) => matches(
+            &ExternType::Memory(memory.limits()),
+            &ExternType::Memory(wanted),
+        ),
+        None => false,
+    }
+}
+
+// Whether the global at an address matches this type.
+fn is_global_given(store: &Store, address: u32, wanted: GlobalType) -> bool
+    ensures { IsTrue result ↔ IsGiven (store_of store.now) (GlobalValue address)
+        (Some (Global wanted)) }
+{
+    match store.state().global(address) {
+        Some(variable) => {
+            matches(
+                &ExternType::Global(variable.ty()),
+                &ExternType::Global(wanted),
+            )
+        }
+        None => false,
+    }
+}
+
 // Whether an external value may be given for an import.
 fn is_given(store: &Store, value: Extern, wanted: &Module, desc: ImportDesc) -> bool
     ensures { IsTrue result ↔ IsGiven (store_of store.now) value (import_type wanted.now desc) }
@@ -31,25 +73,11 @@ fn is_given(store: &Store, value: Extern, wanted: &Module, desc: ImportDesc) -> 
         (Extern::Func(address), ImportDesc::Func(x)) => {
             is_function_given(store, address, wanted, x)
         }
-        (Extern::Table(address), ImportDesc::Table(ty)) => match store.state().table(address) {
-            Some(table) => matches(&ExternType::Table(table.ty()), &ExternType::Table(ty)),
-            None => false,
-        },
+        (Extern::Table(address), ImportDesc::Table(ty)) => is_table_given(store, address, ty),
         (Extern::Memory(address), ImportDesc::Memory(limits)) => {
-            match store.state().memory(address) {
-                Some(memory) => matches(
-                    &ExternType::Memory(memory.limits()),
-                    &ExternType::Memory(limits),
-                ),
-                None => false,
-            }
+            is_memory_given(store, address, limits)
         }
-        (Extern::Global(address), ImportDesc::Global(ty)) => match store.state().global(address) {
-            Some(variable) => {
-                matches(&ExternType::Global(variable.ty()), &ExternType::Global(ty))
-            }
-            None => false,
-        },
+        (Extern::Global(address), ImportDesc::Global(ty)) => is_global_given(store, address, ty),
         _ => false,
     }
 }

@@ -122,20 +122,49 @@ fn take_in(hosted: &mut Hosted, alloc: Global, object: Box<dyn HostFn>) -> Resul
     ensures hosts { OnOk result (length hosted.new.store.code.hosts ≡
         length hosted.old.store.code.hosts + 1) }
 {
-    let ty = object_type(&object).copy(alloc)?;
     if has_funcref(object_type(&object).results.as_slice()) {
         return Err(AllocError);
     }
-    hosted.hosts.push(object)?;
+    let number = hosted.hosts.push(object)?;
+    let ty = hosted.hosts.ty(number).copy(alloc)?;
     hosted.store.append_host(ty)?;
     Ok(())
+}
+
+// The two host functions.
+#[derive(Drop)]
+struct Functions {
+    measure: Box<Measure>,
+    marker: Box<Marker>,
+}
+
+fn new_functions(alloc: Global) -> Result<Functions, AllocError> {
+    Ok(Functions {
+        measure: Box::new(alloc, new_measure(alloc)?)?,
+        marker: Box::new(alloc, new_marker(alloc))?,
+    })
+}
+
+// Takes in two such objects, one after the other, behind no others.
+fn take_in_both(
+    hosted: &mut Hosted,
+    alloc: Global,
+    first: Box<dyn HostFn>,
+    second: Box<dyn HostFn>,
+) -> Result<(), AllocError>
+    requires objects { hosts_in hosted.old.hosts ≡ [] }
+    requires functions { (store_of hosted.old.store).functions ≡ [] }
+    requires hosts { hosted.old.store.code.hosts ≡ [] }
+{
+    take_in(hosted, alloc, first)?;
+    take_in(hosted, alloc, second)
 }
 
 /// A store with two host functions alone, which write the byte 7 at 0: the first one answers how many bytes it is lent, and the
 /// second one nothing.
 pub fn new_hosted(alloc: Global) -> Result<Hosted, AllocError> {
+    let functions = new_functions(alloc)?;
     let mut hosted = empty_hosted(alloc);
-    take_in(&mut hosted, alloc, Box::new(alloc, new_measure(alloc)?)?)?;
-    take_in(&mut hosted, alloc, Box::new(alloc, new_marker(alloc))?)?;
+    take_in_both(&mut hosted, alloc, functions.measure, functions.marker)?;
     Ok(hosted)
 }

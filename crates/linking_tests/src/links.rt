@@ -76,8 +76,9 @@ const SHARED: &str =
 const FUNCTION_IMPORT: &str =
     "(import \"m\" \"function\" (func (result i32))) (func (result i32) call 0 i32.const 1 i32.add)";
 
+// What a link lacks, or has just so much of: fuel, room, and what is imported.
 #[rattlefmt::skip]
-static ROWS: [Row; 14] = [
+static LACKING: [Row; 8] = [
     Row { name: "a start function that traps, and then another module", steps: &[
         Link("(func unreachable) (start 0)", &[], 10, Trapped(Trap::Unreachable), 9),
         Link(SUM, &[], 9, Linked(1), 9),
@@ -109,6 +110,19 @@ static ROWS: [Row; 14] = [
         Link("(table 101 funcref)", &[], 5, Refused(LinkRefusal::Limit), 5),
         Link("(table 100 funcref)", &[], 5, Linked(0), 5),
     ] },
+    Row { name: "less is given than is imported", steps: &[
+        Link("(memory 1)", &[], 0, Linked(0), 0),
+        Link("(import \"m\" \"memory\" (memory 1)) (import \"m\" \"global\" (global i32)) (import \"m\" \"table\" (table 1 funcref))", &[Extern::Memory(0), Extern::Memory(0)], 5, Refused(LinkRefusal::UnknownImport(2)), 5),
+    ] },
+    Row { name: "more is given than is imported", steps: &[
+        Link("(memory 1)", &[], 0, Linked(0), 0),
+        Link("(import \"m\" \"memory\" (memory 1))", &[Extern::Memory(0), Extern::Global(9)], 5, Linked(1), 5),
+    ] },
+];
+
+// Modules that share functions, tables, memories and globals.
+#[rattlefmt::skip]
+static SHARING: [Row; 6] = [
     Row { name: "one table under two indices", steps: &[
         Link(FOUR, &[], 2, Linked(0), 0),
         Link(COPY, &[Extern::Table(0), Extern::Table(0)], 0, Linked(1), 0),
@@ -134,14 +148,6 @@ static ROWS: [Row; 14] = [
         Link(TEN, &[], 0, Linked(0), 0),
         Link(ANOTHER_INDEX, &[Extern::Table(0)], 2, Linked(1), 0),
         Call(0, &[Val::I32(3)], 9, Value(7), 6),
-    ] },
-    Row { name: "less is given than is imported", steps: &[
-        Link("(memory 1)", &[], 0, Linked(0), 0),
-        Link("(import \"m\" \"memory\" (memory 1)) (import \"m\" \"global\" (global i32)) (import \"m\" \"table\" (table 1 funcref))", &[Extern::Memory(0), Extern::Memory(0)], 5, Refused(LinkRefusal::UnknownImport(2)), 5),
-    ] },
-    Row { name: "more is given than is imported", steps: &[
-        Link("(memory 1)", &[], 0, Linked(0), 0),
-        Link("(import \"m\" \"memory\" (memory 1))", &[Extern::Memory(0), Extern::Global(9)], 5, Linked(1), 5),
     ] },
     Row { name: "one module linked twice", steps: &[
         Link("(memory 1)", &[], 0, Linked(0), 0),
@@ -238,10 +244,21 @@ pub fn all_end_so(alloc: Global, mut hosted: Hosted, steps: &[Step]) -> bool {
     all
 }
 
+// Whether all steps end so, in a store without anything in it.
+pub fn all_end_so_alone(alloc: Global, steps: &[Step]) -> bool {
+    all_end_so(alloc, empty_hosted(alloc), steps)
+}
+
 #[test]
-fn links_end_as_they_should(rt: HostRuntime) {
-    for row in &ROWS {
-        let hosted = empty_hosted(rt.alloc());
-        assert!(rt; all_end_so(rt.alloc(), hosted, row.steps), "{}", row.name);
+fn links_end_with_what_they_have(rt: HostRuntime) {
+    for row in &LACKING {
+        assert!(rt; all_end_so_alone(rt.alloc(), row.steps), "{}", row.name);
+    }
+}
+
+#[test]
+fn modules_share_what_they_import(rt: HostRuntime) {
+    for row in &SHARING {
+        assert!(rt; all_end_so_alone(rt.alloc(), row.steps), "{}", row.name);
     }
 }

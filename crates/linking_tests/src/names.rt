@@ -5,24 +5,26 @@ use core_types::Extern;
 use hostfunc::HostTable;
 use linker::{NameRefusal, Names};
 use std::alloc::Global;
-use store::Store;
+use std::rc::Rc;
+use store::{LoadedModule, Store};
 
 // A module with two functions and one object of each other kind, all of them exported but the first function.
 const TEXT: &str =
     "(func) (func) (table 1 funcref) (memory 1) (global i32 i32.const 7) (export \"run\" (func 1)) (export \"table\" (table 0)) (export \"memory\" (memory 0)) (export \"global\" (global 0))";
 
+// Links a module twice; whether both links end with an instance.
+fn link_twice(alloc: Global, store: &mut Store, loaded: &Rc<LoadedModule>) -> bool {
+    let mut hosts = HostTable::new(alloc);
+    let (first, _) = link(alloc, store, &mut hosts, loaded, &[], 0);
+    let (second, _) = link(alloc, store, &mut hosts, loaded, &[], 0);
+    first.is_ok() && second.is_ok()
+}
+
 // A store with two instances of the module: the second has the functions 2 and 3, and objects at 1.
 fn store_of_two(alloc: Global) -> Option<Store> {
     let loaded = loaded_module(alloc, TEXT)?;
     let mut store = Store::new(alloc, PAGES, ENTRIES);
-    let mut hosts = HostTable::new(alloc);
-    let Ok(_) = link(alloc, &mut store, &mut hosts, &loaded, &[], 0).0 else {
-        return None;
-    };
-    let Ok(_) = link(alloc, &mut store, &mut hosts, &loaded, &[], 0).0 else {
-        return None;
-    };
-    Some(store)
+    link_twice(alloc, &mut store, &loaded).then_some(store)
 }
 
 // A call of the names, and its answer.
@@ -83,17 +85,22 @@ fn answers(names: &mut Names, store: &Store, step: Step) -> bool {
     }
 }
 
-// Whether all steps give their answers, in a store of two instances.
-fn all_answer(alloc: Global, steps: &[Step]) -> bool {
-    let Some(store) = store_of_two(alloc) else {
-        return false;
-    };
+// Whether all steps give their answers, in a store.
+fn all_answer_in(alloc: Global, store: &Store, steps: &[Step]) -> bool {
     let mut names = Names::new(alloc);
     let mut all = true;
     for step in steps {
-        all &= answers(&mut names, &store, *step);
+        all &= answers(&mut names, store, *step);
     }
     all
+}
+
+// Whether all steps give their answers, in a store of two instances.
+fn all_answer(alloc: Global, steps: &[Step]) -> bool {
+    match store_of_two(alloc) {
+        Some(store) => all_answer_in(alloc, &store, steps),
+        None => false,
+    }
 }
 
 #[test]

@@ -1,9 +1,9 @@
 //! Tail calls of functions of other instances and of host functions.
 
-use crate::hosts::{empty_hosted, new_hosted};
+use crate::hosts::new_hosted;
 use crate::links::End::{Exhausted as Lacks, Linked, Trapped, Value};
 use crate::links::Step::{self, Call, Link};
-use crate::links::{Row, all_end_so};
+use crate::links::{Row, all_end_so, all_end_so_alone};
 use core_types::{Exhaustion, Extern, Trap, Val};
 use std::alloc::Global;
 
@@ -23,7 +23,7 @@ const KEEPS_NUMBER: &str =
 
 // Tail calls of functions of other instances.
 #[rattlefmt::skip]
-static TAIL_CALLS: [Row; 9] = [
+static TAIL_CALLS: [Row; 6] = [
     Row { name: "a tail call of an import", steps: &[
         Link("(func (param i32 i32) (result i32) local.get 0 local.get 1 i32.sub)", &[], 0, Linked(0), 0),
         Link("(import \"m\" \"f\" (func (param i32 i32) (result i32))) (func (param i32 i32) (result i32) i32.const 7 local.get 0 local.get 1 return_call 0)", &[Extern::Func(0)], 0, Linked(1), 0),
@@ -68,6 +68,11 @@ static TAIL_CALLS: [Row; 9] = [
         Link("(import \"m\" \"table\" (table 1 funcref)) (global i32 i32.const 3) (func (result i32) i32.const 8 i32.const 9 return_call 1) (func (param i32) (result i32) (local i64) local.get 0 global.get 0 i32.mul) (elem (offset i32.const 0) func 0)", &[Extern::Table(0)], 2, Linked(1), 0),
         Call(0, &[], 10, Value(127), 0),
     ] },
+];
+
+// Tail calls that start functions make.
+#[rattlefmt::skip]
+static TAIL_CALLS_OF_STARTS: [Row; 3] = [
     Row { name: "in a start function", steps: &[
         Link(KEEPS_NUMBER, &[], 0, Linked(0), 0),
         Link("(import \"m\" \"f\" (func)) (func i32.const 9 return_call 0) (start 1)", &[Extern::Func(0)], 5, Linked(1), 1),
@@ -161,8 +166,14 @@ fn all_end_so_with_hosts(alloc: Global, steps: &[Step]) -> bool {
 #[test]
 fn tail_calls_of_other_instances_end_as_they_should(rt: HostRuntime) {
     for row in &TAIL_CALLS {
-        let hosted = empty_hosted(rt.alloc());
-        assert!(rt; all_end_so(rt.alloc(), hosted, row.steps), "{}", row.name);
+        assert!(rt; all_end_so_alone(rt.alloc(), row.steps), "{}", row.name);
+    }
+}
+
+#[test]
+fn tail_calls_of_start_functions_end_as_they_should(rt: HostRuntime) {
+    for row in &TAIL_CALLS_OF_STARTS {
+        assert!(rt; all_end_so_alone(rt.alloc(), row.steps), "{}", row.name);
     }
 }
 

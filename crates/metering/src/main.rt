@@ -2,8 +2,6 @@
 //! exhaustion.
 #![tactic(auto)]
 
-mod account;
-
 use account::{Account, pay_for_call};
 use embed::{Config, Embedding, InstanceNumber, LinkOutcome, NewFault, Outcome, Refusal, Val};
 use std::alloc::Global;

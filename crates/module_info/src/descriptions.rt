@@ -2,11 +2,9 @@ ghost use Rattle.std.specs.Prelude.{◌≡◌, IfOk};
 ghost use Rattle.meaning.specs.validation.Modules.{IsValid};
 ghost use Rattle.module_info.specs.Verdicts.{IsFound, IsFoundOf, decode_verdict, validate_verdict};
 
-use crate::index_spaces::{IndexSpaces, index_spaces};
-use crate::modules::write_module;
-use crate::reasons::{rule, unsupported};
 use binary::{DecodeError, bytes_spell_one_module, decode};
 use core_types::Module;
+use module_text::{IndexSpaces, rule, unsupported, write_module};
 use std::alloc::Global;
 use std::io::{self, Write};
 use validator::{Place, ValidateError, validate};
@@ -82,7 +80,7 @@ fn describe_valid<W: Write>(
     requires { IsValid module.now }
     ensures { IfOk result (λ verdict. IsFoundOf module.now verdict) }
 {
-    let Ok(spaces) = index_spaces(alloc, module) else {
+    let Ok(spaces) = IndexSpaces::new(alloc, module) else {
         return Ok(Verdict::OutOfMemory);
     };
     write_valid(out, len, module, &spaces)?;

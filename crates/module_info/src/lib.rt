@@ -2,9 +2,5 @@
 #![tactic(auto)]
 
 mod descriptions;
-mod index_spaces;
-mod modules;
-mod reasons;
-mod types;
 
 pub use descriptions::{Verdict, describe};

@@ -1,13 +1,11 @@
-//! A plug-in host: it calls the exports of a plug-in, each within a fuel, with two host functions of its own.
+//! A plug-in host: it calls the exports of a plug-in, each within a fuel, with two host functions.
 #![tactic(auto)]
-
-mod host_functions;
 
 use embed::{
     Config, Embedding, HostDef, InstanceNumber, LinkOutcome, Outcome, Rc, Refusal, Val, ValType,
     func_type,
 };
-use host_functions::{Counter, Writer};
+use plugin_functions::{Counter, Writer};
 use std::cell::RefCell;
 use std::io::{self, Write};
 

@@ -3,10 +3,10 @@ use Rattle.std.specs.Prelude.{◌≡◌, ◌⊎◌, ℕ, zero, suc, Result, Ok, 
 use Rattle.meaning.specs.embedding.Commands as machine
 use Rattle.meaning.specs.execution.Runs.{Ending, OutOfDepth, OutOfFuel, OutOfMemory, WithTrap, WithValues}
 use Rattle.embed.specs.Replies.{call_reply, refusal_of}
-use Rattle.program.specs.declared.faults.Fault.{Fault}
-use Rattle.program.specs.declared.faults.Fault.TheVariants as fault
-use Rattle.program.specs.declared.program.End.{End}
-use Rattle.program.specs.declared.program.End.TheVariants as end
+use Rattle.subcommands.specs.declared.faults.Fault.{Fault}
+use Rattle.subcommands.specs.declared.faults.Fault.TheVariants as fault
+use Rattle.subcommands.specs.declared.orders.End.{End}
+use Rattle.subcommands.specs.declared.orders.End.TheVariants as end
 use Rattle.scripts.specs.declared.faults.ScriptFault.{ScriptFault}
 use Rattle.scripts.specs.declared.faults.ScriptFault.TheVariants as script
 

@@ -4,12 +4,11 @@ ghost use Rattle.std.specs.Prelude.{◌≡◌, Ok};
 ghost use Rattle.embed.specs.Replies.{call_reply, refusal_of};
 ghost use Rattle.program.specs.Statuses.{IsPrintedStatus, fault_status, refusal_status, reply_status, script_fault_status, script_status};
 
-use crate::faults::Fault;
-use crate::program::CallEnd;
 use core_types::Val;
 use embed::{Outcome, Refusal};
 use scripts::{Report, ScriptFault};
 use std::io::{self, Write};
+use subcommands::{CallEnd, Fault};
 
 fn print_reference<W: Write>(out: &mut W, ty: &str, reference: Option<u32>) -> io::Result<()> {
     match reference {

@@ -1,8 +1,8 @@
 //! Words as values of their types.
 
 use core_types::{Val, ValType};
-use program::{ArgsFault, read_args};
 use std::alloc::Global;
+use subcommands::{ArgsFault, read_args};
 
 // A type, a word, and the value of the type that the word writes, if it writes one.
 struct Row {

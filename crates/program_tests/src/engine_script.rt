@@ -1,8 +1,8 @@
 //! A run of a script as wast2json writes it: the files of the folder `examples/engine`, with their source beside them there.
 
 use crate::runs::{Ending, ends_so, words_of};
-use program::{Files, ReadFault};
 use std::alloc::{AllocError, Global};
+use subcommands::{Files, ReadFault};
 use testing::bytes_of;
 
 // The files, as hexadecimal numbers.

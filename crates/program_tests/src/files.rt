@@ -1,8 +1,8 @@
 //! Files in memory, and files of the system that cannot be read.
 
 use crate::runs::{Row, ends_so, words_of};
-use program::{Files, ReadFault, System};
 use std::alloc::{AllocError, Global};
+use subcommands::{Files, ReadFault, System};
 use testing::{assemble, bytes_of};
 
 // A file in memory: its path, and its bytes in hexadecimal numbers, or none where they are too many for memory.

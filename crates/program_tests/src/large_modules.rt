@@ -2,8 +2,8 @@
 
 use crate::runs::{Ending, ends_so, words_of};
 use Large::{Exports, ExportsOfOneName, Functions, Lists, Nests, Sum};
-use program::{Files, ReadFault};
 use std::alloc::{AllocError, Global};
+use subcommands::{Files, ReadFault};
 
 // What a module has many of. The bodies are those of function 0, without their last `end`; the first number is that of its type.
 #[derive(Clone, Copy)]

@@ -2,8 +2,9 @@
 
 use core_types::{Exhaustion, Items, Trap, Val};
 use embed::{Outcome, Place, Refusal};
-use program::{CallEnd, Fault, print_end, print_fault};
+use program::{print_end, print_fault};
 use std::alloc::{AllocError, Global};
+use subcommands::{CallEnd, Fault};
 
 // An outcome, its values as a table has them.
 #[derive(Clone, Copy)]

@@ -2,8 +2,9 @@
 
 use crate::files::OneModule;
 use crate::writers::{Failing, prints_to};
-use program::{Files, run};
+use program::run;
 use std::alloc::{AllocError, Global};
+use subcommands::Files;
 
 /// The text that a run prints to one of its writers, where it prints nothing to the other, and its exit status.
 #[derive(Clone, Copy)]

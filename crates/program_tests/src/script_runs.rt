@@ -2,8 +2,8 @@
 
 use crate::runs::{Ending, ends_so, words_of};
 use Ending::{Err as Refuses, Out as Prints};
-use program::{Files, ReadFault};
 use std::alloc::{AllocError, Global};
+use subcommands::{Files, ReadFault};
 use testing::assemble;
 
 // A script in one file, and beside it modules: their paths and their texts.

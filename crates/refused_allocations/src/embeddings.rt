@@ -161,22 +161,29 @@ fn create_either(alloc: Global, first: Vec<HostDef>, second: Vec<HostDef>) -> Ve
     }
 }
 
-// The same; none where there is no memory for the host functions.
-fn create_twice(alloc: Global, before: usize) -> Result<Verdict, AllocError> {
-    let mut lists = Vec::new(alloc);
-    for _ in 0..2 {
-        let mut hosts = Vec::new(alloc);
-        hosts.push(HostDef::new(alloc, "host", "first", Counter::boxed(alloc)?)?)?;
-        hosts.push(HostDef::new(alloc, "host", "second", Counter::boxed(alloc)?)?)?;
-        lists.push(hosts)?;
-    }
-    let (Some(first), Some(second)) = (lists.pop(), lists.pop()) else {
+// Makes an embedding with two of four host functions, behind so many allocations, and one with the others where there was no memory.
+fn create_padded(
+    alloc: Global,
+    before: usize,
+    mut hosts: Vec<HostDef>,
+) -> Result<Verdict, AllocError> {
+    if hosts.len() != 4 {
         return Ok(Verdict::Unready(0));
-    };
+    }
+    let others = hosts.split_off(2)?;
     Ok(match pad(alloc, before) {
-        Ok(()) => create_either(alloc, first, second),
+        Ok(()) => create_either(alloc, hosts, others),
         Err(verdict) => verdict,
     })
+}
+
+// Makes both embeddings; none where there is no memory for their host functions.
+fn create_twice(alloc: Global, before: usize) -> Result<Verdict, AllocError> {
+    let mut hosts = Vec::new(alloc);
+    for name in &["first", "second", "first", "second"] {
+        hosts.push(HostDef::new(alloc, "host", name, Counter::boxed(alloc)?)?)?;
+    }
+    create_padded(alloc, before, hosts)
 }
 
 /// An embedding with two host functions is made. So many allocations come before.

@@ -38,8 +38,8 @@ fn link(alloc: Global, store: &mut Store, loaded: &Rc<LoadedModule>) -> Result<u
 
 /// A store with an instance of the module of a text, which has no imports.
 pub fn store_of(alloc: Global, text: &str) -> Option<Store> {
-    let mut store = Store::new(alloc, PAGES, ENTRIES);
     let loaded = loaded_module(alloc, text)?;
+    let mut store = Store::new(alloc, PAGES, ENTRIES);
     match link(alloc, &mut store, &loaded) {
         Ok(0) => Some(store),
         _ => None,

@@ -10,7 +10,7 @@ use crate::seen::{REFUSED, Seen, seen_in};
 use crate::steps::{Kind, STEPS, Step};
 use crate::verdicts::Verdict;
 use core_types::Val;
-use embed::{Command, Embedding, HostDef};
+use embed::{Command, Config, Embedding, HostDef};
 use scripts::{Script, read_script, run_script};
 use std::alloc::{AllocError, Global};
 use std::mem;
@@ -170,13 +170,16 @@ fn give_padded_list(alloc: Global, before: usize, at: &mut Embedding, stock: &St
     }
 }
 
-// Gives the list to a fresh embedding with these host functions.
-fn give_list_with(alloc: Global, before: usize, stock: &Stock, hosts: Vec<HostDef>) -> Verdict
+// Gives the list to a fresh embedding with this setup and these host functions.
+fn give_list_with(
+    alloc: Global,
+    before: usize,
+    stock: &Stock,
+    config: Config,
+    hosts: Vec<HostDef>,
+) -> Verdict
     requires { length hosts.items < 2 ^ 32 }
 {
-    let Some(config) = usual_config() else {
-        return Verdict::Unready(0);
-    };
     match Embedding::new(alloc, config, hosts) {
         Ok(mut at) => give_padded_list(alloc, before, &mut at, stock),
         Err(_) => Verdict::Unready(0),
@@ -185,13 +188,14 @@ fn give_list_with(alloc: Global, before: usize, stock: &Stock, hosts: Vec<HostDe
 
 // Gives the list to a fresh embedding with a host function; none where there is no memory for that.
 fn give_list_with_counter(alloc: Global, before: usize, stock: &Stock) -> Option<Verdict> {
+    let config = usual_config()?;
     let counter = HostDef::new(alloc, "host", "count", Counter::boxed(alloc).ok()?).ok()?;
     let mut hosts = Vec::new(alloc);
     hosts.push(counter).ok()?;
     if hosts.len() > 1 {
         return None;
     }
-    Some(give_list_with(alloc, before, stock, hosts))
+    Some(give_list_with(alloc, before, stock, config, hosts))
 }
 
 /// Gives the list to a fresh embedding with a host function. So many allocations come before the first command.

@@ -37,18 +37,23 @@ const WRONG: u8 = 1;
 // The status where the words have not their form.
 const USAGE: u8 = 2;
 
-// Writes what became of a scenario, and answers the status.
-fn write_verdict(out: &mut dyn Write, name: &str, verdict: Verdict) -> io::Result<u8> {
+// Writes what became of a scenario.
+fn write_verdict(out: &mut dyn Write, name: &str, verdict: Verdict) -> io::Result<()> {
+    let (what, place) = match verdict {
+        Verdict::Unready(made) => return writeln!(out, "{name}: {made} before the first call"),
+        Verdict::Ample => ("as with ample memory", ""),
+        Verdict::Wanting(place) => ("want of memory, ", place),
+        Verdict::Wrong(place) => ("WRONG, ", place),
+    };
+    writeln!(out, "{name}: {what}{place}")
+}
+
+// The status of what became of a scenario.
+fn status_of(verdict: Verdict) -> u8 {
     match verdict {
-        Verdict::Unready(made) => writeln!(out, "{name}: {made} before the first call")?,
-        Verdict::Ample => writeln!(out, "{name}: as with ample memory")?,
-        Verdict::Wanting(place) => writeln!(out, "{name}: want of memory, {place}")?,
-        Verdict::Wrong(place) => writeln!(out, "{name}: WRONG, {place}")?,
-    }
-    Ok(match verdict {
         Verdict::Wrong(_) => WRONG,
         _ => 0,
-    })
+    }
 }
 
 // Runs a scenario with so many allocations before its first call, and so many behind its last one.
@@ -63,14 +68,15 @@ fn run_one(
     if let Some(made) = allocate_in_vain(alloc, behind) {
         writeln!(out, "{}: {made} behind the last call", scenario.name())?;
     }
-    write_verdict(out, scenario.name(), verdict)
+    write_verdict(out, scenario.name(), verdict)?;
+    Ok(status_of(verdict))
 }
 
 // Runs all scenarios, one after the other, and answers the highest status.
 fn run_all(alloc: Global, out: &mut dyn Write) -> io::Result<u8> {
     let mut highest = 0;
-    for scenario in SCENARIOS {
-        highest = highest.max(run_one(alloc, out, scenario, 0, 0)?);
+    for scenario in &SCENARIOS {
+        highest = highest.max(run_one(alloc, out, *scenario, 0, 0)?);
     }
     Ok(highest)
 }

@@ -122,9 +122,9 @@ impl Scenario {
 
 /// The scenario of a name.
 pub fn scenario_of(name: &str) -> Option<Scenario> {
-    for scenario in SCENARIOS {
+    for scenario in &SCENARIOS {
         if scenario.name() == name {
-            return Some(scenario);
+            return Some(*scenario);
         }
     }
     None

@@ -3,19 +3,25 @@ use Rattle.std.specs.Prelude.{ℕ, List, Bool, true, false, Option, Some, None, 
 use Rattle.scripts.specs.declared.kinds.Kind.{Kind}
 use Rattle.scripts.specs.declared.kinds.Kind.TheVariants.{Module, Register, Action, AssertReturn, AssertTrap, AssertExhaustion, AssertInvalid, AssertMalformed, AssertUnlinkable, AssertUninstantiable}
 
-abbrev pub kind_named : (name : List ℕ) → Option Kind
-kind_named name =
-    if bytes_eq name (codes "module") then Some Module
-    else (if bytes_eq name (codes "register") then Some Register
-    else (if bytes_eq name (codes "action") then Some Action
-    else (if bytes_eq name (codes "assert_return") then Some AssertReturn
+-- The type of an assertion of this name.
+abbrev pub assertion_named : (name : List ℕ) → Option Kind
+assertion_named name =
+    if bytes_eq name (codes "assert_return") then Some AssertReturn
     else (if bytes_eq name (codes "assert_trap") then Some AssertTrap
     else (if bytes_eq name (codes "assert_exhaustion") then Some AssertExhaustion
     else (if bytes_eq name (codes "assert_invalid") then Some AssertInvalid
     else (if bytes_eq name (codes "assert_malformed") then Some AssertMalformed
     else (if bytes_eq name (codes "assert_unlinkable") then Some AssertUnlinkable
     else (if bytes_eq name (codes "assert_uninstantiable") then Some AssertUninstantiable
-    else None)))))))))
+    else None))))))
+
+-- The type of this name.
+abbrev pub kind_named : (name : List ℕ) → Option Kind
+kind_named name =
+    if bytes_eq name (codes "module") then Some Module
+    else (if bytes_eq name (codes "register") then Some Register
+    else (if bytes_eq name (codes "action") then Some Action
+    else assertion_named name))
 
 -- Commands of this type have an action.
 abbrev pub has_action : Kind → Bool

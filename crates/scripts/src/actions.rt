@@ -38,16 +38,9 @@ fn read_action_object(alloc: Global, object: &Value) -> Result<Action, Unread>
     ensures { Reads action_view (action_of (view object.now)) result }
 {
     match text(object, "type") {
-        Some(name) => {
-            if name == "invoke" {
-                read_invoke(alloc, object)
-            } else if name == "get" {
-                read_get(alloc, object)
-            } else {
-                Err(Unread::BadForm)
-            }
-        }
-        None => Err(Unread::BadForm),
+        Some("invoke") => read_invoke(alloc, object),
+        Some("get") => read_get(alloc, object),
+        _ => Err(Unread::BadForm),
     }
 }
 

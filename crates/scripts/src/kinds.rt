@@ -1,5 +1,5 @@
 ghost use Rattle.std.specs.Prelude.{◌≡◌};
-ghost use Rattle.scripts.specs.Kinds.{kind_named};
+ghost use Rattle.scripts.specs.Kinds.{assertion_named, kind_named};
 
 // The type of a command.
 #[derive(Clone, Copy)]
@@ -16,32 +16,31 @@ pub enum Kind {
     AssertUninstantiable,
 }
 
+// The type of an assertion of a name, if there is one.
+fn assertion_of(name: &str) -> Option<Kind>
+    ensures { result ≡ assertion_named name.now }
+{
+    match name {
+        "assert_return" => Some(Kind::AssertReturn),
+        "assert_trap" => Some(Kind::AssertTrap),
+        "assert_exhaustion" => Some(Kind::AssertExhaustion),
+        "assert_invalid" => Some(Kind::AssertInvalid),
+        "assert_malformed" => Some(Kind::AssertMalformed),
+        "assert_unlinkable" => Some(Kind::AssertUnlinkable),
+        "assert_uninstantiable" => Some(Kind::AssertUninstantiable),
+        _ => None,
+    }
+}
+
 // The type of a name, if there is one.
 pub fn kind_of(name: &str) -> Option<Kind>
     ensures { result ≡ kind_named name.now }
 {
-    if name == "module" {
-        Some(Kind::Module)
-    } else if name == "register" {
-        Some(Kind::Register)
-    } else if name == "action" {
-        Some(Kind::Action)
-    } else if name == "assert_return" {
-        Some(Kind::AssertReturn)
-    } else if name == "assert_trap" {
-        Some(Kind::AssertTrap)
-    } else if name == "assert_exhaustion" {
-        Some(Kind::AssertExhaustion)
-    } else if name == "assert_invalid" {
-        Some(Kind::AssertInvalid)
-    } else if name == "assert_malformed" {
-        Some(Kind::AssertMalformed)
-    } else if name == "assert_unlinkable" {
-        Some(Kind::AssertUnlinkable)
-    } else if name == "assert_uninstantiable" {
-        Some(Kind::AssertUninstantiable)
-    } else {
-        None
+    match name {
+        "module" => Some(Kind::Module),
+        "register" => Some(Kind::Register),
+        "action" => Some(Kind::Action),
+        _ => assertion_of(name),
     }
 }
 

@@ -24,16 +24,12 @@ fn reference(text: &str) -> Option<Option<u32>>
 fn typed_value(ty: &str, text: &str) -> Option<Val>
     ensures { result ≡ value_of_type ty.now text.now }
 {
-    if ty == "i32" {
-        Some(Val::I32(short_number(text)?))
-    } else if ty == "i64" {
-        Some(Val::I64(long_number(text)?))
-    } else if ty == "externref" {
-        Some(Val::ExternRef(reference(text)?))
-    } else if ty == "funcref" && text == "null" {
-        Some(Val::FuncRef(None))
-    } else {
-        None
+    match ty {
+        "i32" => Some(Val::I32(short_number(text)?)),
+        "i64" => Some(Val::I64(long_number(text)?)),
+        "externref" => Some(Val::ExternRef(reference(text)?)),
+        "funcref" => (text == "null").then_some(Val::FuncRef(None)),
+        _ => None,
     }
 }
 

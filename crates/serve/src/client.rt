@@ -1,7 +1,5 @@
-use crate::answer::Answer;
-use crate::causes::Cause;
 use crate::ending::Ending;
-use crate::replies::push_answer;
+use answers::{Answer, Cause, push_answer};
 use embed::Refusal;
 use io::write_all;
 use messages::{FieldsFault, Head, StreamEnd, read_fields, read_head};

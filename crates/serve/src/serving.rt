@@ -1,10 +1,8 @@
 ghost use Rattle.std.specs.Prelude.{◌<◌, ◌^◌, length};
 
-use crate::answer::Answer;
-use crate::causes::Cause;
 use crate::client::Client;
 use crate::ending::Ending;
-use crate::obeying::obey;
+use answers::{Answer, Cause, obey};
 use callback::Callback;
 use core_types::FuncType;
 use embed::{Config, Embedding, HostDef, NewFault, Refusal};

@@ -152,7 +152,7 @@ impl Code {
             x }
     {
         let found = item(&self.instances, instance)?;
-        found.addresses.functions.get(x as usize).copied()
+        item(&found.addresses.functions, x).copied()
     }
 
     /// The address of the table that an instance has under an index, if there is one.
@@ -160,7 +160,7 @@ impl Code {
         ensures { result ≡ slice_get (instance_of (code_store self.now) (Some instance)).tables x }
     {
         let found = item(&self.instances, instance)?;
-        found.addresses.tables.get(x as usize).copied()
+        item(&found.addresses.tables, x).copied()
     }
 
     /// The address of the memory that an instance has under an index, if there is one.
@@ -169,7 +169,7 @@ impl Code {
             x }
     {
         let found = item(&self.instances, instance)?;
-        found.addresses.memories.get(x as usize).copied()
+        item(&found.addresses.memories, x).copied()
     }
 
     /// The address of the global that an instance has under an index, if there is one.
@@ -177,7 +177,7 @@ impl Code {
         ensures { result ≡ slice_get (instance_of (code_store self.now) (Some instance)).globals x }
     {
         let found = item(&self.instances, instance)?;
-        found.addresses.globals.get(x as usize).copied()
+        item(&found.addresses.globals, x).copied()
     }
 
     /// The address of the element segment that an instance has under an index, if there is one.
@@ -186,7 +186,7 @@ impl Code {
             x }
     {
         let found = item(&self.instances, instance)?;
-        found.addresses.elements.get(x as usize).copied()
+        item(&found.addresses.elements, x).copied()
     }
 
     /// The address of the data segment that an instance has under an index, if there is one.
@@ -194,7 +194,7 @@ impl Code {
         ensures { result ≡ slice_get (instance_of (code_store self.now) (Some instance)).datas x }
     {
         let found = item(&self.instances, instance)?;
-        found.addresses.datas.get(x as usize).copied()
+        item(&found.addresses.datas, x).copied()
     }
 
     // The function of a module that an instance has under an index.

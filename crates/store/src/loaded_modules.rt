@@ -73,15 +73,23 @@ fn show_tables(tables: &[TableType])
     }
 }
 
+// The flat code of a module, whose numbers fit their types.
+fn flatten_valid(alloc: Global, validated: &ValidModule) -> Result<FlatModule, AllocError>
+    ensures flat { IfOk result (IsFlatModule validated.now) }
+    ensures sound { IsSoundModule validated.now }
+{
+    let wanted = validated.module();
+    show_tables(wanted.tables.as_slice());
+    show_datas(wanted.datas.as_slice());
+    flatten(alloc, validated)
+}
+
 impl LoadedModule {
     /// Loads a module, whose functions are flattened. Fails where there is no memory for their flat code.
     pub fn new(alloc: Global, validated: ValidModule) -> Result<LoadedModule, AllocError>
         ensures { IfOk result (λ loaded. loaded.source ≡ validated) }
     {
-        let wanted = validated.module();
-        show_tables(wanted.tables.as_slice());
-        show_datas(wanted.datas.as_slice());
-        let flat = flatten(alloc, &validated)?;
+        let flat = flatten_valid(alloc, &validated)?;
         Ok(LoadedModule { validated, flat })
     }
 

@@ -1,4 +1,4 @@
-//! Tests of the validator, over modules in the text format, and of import matching.
+//! Tests of the validator, over modules in the text format, of import matching, and of what is said of a module.
 #![tactic(auto)]
 
 #[cfg(test)]
@@ -7,6 +7,8 @@ mod answers;
 mod blocks;
 #[cfg(test)]
 mod control;
+#[cfg(test)]
+mod descriptions;
 #[cfg(test)]
 mod import_matching;
 #[cfg(test)]
@@ -19,6 +21,8 @@ mod modules;
 mod numeric;
 #[cfg(test)]
 mod operands;
+#[cfg(test)]
+mod reasons;
 #[cfg(test)]
 mod refusals;
 #[cfg(test)]

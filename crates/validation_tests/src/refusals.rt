@@ -36,11 +36,18 @@ fn names_the_place(rt: HostRuntime) {
     }
 }
 
+// How many functions the valid module of these bytes has, if it is one.
+fn function_count_of(alloc: Global, bytes: &[u8]) -> Option<usize> {
+    match load(alloc, bytes) {
+        Ok(valid) => Some(valid.module().funcs.len()),
+        Err(_) => None,
+    }
+}
+
 // How many functions the valid module of a text has, if it is one.
 fn function_count(alloc: Global, text: &str) -> Option<usize> {
     let bytes = assemble(alloc, text).ok()?;
-    let valid = load(alloc, &bytes).ok()?;
-    Some(valid.module().funcs.len())
+    function_count_of(alloc, &bytes)
 }
 
 #[test]

@@ -1,9 +1,10 @@
 //! Checks WebAssembly modules and runs their exported functions from the command line.
 #![tactic(auto)]
 
-use program::{Print, Printed, System, define_prints, refuse_words, run};
+use program::{Print, Printed, define_prints, refuse_words, run};
 use std::process::ExitCode;
 use std::{env, io};
+use subcommands::System;
 
 // Runs the program over the words after its name, with the three prints.
 fn run_words(rt: &HostRuntime) -> io::Result<u8> {

@@ -48,15 +48,16 @@ loop-definition-preserved g c =
     let counted = c.loop-definition.invariant.counted in
     let inv = c.loop-definition.invariant.taken in
     let done = c.in_ok-define_host.ensures.defined in
+    let named = done.named in
     let address = ap (λ (s : Store). length s.functions) inv.store ∙ length-functions type_of_host 0 defs in
     record {
       taken = record {
-        names = names-taken (λ vtable. (g.dyn-1.0.entry vtable).1) taken next c.loop-definition.defined.names inv.names c.define_host.new.defined.names (length (store_of c.loop-definition.defined.store).functions) address done.names;
-        faultless = faultless-taken (λ vtable. (g.dyn-1.0.entry vtable).1) taken next c.loop-definition.defined.names inv.names inv.faultless done.faultless;
-        store = store-taken (λ vtable. (g.dyn-1.0.entry vtable).1) taken next c.args.config.now.pages c.args.config.now.entries (length c.loop-definition.defined.store.code.hosts) (store_of c.loop-definition.defined.store) (store_of c.define_host.new.defined.store) inv.store (counted ∙ sym size) done.store;
-        objects = objects-taken (λ vtable. (g.dyn-1.0.entry vtable).1) taken next (hosts_in c.loop-definition.defined.hosts) (hosts_in c.define_host.new.defined.hosts) inv.objects done.objects;
+        names = names-taken (λ vtable. (g.dyn-1.0.entry vtable).1) taken next c.loop-definition.defined.names inv.names c.define_host.new.defined.names (length (store_of c.loop-definition.defined.store).functions) address named.name;
+        faultless = faultless-taken (λ vtable. (g.dyn-1.0.entry vtable).1) taken next c.loop-definition.defined.names inv.names inv.faultless named.faultless;
+        store = store-taken (λ vtable. (g.dyn-1.0.entry vtable).1) taken next c.args.config.now.pages c.args.config.now.entries (length c.loop-definition.defined.store.code.hosts) (store_of c.loop-definition.defined.store) (store_of c.define_host.new.defined.store) inv.store (counted ∙ sym size) named.function;
+        objects = objects-taken (λ vtable. (g.dyn-1.0.entry vtable).1) taken next (hosts_in c.loop-definition.defined.hosts) (hosts_in c.define_host.new.defined.hosts) inv.objects done.object;
       };
-      counted = done.counted ∙ ap (λ (n : ℕ). n + 1) counted ∙ sym (length-append taken (next ∷ []));
+      counted = named.counted ∙ ap (λ (n : ℕ). n + 1) counted ∙ sym (length-append taken (next ∷ []));
     }
 
 pub returns-in_err-define_host-clause-refused : goal.returns-in_err-define_host-clause-refused

@@ -1,29 +1,26 @@
-use Rattle.std.proofs.Common.{[], ◌∷◌, arith, length, sym}
-use Rattle.std.proofs.lemmas.List.{length-append}
+use Rattle.std.proofs.Common.{length, sym, ap, map, ◌∙◌}
 use Rattle.std.proofs.lemmas.Result.{on_ok_weaker}
-use Rattle.core_types.specs.Expressions.{IsWithin}
-use Rattle.core_types.proofs.StoredOps.{all_pushed, other_appended, within_more}
+use Rattle.std.specs.Prelude.{slice_index_or}
+use Rattle.core_types.specs.Expressions.{IsWithin, stored_op}
+use Rattle.core_types.proofs.StoredOps.{all_pushed, view_pushed}
 use Rattle.core_types.proofs.expression.Expression.push.Goals as goal
-
-pub invariant_of-self : goal.invariant_of-self
-invariant_of-self c =
-    let count = length c.self.inside.others.items in
-    all_pushed (IsWithin count) c.append.result _ _ c.in-Some.stored c.append.ensures.ok c.append.ensures.err c.self.invariant
-    (rw c.in-Some.is at c.store_op.ensures.within count)
 
 pub invariant_of-self-2 : goal.invariant_of-self-2
 invariant_of-self-2 c =
-    let n = c.in_ok-number.ensures in
-    all_pushed (IsWithin (length c.add.new.others.items)) c.append-2.result _ _ _ c.append-2.ensures.ok c.append-2.ensures.err
-    (rw n.ok (within_more c.self.inside.others.items c.args.op c.self.inside.operations.items c.self.invariant))
-    (rw (n.ok, n.number, length-append c.self.inside.others.items (c.args.op ∷ [])) (omega arith))
+    let stored = c.in_ok-stored.ensures in
+    let ops = c.self.inside.operations.items in
+    all_pushed (IsWithin (length c.store.new.others.items)) c.append.result ops _ _ c.append.ensures.ok c.append.ensures.err
+    (λ k d less. (stored.kept (slice_index_or ops k d) (c.self.invariant k d less)).0)
+    stored.within
 
 pub returns : goal.returns
 returns c =
-    let n = c.in_ok-number.ensures in
-    on_ok_weaker c.append-2.result
+    let stored = c.in_ok-stored.ensures in
+    let more = c.store.new.others.items in
+    on_ok_weaker c.append.result
     (
     λ appended.
-    rw (rw n.number at appended, n.ok, sym c.self.view_is)
-    (other_appended c.self.inside.others.items c.args.op c.self.inside.operations.items c.self.invariant)
-    ) c.append-2.ensures.ok
+    rw (sym c.self.view_is)
+    (ap (map (stored_op more)) appended
+    ∙ view_pushed c.self.inside.others.items more c.self.inside.operations.items c.in_ok-stored.stored c.args.op (λ o within. (stored.kept o within).1) c.self.invariant stored.stored)
+    ) c.append.ensures.ok

@@ -1,4 +1,5 @@
-use Rattle.std.proofs.Common.{◌≡◌, length, rules}
+use Rattle.std.proofs.Common.{◌≡◌, ◌∙◌, length, refl, rules}
+use Rattle.std.proofs.Math.Seq.{take-append_seam}
 use Rattle.meaning.specs.validation.Modules.{IsValid}
 use Rattle.store.proofs.lemmas.ContextTypes.{all-stay, all-with}
 use Rattle.store.proofs.lemmas.Instantiation.{AllFound-added, functions-added}
@@ -28,3 +29,15 @@ returns-in-Ok-clause-functions c =
     let added = rw (number, count) at c.in_ok-push_entries.ensures.pushed in
     rw (c.in-Ok.ensures.pushed, ← c.self.view_is)
     (functions-added c.self.inside.hosts.items c.self.inside.instances.items c.args.instance valid c.self.inside.functions.items c.push_entries.new.functions.items c.self.invariant.found added)
+
+-- What was added is taken off again, so the functions are as before.
+functions-stay : (c : goal.After-truncate) → c.truncate.new.self.items ≡ c.self.inside.functions.items
+functions-stay c =
+    let first : c.len-first.result ≡ length c.self.inside.functions.items = search rules in
+    c.truncate.ensures.items ∙ rw (first, c.in_ok-push_entries.ensures.pushed) (take-append_seam c.self.inside.functions.items _)
+
+pub invariant_of-self-in-Err : goal.invariant_of-self-in-Err
+invariant_of-self-in-Err c = rw (functions-stay c, c.in-Err.ensures.unchanged) c.self.invariant
+
+pub returns-in-Err-clause-unchanged : goal.returns-in-Err-clause-unchanged
+returns-in-Err-clause-unchanged c = rw (← c.self.view_is, functions-stay c, c.in-Err.ensures.unchanged) refl

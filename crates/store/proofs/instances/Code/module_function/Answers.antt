@@ -1,4 +1,4 @@
-use Rattle.std.proofs.Common.{◌<◌, length, refl}
+use Rattle.std.proofs.Common.{◌<◌, arith, length, refl}
 use Rattle.std.proofs.lemmas.Option.{slice_get_read}
 use Rattle.store.specs.Contents.{HasModuleTypes, contents_of, functions_in}
 use Rattle.store.proofs.lemmas.ContextTypes.{context-types}
@@ -38,3 +38,8 @@ returns-clause-types c =
     let there = slice_get_read is (length is) c.args.instance c.index.result.now refl within c.index.ensures in
     rw (← c.self.view_is) (context-types (contents_of inside.functions.items is inside.hosts.items) c.args.instance c.index.result.now there
     (holds-at (HasModuleTypes (functions_in (contents_of inside.functions.items is inside.hosts.items))) is c.args.instance c.index.result.now c.self.invariant.types there))
+
+pub index-requires : goal.index-requires
+index-requires c =
+    let within : c.args.instance < length c.self.inside.instances.items = instance-within c.self.inside.instances.items c.args.instance c.args.index (rw (← c.self.view_is) at c.requires) in
+    omega (arith, within)

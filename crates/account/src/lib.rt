@@ -1,0 +1,50 @@
+//! What a caller pays for a call.
+#![tactic(auto)]
+
+ghost use Rattle.std.specs.Prelude.{◌≡◌, ◌+◌, ◌≤◌};
+ghost use Rattle.embed.specs.Contents.{embedding_of};
+
+use embed::{Embedding, InstanceNumber, Outcome, Refusal, Val};
+
+/// A caller, with the fuel that it can still pay for.
+#[derive(Drop)]
+pub struct Account {
+    pub balance: u64,
+}
+
+/// A call that was paid for: how it ended, the fuel that was bought for it, and what it left.
+#[derive(Drop)]
+pub struct PaidCall {
+    pub outcome: Result<Outcome, Refusal>,
+    pub bought: u64,
+    pub left: u64,
+}
+
+/// Buys fuel for a call, up to this limit and as much as the account has, makes the call, and gives back what it left. So the account
+/// pays for what the call spent, whether it ended with values, a trap or an exhaustion, and for nothing where it was refused.
+pub fn pay_for_call(
+    account: &mut Account,
+    limit: u64,
+    embedding: &mut Embedding,
+    instance: InstanceNumber,
+    export: &str,
+    args: &[Val],
+) -> PaidCall
+    requires nothing { Unit {0} }
+    ensures within_limit { result.bought ≤ limit }
+    ensures within_balance { result.bought ≤ account.old.balance }
+    ensures left_over { result.left ≡ (embedding_of embedding.new).state.fuel }
+    ensures left { result.left ≤ result.bought }
+    ensures paid { account.new.balance + result.bought ≡ account.old.balance + result.left }
+{
+    let bought = limit.min(account.balance);
+    embedding.set_fuel(bought);
+    let outcome = embedding.call(instance, export, args);
+    let left = embedding.fuel_left();
+    account.balance -= bought - left;
+    PaidCall {
+        outcome,
+        bought,
+        left,
+    }
+}

@@ -1,0 +1,70 @@
+-- What a server answers to an order once the embedding is there, and what that leaves.
+use Rattle.std.specs.Prelude.{◌≡◌, ◌⊎◌, ℕ, List, [], ◌∷◌, ◌++◌, Ok, Err, String, Vec, map}
+use Rattle.std.specs.declared.alloc.Global.{Global as Allocator}
+use Rattle.embed.specs.Exports.{export_view}
+use Rattle.embed.specs.Replies.{reply_of}
+use Rattle.hostfunc.specs.Boxes.{HostStep}
+use Rattle.hostfunc.specs.declared.host_function.HostFn.{Ghosts}
+use Rattle.hostfunc.specs.declared.host_object.HostObject.{HostObject}
+use Rattle.meaning.specs.embedding.Commands as machine
+use Rattle.meaning.specs.embedding.Machine.{Applies, Embedding, exports_at}
+use Rattle.meaning.specs.execution.Runs.{WithValues}
+use Rattle.meaning.specs.scripts.Commands.{ScriptCommand, files_in}
+use Rattle.orders.specs.Orders as order
+use Rattle.scripts.specs.Faults.{ReadsScript}
+use Rattle.scripts.specs.Runs.{Runs, files_view}
+use Rattle.answers.specs.declared.answer.Answer.{Answer}
+use Rattle.answers.specs.declared.answer.Answer.TheVariants.{Done, Applied, Global, FuelLeft, Exports, Ran, Refused, NotNow}
+use Rattle.answers.specs.declared.causes.Cause.TheVariants.{Script}
+
+-- A file that is kept stands behind the others, a script takes them all, and other orders leave them.
+abbrev pub LeavesFiles : List (String Allocator × Vec ℕ Allocator) → order.Order → Answer
+    → List (String Allocator × Vec ℕ Allocator) → Type 0
+LeavesFiles old (order.Keep name bytes) Done new =
+    files_view new ≡ files_view old ++ (name, bytes) ∷ []
+LeavesFiles old (order.Keep name bytes) answer new = new ≡ old
+LeavesFiles old (order.RunScript text) answer new = new ≡ []
+LeavesFiles old order answer new = new ≡ old
+
+-- The answer to a command is what the embedding machine replied; the value of a global is one that a run ended with.
+abbrev pub IsReply : Answer → machine.Reply → Type 0
+IsReply (Applied reply) reply' = reply' ≡ reply_of reply
+IsReply (Global value) reply' = reply' ≡ machine.Ended (WithValues (value ∷ []))
+IsReply answer reply' = ⊥
+
+module _ {I : Type 0} {F : I → Type 0} (members : (i : I) → Ghosts (F i)) where
+  -- What an instance exports is listed, or there is no memory for the list.
+  abbrev pub ListsExports : Embedding (HostObject I F) → (instance : ℕ) → Answer → Type 0
+  ListsExports old instance (Exports found) =
+      map export_view found.items ≡ exports_at old instance
+  ListsExports old instance (Refused cause) = Unit {0}
+  ListsExports old instance answer = ⊥
+
+  -- The script is that of the text, and is run with the files that were kept; or it is not read, and nothing changes; or it is
+  -- not run to its end.
+  abbrev pub RunsText : List (String Allocator × Vec ℕ Allocator) → (text : List ℕ)
+      → Embedding (HostObject I F) → Answer → Embedding (HostObject I F) → Type 0
+  RunsText files text old (Ran report) new = (script : List ScriptCommand)
+      × ReadsScript text (Ok script)
+      × Runs members script (files_in (files_view files)) old (Ok report) new
+  RunsText files text old (Refused (Script fault)) new =
+      (ReadsScript text (Err fault) × (new ≡ old)) ⊎ ((script : List ScriptCommand)
+      × ReadsScript text (Ok script)
+      × Runs members script (files_in (files_view files)) old (Err fault) new)
+  RunsText files text old answer new = ⊥
+
+  -- A command is applied once, as the embedding machine does; other orders but scripts change nothing, and those that come too late
+  -- are answered so.
+  abbrev pub Obeys : List (String Allocator × Vec ℕ Allocator) → Embedding (HostObject I F)
+      → order.Order → Answer → Embedding (HostObject I F) → Type 0
+  Obeys files old (order.Apply command) answer new = (reply : machine.Reply)
+      × IsReply answer reply × Applies (HostStep members) old command reply new
+  Obeys files old order.FuelLeft answer new = (answer ≡ FuelLeft old.state.fuel) × (new ≡ old)
+  Obeys files old (order.Exports instance) answer new =
+      ListsExports old instance answer × (new ≡ old)
+  Obeys files old (order.RunScript text) answer new = RunsText files text old answer new
+  Obeys files old (order.Keep name bytes) answer new = new ≡ old
+  Obeys files old order.End answer new = (answer ≡ Done) × (new ≡ old)
+  Obeys files old (order.Define first second signature) answer new =
+      (answer ≡ NotNow) × (new ≡ old)
+  Obeys files old (order.Begin setup) answer new = (answer ≡ NotNow) × (new ≡ old)

@@ -1,0 +1,118 @@
+ghost use Rattle.std.specs.Prelude.{◌≡◌, ◌++◌, OnOk};
+ghost use Rattle.answers.specs.Exports.{export_bytes, exports_bytes, extern_bytes, limits_bytes, maximum_bytes, mutability_number, reference_bytes};
+
+use core_types::{
+    ExternType, FuncType, GlobalType, Limits, Mutability, RefType, TableType, ValType,
+};
+use embed::ExportType;
+use messages::{push_number, push_text, push_type, push_types};
+use std::alloc::AllocError;
+
+// The number of whether a global may be set.
+fn number_of_mutability(mutability: Mutability) -> u64
+    ensures { result ≡ mutability_number mutability }
+{
+    match mutability {
+        Mutability::Const => 0,
+        Mutability::Var => 1,
+    }
+}
+
+// Appends a type of references.
+fn push_reference(out: &mut Vec<u8>, ty: RefType) -> Result<(), AllocError>
+    ensures { OnOk result (out.new.items ≡ out.old.items ++ reference_bytes ty) }
+{
+    match ty {
+        RefType::FuncRef => push_type(out, ValType::FuncRef),
+        RefType::ExternRef => push_type(out, ValType::ExternRef),
+    }
+}
+
+// Appends a maximum, or that there is none.
+fn push_maximum(out: &mut Vec<u8>, max: Option<u32>) -> Result<(), AllocError>
+    ensures { OnOk result (out.new.items ≡ out.old.items ++ maximum_bytes max) }
+{
+    match max {
+        Some(max) => {
+            push_number(out, 1)?;
+            push_number(out, u64::from(max))
+        }
+        None => {
+            push_number(out, 0)?;
+            push_number(out, 0)
+        }
+    }
+}
+
+// Appends limits.
+fn push_limits(out: &mut Vec<u8>, limits: Limits) -> Result<(), AllocError>
+    ensures { OnOk result (out.new.items ≡ out.old.items ++ limits_bytes limits) }
+{
+    push_number(out, u64::from(limits.min))?;
+    push_maximum(out, limits.max)
+}
+
+// Appends the type of a function.
+fn push_function(out: &mut Vec<u8>, ty: &FuncType) -> Result<(), AllocError>
+    ensures { OnOk result (out.new.items ≡ out.old.items ++ extern_bytes (ExternType.Func ty.now)) }
+{
+    push_number(out, 0)?;
+    push_types(out, ty.params.as_slice())?;
+    push_types(out, ty.results.as_slice())
+}
+
+// Appends the type of a table.
+fn push_table(out: &mut Vec<u8>, ty: TableType) -> Result<(), AllocError>
+    ensures { OnOk result (out.new.items ≡ out.old.items ++ extern_bytes (ExternType.Table ty)) }
+{
+    push_number(out, 1)?;
+    push_reference(out, ty.element)?;
+    push_limits(out, ty.limits)
+}
+
+// Appends the type of a memory.
+fn push_memory(out: &mut Vec<u8>, limits: Limits) -> Result<(), AllocError>
+    ensures { OnOk result (out.new.items ≡ out.old.items ++ extern_bytes (ExternType.Memory limits)) }
+{
+    push_number(out, 2)?;
+    push_limits(out, limits)
+}
+
+// Appends the type of a global.
+fn push_global(out: &mut Vec<u8>, ty: GlobalType) -> Result<(), AllocError>
+    ensures { OnOk result (out.new.items ≡ out.old.items ++ extern_bytes (ExternType.Global ty)) }
+{
+    push_number(out, 3)?;
+    push_type(out, ty.value)?;
+    push_number(out, number_of_mutability(ty.mutability))
+}
+
+// Appends the type of what is exported.
+fn push_extern(out: &mut Vec<u8>, ty: &ExternType) -> Result<(), AllocError>
+    ensures { OnOk result (out.new.items ≡ out.old.items ++ extern_bytes ty.now) }
+{
+    match ty {
+        ExternType::Func(ty) => push_function(out, ty),
+        ExternType::Table(ty) => push_table(out, *ty),
+        ExternType::Memory(limits) => push_memory(out, *limits),
+        ExternType::Global(ty) => push_global(out, *ty),
+    }
+}
+
+// Appends an export.
+fn push_export(out: &mut Vec<u8>, export: &ExportType) -> Result<(), AllocError>
+    ensures { OnOk result (out.new.items ≡ out.old.items ++ export_bytes export.now) }
+{
+    push_text(out, export.name.as_str())?;
+    push_extern(out, &export.ty)
+}
+
+/// Appends exports, one behind the other.
+pub fn push_exports(out: &mut Vec<u8>, exports: &[ExportType]) -> Result<(), AllocError>
+    ensures { OnOk result (out.new.items ≡ out.old.items ++ exports_bytes exports.now) }
+{
+    for export in exports {
+        push_export(out, export)?;
+    }
+    Ok(())
+}

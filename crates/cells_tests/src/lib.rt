@@ -1,5 +1,0 @@
-//! Tests of cells.
-#![tactic(auto)]
-
-#[cfg(test)]
-mod values;

@@ -1,0 +1,11 @@
+//! What a module has, and what a refusal is about, as text.
+#![tactic(auto)]
+
+mod index_spaces;
+mod modules;
+mod reasons;
+mod types;
+
+pub use index_spaces::IndexSpaces;
+pub use modules::write_module;
+pub use reasons::{rule, unsupported};

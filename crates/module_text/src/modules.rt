@@ -1,0 +1,161 @@
+use crate::index_spaces::IndexSpaces;
+use crate::types::{write_func, write_global, write_memory, write_table};
+use core_types::{
+    DataSegment, Export, ExportDesc, Func, FuncType, Import, ImportDesc, Limits, Module, TableType,
+};
+use std::io::{self, Write};
+
+// The type of a function, by its index among the types.
+fn write_func_at<W: Write>(out: &mut W, types: &[FuncType], index: u32) -> io::Result<()> {
+    match types.get(index as usize) {
+        Some(ty) => write_func(out, ty),
+        None => write!(out, "(func)"),
+    }
+}
+
+// A line for what is imported.
+fn write_import<W: Write>(out: &mut W, types: &[FuncType], import: &Import) -> io::Result<()> {
+    write!(
+        out,
+        "import {:?} {:?} ",
+        import.module_name.as_str(),
+        import.name.as_str()
+    )?;
+    match import.desc {
+        ImportDesc::Func(ty) => write_func_at(out, types, ty)?,
+        ImportDesc::Table(ty) => write_table(out, ty)?,
+        ImportDesc::Memory(limits) => write_memory(out, limits)?,
+        ImportDesc::Global(ty) => write_global(out, ty)?,
+    }
+    writeln!(out)
+}
+
+// The type of what an export names.
+fn write_exported<W: Write>(
+    out: &mut W,
+    types: &[FuncType],
+    spaces: &IndexSpaces,
+    desc: ExportDesc,
+) -> io::Result<()> {
+    match desc {
+        ExportDesc::Func(index) => match spaces.funcs.get(index as usize) {
+            Some(ty) => write_func_at(out, types, *ty),
+            None => Ok(()),
+        },
+        ExportDesc::Table(index) => match spaces.tables.get(index as usize) {
+            Some(ty) => write_table(out, *ty),
+            None => Ok(()),
+        },
+        ExportDesc::Memory(index) => match spaces.memories.get(index as usize) {
+            Some(limits) => write_memory(out, *limits),
+            None => Ok(()),
+        },
+        ExportDesc::Global(index) => match spaces.globals.get(index as usize) {
+            Some(ty) => write_global(out, *ty),
+            None => Ok(()),
+        },
+    }
+}
+
+// A line for what is exported.
+fn write_export<W: Write>(
+    out: &mut W,
+    types: &[FuncType],
+    spaces: &IndexSpaces,
+    export: &Export,
+) -> io::Result<()> {
+    write!(out, "export {:?} ", export.name.as_str())?;
+    write_exported(out, types, spaces, export.desc)?;
+    writeln!(out)
+}
+
+fn write_imports<W: Write>(out: &mut W, module: &Module) -> io::Result<()> {
+    for import in module.imports.as_slice() {
+        write_import(out, module.types.as_slice(), import)?;
+    }
+    Ok(())
+}
+
+fn write_exports<W: Write>(out: &mut W, module: &Module, spaces: &IndexSpaces) -> io::Result<()> {
+    for export in module.exports.as_slice() {
+        write_export(out, module.types.as_slice(), spaces, export)?;
+    }
+    Ok(())
+}
+
+fn write_tables<W: Write>(out: &mut W, tables: &[TableType]) -> io::Result<()> {
+    for ty in tables {
+        write_table(out, *ty)?;
+        writeln!(out)?;
+    }
+    Ok(())
+}
+
+fn write_memories<W: Write>(out: &mut W, memories: &[Limits]) -> io::Result<()> {
+    for limits in memories {
+        write_memory(out, *limits)?;
+        writeln!(out)?;
+    }
+    Ok(())
+}
+
+// The operations of all bodies, those that begin and end a body among them.
+fn count_operations(funcs: &[Func]) -> u64 {
+    let mut count: u64 = 0;
+    for func in funcs {
+        count = count.saturating_add(func.body.len() as u64);
+    }
+    count
+}
+
+fn count_bytes(datas: &[DataSegment]) -> u64 {
+    let mut count: u64 = 0;
+    for data in datas {
+        count = count.saturating_add(data.bytes.len() as u64);
+    }
+    count
+}
+
+// Lines for functions and globals.
+fn write_functions<W: Write>(out: &mut W, module: &Module) -> io::Result<()> {
+    let count = module.funcs.len();
+    let operations = count_operations(module.funcs.as_slice());
+    writeln!(out, "functions {count}, operations {operations}")?;
+    writeln!(out, "globals {}", module.globals.len())
+}
+
+// Lines for segments.
+fn write_segments<W: Write>(out: &mut W, module: &Module) -> io::Result<()> {
+    let count = module.datas.len();
+    let bytes = count_bytes(module.datas.as_slice());
+    writeln!(out, "element segments {}", module.elements.len())?;
+    writeln!(out, "data segments {count}, bytes {bytes}")
+}
+
+// A line for the start function, if there is one.
+fn write_start<W: Write>(out: &mut W, module: &Module) -> io::Result<()> {
+    match module.start {
+        Some(index) => writeln!(out, "start function {index}"),
+        None => Ok(()),
+    }
+}
+
+// Lines for what is the module's own.
+fn write_sizes<W: Write>(out: &mut W, module: &Module) -> io::Result<()> {
+    write_tables(out, module.tables.as_slice())?;
+    write_memories(out, module.memories.as_slice())?;
+    write_functions(out, module)?;
+    write_segments(out, module)?;
+    write_start(out, module)
+}
+
+/// Writes what a module imports, exports and has of its own, a line each, over its index spaces. Fails where the writer does.
+pub fn write_module<W: Write>(
+    out: &mut W,
+    module: &Module,
+    spaces: &IndexSpaces,
+) -> io::Result<()> {
+    write_imports(out, module)?;
+    write_exports(out, module, spaces)?;
+    write_sizes(out, module)
+}

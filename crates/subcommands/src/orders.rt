@@ -1,0 +1,180 @@
+//! What an order of the program asks for: a script, a call, or a look at a module.
+
+ghost use Rattle.std.specs.Prelude.{◌<◌, ◌^◌, length};
+
+use crate::calls::{call, embedding_with_spectest, new_embedding};
+use crate::faults::Fault;
+use crate::inputs::{Files, ReadFault};
+use crate::script_files::read_named;
+use command_line::{CallOrder, DEFAULT_DEPTH, DEFAULT_FUEL, Order, ScriptOrder, read_words};
+use embed::{Embedding, HostDef, Outcome, Refusal};
+use scripts::{Report, Script, read_script, run_script};
+use std::alloc::Global;
+
+/// How a call ended, and the fuel that it left.
+#[derive(Drop)]
+pub struct CallEnd {
+    pub outcome: Outcome,
+    pub fuel_left: u64,
+}
+
+/// How the program did what it was asked for.
+#[derive(Drop)]
+pub enum End {
+    /// The script was run.
+    Ran(Report),
+    /// The function was called.
+    Called(CallEnd),
+    /// The module is valid.
+    Valid,
+}
+
+// The bytes of a file.
+fn read_file<'a, F: Files>(files: &mut F, path: &'a str) -> Result<Vec<u8>, Fault<'a>> {
+    match files.read(path) {
+        Ok(bytes) => Ok(bytes),
+        Err(ReadFault::Failed) => Err(Fault::CannotRead(path)),
+        Err(ReadFault::Memory) => Err(Fault::Refused(Refusal::OutOfMemory)),
+    }
+}
+
+// Runs a script over its files in an embedding.
+fn run_in<'a>(
+    alloc: Global,
+    script: &Script,
+    named: &[(String, Vec<u8>)],
+    embedding: &mut Embedding,
+) -> Result<Report, Fault<'a>> {
+    Ok(run_script(alloc, script, named, embedding)?)
+}
+
+// Runs a script over its files, each command within the fuel of the order.
+fn run_over_files<'a>(
+    alloc: Global,
+    order: &ScriptOrder<'a>,
+    script: &Script,
+    named: &[(String, Vec<u8>)],
+    hosts: Vec<HostDef>,
+) -> Result<Report, Fault<'a>>
+    requires { length hosts.items < 2 ^ 32 }
+{
+    match embedding_with_spectest(alloc, order.fuel, order.depth, hosts) {
+        Ok(mut embedding) => run_in(alloc, script, named, &mut embedding),
+        Err(fault) => Err(fault),
+    }
+}
+
+// The script in a file.
+fn read_script_in_file<'a, F: Files>(
+    alloc: Global,
+    files: &mut F,
+    path: &'a str,
+) -> Result<Script, Fault<'a>> {
+    let bytes = read_file(files, path)?;
+    Ok(read_script(alloc, bytes.as_slice())?)
+}
+
+// Runs the script in the file that the order names, each command within its fuel. Modules may import the stored one.
+fn run_script_in_file<'a, F: Files>(
+    alloc: Global,
+    order: &ScriptOrder<'a>,
+    files: &mut F,
+    hosts: Vec<HostDef>,
+) -> Result<Report, Fault<'a>>
+    requires { length hosts.items < 2 ^ 32 }
+{
+    let script = read_script_in_file(alloc, files, order.file)?;
+    let named = read_named(alloc, files, order.file, script.filenames())?;
+    run_over_files(alloc, order, &script, named.as_slice(), hosts)
+}
+
+// Calls the function that the order names, of the module that these bytes are, in an embedding.
+fn call_in<'a>(
+    alloc: Global,
+    order: &CallOrder<'a>,
+    bytes: &[u8],
+    embedding: &mut Embedding,
+) -> Result<CallEnd, Fault<'a>> {
+    let outcome = call(alloc, order, embedding, bytes)?;
+    Ok(CallEnd {
+        outcome,
+        fuel_left: embedding.fuel_left(),
+    })
+}
+
+// Calls the function that the order names, of the module that these bytes are, within its fuel.
+fn call_in_bytes<'a>(
+    alloc: Global,
+    order: &CallOrder<'a>,
+    bytes: &[u8],
+    hosts: Vec<HostDef>,
+) -> Result<CallEnd, Fault<'a>>
+    requires { length hosts.items < 2 ^ 32 }
+{
+    match embedding_with_spectest(alloc, order.fuel, order.depth, hosts) {
+        Ok(mut embedding) => call_in(alloc, order, bytes, &mut embedding),
+        Err(fault) => Err(fault),
+    }
+}
+
+// Calls the function that the order names, of the module in its file, within its fuel. The module may import the stored one.
+fn call_in_file<'a, F: Files>(
+    alloc: Global,
+    order: &CallOrder<'a>,
+    files: &mut F,
+    hosts: Vec<HostDef>,
+) -> Result<CallEnd, Fault<'a>>
+    requires { length hosts.items < 2 ^ 32 }
+{
+    let bytes = read_file(files, order.file)?;
+    call_in_bytes(alloc, order, bytes.as_slice(), hosts)
+}
+
+// Loads a module in an embedding.
+fn load_in<'a>(bytes: &[u8], embedding: &mut Embedding) -> Result<(), Fault<'a>> {
+    embedding.load(bytes)?;
+    Ok(())
+}
+
+// Loads a module.
+fn check_bytes<'a>(alloc: Global, bytes: &[u8], hosts: Vec<HostDef>) -> Result<(), Fault<'a>>
+    requires { length hosts.items < 2 ^ 32 }
+{
+    match new_embedding(alloc, DEFAULT_FUEL, DEFAULT_DEPTH, hosts) {
+        Ok(mut embedding) => load_in(bytes, &mut embedding),
+        Err(fault) => Err(fault),
+    }
+}
+
+// Loads the module in a file.
+fn check_file<'a, F: Files>(
+    alloc: Global,
+    files: &mut F,
+    path: &'a str,
+    hosts: Vec<HostDef>,
+) -> Result<(), Fault<'a>>
+    requires { length hosts.items < 2 ^ 32 }
+{
+    let bytes = read_file(files, path)?;
+    check_bytes(alloc, bytes.as_slice(), hosts)
+}
+
+/// Reads the words after the program's name, and does what they ask for, with the host functions that modules may import (the three
+/// prints). At most 2^32 - 1 host functions may be given. A fault says why it was not done, or not to its end.
+pub fn perform<'a, F: Files>(
+    alloc: Global,
+    words: &'a [String],
+    files: &mut F,
+    hosts: Vec<HostDef>,
+) -> Result<End, Fault<'a>>
+    requires { length hosts.items < 2 ^ 32 }
+{
+    match read_words(alloc, words)? {
+        Order::Script(order) => Ok(End::Ran(run_script_in_file(alloc, &order, files, hosts)?)),
+        Order::Call(order) => Ok(End::Called(call_in_file(alloc, &order, files, hosts)?)),
+        Order::Check(path) => {
+            check_file(alloc, files, path, hosts)?;
+            Ok(End::Valid)
+        }
+    }
+}
