@@ -1,10 +1,15 @@
 //! What a caller pays for a call.
 #![tactic(auto)]
 
-ghost use Rattle.std.specs.Prelude.{◌≡◌, ◌+◌, ◌≤◌};
+ghost use Rattle.std.specs.Prelude.{◌≡◌, ◌+◌, ◌≤◌, ◌∷◌, [], min};
 ghost use Rattle.embed.specs.Contents.{embedding_of};
+ghost use Rattle.embed.specs.Replies.{call_reply};
+ghost use Rattle.hostfunc.specs.Boxes.{HostStep};
+ghost use Rattle.meaning.specs.embedding.Commands.{Call, Done, SetFuel};
+ghost use Rattle.meaning.specs.embedding.Machine.{AppliesAll};
 
 use embed::{Embedding, InstanceNumber, Outcome, Refusal, Val};
+use hostfunc::HostFn;
 
 /// A caller, with the fuel that it can still pay for.
 #[derive(Drop)]
@@ -31,8 +36,10 @@ pub fn pay_for_call(
     args: &[Val],
 ) -> PaidCall
     requires nothing { Unit {0} }
-    ensures within_limit { result.bought ≤ limit }
-    ensures within_balance { result.bought ≤ account.old.balance }
+    ensures bought { result.bought ≡ min limit account.old.balance }
+    ensures called { AppliesAll (HostStep ⟦<dyn HostFn as HostFn>⟧) (embedding_of embedding.old)
+        (SetFuel result.bought ∷ Call instance.0 export.now args.now ∷ [])
+        (Done ∷ call_reply result.outcome ∷ []) (embedding_of embedding.new) }
     ensures left_over { result.left ≡ (embedding_of embedding.new).state.fuel }
     ensures left { result.left ≤ result.bought }
     ensures paid { account.new.balance + result.bought ≡ account.old.balance + result.left }

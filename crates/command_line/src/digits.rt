@@ -2,7 +2,7 @@
 
 /// The number that a text of ASCII digits writes, at least one, where a u64 holds it.
 pub fn number(text: &str) -> Option<u64> {
-    if text.is_empty() || !text.bytes().all(|byte| byte.is_ascii_digit()) {
+    if text.starts_with('+') {
         return None;
     }
     text.parse::<u64>().ok()

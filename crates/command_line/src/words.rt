@@ -116,13 +116,24 @@ fn check_command<'a>(alloc: Global) -> Result<Command<'a>, AllocError> {
     plain_command(alloc, "check").arg(required(alloc, "file"))
 }
 
+// A command with one subcommand more, if there was memory for that one.
+fn with_subcommand<'a>(
+    command: Command<'a>,
+    made: Result<Command<'a>, AllocError>,
+) -> Result<Command<'a>, AllocError> {
+    match made {
+        Ok(subcommand) => command.subcommand(subcommand),
+        Err(wanting) => Err(wanting),
+    }
+}
+
 fn program_command<'a>(alloc: Global) -> Result<Command<'a>, AllocError> {
-    plain_command(alloc, "wasmrun")
+    let command = plain_command(alloc, "wasmrun")
         .subcommand_required(true)
-        .no_binary_name(true)
-        .subcommand(script_command(alloc)?)?
-        .subcommand(call_command(alloc)?)?
-        .subcommand(check_command(alloc)?)
+        .no_binary_name(true);
+    let command = with_subcommand(command, script_command(alloc))?;
+    let command = with_subcommand(command, call_command(alloc))?;
+    with_subcommand(command, check_command(alloc))
 }
 
 // The word under a name.
@@ -200,9 +211,8 @@ fn call_order_of<'a>(alloc: Global, matches: &ArgMatches<'a>) -> Result<CallOrde
     })
 }
 
-/// What the words after the program's name ask for.
-pub fn read_words<'a>(alloc: Global, words: &'a [String]) -> Result<Order<'a>, WordsFault> {
-    let matches = program_command(alloc)?.try_get_matches_from(words)?;
+// What the words ask for that were matched with the commands.
+fn order_in<'a>(alloc: Global, matches: &ArgMatches<'a>) -> Result<Order<'a>, WordsFault> {
     if let Some(found) = matches.subcommand_matches("script") {
         return Ok(Order::Script(script_order_of(found)?));
     }
@@ -213,4 +223,10 @@ pub fn read_words<'a>(alloc: Global, words: &'a [String]) -> Result<Order<'a>, W
         Some(found) => Ok(Order::Check(word_of(found, "file")?)),
         None => Err(WordsFault::Usage),
     }
+}
+
+/// What the words after the program's name ask for.
+pub fn read_words<'a>(alloc: Global, words: &'a [String]) -> Result<Order<'a>, WordsFault> {
+    let matches = program_command(alloc)?.try_get_matches_from(words)?;
+    order_in(alloc, &matches)
 }

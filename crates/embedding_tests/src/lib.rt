@@ -1,4 +1,5 @@
-//! Tests of the embedding: commands and their replies, setups, and the types of exports.
+//! Tests of the embedding: commands and their replies, setups, and the types of exports; of scripts and what they report; and of orders
+//! and answers as messages spell them.
 #![tactic(auto)]
 
 #[cfg(test)]
@@ -17,7 +18,21 @@ mod lasting;
 #[cfg(test)]
 mod lists;
 #[cfg(test)]
+mod order_answers;
+#[cfg(test)]
+mod order_endings;
+#[cfg(test)]
+mod order_reading;
+#[cfg(test)]
 mod places;
+#[cfg(test)]
+mod script_modules;
+#[cfg(test)]
+mod script_reading;
+#[cfg(test)]
+mod script_running;
+#[cfg(test)]
+mod script_tail_calls;
 #[cfg(test)]
 mod setups;
 #[cfg(test)]

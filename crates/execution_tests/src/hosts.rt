@@ -8,6 +8,7 @@ ghost use Rattle.hostfunc.specs.declared.host_function.HostFault.TheVariants.{Me
 ghost use Rattle.hostfunc.specs.Tables.{hosts_in};
 ghost use Rattle.store.specs.Contents.{store_of};
 
+use crate::modules::{ENTRIES, PAGES};
 use core_types::{FuncType, Items, Val, ValType};
 use hostfunc::{HostFault, HostFn, HostTable, has_funcref, object_type};
 use std::alloc::{AllocError, Global};
@@ -180,11 +181,53 @@ impl HostFn for Marker {
     }
 }
 
+// Writes the byte 7 at 0, and answers how many bytes it is lent.
+#[derive(Drop)]
+struct Measure {
+    alloc: Global,
+    ty: FuncType,
+    ghost gives_number: { ty.results ≡ I32 ∷ [] } by { Prim.hlevel props },
+}
+
+fn new_measure(alloc: Global) -> Result<Box<Measure>, AllocError> {
+    let ty = function_type(alloc, &[], &[ValType::I32])?;
+    Ok(Box::new(alloc, Measure { alloc, ty })?)
+}
+
+impl HostFn for Measure {
+    ghost declared = { λ h. h.ty };
+
+    ghost Answers = { λ h arguments bytes answer then h'. h'.ty ≡ h.ty };
+
+    fn ty(&self) -> &FuncType {
+        &self.ty
+    }
+
+    fn call(&mut self, _args: &[Val], memory: &mut [u8]) -> Result<Vec<Val>, HostFault> {
+        let lent = u32::try_from(memory.len()).unwrap_or(u32::MAX);
+        let values = one_result(self.alloc, lent)?;
+        mark(memory);
+        Ok(values)
+    }
+}
+
 /// A store, and the objects of its host functions.
 #[derive(Drop)]
 pub struct Hosted {
     pub store: Store,
     pub hosts: HostTable,
+}
+
+/// A store without anything in it.
+pub fn empty_hosted(alloc: Global) -> Hosted
+    ensures objects { hosts_in result.hosts ≡ [] }
+    ensures functions { (store_of result.store).functions ≡ [] }
+    ensures hosts { result.store.code.hosts ≡ [] }
+{
+    Hosted {
+        store: Store::new(alloc, PAGES, ENTRIES),
+        hosts: HostTable::new(alloc),
+    }
 }
 
 // Takes in an object that gives no funcref, behind as many host functions.
@@ -250,11 +293,31 @@ fn new_functions(alloc: Global) -> Result<Functions, AllocError> {
 /// A store with these four host functions alone.
 pub fn new_hosted(alloc: Global) -> Result<Hosted, AllocError> {
     let functions = new_functions(alloc)?;
-    let mut hosted = Hosted {
-        store: Store::new(alloc, 1, 2),
-        hosts: HostTable::new(alloc),
-    };
+    let mut hosted = empty_hosted(alloc);
     take_in_both(&mut hosted, alloc, functions.difference, functions.sum)?;
     take_in_both(&mut hosted, alloc, functions.four, functions.marker)?;
+    Ok(hosted)
+}
+
+// Two host functions: a measure, and one without results.
+#[derive(Drop)]
+struct Lent {
+    measure: Box<Measure>,
+    marker: Box<Marker>,
+}
+
+fn new_lent(alloc: Global) -> Result<Lent, AllocError> {
+    Ok(Lent {
+        measure: new_measure(alloc)?,
+        marker: new_marker(alloc)?,
+    })
+}
+
+/// A store with two host functions alone, which write the byte 7 at 0: the first one answers how many bytes it is lent, and the
+/// second one nothing.
+pub fn new_measured(alloc: Global) -> Result<Hosted, AllocError> {
+    let functions = new_lent(alloc)?;
+    let mut hosted = empty_hosted(alloc);
+    take_in_both(&mut hosted, alloc, functions.measure, functions.marker)?;
     Ok(hosted)
 }

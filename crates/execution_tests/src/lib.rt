@@ -1,18 +1,33 @@
-//! Tests of what runs: of `core_types`, `intops`, `fuel`, `store`, `bulkops` and `exec`.
+//! Tests of what runs: of `core_types`, `cells`, `intops`, `fuel`, `sidetable`, `store`, `bulkops`, `effects`, `exec`, `instantiate` and
+//! `linker`.
 #![tactic(auto)]
 
 #[cfg(test)]
+mod accesses;
+#[cfg(test)]
 mod collections;
+#[cfg(test)]
+mod flattening;
 #[cfg(test)]
 mod host_calls;
 #[cfg(test)]
 mod hosts;
+#[cfg(test)]
+mod linked_tail_calls;
+#[cfg(test)]
+mod links;
+#[cfg(test)]
+mod listing;
 #[cfg(test)]
 mod memories;
 #[cfg(test)]
 mod metering;
 #[cfg(test)]
 mod modules;
+#[cfg(test)]
+mod names;
+#[cfg(test)]
+mod numeric_cells;
 #[cfg(test)]
 mod numeric_rows;
 #[cfg(test)]
@@ -27,3 +42,5 @@ mod stores;
 mod tables;
 #[cfg(test)]
 mod tail_calls;
+#[cfg(test)]
+mod values;

@@ -1,27 +1,28 @@
 //! Modules from text, and stores of them.
 
 use binary::decode;
+use core_types::Extern;
 use exec::have_hosts;
 use fuel::Meter;
 use hostfunc::HostTable;
-use instantiate::instantiate;
+use instantiate::{LinkEnd, LinkRefusal, instantiate};
 use std::alloc::Global;
 use std::rc::Rc;
 use store::{LoadedModule, Store};
 use testing::assemble;
 use validator::{ValidModule, validate};
 
-// How many pages a memory may have.
-const PAGES: u32 = 1024;
+/// How many pages a memory may have.
+pub const PAGES: u32 = 1024;
 
-// How many entries a table may have.
-const ENTRIES: u32 = 100;
+/// How many entries a table may have.
+pub const ENTRIES: u32 = 100;
 
-// What the link of a module may spend.
+// What the link of a module without imports may spend.
 const FUEL: u64 = 1_000;
 
-// How many frames the link of a module may have open.
-const DEPTH: u32 = 10;
+/// How many frames may be open.
+pub const DEPTH: u32 = 100;
 
 /// The valid module of a text; none where the text is no module, or an invalid one.
 pub fn valid_module(alloc: Global, text: &str) -> Option<ValidModule> {
@@ -50,14 +51,28 @@ pub fn empty_store(alloc: Global) -> Store {
     Store::new(alloc, PAGES, ENTRIES)
 }
 
+/// Links a module with these external values and this fuel: the number of the instance or how the link ends, and the fuel left.
+pub fn link(
+    alloc: Global,
+    store: &mut Store,
+    hosts: &mut HostTable,
+    loaded: &Rc<LoadedModule>,
+    given: &[Extern],
+    fuel: u64,
+) -> (Result<u32, LinkEnd>, u64) {
+    if !have_hosts(store, hosts) {
+        return (Err(LinkEnd::Refused(LinkRefusal::OutOfMemory)), fuel);
+    }
+    let mut meter = Meter::new(fuel, DEPTH);
+    let answer = instantiate(alloc, store, hosts, &mut meter, loaded, given);
+    (answer, meter.left())
+}
+
 /// Links a module without imports, and answers the number of its instance; none where the link does not come to its end.
 pub fn append(alloc: Global, store: &mut Store, loaded: &Rc<LoadedModule>) -> Option<u32> {
     let mut hosts = HostTable::new(alloc);
-    if !have_hosts(store, &hosts) {
-        return None;
-    }
-    let mut meter = Meter::new(FUEL, DEPTH);
-    instantiate(alloc, store, &mut hosts, &mut meter, loaded, &[]).ok()
+    let (answer, _) = link(alloc, store, &mut hosts, loaded, &[], FUEL);
+    answer.ok()
 }
 
 // Links the module of a text, which has no imports, and answers the number of its instance.

@@ -1,4 +1,4 @@
-ghost use Rattle.std.specs.Prelude.{◌≡◌, ◌+◌, ◌≤◌, ◌^◌, ◌++◌, IfOk, OnOk};
+ghost use Rattle.std.specs.Prelude.{◌≡◌, ◌+◌, ◌≤◌, ◌^◌, ◌++◌, [], IfOk, OnOk};
 ghost use Rattle.meaning.specs.execution.Modules.{HasRoom, consecutive, given_addresses, new_instance};
 ghost use Rattle.store.specs.Contents.{lists_of, module_instance, store_of};
 ghost use Rattle.instantiate.specs.Addresses.{address_as};
@@ -29,17 +29,17 @@ fn address_of(kind: Kind, value: Extern) -> Option<u32>
     }
 }
 
-// The addresses of the external values of a kind, in their order.
-fn addresses_of(alloc: Global, kind: Kind, given: &[Extern]) -> Result<Vec<u32>, AllocError>
-    ensures { IfOk result (λ found. found.items ≡ given_addresses (address_as kind) given.now) }
+// Adds the addresses of the external values of a kind, in their order.
+fn push_given(addresses: &mut Vec<u32>, kind: Kind, given: &[Extern]) -> Result<(), AllocError>
+    ensures { OnOk result (addresses.new.items ≡
+        addresses.old.items ++ given_addresses (address_as kind) given.now) }
 {
-    let mut found = Vec::new(alloc);
     for k in 0..given.len() {
         if let Some(address) = address_of(kind, given[k]) {
-            found.push(address)?;
+            addresses.push(address)?;
         }
     }
-    Ok(found)
+    Ok(())
 }
 
 // Adds that many addresses in a row.
@@ -53,31 +53,40 @@ fn push_consecutive(addresses: &mut Vec<u32>, first: usize, count: usize) -> Res
     Ok(())
 }
 
-// The addresses of the external values of a kind, and then that many in a row.
+// Adds the addresses of the external values of a kind, and then that many in a row.
 fn extend(
-    alloc: Global,
+    addresses: &mut Vec<u32>,
     kind: Kind,
     given: &[Extern],
     first: usize,
     count: usize,
-) -> Result<Vec<u32>, AllocError>
+) -> Result<(), AllocError>
     requires { first + count ≤ 2 ^ 32 }
-    ensures { IfOk result (λ all. all.items ≡ given_addresses (address_as kind) given.now ++
+    ensures { OnOk result (addresses.new.items ≡
+        (addresses.old.items ++ given_addresses (address_as kind) given.now) ++
         consecutive first count) }
 {
-    let mut all = addresses_of(alloc, kind, given)?;
-    push_consecutive(&mut all, first, count)?;
-    Ok(all)
+    push_given(addresses, kind, given)?;
+    push_consecutive(addresses, first, count)
 }
 
-// That many addresses in a row.
-fn consecutive_addresses(alloc: Global, first: usize, count: usize) -> Result<Vec<u32>, AllocError>
-    requires { first + count ≤ 2 ^ 32 }
-    ensures { IfOk result (λ all. all.items ≡ consecutive first count) }
+// No addresses of any kind.
+fn no_addresses(alloc: Global) -> Addresses
+    ensures functions { result.functions.items ≡ [] }
+    ensures tables { result.tables.items ≡ [] }
+    ensures memories { result.memories.items ≡ [] }
+    ensures globals { result.globals.items ≡ [] }
+    ensures elements { result.elements.items ≡ [] }
+    ensures datas { result.datas.items ≡ [] }
 {
-    let mut all = Vec::new(alloc);
-    push_consecutive(&mut all, first, count)?;
-    Ok(all)
+    Addresses {
+        functions: Vec::new(alloc),
+        tables: Vec::new(alloc),
+        memories: Vec::new(alloc),
+        globals: Vec::new(alloc),
+        elements: Vec::new(alloc),
+        datas: Vec::new(alloc),
+    }
 }
 
 /// The addresses of the new instance of a module: of each kind first what is given for its imports, and then those behind what the
@@ -93,16 +102,20 @@ pub fn new_addresses(
         new_instance (store_of store.now) wanted.now given.now) }
 {
     let (code, state) = (store.code(), store.state());
-    let funcs = (code.function_count(), wanted.funcs.len());
-    let tables = (state.table_count(), wanted.tables.len());
-    let memories = (state.memory_count(), wanted.memories.len());
-    let globals = (state.global_count(), wanted.globals.len());
-    Ok(Addresses {
-        functions: extend(alloc, Kind::Func, given, funcs.0, funcs.1)?,
-        tables: extend(alloc, Kind::Table, given, tables.0, tables.1)?,
-        memories: extend(alloc, Kind::Memory, given, memories.0, memories.1)?,
-        globals: extend(alloc, Kind::Global, given, globals.0, globals.1)?,
-        elements: consecutive_addresses(alloc, state.element_count(), wanted.elements.len())?,
-        datas: consecutive_addresses(alloc, state.data_count(), wanted.datas.len())?,
-    })
+    let mut all = no_addresses(alloc);
+    let (first, count) = (code.function_count(), wanted.funcs.len());
+    extend(&mut all.functions, Kind::Func, given, first, count)?;
+    let (first, count) = (state.table_count(), wanted.tables.len());
+    extend(&mut all.tables, Kind::Table, given, first, count)?;
+    let (first, count) = (state.memory_count(), wanted.memories.len());
+    extend(&mut all.memories, Kind::Memory, given, first, count)?;
+    let (first, count) = (state.global_count(), wanted.globals.len());
+    extend(&mut all.globals, Kind::Global, given, first, count)?;
+    push_consecutive(
+        &mut all.elements,
+        state.element_count(),
+        wanted.elements.len(),
+    )?;
+    push_consecutive(&mut all.datas, state.data_count(), wanted.datas.len())?;
+    Ok(all)
 }

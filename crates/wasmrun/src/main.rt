@@ -2,27 +2,40 @@
 #![tactic(auto)]
 
 use program::{Print, Printed, define_prints, refuse_words, run};
+use std::alloc::AllocError;
+use std::env;
+use std::io::{self, Stdout};
 use std::process::ExitCode;
-use std::{env, io};
 use subcommands::System;
 
-// Runs the program over the words after its name, with the three prints.
-fn run_words(rt: &HostRuntime) -> io::Result<u8> {
+// A print of this kind to standard output.
+fn new_print(rt: &HostRuntime, printed: Printed) -> Result<Box<Print<Stdout>>, AllocError> {
+    let print = Print::new(rt.alloc(), printed, rt.stdout())?;
+    Ok(Box::new(rt.alloc(), print)?)
+}
+
+// Runs the program over these words, with the three prints.
+fn run_with_prints(rt: &HostRuntime, words: &[String]) -> io::Result<u8> {
     let alloc = rt.alloc();
-    let words: Vec<String> = env::args(rt)?.skip(1).collect(alloc)?;
-    let nothing = Box::new(alloc, Print::new(alloc, Printed::Nothing, rt.stdout())?)?;
-    let short = Box::new(alloc, Print::new(alloc, Printed::I32, rt.stdout())?)?;
-    let long = Box::new(alloc, Print::new(alloc, Printed::I64, rt.stdout())?)?;
+    let nothing = new_print(rt, Printed::Nothing)?;
+    let short = new_print(rt, Printed::I32)?;
+    let long = new_print(rt, Printed::I64)?;
     let hosts = define_prints(alloc, nothing, short, long)?;
     let mut files = System::new(rt);
     Ok(run(
         alloc,
-        words.as_slice(),
+        words,
         &mut files,
         hosts,
         &mut rt.stdout(),
         &mut rt.stderr(),
     ))
+}
+
+// Runs the program over the words after its name.
+fn run_words(rt: &HostRuntime) -> io::Result<u8> {
+    let words: Vec<String> = env::args(rt)?.skip(1).collect(rt.alloc())?;
+    run_with_prints(rt, words.as_slice())
 }
 
 fn main(rt: HostRuntime) -> ExitCode {

@@ -14,11 +14,11 @@ pushed-next first k initial so_far after had pushed =
 
 -- ---- of a kind of what is given
 
-module _ (address_of : Extern → Option ℕ) (given : List Extern) where
-  -- What there is so far, before what there is of the rest.
+module _ (address_of : Extern → Option ℕ) (given : List Extern) (whole : List ℕ) where
+  -- What there is so far, before what there is of the rest, is the whole.
   abbrev pub FoundSoFar : ℕ → List ℕ → Type 0
   FoundSoFar k found =
-      found ++ given_addresses address_of (drop k given) ≡ given_addresses address_of given
+      found ++ given_addresses address_of (drop k given) ≡ whole
 
   rest-next : (k : ℕ) (d : Extern) (o : Option ℕ) → k < length given → address_of (get_or given k d) ≡ o → before o (given_addresses address_of (drop (k + 1) given)) ≡ given_addresses address_of (drop k given)
   rest-next k d o inside has = sym (at_drop_more (given_addresses address_of) given k d inside ∙ ap (λ (p : Option ℕ). before p (given_addresses address_of (drop (k + 1) given))) has)
@@ -31,6 +31,6 @@ module _ (address_of : Extern → Option ℕ) (given : List Extern) where
   found-some k d found a inside so_far has =
       append_assoc found (a ∷ []) (given_addresses address_of (drop (k + 1) given)) ∙ ap (λ (rest : List ℕ). found ++ rest) (rest-next k d (Some a) inside has) ∙ so_far
 
-  pub found-end : (k : ℕ) (found : List ℕ) → length given ≤ k → FoundSoFar k found → found ≡ given_addresses address_of given
+  pub found-end : (k : ℕ) (found : List ℕ) → length given ≤ k → FoundSoFar k found → found ≡ whole
   found-end k found past so_far =
       sym (append-nil found) ∙ ap (λ (rest : List ℕ). found ++ rest) (sym (at_drop_all (given_addresses address_of) given k past)) ∙ so_far

@@ -2,13 +2,10 @@
 //! or how many parameters, locals and results it has.
 
 use crate::listing::list;
-use binary::{DecodeError, decode};
-use core_types::Module;
+use crate::modules::valid_module;
 use sidetable::{FlatModule, PackedFunction, PackedOp, flatten};
 use std::alloc::{AllocError, Global};
 use std::mem::size_of;
-use testing::{AssembleError, assemble};
-use validator::{ValidModule, ValidateError, validate};
 
 // What a row says of a function.
 enum Expected {
@@ -89,34 +86,6 @@ static TAIL_CALLS: [Row; 6] = [
         expected: Code(" plain plain return_call_indirect(0,1) leave", 2) },
 ];
 
-// Why a row's module gives no flat code.
-#[derive(Clone, Copy, PartialEq, Eq)]
-struct Refused;
-
-impl From<AllocError> for Refused {
-    fn from(_: AllocError) -> Refused {
-        Refused
-    }
-}
-
-impl From<AssembleError> for Refused {
-    fn from(_: AssembleError) -> Refused {
-        Refused
-    }
-}
-
-impl From<DecodeError> for Refused {
-    fn from(_: DecodeError) -> Refused {
-        Refused
-    }
-}
-
-impl From<ValidateError> for Refused {
-    fn from(_: ValidateError) -> Refused {
-        Refused
-    }
-}
-
 // Whether a function's flat code is so.
 fn is_so(
     alloc: Global,
@@ -139,22 +108,10 @@ fn is_so(
     }
 }
 
-// The module of a source.
-fn module_of(alloc: Global, source: &str) -> Result<Module, Refused> {
-    let bytes = assemble(alloc, source)?;
-    Ok(decode(alloc, &bytes)?)
-}
-
-// The module of a source, which is valid.
-fn valid_module_of(alloc: Global, source: &str) -> Result<ValidModule, Refused> {
-    let module = module_of(alloc, source)?;
-    Ok(validate(alloc, module)?)
-}
-
 // The flat code of a source's module.
-fn flat_module_of(alloc: Global, source: &str) -> Result<FlatModule, Refused> {
-    let validated = valid_module_of(alloc, source)?;
-    Ok(flatten(alloc, &validated)?)
+fn flat_module_of(alloc: Global, source: &str) -> Option<FlatModule> {
+    let validated = valid_module(alloc, source)?;
+    flatten(alloc, &validated).ok()
 }
 
 // Whether the last function of a module is so.
@@ -166,22 +123,24 @@ fn is_last_so(alloc: Global, flat: &FlatModule, expected: &Expected) -> Result<b
 }
 
 // Whether the last function of a row's module is flattened so.
-fn is_flattened(alloc: Global, row: &Row) -> Result<bool, Refused> {
-    let flat = flat_module_of(alloc, row.source)?;
-    Ok(is_last_so(alloc, &flat, &row.expected)?)
+fn is_flattened(alloc: Global, row: &Row) -> bool {
+    match flat_module_of(alloc, row.source) {
+        Some(flat) => is_last_so(alloc, &flat, &row.expected) == Ok(true),
+        None => false,
+    }
 }
 
 #[test]
 fn functions_are_flattened(rt: HostRuntime) {
     for row in &ROWS {
-        assert!(rt; is_flattened(rt.alloc(), row) == Ok(true), "{}", row.name);
+        assert!(rt; is_flattened(rt.alloc(), row), "{}", row.name);
     }
 }
 
 #[test]
 fn tail_calls_are_flattened(rt: HostRuntime) {
     for row in &TAIL_CALLS {
-        assert!(rt; is_flattened(rt.alloc(), row) == Ok(true), "{}", row.name);
+        assert!(rt; is_flattened(rt.alloc(), row), "{}", row.name);
     }
 }
 

@@ -1,6 +1,6 @@
 //! Tail calls of functions of other instances and of host functions.
 
-use crate::hosts::new_hosted;
+use crate::hosts::new_measured;
 use crate::links::End::{Exhausted as Lacks, Linked, Trapped, Value};
 use crate::links::Step::{self, Call, Link};
 use crate::links::{Row, all_end_so, all_end_so_alone};
@@ -157,7 +157,7 @@ static TAIL_CALLS_OF_HOSTS: [Row; 7] = [
 
 // Whether all steps end so, in a store of the host functions.
 fn all_end_so_with_hosts(alloc: Global, steps: &[Step]) -> bool {
-    match new_hosted(alloc) {
+    match new_measured(alloc) {
         Ok(hosted) => all_end_so(alloc, hosted, steps),
         Err(_) => false,
     }
