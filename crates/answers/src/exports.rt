@@ -72,7 +72,8 @@ fn push_table(out: &mut Vec<u8>, ty: TableType) -> Result<(), AllocError>
 
 // Appends the type of a memory.
 fn push_memory(out: &mut Vec<u8>, limits: Limits) -> Result<(), AllocError>
-    ensures { OnOk result (out.new.items ≡ out.old.items ++ extern_bytes (ExternType.Memory limits)) }
+    ensures { OnOk result (out.new.items
+        ≡ out.old.items ++ extern_bytes (ExternType.Memory limits)) }
 {
     push_number(out, 2)?;
     push_limits(out, limits)

@@ -169,7 +169,8 @@ impl HostFn for Callback {
 
     ghost declared = { λ callback. callback.ty };
 
-    ghost Answers = { λ callback _ bytes _ then callback'. AnswersAtWill callback bytes then callback' };
+    ghost Answers = { λ callback _ bytes _ then callback'.
+        AnswersAtWill callback bytes then callback' };
 
     fn ty(&self) -> &FuncType {
         &self.ty

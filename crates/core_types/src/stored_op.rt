@@ -34,7 +34,8 @@ fn store_control(op: ControlOp) -> Option<StoredOp>
 // An instruction on references in eight bytes.
 #[inline(always)]
 fn store_reference(op: ReferenceOp) -> StoredOp
-    ensures same { (others : List AnyOp) → stored_op others result ≡ flat.Plain (plain.Reference op) }
+    ensures same { (others : List AnyOp)
+        → stored_op others result ≡ flat.Plain (plain.Reference op) }
     ensures within { (count : ℕ) → IsWithin count result }
 {
     match op {
@@ -47,7 +48,8 @@ fn store_reference(op: ReferenceOp) -> StoredOp
 // An instruction on a local or a global in eight bytes.
 #[inline(always)]
 fn store_variable(op: VariableOp) -> StoredOp
-    ensures same { (others : List AnyOp) → stored_op others result ≡ flat.Plain (plain.Variable op) }
+    ensures same { (others : List AnyOp)
+        → stored_op others result ≡ flat.Plain (plain.Variable op) }
     ensures within { (count : ℕ) → IsWithin count result }
 {
     match op {

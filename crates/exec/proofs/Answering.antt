@@ -174,10 +174,6 @@ module _ (bound : ℕ) (r : AtRest) (w : Whole) (rests : Rests bound r w) (op : 
   pub arguments-typed : map type_of arguments ≡ t.params
   arguments-typed = types-read t.params (take k (drop first held)) arguments-fit
 
-  -- They are a slice of the cells.
-  pub slice-is : (cells : List ℕ) (n : ℕ) → cells ≡ held → n ≡ k → take (behind - (behind - n)) (drop (behind - n) cells) ≡ take k (drop first held)
-  slice-is cells n same is = rw (same, is) (ap (λ (j : ℕ). take j (drop first held)) (omega (arith, enough)))
-
   abbrev arguments_read : List Val
   arguments_read = values_of function.ty.params (operand_cells (cells_in w.ghost m) height (length function.ty.params))
 
@@ -647,9 +643,6 @@ module _ (bound : ℕ) (r : AtRest) (w : Whole) (kind : CallKind) (address behin
 
     pub types-there : map type_of arguments_there ≡ t.params
     types-there = arguments-typed bound r w wait.rests n.op address n.function n.height behind n.lies n.paid d number t found
-
-    pub slice-there : (cells : List ℕ) (count : ℕ) → cells ≡ cells_held r → count ≡ length t.params → take (behind - (behind - count)) (drop (behind - count) cells) ≡ take (length t.params) (drop (behind - length t.params) (cells_held r))
-    slice-there = slice-is bound r w wait.rests n.op address n.function n.height behind n.lies n.paid d number t found
 
     pub behind-there : (length t.params ≤ behind) × (behind ≤ length (machine_of r).cells)
     behind-there = (

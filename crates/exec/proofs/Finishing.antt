@@ -11,7 +11,6 @@ use Rattle.meaning.specs.execution.Runs.{Answer, Ending, OutOfDepth, OutOfFuel, 
 use Rattle.meaning.specs.execution.Store.{Store}
 use Rattle.meaning.proofs.lemmas.Hosts.{steps-over}
 use Rattle.meaning.proofs.lemmas.Runs.{Steps-fuel, Steps-join, Steps-run}
-use Rattle.sidetable.specs.declared.operations.OtherInstruction.{OtherInstruction}
 use Rattle.interpreter.specs.Whole.{CallsHostNext, HasResults, OpensNext, Whole, paid_for, whole}
 use Rattle.interpreter.specs.declared.machine.CallKind.{CallKind}
 use Rattle.interpreter.specs.declared.machine.Stop.{Stop}
@@ -93,90 +92,78 @@ module _ {H : Type 0} (HostStep : List H → ℕ → Option ℕ → List Val →
 
 -- ---- a run from its start
 
-module _ {H : Type 0} (HostStep : List H → ℕ → Option ℕ → List Val → Store → Answer → Store → List H → Type 0) (bound : ℕ) (r : AtRest) (hosts : List H) (types : List ValType) where
-  -- It has come to another place, from whatever rests at the start.
-  pub record CameOver (r' : AtRest) (hosts' : List H) : Type 0 where
-    pub from : (w : Whole) → RestsWith bound r w types → ComesOver HostStep bound r hosts w r' hosts'
+-- It has come to another place, from whatever rests at the start.
+pub record CameOver {H : Type 0} (HostStep : List H → ℕ → Option ℕ → List Val → Store → Answer → Store → List H → Type 0)
+    (bound : ℕ) (r : AtRest) (hosts : List H) (types : List ValType) (r' : AtRest) (hosts' : List H) : Type 0 where
+  pub from : (w : Whole) → RestsWith bound r w types → ComesOver HostStep bound r hosts w r' hosts'
 
-  pub came-over-first : CameOver r hosts
+abbrev RunsSo : {H : Type 0} (HostStep : List H → ℕ → Option ℕ → List Val → Store → Answer → Store → List H → Type 0)
+    → (bound : ℕ) → (r : AtRest) → (hosts : List H) → Whole → Ending → (r' : AtRest) → (hosts' : List H) → Type 0
+RunsSo HostStep bound r hosts w ending r' hosts' = Run HostStep bound no_frame (run_state (store_around r) hosts (fuel_left r)) (whole w) ending (run_state (store_around r') hosts' (fuel_left r'))
+
+module _ {H : Type 0} {HostStep : List H → ℕ → Option ℕ → List Val → Store → Answer → Store → List H → Type 0} {bound : ℕ} {r : AtRest} {hosts : List H} {types : List ValType} where
+  pub came-over-first : CameOver HostStep bound r hosts types r hosts
   came-over-first = record { from = λ w is. over-first HostStep bound r hosts w types is }
 
-  abbrev RunsSo : Whole → Ending → (r'' : AtRest) → (hosts'' : List H) → Type 0
-  RunsSo w ending r'' hosts'' = Run HostStep bound no_frame (run_state (store_around r) hosts (fuel_left r)) (whole w) ending (run_state (store_around r'') hosts'' (fuel_left r''))
-
-  module _ (r' r'' : AtRest) (hosts' : List H) (came : CameOver r' hosts') (w : Whole) (is : RestsWith bound r w types) where
-    abbrev pub first : ComesOver HostStep bound r hosts w r' hosts'
+  module _ {r' : AtRest} {hosts' : List H} (came : CameOver HostStep bound r hosts types r' hosts') {w : Whole} (is : RestsWith bound r w types) where
+    abbrev first : ComesOver HostStep bound r hosts w r' hosts'
     first = came.from w is
 
-    pub ends-so : (c : Concludes bound r' stop.Over r'') (results : List Val) → results ≡ reverse (c first.new first.rests).values → RunsSo w (WithValues results) r'' hosts'
-    ends-so c results are = Steps-run HostStep bound no_frame first.steps (over-ends HostStep bound r' r'' hosts' first.new (c first.new first.rests) results are)
+    module _ {r'' : AtRest} where
+      pub ends-so : (c : Concludes bound r' stop.Over r'') (results : List Val) → results ≡ reverse (c first.new first.rests).values → RunsSo HostStep bound r hosts w (WithValues results) r'' hosts'
+      ends-so c results are = Steps-run HostStep bound no_frame first.steps (over-ends HostStep bound r' r'' hosts' first.new (c first.new first.rests) results are)
 
-    over-typed : (c : Concludes bound r' stop.Over r'') → HasResults (store_around r'') (machine_of r'') types (c first.new first.rests).values
-    over-typed c = let e = c first.new first.rests in subst (λ (ts : List ValType). HasResults (store_around r'') (machine_of r'') ts e.values) (first.results ∙ is.1) e.results
+      over-typed : (c : Concludes bound r' stop.Over r'') → HasResults (store_around r'') (machine_of r'') types (c first.new first.rests).values
+      over-typed c = let e = c first.new first.rests in subst (λ (ts : List ValType). HasResults (store_around r'') (machine_of r'') ts e.values) (first.results ∙ is.1) e.results
 
-    pub some-results : Concludes bound r' stop.Over r'' → (s : Store) × (values : List Val) × HasResults s (machine_of r'') types values
-    some-results c = (store_around r'', (c first.new first.rests).values, over-typed c)
+      pub some-results : Concludes bound r' stop.Over r'' → (s : Store) × (values : List Val) × HasResults s (machine_of r'') types values
+      some-results c = (store_around r'', (c first.new first.rests).values, over-typed c)
 
-    -- With the results, as they are read, in the place of as many values.
-    pub ends-taken : (c : Concludes bound r' stop.Over r'') (values old : List Val) (n : ℕ) (results : List Val) (fuel : ℕ) → length values ≡ n
-        → ((s : Store) (given : List Val) → HasResults s (machine_of r'') types given → values ≡ reverse given)
-        → results ≡ take n (values ++ drop (length values) old) → fuel ≡ fuel_left r'' → Run HostStep bound no_frame (run_state (store_around r) hosts (fuel_left r)) (whole w) (WithValues results) (run_state (store_around r'') hosts' fuel)
-    ends-taken c values old n results fuel size reads taken left =
-        subst (λ (k : ℕ). Run HostStep bound no_frame (run_state (store_around r) hosts (fuel_left r)) (whole w) (WithValues results) (run_state (store_around r'') hosts' k)) (sym left)
-        (ends-so c results (taken ∙ take_at values (drop (length values) old) n size ∙ reads (store_around r'') (c first.new first.rests).values (over-typed c)))
+      -- With the results, as they are read, in the place of as many values.
+      pub ends-taken : (c : Concludes bound r' stop.Over r'') (values old : List Val) (n : ℕ) (results : List Val) (fuel : ℕ) → length values ≡ n
+          → ((s : Store) (given : List Val) → HasResults s (machine_of r'') types given → values ≡ reverse given)
+          → results ≡ take n (values ++ drop (length values) old) → fuel ≡ fuel_left r'' → Run HostStep bound no_frame (run_state (store_around r) hosts (fuel_left r)) (whole w) (WithValues results) (run_state (store_around r'') hosts' fuel)
+      ends-taken c values old n results fuel size reads taken left =
+          subst (λ (k : ℕ). Run HostStep bound no_frame (run_state (store_around r) hosts (fuel_left r)) (whole w) (WithValues results) (run_state (store_around r'') hosts' k)) (sym left)
+          (ends-so c results (taken ∙ take_at values (drop (length values) old) n size ∙ reads (store_around r'') (c first.new first.rests).values (over-typed c)))
 
-    pub traps-so : (trap : Trap) → Concludes bound r' (stop.Traps trap) r'' → RunsSo w (WithTrap trap) r'' hosts'
-    traps-so trap c = let stops = c first.new first.rests in Steps-run HostStep bound no_frame first.steps (stops-trapped HostStep bound r' r'' hosts' first.new (stop.Traps trap) stops trap stops.by.0 refl)
+      pub traps-so : (trap : Trap) → Concludes bound r' (stop.Traps trap) r'' → RunsSo HostStep bound r hosts w (WithTrap trap) r'' hosts'
+      traps-so trap c = let stops = c first.new first.rests in Steps-run HostStep bound no_frame first.steps (stops-trapped HostStep bound r' r'' hosts' first.new (stop.Traps trap) stops trap stops.by.0 refl)
 
-    pub dear-so : Concludes bound r' stop.NoFuel r'' → RunsSo w OutOfFuel r'' hosts'
-    dear-so c = let stops = c first.new first.rests in Steps-run HostStep bound no_frame first.steps (stops-dear HostStep bound r' r'' hosts' first.new stop.NoFuel stops refl stops.by)
+      pub dear-so : Concludes bound r' stop.NoFuel r'' → RunsSo HostStep bound r hosts w OutOfFuel r'' hosts'
+      dear-so c = let stops = c first.new first.rests in Steps-run HostStep bound no_frame first.steps (stops-dear HostStep bound r' r'' hosts' first.new stop.NoFuel stops refl stops.by)
 
-    pub deep-so : Concludes bound r' stop.NoDepth r'' → RunsSo w OutOfDepth r'' hosts'
-    deep-so c = let stops = c first.new first.rests in Steps-run HostStep bound no_frame first.steps (stops-deep HostStep bound r' r'' hosts' first.new stop.NoDepth stops refl stops.by.0 stops.by.1)
+      pub deep-so : Concludes bound r' stop.NoDepth r'' → RunsSo HostStep bound r hosts w OutOfDepth r'' hosts'
+      deep-so c = let stops = c first.new first.rests in Steps-run HostStep bound no_frame first.steps (stops-deep HostStep bound r' r'' hosts' first.new stop.NoDepth stops refl stops.by.0 stops.by.1)
 
-    pub lacks-so : Concludes bound r' stop.NoMemory r'' → RunsSo w OutOfMemory r'' hosts'
-    lacks-so c = Steps-run HostStep bound no_frame first.steps (over-lacks HostStep bound r' r'' hosts' first.new (c first.new first.rests))
+      pub lacks-so : Concludes bound r' stop.NoMemory r'' → RunsSo HostStep bound r hosts w OutOfMemory r'' hosts'
+      lacks-so c = Steps-run HostStep bound no_frame first.steps (over-lacks HostStep bound r' r'' hosts' first.new (c first.new first.rests))
 
-    -- A host function is called.
-    module _ (kind : CallKind) (address behind : ℕ) (c : Concludes bound r' (stop.CallsHost kind address behind) r'') where
-      abbrev stops : StopsAtRest bound r' first.new (stop.CallsHost kind address behind) r''
-      stops = c first.new first.rests
+      -- A host function is called.
+      module _ {kind : CallKind} {address behind : ℕ} (c : Concludes bound r' (stop.CallsHost kind address behind) r'') where
+        abbrev stops : StopsAtRest bound r' first.new (stop.CallsHost kind address behind) r''
+        stops = c first.new first.rests
 
-      abbrev pub waiting : Whole
-      waiting = stops.there.new
+        abbrev pub waiting : Whole
+        waiting = stops.there.new
 
-      pub waits-so : WaitsForHost bound r'' waiting kind address behind
-      waits-so = stops-waiting HostStep bound r' r'' hosts' first.new (stop.CallsHost kind address behind) stops refl kind address behind stops.by
+        pub waits-so : WaitsForHost bound r'' waiting kind address behind
+        waits-so = stops-waiting HostStep bound r' r'' hosts' first.new (stop.CallsHost kind address behind) stops refl kind address behind stops.by
 
-      abbrev pub called : ComesOver HostStep bound r hosts w r'' hosts'
-      called = over-then HostStep bound r r' r'' hosts hosts' hosts' w first (stops-over HostStep bound r' r'' hosts' first.new (stop.CallsHost kind address behind) stops refl)
+        abbrev pub called : ComesOver HostStep bound r hosts w r'' hosts'
+        called = over-then HostStep bound r r' r'' hosts hosts' hosts' w first (stops-over HostStep bound r' r'' hosts' first.new (stop.CallsHost kind address behind) stops refl)
 
-      pub ended-so : (r3 : AtRest) (hosts3 : List H) (ending : Ending)
-          → ((u : Whole) → WaitsForHost bound r'' u kind address behind → Run HostStep bound no_frame (run_state (store_around r'') hosts' (fuel_left r'')) (whole u) ending (run_state (store_around r3) hosts3 (fuel_left r3)))
-          → RunsSo w ending r3 hosts3
-      ended-so r3 hosts3 ending ended = Steps-run HostStep bound no_frame called.steps (ended waiting waits-so)
+        pub ended-so : (r3 : AtRest) (hosts3 : List H) (ending : Ending)
+            → ((u : Whole) → WaitsForHost bound r'' u kind address behind → Run HostStep bound no_frame (run_state (store_around r'') hosts' (fuel_left r'')) (whole u) ending (run_state (store_around r3) hosts3 (fuel_left r3)))
+            → RunsSo HostStep bound r hosts w ending r3 hosts3
+        ended-so r3 hosts3 ending ended = Steps-run HostStep bound no_frame called.steps (ended waiting waits-so)
 
-  pub came-answered : (r' r'' r3 : AtRest) (hosts' hosts3 : List H) → CameOver r' hosts' → (kind : CallKind) (address behind : ℕ) → Concludes bound r' (stop.CallsHost kind address behind) r''
-      → ((u : Whole) → WaitsForHost bound r'' u kind address behind → ComesOver HostStep bound r'' hosts' u r3 hosts3) → CameOver r3 hosts3
-  came-answered r' r'' r3 hosts' hosts3 came kind address behind c answered = record {
-    from = λ w is.
-        over-then HostStep bound r r'' r3 hosts hosts' hosts3 w (called r' r'' hosts' came w is kind address behind c)
-        (answered (waiting r' r'' hosts' came w is kind address behind c) (waits-so r' r'' hosts' came w is kind address behind c));
+        -- The fuel does not grow.
+        pub called-fuel : fuel_left r'' ≤ fuel_left r'
+        called-fuel = Steps-fuel HostStep bound no_frame (stops-over HostStep bound r' r'' hosts' first.new (stop.CallsHost kind address behind) stops refl).steps
+
+  pub came-answered : {r' r'' r3 : AtRest} {hosts' hosts3 : List H} → (came : CameOver HostStep bound r hosts types r' hosts') → {kind : CallKind} {address behind : ℕ} → (c : Concludes bound r' (stop.CallsHost kind address behind) r'')
+      → ((u : Whole) → WaitsForHost bound r'' u kind address behind → ComesOver HostStep bound r'' hosts' u r3 hosts3) → CameOver HostStep bound r hosts types r3 hosts3
+  came-answered {r'} {r''} {r3} {hosts'} {hosts3} came c answered = record {
+    from = λ w is. over-then HostStep bound r r'' r3 hosts hosts' hosts3 w (called came is c) (answered (waiting came is c) (waits-so came is c));
   }
-
-  -- The fuel does not grow.
-  pub came-fuel : (r' r'' : AtRest) (hosts' : List H) → CameOver r' hosts' → (kind : CallKind) (address behind : ℕ) → Concludes bound r' (stop.CallsHost kind address behind) r'' → (w : Whole) → RestsWith bound r w types → fuel_left r'' ≤ fuel_left r'
-  came-fuel r' r'' hosts' came kind address behind c w is =
-      let f = first r' r'' hosts' came w is in
-      Steps-fuel HostStep bound no_frame (stops-over HostStep bound r' r'' hosts' f.new (stop.CallsHost kind address behind) (c f.new f.rests) refl).steps
-
-  -- It never stops for want of cells alone, nor where other code or an instruction of the loop's caller is next.
-  module _ (r' r'' : AtRest) (hosts' : List H) (came : CameOver r' hosts') (w : Whole) (is : RestsWith bound r w types) (s : Stop) (c : Concludes bound r' s r'') where
-    pub never-room : s ≡ stop.NoRoom → ⊥
-    never-room e = subst (λ (t : Stop). Concludes bound r' t r'') e c (came.from w is).new (came.from w is).rests
-
-    pub never-switches : s ≡ stop.Switches → ⊥
-    never-switches e = subst (λ (t : Stop). Concludes bound r' t r'') e c (came.from w is).new (came.from w is).rests
-
-    pub never-leaves : (kind : OtherInstruction) (n : ℕ) → s ≡ stop.LeavesOther kind n → ⊥
-    never-leaves kind n e = subst (λ (t : Stop). Concludes bound r' t r'') e c (came.from w is).new (came.from w is).rests

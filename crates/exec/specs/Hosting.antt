@@ -30,6 +30,10 @@ WaitsFor bound r w wanted = WaitsForHost bound r w wanted.kind wanted.address wa
 abbrev pub RestsWith : (bound : ℕ) → AtRest → Whole → List ValType → Type 0
 RestsWith bound r w types = Rests bound r w × (w.results ≡ types)
 
+-- So many cells below a place.
+abbrev pub cells_below : (behind many : ℕ) → List ℕ → List ℕ
+cells_below behind many cells = take many (drop (behind - many) cells)
+
 -- Cells with those of values from a place on.
 abbrev pub with_results : List ℕ → (first : ℕ) → List Val → List ℕ
 with_results cells first values =

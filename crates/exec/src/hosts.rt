@@ -9,19 +9,20 @@ ghost use Rattle.hostfunc.specs.Boxes.{HaveHosts, HostStep, IsHost};
 ghost use Rattle.hostfunc.specs.declared.host_function.HostFault.TheVariants.{Memory as MemoryFault};
 ghost use Rattle.hostfunc.specs.Faults.{IfAnswered};
 ghost use Rattle.hostfunc.specs.Tables.{hosts_in};
+ghost use Rattle.cells.specs.Cells.{AreCellsOf, values_of};
 ghost use Rattle.store.specs.Contents.{callee_function, code_store, store_of, store_with};
 ghost use Rattle.exec.specs.Endings.{ending_of, first_memory, run_state};
 ghost use Rattle.interpreter.specs.Whole.{Whole, whole};
-ghost use Rattle.exec.specs.Hosting.{ComesOverOrEnds, EndsWith, GoesBack, HasRoomForResults, WaitsFor, position_answered, with_results};
+ghost use Rattle.exec.specs.Hosting.{ComesOverOrEnds, EndsWith, GoesBack, HasRoomForResults, WaitsFor, cells_below, position_answered, with_results};
 ghost use Rattle.exec.specs.Resting.{at_rest, fuel_left, store_around};
 
 use crate::call::{Call, frame_behind};
 use crate::outcome::Outcome;
 use cells::{values_of, write_cells};
-use core_types::{Exhaustion, Items, Trap, Val};
+use core_types::{Exhaustion, Items, Trap, Val, ValType};
 use hostfunc::{HostFault, HostFn, HostTable};
 use interpreter::{CallKind, Frame};
-use std::alloc::Global;
+use std::alloc::{AllocError, Global};
 use store::{Callee, Code, State, Store};
 
 // The address of the memory that an instance has, if it has one and that is there.
@@ -60,6 +61,22 @@ fn call_lent(
         Some(address) => hosts.call(number, args, state.memory_mut(address)),
         None => hosts.call(number, args, &mut []),
     }
+}
+
+// Reads arguments of these types, which lie below a place among the cells.
+fn read_arguments(
+    alloc: Global,
+    types: &[ValType],
+    cells: &[u64],
+    behind: usize,
+) -> Result<Vec<Val>, AllocError>
+    requires enough { length types.now ≤ behind }
+    requires inside { behind ≤ length cells.now }
+    requires fit { AreCellsOf types.now (cells_below behind (length types.now) cells.now) }
+    ensures { IfOk result (λ args. args.items
+        ≡ values_of types.now (cells_below behind (length types.now) cells.now)) }
+{
+    values_of(alloc, types, &cells[behind - types.len()..behind])
 }
 
 // Puts results from a cell on, and goes on in a frame behind the call, which was paid for.
@@ -132,9 +149,8 @@ pub fn call_host(
     };
     let top = call.position.top;
     call.cells[top] = call.position.operand;
-    let first = wanted.behind - host.ty.params.len();
     let types = host.ty.params.as_slice();
-    let Ok(args) = values_of(alloc, types, &call.cells[first..wanted.behind]) else {
+    let Ok(args) = read_arguments(alloc, types, &call.cells, wanted.behind) else {
         return Err(Outcome::Exhausted(Exhaustion::Memory));
     };
     match call_lent(
@@ -148,7 +164,7 @@ pub fn call_host(
         Ok(values) => match wanted.kind {
             CallKind::Nested => {
                 let frame = frame_behind(call.position);
-                put_results(&values, first, frame, call);
+                put_results(&values, wanted.behind - types.len(), frame, call);
                 Ok(())
             }
             CallKind::Tail => return_results(values, call),

@@ -102,7 +102,8 @@ fn call_code<'a>(
     requires takes { (address : ℕ)
         × Takes (address_in code.now state.old address) function.now args.now }
     requires hosts { HaveHosts (store_with code.now state.old) (hosts_in hosts.old) }
-    ensures run { (address : ℕ) → Takes (address_in code.now state.old address) function.now args.now
+    ensures run { (address : ℕ)
+        → Takes (address_in code.now state.old address) function.now args.now
         → RunsCall (HostStep ⟦<dyn HostFn as HostFn>⟧) depth
         (run_state (store_with code.now state.old) (hosts_in hosts.old) fuel.old) address args.now
         result (run_state (store_with code.now state.new) (hosts_in hosts.new) fuel.new) }

@@ -26,8 +26,8 @@ impl HostObject {
         ensures typed { IfOk result (λ values. (map type_of values.items ≡ self.old.ty.results)
             × All FitsWidth values.items) }
         ensures are_bytes { AreBytes memory.new }
-        ensures answered { IfAnswered result (λ answer. HostAnswers ⟦<dyn HostFn as HostFn>⟧ self.old
-            args.now memory.old answer memory.new self.new) }
+        ensures answered { IfAnswered result (λ answer. HostAnswers ⟦<dyn HostFn as HostFn>⟧
+            self.old args.now memory.old answer memory.new self.new) }
         ensures unchanged { result ≡ Err MemoryFault
             → (self.new ≡ self.old) × (memory.new ≡ memory.old) }
     {

@@ -32,10 +32,11 @@ fn offset_of(
     operands: &mut ConstantOperands,
 ) -> Option<u32>
     requires room { length code.now ≤ operands.old }
-    ensures offset { MatchOption result (HasNoI32 (value_of (store_with linked.now.code.now state.now)
-        (instance_in linked.now) code.now)) (λ n. value_of
-        (store_with linked.now.code.now state.now) (instance_in linked.now) code.now ≡ Some
-        (I32Value n)) }
+    ensures offset { MatchOption result
+        (HasNoI32 (value_of (store_with linked.now.code.now state.now) (instance_in linked.now)
+        code.now))
+        (λ n. value_of (store_with linked.now.code.now state.now) (instance_in linked.now) code.now
+        ≡ Some (I32Value n)) }
     ensures room { operands.new ≡ operands.old }
 {
     match operands.value_of(code, linked.addresses, state) {

@@ -110,7 +110,8 @@ pub fn tail_calls_replace_their_frame()
 /// Worked rows of steps that ask for memory: the entry from outside, a call of code and of a host function, and a growth that is
 /// done, and a tail call of code and of a host function. A growth that answers -1, a constant and a trap ask for none.
 pub fn some_steps_ask_for_memory()
-    ensures entry { AsksForMemory (next (instance_of_two nothing nothing) no_frame (Invoking ([]) 0)) }
+    ensures entry { AsksForMemory (next (instance_of_two nothing nothing) no_frame
+        (Invoking ([]) 0)) }
     ensures call { Asks (instance_of_two caller nothing) ([]) (alone (Control (Call 1))) }
     ensures host { Asks (store_with_host calls_twice ([]) (ty.I32 ∷ [])) ([]) (alone (Control (Call
         1))) }

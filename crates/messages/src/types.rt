@@ -54,7 +54,8 @@ fn type_of_number(number: u64) -> Option<ValType>
 /// The type that bytes begin with, and the bytes behind it; none where they begin with none.
 pub fn split_type(bytes: &[u8]) -> Option<(ValType, &[u8])>
     ensures found { IfSome result (λ r. type_bytes r.0 ++ r.1.now ≡ bytes.now) }
-    ensures none { IsNone result → (ty : AnyType) (rest : List ℕ) → type_bytes ty ++ rest ≢ bytes.now }
+    ensures none { IsNone result → (ty : AnyType) (rest : List ℕ)
+        → type_bytes ty ++ rest ≢ bytes.now }
 {
     let (number, behind) = split_number(bytes)?;
     match type_of_number(number) {

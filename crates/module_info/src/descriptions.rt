@@ -75,15 +75,15 @@ fn describe_valid<W: Write>(
     alloc: Global,
     out: &mut W,
     len: usize,
-    module: &Module,
+    valid: &Module,
 ) -> io::Result<Verdict>
-    requires { IsValid module.now }
-    ensures { IfOk result (λ verdict. IsFoundOf module.now verdict) }
+    requires { IsValid valid.now }
+    ensures { IfOk result (λ verdict. IsFoundOf valid.now verdict) }
 {
-    let Ok(spaces) = IndexSpaces::new(alloc, module) else {
+    let Ok(spaces) = IndexSpaces::new(alloc, valid) else {
         return Ok(Verdict::OutOfMemory);
     };
-    write_valid(out, len, module, &spaces)?;
+    write_valid(out, len, valid, &spaces)?;
     Ok(Verdict::Valid)
 }
 

@@ -22,7 +22,8 @@ pub struct Counter {
 impl HostFn for Counter {
     ghost declared = { λ counter. counter.ty };
 
-    ghost Answers = { λ counter _ bytes answer then counter'. Counts counter.calls answer counter'.calls
+    ghost Answers = { λ counter _ bytes answer then counter'.
+        Counts counter.calls answer counter'.calls
         × StayAsBefore bytes counter.ty then counter'.ty };
 
     fn ty(&self) -> &FuncType {

@@ -47,7 +47,8 @@ impl Counter {
 impl HostFn for Counter {
     ghost declared = { λ counter. counter.ty };
 
-    ghost Answers = { λ counter arguments bytes answer then counter'. answer ≡ Results (Number counter'.calls ∷ []) };
+    ghost Answers = { λ counter arguments bytes answer then counter'.
+        answer ≡ Results (Number counter'.calls ∷ []) };
 
     fn ty(&self) -> &FuncType {
         &self.ty

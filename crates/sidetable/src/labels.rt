@@ -39,7 +39,8 @@ pub fn push_label(tables: &mut SideTables, entry: Entry) -> Result<Label, AllocE
 /// The label of an index, counted from the inside out; the function's own behind all others.
 pub fn label_at(tables: &SideTables, outermost: Label, levels: &Stack<Level>, index: u32) -> Label
     requires { AllStand tables.now outermost levels.now }
-    ensures entry { result.entry ≡ entry_at outermost.entry (all_entries outermost levels.now) index }
+    ensures entry { result.entry
+        ≡ entry_at outermost.entry (all_entries outermost levels.now) index }
     ensures stands { LabelStands tables.now result }
 {
     match levels.get(index as usize) {

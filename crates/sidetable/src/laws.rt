@@ -47,6 +47,6 @@ pub fn no_height_is_over_the_greatest()
 
 /// Law: an alignment and the types of a select change nothing of what an instruction does.
 pub fn annotations_change_nothing()
-    ensures { (store : Store) (frame : Frame) (op : AnyPlainOp) (values : List Val) → effect store frame
-        (without_annotations op) values ≡ effect store frame op values }
+    ensures { (store : Store) (frame : Frame) (op : AnyPlainOp) (values : List Val)
+        → effect store frame (without_annotations op) values ≡ effect store frame op values }
 {}

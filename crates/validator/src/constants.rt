@@ -76,7 +76,8 @@ fn is_constant_of(context: &ConstantContext<'_>, op: LentOp<'_>, wanted: ValType
 // Whether an instruction is an operator of constant expressions, on operands of this type.
 #[tactic(auto, unfolding(crate::specs::Constants::Operates))]
 fn is_operator(op: LentOp<'_>, wanted: ValType) -> bool
-    ensures { (plain : Plain) → lent_op op.entry ≡ flat.Plain plain → IsTrue result ↔ Operates plain wanted }
+    ensures { (plain : Plain) → lent_op op.entry ≡ flat.Plain plain
+        → IsTrue result ↔ Operates plain wanted }
 {
     match plain_op(op) {
         Some(

@@ -59,7 +59,8 @@ pub fn pop_one(operands: &mut Vec<OperandType>, frame: &ControlFrame<'_>, wanted
 // Takes two operands of a type off.
 #[inline(always)]
 pub fn pop_two(operands: &mut Vec<OperandType>, frame: &ControlFrame<'_>, wanted: ValType) -> bool
-    ensures { Pops frame.now operands.old.items (known (wanted ∷ wanted ∷ [])) operands.new.items result }
+    ensures { Pops frame.now operands.old.items (known (wanted ∷ wanted ∷ []))
+        operands.new.items result }
 {
     if !pop_fitting(operands, frame, OperandType::Known(wanted)) {
         return false;
@@ -75,8 +76,8 @@ pub fn replace_one(
     takes: ValType,
     gives: ValType,
 ) -> bool
-    ensures replaced { OnTrue result (Replaces frame.now operands.old.items (takes ∷ []) (gives ∷ [])
-        operands.new.items) }
+    ensures replaced { OnTrue result
+        (Replaces frame.now operands.old.items (takes ∷ []) (gives ∷ []) operands.new.items) }
     ensures kept { OnFalse result (operands.new ≡ operands.old) }
 {
     let count = operands.len();

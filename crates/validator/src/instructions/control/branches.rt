@@ -45,7 +45,8 @@ fn fit_labels<'a>(
     numbers: &[u32],
 ) -> bool
     ensures fit { OnTrue result (All (FitsLabelAt innermost.now outer.now given.now) numbers.now) }
-    ensures refused { OnFalse result (¬ All (FitsLabelAt innermost.now outer.now given.now) numbers.now) }
+    ensures refused { OnFalse result
+        (¬ All (FitsLabelAt innermost.now outer.now given.now) numbers.now) }
 {
     let mut fitting = None;
     for index in numbers {

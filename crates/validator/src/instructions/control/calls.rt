@@ -40,7 +40,8 @@ pub fn type_of_call_indirect<'a>(
 
 // A return.
 pub fn step_return(context: &BodyContext<'_>, stacks: &mut Stacks<'_>) -> Result<(), Fault>
-    ensures { Steps context.now stacks.old stacks.new (flat.Plain (plain.Control control.Return)) result }
+    ensures { Steps context.now stacks.old stacks.new (flat.Plain (plain.Control control.Return))
+        result }
 {
     if !pop_types(&mut stacks.operands, &stacks.innermost, context.results) {
         return Err(Fault::Invalid);
