@@ -1,5 +1,5 @@
 -- How messages spell what an instance exports.
-use Rattle.std.specs.Prelude.{ℕ, List, ◌++◌, Option, Some, None, flat_map, string_bytes}
+use Rattle.std.specs.Prelude.{ℕ, List, ◌++◌, Option, Some, None, flat_map, length, string_bytes}
 use Rattle.core_types.specs.declared.types.ExternType.{ExternType}
 use Rattle.core_types.specs.declared.types.ExternType.TheVariants.{Func, Table, Memory, Global}
 use Rattle.core_types.specs.declared.types.Limits.{Limits}
@@ -9,6 +9,7 @@ use Rattle.core_types.specs.declared.types.RefType.{RefType}
 use Rattle.core_types.specs.declared.types.RefType.TheVariants as reference
 use Rattle.core_types.specs.declared.types.ValType.TheVariants as value
 use Rattle.embed.specs.declared.exports.ExportType.{ExportType}
+use Rattle.embed.specs.declared.exports.Exports.{Exports}
 use Rattle.messages.specs.Numbers.{number_bytes, text_bytes}
 use Rattle.messages.specs.Types.{type_bytes, types_bytes}
 
@@ -36,8 +37,10 @@ extern_bytes (Memory limits) = number_bytes 2 ++ limits_bytes limits
 extern_bytes (Global t) =
     number_bytes 3 ++ (type_bytes t.value ++ number_bytes (mutability_number t.mutability))
 
+-- An export is its name, and the number of its type among those that come first.
 abbrev pub export_bytes : ExportType → List ℕ
-export_bytes e = text_bytes (string_bytes e.name) ++ extern_bytes e.ty
+export_bytes e = text_bytes (string_bytes e.name) ++ number_bytes e.ty
 
-abbrev pub exports_bytes : List ExportType → List ℕ
-exports_bytes exports = flat_map export_bytes exports
+abbrev pub exports_bytes : Exports → List ℕ
+exports_bytes found = number_bytes (length found.types.items)
+    ++ (flat_map extern_bytes found.types.items ++ flat_map export_bytes found.exports.items)

@@ -1,7 +1,7 @@
 -- What a server answers to an order once the embedding is there, and what that leaves.
-use Rattle.std.specs.Prelude.{◌≡◌, ◌⊎◌, ℕ, List, [], ◌∷◌, ◌++◌, Ok, Err, String, Vec, map}
+use Rattle.std.specs.Prelude.{◌≡◌, ◌⊎◌, ℕ, List, [], ◌∷◌, ◌++◌, Ok, Err, String, Vec}
 use Rattle.std.specs.declared.alloc.Global.{Global as Allocator}
-use Rattle.embed.specs.Exports.{export_view}
+use Rattle.embed.specs.Exports.{AreExports, IsRefusedExport, named_export}
 use Rattle.embed.specs.Replies.{reply_of}
 use Rattle.hostfunc.specs.Boxes.{HostStep}
 use Rattle.hostfunc.specs.declared.host_function.HostFn.{Ghosts}
@@ -15,7 +15,7 @@ use Rattle.scripts.specs.Faults.{ReadsScript}
 use Rattle.scripts.specs.Runs.{Runs, files_view}
 use Rattle.answers.specs.declared.answer.Answer.{Answer}
 use Rattle.answers.specs.declared.answer.Answer.TheVariants.{Done, Applied, Global, FuelLeft, Exports, Ran, Refused, NotNow}
-use Rattle.answers.specs.declared.causes.Cause.TheVariants.{Script}
+use Rattle.answers.specs.declared.causes.Cause.TheVariants.{Command, Script}
 
 -- A file that is kept stands behind the others, a script takes them all, and other orders leave them.
 abbrev pub LeavesFiles : List (String Allocator × Vec ℕ Allocator) → order.Order → Answer
@@ -35,10 +35,17 @@ IsReply answer reply' = ⊥
 module _ {I : Type 0} {F : I → Type 0} (members : (i : I) → Ghosts (F i)) where
   -- What an instance exports is listed, or there is no memory for the list.
   abbrev pub ListsExports : Embedding (HostObject I F) → (instance : ℕ) → Answer → Type 0
-  ListsExports old instance (Exports found) =
-      map export_view found.items ≡ exports_at old instance
+  ListsExports old instance (Exports found) = AreExports found (exports_at old instance)
   ListsExports old instance (Refused cause) = Unit {0}
   ListsExports old instance answer = ⊥
+
+  -- The export of a name is given, or it is refused as the embedding machine refuses what is asked of it, or there is no memory for it.
+  abbrev pub GivesExport : Embedding (HostObject I F) → (instance : ℕ) → (name : List ℕ) → Answer
+      → Type 0
+  GivesExport old instance name (Exports found) = AreExports found (named_export old instance name)
+  GivesExport old instance name (Refused (Command refusal)) =
+      IsRefusedExport old instance name refusal
+  GivesExport old instance name answer = ⊥
 
   -- The script is that of the text, and is run with the files that were kept; or it is not read, and nothing changes; or it is
   -- not run to its end.
@@ -62,6 +69,8 @@ module _ {I : Type 0} {F : I → Type 0} (members : (i : I) → Ghosts (F i)) wh
   Obeys files old order.FuelLeft answer new = (answer ≡ FuelLeft old.state.fuel) × (new ≡ old)
   Obeys files old (order.Exports instance) answer new =
       ListsExports old instance answer × (new ≡ old)
+  Obeys files old (order.NamedExport instance name) answer new =
+      GivesExport old instance name answer × (new ≡ old)
   Obeys files old (order.RunScript text) answer new = RunsText files text old answer new
   Obeys files old (order.Keep name bytes) answer new = new ≡ old
   Obeys files old order.End answer new = (answer ≡ Done) × (new ≡ old)

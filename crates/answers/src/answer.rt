@@ -1,6 +1,6 @@
 use crate::causes::Cause;
 use core_types::Val;
-use embed::{ExportType, Reply};
+use embed::{Exports, Reply};
 use scripts::Report;
 
 /// What a server answers to an order.
@@ -14,8 +14,8 @@ pub enum Answer {
     Global(Val),
     /// The fuel that is left.
     FuelLeft(u64),
-    /// What an instance exports.
-    Exports(Vec<ExportType>),
+    /// What an instance exports, or one export of it.
+    Exports(Exports),
     /// What a script has come to.
     Ran(Report),
     /// The order is refused.

@@ -1,10 +1,10 @@
-ghost use Rattle.std.specs.Prelude.{◌≡◌, ◌++◌, OnOk};
+ghost use Rattle.std.specs.Prelude.{◌≡◌, ◌++◌, OnOk, flat_map};
 ghost use Rattle.answers.specs.Exports.{export_bytes, exports_bytes, extern_bytes, limits_bytes, maximum_bytes, mutability_number, reference_bytes};
 
 use core_types::{
     ExternType, FuncType, GlobalType, Limits, Mutability, RefType, TableType, ValType,
 };
-use embed::ExportType;
+use embed::{ExportType, Exports};
 use messages::{push_number, push_text, push_type, push_types};
 use std::alloc::AllocError;
 
@@ -100,20 +100,39 @@ fn push_extern(out: &mut Vec<u8>, ty: &ExternType) -> Result<(), AllocError>
     }
 }
 
-// Appends an export.
+// Appends types.
+fn push_externs(out: &mut Vec<u8>, types: &[ExternType]) -> Result<(), AllocError>
+    ensures { OnOk result (out.new.items ≡ out.old.items ++ flat_map extern_bytes types.now) }
+{
+    for ty in types {
+        push_extern(out, ty)?;
+    }
+    Ok(())
+}
+
+// Appends an export: its name, and the number of its type.
 fn push_export(out: &mut Vec<u8>, export: &ExportType) -> Result<(), AllocError>
     ensures { OnOk result (out.new.items ≡ out.old.items ++ export_bytes export.now) }
 {
     push_text(out, export.name.as_str())?;
-    push_extern(out, &export.ty)
+    push_number(out, export.ty as u64)
 }
 
-/// Appends exports, one behind the other.
-pub fn push_exports(out: &mut Vec<u8>, exports: &[ExportType]) -> Result<(), AllocError>
-    ensures { OnOk result (out.new.items ≡ out.old.items ++ exports_bytes exports.now) }
+// Appends exports.
+fn push_all(out: &mut Vec<u8>, exports: &[ExportType]) -> Result<(), AllocError>
+    ensures { OnOk result (out.new.items ≡ out.old.items ++ flat_map export_bytes exports.now) }
 {
     for export in exports {
         push_export(out, export)?;
     }
     Ok(())
+}
+
+/// Appends a list of exports: the types, and then each export.
+pub fn push_exports(out: &mut Vec<u8>, found: &Exports) -> Result<(), AllocError>
+    ensures { OnOk result (out.new.items ≡ out.old.items ++ exports_bytes found.now) }
+{
+    push_number(out, found.types.len() as u64)?;
+    push_externs(out, found.types.as_slice())?;
+    push_all(out, found.exports.as_slice())
 }

@@ -95,6 +95,12 @@ pub fn obey(
             Ok(exports) => Answer::Exports(exports),
             Err(_) => no_memory(),
         },
+        Order::NamedExport(number, name) => {
+            match embedding.export_named(InstanceNumber(*number), name) {
+                Ok(exports) => Answer::Exports(exports),
+                Err(refusal) => Answer::Refused(Cause::Command(refusal)),
+            }
+        }
         Order::Keep(name, bytes) => match keep_file(alloc, name, bytes, files) {
             Ok(()) => Answer::Done,
             Err(_) => no_memory(),

@@ -134,7 +134,7 @@ fn push_fields(alloc: Global, out: &mut Vec<u8>, answer: &Answer) -> Result<(), 
         Answer::Applied(reply) => push_reply(alloc, out, reply),
         Answer::Global(value) => push_value(out, *value),
         Answer::FuelLeft(fuel) => push_number(out, *fuel),
-        Answer::Exports(exports) => push_exports(out, exports.as_slice()),
+        Answer::Exports(exports) => push_exports(out, exports),
         Answer::Ran(report) => push_report(out, report),
         Answer::Refused(cause) => push_cause(alloc, out, cause),
     }

@@ -3,3 +3,4 @@ pub mod Causes
 pub mod Steps
 pub mod Definitions
 pub mod Headline
+pub mod ExportLists

@@ -2,13 +2,14 @@
 
 mod operations;
 
-ghost use Rattle.std.specs.Prelude.{◌≡◌, ◌++◌, ◌∷◌, [], ◌<◌, ◌^◌, OnOk, IfOk, filter_map, length, map, option_and_then, slice_get, Some};
+ghost use Rattle.std.specs.Prelude.{◌≡◌, ◌++◌, ◌∷◌, [], ◌<◌, ◌^◌, OnOk, IfErr, IfOk, List, ℕ, filter_map, length, map, option_and_then, slice_get, Some};
 ghost use Rattle.std.proofs.Props.{props};
 ghost use Rattle.meaning.specs.embedding.Creation.{Creates};
 ghost use Rattle.meaning.specs.embedding.Machine.{as_function, as_global, export_at, export_type as type_at, exports_at, named_type};
 ghost use Rattle.meaning.specs.embedding.Names.{extern_of};
 ghost use Rattle.meaning.specs.execution.Store.{extern_type as type_of, instance_of};
-ghost use Rattle.embed.specs.Exports.{export_view};
+ghost use Rattle.core_types.specs.declared.types.ExternType.{ExternType as Type_of};
+ghost use Rattle.embed.specs.Exports.{AreExports, IsRefusedExport, named_export};
 ghost use Rattle.soundness.specs.Embedding.{IsSound};
 ghost use Rattle.hostfunc.specs.Boxes.{HaveHosts, type_of_host};
 ghost use Rattle.hostfunc.specs.Tables.{hosts_in};
@@ -16,7 +17,7 @@ ghost use Rattle.store.specs.Contents.{store_of};
 
 use crate::config::Config;
 use crate::definitions::define_hosts;
-use crate::exports::ExportType;
+use crate::exports::{Declaration, Exports, Listing};
 use crate::host_definitions::HostDef;
 use crate::new_fault::NewFault;
 use crate::numbers::InstanceNumber;
@@ -27,7 +28,7 @@ use hostfunc::{HostFn, HostTable};
 use linker::Names;
 use std::alloc::{AllocError, Global};
 use std::rc::Rc;
-use store::{LoadedModule, Store};
+use store::{Callee, LoadedModule, Store};
 
 /// Modules, instances of them over one store, names, host functions, and the fuel that is left.
 #[derive(Drop)]
@@ -176,38 +177,73 @@ impl Embedding {
         Ok(Some(self.store.extern_type(self.alloc, found)?))
     }
 
-    // Appends an export of the instance at an address, if it stands for something.
-    fn append_export(
+    // Where the function is declared that an instance at an address exports by this index.
+    fn declaration(&self, instance: u32, desc: ExportDesc) -> Option<Declaration> {
+        let Extern::Func(address) = self.store.code().extern_of(instance, desc)? else {
+            return None;
+        };
+        match self.store.code().function(address)? {
+            Callee::InModule(function) => {
+                Some(Declaration::InModule(function.instance, function.func.ty))
+            }
+            Callee::InHost(function) => Some(Declaration::InHost(function.number)),
+        }
+    }
+
+    // Adds an export of the instance at an address to a list, if it stands for something.
+    fn list_export(
         &self,
         instance: u32,
         export: &Export,
-        found: &mut Vec<ExportType>,
+        listing: &mut Listing,
     ) -> Result<(), AllocError>
-        ensures { OnOk result (map export_view found.new.items ≡ map export_view found.old.items
-            ++ filter_map (named_type (store_of self.now.store)
-            (instance_of (store_of self.now.store) (Some instance))) (export.now ∷ [])) }
+        ensures { OnOk result ((all : List (List ℕ × Type_of)) → AreExports listing.old.found all →
+            AreExports listing.new.found (all ++ filter_map (named_type (store_of self.now.store)
+            (instance_of (store_of self.now.store) (Some instance))) (export.now ∷ []))) }
     {
         let Some(ty) = self.type_of_export(instance, export.desc)? else {
             return Ok(());
         };
-        let name = String::from_str(self.alloc, export.name.as_str())?;
-        found.push(ExportType { name, ty })?;
-        Ok(())
+        let declaration = self.declaration(instance, export.desc);
+        listing.push(export.name.as_str(), declaration, ty)
     }
 
-    /// What an instance exports, in the order of its module; nothing where there is no such instance. Fails where there is no memory for
-    /// the names and the types.
-    pub fn exports(&self, instance: InstanceNumber) -> Result<Vec<ExportType>, AllocError>
-        ensures { IfOk result (λ found. map export_view found.items
-            ≡ exports_at (embedding_of self.now) instance.0) }
+    /// Lists what an instance exports, in the order of its module; nothing if there is no such instance. Functions that are declared at
+    /// one place share one type in the list.
+    ///
+    /// # Errors
+    ///
+    /// Fails if an allocation failed.
+    pub fn exports(&self, instance: InstanceNumber) -> Result<Exports, AllocError>
+        ensures { IfOk result (λ found. AreExports found (exports_at (embedding_of self.now) instance.0)) }
     {
-        let mut found = Vec::new(self.alloc);
+        let mut listing = Listing::new(self.alloc);
         let Some(address) = self.instance(instance.0) else {
-            return Ok(found);
+            return Ok(listing.finish());
         };
         for export in self.store.code().exports(address) {
-            self.append_export(address, export, &mut found)?;
+            self.list_export(address, export, &mut listing)?;
         }
-        Ok(found)
+        Ok(listing.finish())
+    }
+
+    /// Lists the export of a name with its type, as `exports` lists all.
+    ///
+    /// # Errors
+    ///
+    /// Refused with `UnknownInstance`, `UnknownExport` and `OutOfMemory`.
+    pub fn export_named(&self, instance: InstanceNumber, name: &str) -> Result<Exports, Refusal>
+        ensures found { IfOk result (λ found. AreExports found
+            (named_export (embedding_of self.now) instance.0 name.now)) }
+        ensures refused { IfErr result
+            (λ refusal. IsRefusedExport (embedding_of self.now) instance.0 name.now refusal) }
+    {
+        let found = self.export(instance.0, name)?;
+        let mut listing = Listing::new(self.alloc);
+        if self.store.has_extern(found) {
+            let ty = self.store.extern_type(self.alloc, found)?;
+            listing.push(name, None, ty)?;
+        }
+        Ok(listing.finish())
     }
 }

@@ -1,9 +1,129 @@
-use core_types::ExternType;
+ghost use Rattle.std.specs.Prelude.{◌≡◌, ◌++◌, ◌∷◌, [], IfOk, IfSome, OnOk, List, Some, ℕ, option_to_list, slice_get};
+ghost use Rattle.core_types.specs.declared.types.ExternType.{ExternType as Type_of};
+ghost use Rattle.embed.specs.Exports.{AreExports, KeepsTypes};
 
-/// An export of an instance.
+use core_types::ExternType;
+use std::alloc::{AllocError, Global};
+use std::collections::BTreeMap;
+
+/// An export of an instance: its name, and which of the listed types it has.
 #[derive(Drop)]
 pub struct ExportType {
     pub name: String,
-    /// The type, that of a table or a memory with the present size as minimum.
-    pub ty: ExternType,
+    /// The index of its type in the list of types.
+    pub ty: usize,
+}
+
+/// What an instance exports, in the order of its module. Functions that are declared at one place share one type in the list, so the
+/// list takes no more than the modules that declare them, however many exports there are.
+#[derive(Drop)]
+pub struct Exports {
+    /// The types; that of a table or a memory has the present size as minimum.
+    pub types: Vec<ExternType>,
+    pub exports: Vec<ExportType>,
+}
+
+/// Where a function is declared: the number of its instance and the index of its type there, or the number of the host function.
+#[derive(Clone, Copy, PartialEq, Eq, PartialOrd, Ord)]
+pub(crate) enum Declaration {
+    InModule(u32, u32),
+    InHost(u32),
+}
+
+/// The list of exports while it grows, with where the types of functions are in it.
+#[derive(Drop)]
+pub(crate) struct Listing {
+    alloc: Global,
+    pub(crate) found: Exports,
+    known: BTreeMap<Declaration, usize>,
+}
+
+// The index of a type in the list, if it is that of a function that is declared there.
+fn known_type(
+    types: &[ExternType],
+    known: &BTreeMap<Declaration, usize>,
+    declaration: Declaration,
+    ty: &ExternType,
+) -> Option<usize>
+    ensures { IfSome result (λ index. slice_get types.now index ≡ Some ty.now) }
+{
+    let index = *known.get(&declaration)?;
+    match (types.get(index)?, ty) {
+        (ExternType::Func(there), ExternType::Func(wanted)) if there.is_same(wanted) => Some(index),
+        _ => None,
+    }
+}
+
+// Adds a type to the list.
+fn add_type(types: &mut Vec<ExternType>, ty: ExternType) -> Result<usize, AllocError>
+    ensures there { IfOk result (λ index. slice_get types.new.items index ≡ Some ty) }
+    ensures kept { OnOk result (KeepsTypes types.old.items types.new.items) }
+{
+    let index = types.len();
+    types.push(ty)?;
+    Ok(index)
+}
+
+impl Listing {
+    /// The empty list.
+    pub(crate) fn new(alloc: Global) -> Listing
+        ensures { AreExports result.found ([]) }
+    {
+        Listing {
+            alloc,
+            found: Exports {
+                types: Vec::new(alloc),
+                exports: Vec::new(alloc),
+            },
+            known: BTreeMap::new(alloc),
+        }
+    }
+
+    // The index of a type in the list, which it is added to unless it is known.
+    fn index_of(
+        &mut self,
+        declaration: Option<Declaration>,
+        ty: ExternType,
+    ) -> Result<usize, AllocError>
+        ensures there { IfOk result (λ index. slice_get self.new.found.types.items index ≡ Some ty) }
+        ensures kept { OnOk result (KeepsTypes self.old.found.types.items self.new.found.types.items) }
+        ensures exports { self.new.found.exports.items ≡ self.old.found.exports.items }
+    {
+        let Some(declaration) = declaration else {
+            return add_type(&mut self.found.types, ty);
+        };
+        if let Some(index) = known_type(&self.found.types, &self.known, declaration, &ty) {
+            return Ok(index);
+        }
+        self.known.insert(declaration, self.found.types.len())?;
+        add_type(&mut self.found.types, ty)
+    }
+
+    /// Adds an export of a name and a type, which functions of one declaration share.
+    pub(crate) fn push(
+        &mut self,
+        name: &str,
+        declaration: Option<Declaration>,
+        ty: ExternType,
+    ) -> Result<(), AllocError>
+        ensures { OnOk result ((all : List (List ℕ × Type_of)) → AreExports self.old.found all →
+            AreExports self.new.found (all ++ (name.now, ty) ∷ [])) }
+    {
+        let name = String::from_str(self.alloc, name)?;
+        let ty = self.index_of(declaration, ty)?;
+        self.found.exports.push(ExportType { name, ty })?;
+        Ok(())
+    }
+
+    /// The list as it is.
+    pub(crate) fn finish(self) -> Exports
+        ensures { result ≡ self.found }
+    {
+        let Listing {
+            alloc: _,
+            found,
+            known: _,
+        } = self;
+        found
+    }
 }

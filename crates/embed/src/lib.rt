@@ -23,7 +23,7 @@ pub use core_types::{
 };
 pub use embedding::Embedding;
 pub use exec::Outcome;
-pub use exports::ExportType;
+pub use exports::{ExportType, Exports};
 pub use host_calls::{bytes_at, func_type, no_results, one_result};
 pub use host_definitions::HostDef;
 pub use hostfunc::{HostFault, HostFn};

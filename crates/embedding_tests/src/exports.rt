@@ -4,12 +4,12 @@ use crate::commands::Answer::{Number, Values};
 use crate::commands::Step::{self, Call, Link, Load};
 use crate::commands::{fresh_embedding, steps_hold};
 use core_types::{ExternType, Mutability, ValType};
-use embed::{Embedding, ExportType, InstanceNumber};
+use embed::{Embedding, Exports, InstanceNumber, Refusal};
 use std::alloc::{AllocError, Global};
 
 // An export of each kind, and a function that grows the memory by two pages.
 const TEXT: &str =
-    "(func (param i32) (result i64) i64.const 1) (func i32.const 2 memory.grow drop) (table 3 9 funcref) (memory 1 5) (global (mut i64) i64.const 7) (export \"function\" (func 0)) (export \"grow\" (func 1)) (export \"table\" (table 0)) (export \"memory\" (memory 0)) (export \"global\" (global 0))";
+    "(func (param i32) (result i64) i64.const 1) (func i32.const 2 memory.grow drop) (table 3 9 funcref) (memory 1 5) (global (mut i64) i64.const 7) (export \"function\" (func 0)) (export \"grow\" (func 1)) (export \"table\" (table 0)) (export \"memory\" (memory 0)) (export \"global\" (global 0)) (export \"again\" (func 0))";
 
 // The type of an export.
 #[derive(Clone, Copy)]
@@ -44,12 +44,13 @@ static ROWS: [Row; 6] = [
 
 // What the instance exports, in order.
 #[rattlefmt::skip]
-static EXPORTS: [(&str, Type); 5] = [
+static EXPORTS: [(&str, Type); 6] = [
     ("function", Type::Function(ValType::I32, ValType::I64)),
     ("grow", Type::Action),
     ("table", Type::Table(3, 9)),
     ("memory", Type::Memory(3, 5)),
     ("global", Type::Global(ValType::I64, true)),
+    ("again", Type::Function(ValType::I32, ValType::I64)),
 ];
 
 // Whether a type is this one.
@@ -130,10 +131,10 @@ fn call_always_out_of_memory(rt: HostRuntime) {
 }
 
 // Whether exports are these.
-fn are_exports(found: &[ExportType], wanted: &[(&str, Type)]) -> bool {
-    found.len() == wanted.len()
-        && found.iter().zip(wanted).all(|(export, (name, ty))| export.name.as_str() == *name
-            && is_type(Some(&export.ty), *ty))
+fn are_exports(found: &Exports, wanted: &[(&str, Type)]) -> bool {
+    found.exports.len() == wanted.len()
+        && found.exports.iter().zip(wanted).all(|(export, (name, ty))| export.name.as_str() == *name
+            && is_type(found.types.get(export.ty), *ty))
 }
 
 // Whether an instance has these exports.
@@ -150,6 +151,54 @@ fn exports_are_so(alloc: Global) -> bool {
         Some(at) => has_exports(&at, 0, &EXPORTS) && has_exports(&at, 1, &[]),
         None => false,
     }
+}
+
+// Whether this many types are listed for the exports of the instance.
+fn has_types(at: &Embedding, count: usize) -> bool {
+    match at.exports(InstanceNumber(0)) {
+        Ok(found) => found.types.len() == count,
+        Err(_) => false,
+    }
+}
+
+// Two exports of one function share their type.
+fn types_are_shared(alloc: Global) -> bool {
+    match embedding_with_instance(alloc) {
+        Some(at) => has_types(&at, 5),
+        None => false,
+    }
+}
+
+// Whether an answer is the export of a row, or that there is none.
+fn is_named(answer: Result<Exports, Refusal>, row: &Row) -> bool {
+    match answer {
+        Ok(found) => are_exports(&found, &[(row.name, row.ty)]),
+        Err(Refusal::UnknownInstance) => row.instance == 1,
+        Err(Refusal::UnknownExport) => row.instance == 0 && matches!(row.ty, Type::Nothing),
+        Err(_) => false,
+    }
+}
+
+// Whether each export is found by its name.
+fn all_are_named(alloc: Global) -> bool {
+    let Some(at) = embedding_with_instance(alloc) else {
+        return false;
+    };
+    let mut all = true;
+    for row in rows() {
+        all &= is_named(at.export_named(InstanceNumber(row.instance), row.name), row);
+    }
+    all
+}
+
+#[test]
+fn exports_are_named(rt: HostRuntime) {
+    assert!(rt; all_are_named(rt.alloc()));
+}
+
+#[test]
+fn functions_share_their_type(rt: HostRuntime) {
+    assert!(rt; types_are_shared(rt.alloc()));
 }
 
 #[test]

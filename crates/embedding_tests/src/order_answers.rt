@@ -4,7 +4,7 @@ use answers::{Answer, Cause, push_answer};
 use core_types::{
     Exhaustion, ExternType, GlobalType, Limits, Mutability, RefType, TableType, Trap, Val, ValType,
 };
-use embed::{ExportType, NewFault, Place, Refusal, Reply, func_type};
+use embed::{ExportType, Exports, NewFault, Place, Refusal, Reply, func_type};
 use scripts::{Report, ScriptFault};
 use std::alloc::{AllocError, Global};
 use testing::bytes_of;
@@ -71,7 +71,7 @@ static ROWS: [Row; 38] = [
     Row { name: "out of memory", said: Said::Refused(Refusal::OutOfMemory), message: "2500000000000000 0500000000000000 0D00000000000000 0000000000000000 0000000000000000 6F7574206F66206D656D6F7279" },
     Row { name: "two host functions of one name", said: Said::NameTaken, message: "3E00000000000000 0500000000000000 0C00000000000000 0000000000000000 0000000000000000 74776F20686F73742066756E6374696F6E732068617665207468652073616D65206E616D6573" },
     Row { name: "a host function with a funcref", said: Said::HostFuncRef, message: "3C00000000000000 0500000000000000 0E00000000000000 0000000000000000 0000000000000000 6120686F73742066756E6374696F6E206861732061206675 6E6372656620726573756C74" },
-    Row { name: "no JSON", said: Said::NotJson, message: "2400000000000000 0500000000000000 0F00000000000000 0000000000000000 0000000000000000 6E6F204A534F4E2074657874" },
+    Row { name: "no JSON", said: Said::NotJson, message: "4500000000000000 0500000000000000 0F00000000000000 0000000000000000 0000000000000000 6E6F74204A534F4E2C206F72206E6573746564206D6F7265207468616E20313237206C6576656C732064656570" },
     Row { name: "a command without its form", said: Said::BadCommand(2), message: "3200000000000000 0500000000000000 1000000000000000 0500000000000000 0200000000000000 636F6D6D616E64203220686173206E6F742069747320666F726D" },
     Row { name: "a missing file", said: Said::MissingFile(0), message: "3800000000000000 0500000000000000 1100000000000000 0500000000000000 0000000000000000 7468652066696C65206F6620636F6D6D616E642030206973206D697373696E67" },
     Row { name: "a setup out of its range", said: Said::Setup, message: "4100000000000000 0500000000000000 1200000000000000 0000000000000000 0000000000000000 61206E756D626572206F6620746865207365747570206973206F7574206F66206974732072616E6765" },
@@ -148,12 +148,12 @@ enum ExternTypeParts {
 
 #[rattlefmt::skip]
 static EXPORTS: [(&str, Exported, &str); 6] = [
-    ("f", Exported::Func, "0100000000000000 66 0000000000000000 0200000000000000 7F00000000000000 7E00000000000000 0100000000000000 6F00000000000000"),
-    ("t", Exported::Other(ExternTypeParts::Table(TableType { element: RefType::FuncRef, limits: Limits { min: 1, max: Some(2) } })), "0100000000000000 74 0100000000000000 7000000000000000 0100000000000000 0100000000000000 0200000000000000"),
-    ("e", Exported::Other(ExternTypeParts::Table(TableType { element: RefType::ExternRef, limits: Limits { min: 0, max: None } })), "0100000000000000 65 0100000000000000 6F00000000000000 0000000000000000 0000000000000000 0000000000000000"),
-    ("m", Exported::Other(ExternTypeParts::Memory(Limits { min: 1, max: None })), "0100000000000000 6D 0200000000000000 0100000000000000 0000000000000000 0000000000000000"),
-    ("g", Exported::Other(ExternTypeParts::Global(GlobalType { value: ValType::I64, mutability: Mutability::Var })), "0100000000000000 67 0300000000000000 7E00000000000000 0100000000000000"),
-    ("c", Exported::Other(ExternTypeParts::Global(GlobalType { value: ValType::I32, mutability: Mutability::Const })), "0100000000000000 63 0300000000000000 7F00000000000000 0000000000000000"),
+    ("f", Exported::Func, "0000000000000000 0200000000000000 7F00000000000000 7E00000000000000 0100000000000000 6F00000000000000"),
+    ("t", Exported::Other(ExternTypeParts::Table(TableType { element: RefType::FuncRef, limits: Limits { min: 1, max: Some(2) } })), "0100000000000000 7000000000000000 0100000000000000 0100000000000000 0200000000000000"),
+    ("e", Exported::Other(ExternTypeParts::Table(TableType { element: RefType::ExternRef, limits: Limits { min: 0, max: None } })), "0100000000000000 6F00000000000000 0000000000000000 0000000000000000 0000000000000000"),
+    ("m", Exported::Other(ExternTypeParts::Memory(Limits { min: 1, max: None })), "0200000000000000 0100000000000000 0000000000000000 0000000000000000"),
+    ("g", Exported::Other(ExternTypeParts::Global(GlobalType { value: ValType::I64, mutability: Mutability::Var })), "0300000000000000 7E00000000000000 0100000000000000"),
+    ("c", Exported::Other(ExternTypeParts::Global(GlobalType { value: ValType::I32, mutability: Mutability::Const })), "0300000000000000 7F00000000000000 0000000000000000"),
 ];
 
 // The type of an export.
@@ -170,30 +170,31 @@ fn make_type(alloc: Global, exported: &Exported) -> Result<ExternType, AllocErro
     })
 }
 
-// Whether an export of a name and a type, twice, is this message twice.
-fn are_spelt(
-    alloc: Global,
-    name: &str,
-    exported: &Exported,
-    export: &str,
-) -> Result<bool, AllocError> {
+// A list of two exports, "" and "f", which share a type.
+fn make_exports(alloc: Global, exported: &Exported) -> Result<Exports, AllocError> {
+    let mut types = Vec::new(alloc);
+    types.push(make_type(alloc, exported)?)?;
     let mut exports = Vec::new(alloc);
-    for _ in 0..2 {
+    for name in ["", "f"] {
         let name = String::from_str(alloc, name)?;
-        let ty = make_type(alloc, exported)?;
-        exports.push(ExportType { name, ty })?;
+        exports.push(ExportType { name, ty: 0 })?;
     }
-    let size = 2 * bytes_of(alloc, export)?.len();
-    let message = format!(in alloc; "{size:02X}00000000000000 0600000000000000 {export} {export}")?;
+    Ok(Exports { types, exports })
+}
+
+// Whether these two exports of a type are one type, and two names of it.
+fn are_spelt(alloc: Global, exported: &Exported, ty: &str) -> Result<bool, AllocError> {
+    let exports = make_exports(alloc, exported)?;
+    let size = 8 + bytes_of(alloc, ty)?.len() + 16 + 17;
+    let message = format!(in alloc;
+        "{size:02X}00000000000000 0600000000000000 0100000000000000 {ty} 0000000000000000 0000000000000000 0100000000000000 66 0000000000000000"
+    )?;
     has_message(alloc, &Answer::Exports(exports), message.as_str())
 }
 
 #[test]
 fn exports_are_spelt(rt: HostRuntime) {
     for (name, exported, ty) in &EXPORTS {
-        assert!(rt;
-            are_spelt(rt.alloc(), name, exported, ty) == Ok(true),
-            "{name}"
-        );
+        assert!(rt; are_spelt(rt.alloc(), exported, ty) == Ok(true), "{name}");
     }
 }

@@ -14,6 +14,7 @@ enum Expected {
     Register(u64, &'static str),
     Call(u64, &'static str, &'static [Val]),
     GetGlobal(u64, &'static str),
+    NamedExport(u64, &'static str),
     SetFuel(u64),
     FuelLeft,
     Exports(u64),
@@ -33,7 +34,7 @@ struct Row {
 }
 
 #[rattlefmt::skip]
-static ROWS: [Row; 43] = [
+static ROWS: [Row; 46] = [
     Row { name: "end", kind: 0, fields: "", expected: Expected::End },
     Row { name: "end with a field", kind: 0, fields: "00", expected: Expected::NotSpelt },
     Row { name: "load", kind: 1, fields: "00 61 73 6D", expected: Expected::Load(&[0, 0x61, 0x73, 0x6D]) },
@@ -75,7 +76,10 @@ static ROWS: [Row; 43] = [
     Row { name: "begin", kind: 12, fields: "E803000000000000 6400000000000000 1000000000000000 0A00000000000000", expected: Expected::Begin(1000, 100, 16, 10) },
     Row { name: "begin with a number too few", kind: 12, fields: "E803000000000000 6400000000000000 1000000000000000", expected: Expected::NotSpelt },
     Row { name: "begin with a number too many", kind: 12, fields: "E803000000000000 6400000000000000 1000000000000000 0A00000000000000 0000000000000000", expected: Expected::NotSpelt },
-    Row { name: "the first kind that is none", kind: 13, fields: "", expected: Expected::NotSpelt },
+    Row { name: "named export", kind: 13, fields: "0100000000000000 66", expected: Expected::NamedExport(1, "f") },
+    Row { name: "named export with a short number", kind: 13, fields: "01000000", expected: Expected::NotSpelt },
+    Row { name: "named export under what is no UTF-8", kind: 13, fields: "0100000000000000 FF", expected: Expected::NotSpelt },
+    Row { name: "the first kind that is none", kind: 14, fields: "", expected: Expected::NotSpelt },
     Row { name: "the greatest kind", kind: 0xFFFF_FFFF_FFFF_FFFF, fields: "", expected: Expected::NotSpelt },
 ];
 
@@ -94,7 +98,8 @@ fn is_expected(order: &Order<'_>, expected: &Expected) -> bool {
         | (Order::SetFuel(number), Expected::SetFuel(wanted))
         | (Order::Exports(number), Expected::Exports(wanted)) => number == wanted,
         (Order::Register(number, name), Expected::Register(instance, wanted))
-        | (Order::GetGlobal(number, name), Expected::GetGlobal(instance, wanted)) => {
+        | (Order::GetGlobal(number, name), Expected::GetGlobal(instance, wanted))
+        | (Order::NamedExport(number, name), Expected::NamedExport(instance, wanted)) => {
             number == instance && name == wanted
         }
         (Order::Call(number, name, args), Expected::Call(instance, wanted, values)) => {

@@ -23,7 +23,7 @@ struct Row {
 const DEEP: [u8; 200] = [b'['; 200];
 
 #[rattlefmt::skip]
-static ROWS: [Row; 45] = [
+static ROWS: [Row; 47] = [
     Row { name: "no commands", bytes: b"{\"commands\":[]}", outcome: Files(&[]) },
     Row { name: "other fields", bytes: b"{\"source_filename\":\"a.wast\",\"commands\":[]}", outcome: Files(&[]) },
     Row { name: "a number in place of the array", bytes: b"{\"commands\":3}", outcome: BadCommand(0) },
@@ -31,6 +31,8 @@ static ROWS: [Row; 45] = [
     Row { name: "an array in place of the object", bytes: b"[]", outcome: BadCommand(0) },
     Row { name: "a text without its last brace", bytes: b"{\"commands\":[]", outcome: NotJson },
     Row { name: "two hundred brackets", bytes: &DEEP, outcome: NotJson },
+    Row { name: "127 levels", bytes: b"[[[[[[[[[[[[[[[[[[[[[[[[[[[[[[[[[[[[[[[[[[[[[[[[[[[[[[[[[[[[[[[[[[[[[[[[[[[[[[[[[[[[[[[[[[[[[[[[[[[[[[[[[[[[[[[[[[[[[[[[[[[[[[[]]]]]]]]]]]]]]]]]]]]]]]]]]]]]]]]]]]]]]]]]]]]]]]]]]]]]]]]]]]]]]]]]]]]]]]]]]]]]]]]]]]]]]]]]]]]]]]]]]]]]]]]]]]]]]]]]]]]]]]]]]]]]]]", outcome: BadCommand(0) },
+    Row { name: "128 levels", bytes: b"[[[[[[[[[[[[[[[[[[[[[[[[[[[[[[[[[[[[[[[[[[[[[[[[[[[[[[[[[[[[[[[[[[[[[[[[[[[[[[[[[[[[[[[[[[[[[[[[[[[[[[[[[[[[[[[[[[[[[[[[[[[[[[[[]]]]]]]]]]]]]]]]]]]]]]]]]]]]]]]]]]]]]]]]]]]]]]]]]]]]]]]]]]]]]]]]]]]]]]]]]]]]]]]]]]]]]]]]]]]]]]]]]]]]]]]]]]]]]]]]]]]]]]]]]]]]]]]]", outcome: NotJson },
     Row { name: "bytes that are no text", bytes: b"\xFF\xFE", outcome: NotJson },
     Row { name: "no bytes", bytes: b"", outcome: NotJson },
     Row { name: "a command that is no object", bytes: b"{\"commands\":[7]}", outcome: BadCommand(0) },

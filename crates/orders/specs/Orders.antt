@@ -20,6 +20,8 @@ pub data Order : Type 0 where
   Define : (first second : List ℕ) (signature : FuncType) → Order
   -- to make the embedding
   Begin : (setup : Setup) → Order
+  -- to give the type of one export
+  NamedExport : (instance : ℕ) (name : List ℕ) → Order
 
 -- The kind of an order's message.
 abbrev pub kind_of : Order → ℕ
@@ -36,6 +38,7 @@ kind_of (Keep name bytes) = 9
 kind_of (RunScript text) = 10
 kind_of (Define first second signature) = 11
 kind_of (Begin setup) = 12
+kind_of (NamedExport instance name) = 13
 
 -- The fields of an order's message.
 abbrev pub fields_of : Order → List ℕ
@@ -57,6 +60,7 @@ fields_of (Define first second signature) =
 fields_of (Begin setup) =
     number_bytes setup.fuel ++ (number_bytes setup.depth
     ++ (number_bytes setup.pages ++ number_bytes setup.entries))
+fields_of (NamedExport instance name) = number_bytes instance ++ name
 
 -- A name is in UTF-8, and its length is a number of 64 bits.
 abbrev pub IsName : List ℕ → Type 0
@@ -83,3 +87,4 @@ Fits (Define first second signature) = IsName first × IsName second
     × (length signature.params < 2 ^ 64) × (length signature.results < 2 ^ 64)
 Fits (Begin setup) = (setup.fuel < 2 ^ 64) × (setup.depth < 2 ^ 64) × (setup.pages < 2 ^ 64)
     × (setup.entries < 2 ^ 64)
+Fits (NamedExport instance name) = (instance < 2 ^ 64) × IsUtf8 name

@@ -2,7 +2,7 @@
 use Rattle.meaning.specs.embedding.Commands as command
 use Rattle.orders.specs.Orders as order
 use Rattle.orders.specs.declared.order.Order.{Order}
-use Rattle.orders.specs.declared.order.Order.TheVariants.{End, Load, Link, Register, Call, GetGlobal, SetFuel, FuelLeft, Exports, Keep, RunScript, Define, Begin}
+use Rattle.orders.specs.declared.order.Order.TheVariants.{End, Load, Link, Register, Call, GetGlobal, SetFuel, FuelLeft, Exports, Keep, RunScript, Define, Begin, NamedExport}
 
 abbrev pub order_of : Order → order.Order
 order_of End = order.End
@@ -24,3 +24,4 @@ order_of (Begin fuel depth pages entries) = order.Begin (record {
   pages = pages;
   entries = entries;
 })
+order_of (NamedExport instance name) = order.NamedExport instance name.now

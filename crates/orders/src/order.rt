@@ -29,4 +29,6 @@ pub enum Order<'a> {
     Define(&'a str, &'a str, FuncType),
     /// To make the embedding: fuel, depth, pages and entries.
     Begin(u64, u64, u64, u64),
+    /// To give the type of what an instance exports under a name.
+    NamedExport(u64, &'a str),
 }

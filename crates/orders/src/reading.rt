@@ -56,6 +56,10 @@ pub fn read_order(alloc: Global, kind: u64, fields: &[u8]) -> Result<Order<'_>, 
             Some((fuel, depth, pages, entries)) => Ok(Order::Begin(fuel, depth, pages, entries)),
             None => Err(ReadFault::NotSpelt),
         },
+        13 => match read_number_and_name(fields) {
+            Some((number, name)) => Ok(Order::NamedExport(number, name)),
+            None => Err(ReadFault::NotSpelt),
+        },
         _ => Err(ReadFault::NotSpelt),
     }
 }

@@ -103,6 +103,14 @@ const TOO_LARGE: &[u8] =
 
 const ONE_MODULE: &[u8] = b"{\"commands\":[{\"type\":\"module\",\"line\":1,\"filename\":\"a\"}]}";
 
+const BELOW: &[u8] = b"{\"commands\":[{\"type\":\"module\",\"line\":1,\"filename\":\"it/a\"}]}";
+
+const ABOVE: &[u8] = b"{\"commands\":[{\"type\":\"module\",\"line\":1,\"filename\":\"../a\"}]}";
+
+const AROUND: &[u8] = b"{\"commands\":[{\"type\":\"module\",\"line\":1,\"filename\":\"it/../a\"}]}";
+
+const ROOTED: &[u8] = b"{\"commands\":[{\"type\":\"module\",\"line\":1,\"filename\":\"/a\"}]}";
+
 const TWO_MODULES: &[u8] =
     b"{\"commands\":[{\"type\":\"module\",\"line\":1,\"filename\":\"a\"},{\"type\":\"module\",\"line\":2,\"filename\":\"b\"}]}";
 
@@ -112,7 +120,7 @@ const OFTEN: &[u8] =
 const BRACKETS: [u8; 200] = [b'['; 200];
 
 #[rattlefmt::skip]
-static ROWS: [Row; 18] = [
+static ROWS: [Row; 22] = [
     Row { name: "no commands", words: "script s", folder: Folder { path: "s", script: b"{\"commands\":[]}", modules: &[] }, ending: Prints("passed 0 failed 0 skipped 0\n", 0) },
     Row { name: "a module in text", words: "script s", folder: Folder { path: "s", script: TEXT_ALONE, modules: &[] }, ending: Prints("passed 0 failed 0 skipped 1\n", 0) },
     Row { name: "an action without an instance", words: "script s", folder: Folder { path: "s", script: ACTS_ALONE, modules: &[] }, ending: Prints("line 2: failed\npassed 0 failed 1 skipped 0\n", 1) },
@@ -124,6 +132,10 @@ static ROWS: [Row; 18] = [
     Row { name: "a named file that is not there", words: "script s", folder: Folder { path: "s", script: TWO_MODULES, modules: &[("a", ADD)] }, ending: Refuses("cannot read b\n", 3) },
     Row { name: "a named file in the folder of the script", words: "script in/it/s", folder: Folder { path: "in/it/s", script: ONE_MODULE, modules: &[("in/it/a", ADD)] }, ending: Prints("passed 1 failed 0 skipped 0\n", 0) },
     Row { name: "a named file that is not in the folder of the script", words: "script in/s", folder: Folder { path: "in/s", script: ONE_MODULE, modules: &[("a", ADD)] }, ending: Refuses("cannot read in/a\n", 3) },
+    Row { name: "a named file below the folder of the script", words: "script in/s", folder: Folder { path: "in/s", script: BELOW, modules: &[("in/it/a", ADD)] }, ending: Prints("passed 1 failed 0 skipped 0\n", 0) },
+    Row { name: "a named file above the folder of the script", words: "script in/s", folder: Folder { path: "in/s", script: ABOVE, modules: &[("in/../a", ADD)] }, ending: Refuses("cannot read in/../a\n", 3) },
+    Row { name: "a named file whose path goes up", words: "script in/s", folder: Folder { path: "in/s", script: AROUND, modules: &[("in/it/../a", ADD)] }, ending: Refuses("cannot read in/it/../a\n", 3) },
+    Row { name: "a named file from the root", words: "script in/s", folder: Folder { path: "in/s", script: ROOTED, modules: &[("in//a", ADD), ("/a", ADD)] }, ending: Refuses("cannot read in//a\n", 3) },
     Row { name: "a named file beside a script in the root", words: "script /s", folder: Folder { path: "/s", script: ONE_MODULE, modules: &[("/a", ADD)] }, ending: Prints("passed 1 failed 0 skipped 0\n", 0) },
     Row { name: "module, register, assert_return, assert_unlinkable and assert_trap", words: "script s", folder: Folder { path: "s", script: FIVE, modules: &[("a", ADD_AND_CALL), ("b", MISSING)] }, ending: Prints("passed 5 failed 0 skipped 0\n", 0) },
     Row { name: "a right and a wrong sum", words: "script a.json", folder: Folder { path: "a.json", script: EXAMPLE, modules: &[("a.0.wasm", ADD)] }, ending: Prints("line 6: failed\npassed 2 failed 1 skipped 0\n", 1) },

@@ -113,6 +113,11 @@ impl Attempt for TypeOfExport {
     }
 }
 
+// Whether these are the two exports, each with a type of its own.
+fn are_both(found: &embed::Exports) -> bool {
+    found.types.len() == 2 && found.exports.len() == 2 && found.exports[1].name.as_str() == "g"
+}
+
 /// The exports of an instance are asked for.
 #[derive(Drop)]
 pub struct Exports {
@@ -128,7 +133,7 @@ pub fn prepare_exports(alloc: Global) -> Option<Exports> {
 impl Attempt for Exports {
     fn attempt(&mut self) -> Answer {
         match self.at.exports(InstanceNumber(0)) {
-            Ok(found) => { Answer::with_memory(found.len() == 2 && found[1].name.as_str() == "g") }
+            Ok(found) => Answer::with_memory(are_both(&found)),
             Err(_) => Answer::Wanting,
         }
     }

@@ -7,8 +7,8 @@ use thiserror::Error;
 /// Why a script is not read, or not run to its end.
 #[derive(Debug, Drop, Error)]
 pub enum ScriptFault {
-    /// The bytes are no JSON text.
-    #[error("no JSON text")]
+    /// The bytes are not JSON, or JSON whose arrays and objects are nested more than 127 levels deep.
+    #[error("not JSON, or nested more than 127 levels deep")]
     NotJson,
     /// The command of this index, from 0, has not its form; 0 where there is no array of commands.
     #[error("command {0} has not its form")]

@@ -2,11 +2,22 @@ use crate::ending::Ending;
 use answers::{Answer, Cause, push_answer};
 use embed::Refusal;
 use io::write_all;
-use messages::{FieldsFault, Head, StreamEnd, read_fields, read_head};
+use messages::{FieldsFault, Head, StreamEnd, read_fields, read_head, skip};
 use std::alloc::{AllocError, Global};
 
 // The room for a reply that is there from the start: that of most replies.
 const REPLY: usize = 4_096;
+
+// The kind of an order to load a module, and the most bytes that a module has.
+const LOAD: u64 = 1;
+
+const MAX_MODULE_SIZE: u64 = 67_108_864;
+
+// What has come: an order of a kind whose fields are kept, or one that is refused without them.
+enum Received {
+    Order(u64),
+    Refused(Refusal),
+}
 
 /// The other end: what it says is heard on one descriptor, and it is asked over another.
 #[derive(Drop)]
@@ -51,27 +62,40 @@ impl Client {
         Ok(())
     }
 
-    // Reads a message: its kind, or none where there was no memory for its fields.
-    fn try_receive(&mut self) -> Result<Option<u64>, Ending> {
+    // Reads the fields of a message. A module that is too large is read to its end, and nothing of it is kept.
+    fn receive_fields(&mut self, size: u64, kind: u64) -> Result<Received, Ending> {
+        if kind == LOAD && size > MAX_MODULE_SIZE {
+            return if skip(self.hear, size) {
+                Ok(Received::Refused(Refusal::Limit))
+            } else {
+                Err(Ending::CutShort)
+            };
+        }
+        match read_fields(self.hear, size, &mut self.incoming) {
+            Ok(()) => Ok(Received::Order(kind)),
+            Err(FieldsFault::CutShort) => Err(Ending::CutShort),
+            Err(FieldsFault::OutOfMemory) => Ok(Received::Refused(Refusal::OutOfMemory)),
+        }
+    }
+
+    // Reads a message.
+    fn try_receive(&mut self) -> Result<Received, Ending> {
         match read_head(self.hear) {
-            Ok(Head { size, kind }) => match read_fields(self.hear, size, &mut self.incoming) {
-                Ok(()) => Ok(Some(kind)),
-                Err(FieldsFault::CutShort) => Err(Ending::CutShort),
-                Err(FieldsFault::OutOfMemory) => Ok(None),
-            },
+            Ok(Head { size, kind }) => self.receive_fields(size, kind),
             Err(StreamEnd::Over) => Err(Ending::InputOver),
             Err(StreamEnd::CutShort) => Err(Ending::CutShort),
         }
     }
 
-    /// The kind of the next message, whose fields are kept until the one behind it. One for which there is no memory is refused.
+    /// Returns the kind of the next message, whose fields are kept until the one after it. A module that is too large, and a message for
+    /// which an allocation failed, are refused.
     pub fn receive(&mut self) -> Result<u64, Ending> {
         for _ in 0..u64::MAX {
             match self.try_receive()? {
-                Some(kind) => return Ok(kind),
-                None => {
+                Received::Order(kind) => return Ok(kind),
+                Received::Refused(refusal) => {
                     self.incoming = Vec::new(self.alloc);
-                    self.send(&Answer::Refused(Cause::Command(Refusal::OutOfMemory)))?;
+                    self.send(&Answer::Refused(Cause::Command(refusal)))?;
                 }
             }
         }

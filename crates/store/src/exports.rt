@@ -8,17 +8,6 @@ ghost use Rattle.store.specs.Contents.{code_store};
 use crate::instances::Code;
 use core_types::{Export, ExportDesc, Extern};
 
-// What the first export of a name stands for.
-fn export_under(exports: &[Export], name: &str) -> Option<ExportDesc>
-    ensures { result ≡ option_map (λ (e : Exported). e.desc)
-        (find (λ (e : Exported). bytes_eq e.name name.now) exports.now) }
-{
-    exports
-        .iter()
-        .find(|export| export.name.as_str() == name)
-        .map(|export| export.desc)
-}
-
 impl Code {
     /// What an instance exports, in the order of its module; nothing where there is no such instance.
     pub fn exports(&self, instance: u32) -> &[Export]
@@ -28,6 +17,16 @@ impl Code {
             Some(found) => found.loaded.as_ref().module().exports.as_slice(),
             None => &[],
         }
+    }
+
+    // What the export of a name names, by its index.
+    fn export_under(&self, instance: u32, name: &str) -> Option<ExportDesc>
+        ensures { result ≡ option_map (λ (e : Exported). e.desc)
+            (find (λ (e : Exported). bytes_eq e.name name.now)
+            (instance_of (code_store self.now) (Some instance)).exports) }
+    {
+        let found = self.instance(instance)?;
+        found.loaded.as_ref().export(name)
     }
 
     /// What an index of an instance names, by its address in the store, if it names something (Execution, Runtime Structure, Export
@@ -43,11 +42,11 @@ impl Code {
         }
     }
 
-    /// What an instance exports under a name, if there is such an instance and such an export (Execution, Runtime Structure, Export
-    /// Instances). Takes no memory.
+    /// Returns what an instance exports under a name, if there is such an instance and such an export. It is found by halving, and
+    /// nothing is allocated (Execution, Runtime Structure, Export Instances).
     pub fn export(&self, instance: u32, name: &str) -> Option<Extern>
         ensures { result ≡ export_of (instance_of (code_store self.now) (Some instance)) name.now }
     {
-        self.extern_of(instance, export_under(self.exports(instance), name)?)
+        self.extern_of(instance, self.export_under(instance, name)?)
     }
 }

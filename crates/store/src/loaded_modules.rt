@@ -1,16 +1,17 @@
-ghost use Rattle.std.specs.Prelude.{◌<◌, ◌≤◌, ◌≡◌, length, slice_get, IfOk, Some};
+ghost use Rattle.std.specs.Prelude.{◌<◌, ◌≤◌, ◌≡◌, bytes_eq, length, option_map, slice_get, IfOk, Some};
 ghost use Rattle.meaning.specs.structure.Bodies.{writing};
 ghost use Rattle.meaning.specs.execution.Modules.{code_of};
 ghost use Rattle.meaning.specs.validation.Modules.{IsValid};
-ghost use Rattle.std.specs.List.{All};
+ghost use Rattle.std.specs.List.{All, find};
 ghost use Rattle.core_types.specs.declared.module.DataSegment.{DataSegment as AnySegment};
+ghost use Rattle.core_types.specs.declared.module.Export.{Export as Exported};
 ghost use Rattle.core_types.specs.declared.types.TableType.{TableType as AnyTable};
 ghost use Rattle.meaning.specs.execution.Tables.{most_entries};
 ghost use Rattle.soundness.specs.Links.{IsSoundModule};
 ghost use Rattle.meaning.specs.execution.Storage.{AreBytes};
 ghost use Rattle.sidetable.specs.FlatModules.{IsFlat, IsFlatModule, module_signatures, operations_of};
 
-use core_types::{DataSegment, Func, FuncType, Limits, Module, TableType};
+use core_types::{DataSegment, ExportDesc, Func, FuncType, Limits, Module, TableType};
 use sidetable::{FlatModule, PackedFunction, flatten};
 use std::alloc::{AllocError, Global};
 use std::marker::Model;
@@ -100,6 +101,14 @@ impl LoadedModule {
         ensures sound { IsSoundModule self.now.source }
     {
         self.validated.module()
+    }
+
+    /// Returns what the export of a name names, if there is one.
+    pub fn export(&self, name: &str) -> Option<ExportDesc>
+        ensures { result ≡ option_map (λ (e : Exported). e.desc)
+            (find (λ (e : Exported). bytes_eq e.name name.now) self.now.source.exports) }
+    {
+        self.validated.export(name)
     }
 
     /// The flat code of its functions, for reading.

@@ -1,5 +1,6 @@
 //! Where the program reads files from.
 
+use std::path::PathBuf;
 use std::rt::Files as SystemFiles;
 use std::{fs, io};
 
@@ -12,10 +13,19 @@ pub enum ReadFault {
     Memory,
 }
 
+// The most bytes that a file has that a script names: those of the largest module.
+const MAX_NAMED_SIZE: u64 = 67_108_864;
+
 /// Where files are read from.
 pub trait Files {
-    /// All bytes of the file at a path.
+    /// Returns all bytes of the file at a path.
     fn read(&mut self, path: &str) -> Result<Vec<u8>, ReadFault>;
+
+    /// Returns all bytes of a file that a script names, at a path in the script's folder or below it. Reads the file at the path, unless an
+    /// implementation bounds which files these may be.
+    fn read_named(&mut self, _folder: &str, path: &str) -> Result<Vec<u8>, ReadFault> {
+        self.read(path)
+    }
 }
 
 /// The files of the system.
@@ -40,10 +50,39 @@ fn fault_of(error: &io::Error) -> ReadFault {
     }
 }
 
+// Whether a path is below a folder; both are from the root, and neither has a link.
+fn is_below(path: &str, folder: &str) -> bool {
+    match path.strip_prefix(folder) {
+        Some(rest) => folder.ends_with('/') || rest.starts_with('/'),
+        None => false,
+    }
+}
+
+impl<R: SystemFiles + AllocGlobal> System<R> {
+    // Follows the links of a path to a regular file of at most 64 MiB in a folder or below it. Nothing if it leads to another file.
+    fn resolve(&self, folder: &str, path: &str) -> io::Result<Option<PathBuf>> {
+        let folder = fs::canonicalize(&self.rt, folder)?;
+        let path = fs::canonicalize(&self.rt, path)?;
+        let found = fs::metadata(&self.rt, path.to_string_lossy())?;
+        let is_allowed = found.is_file()
+            && found.len() <= MAX_NAMED_SIZE
+            && is_below(path.to_string_lossy(), folder.to_string_lossy());
+        Ok(is_allowed.then_some(path))
+    }
+}
+
 impl<R: SystemFiles + AllocGlobal> Files for System<R> {
     fn read(&mut self, path: &str) -> Result<Vec<u8>, ReadFault> {
         match fs::read(&self.rt, path) {
             Ok(bytes) => Ok(bytes),
+            Err(error) => Err(fault_of(&error)),
+        }
+    }
+
+    fn read_named(&mut self, folder: &str, path: &str) -> Result<Vec<u8>, ReadFault> {
+        match self.resolve(folder, path) {
+            Ok(Some(resolved)) => self.read(resolved.to_string_lossy()),
+            Ok(None) => Err(ReadFault::Failed),
             Err(error) => Err(fault_of(&error)),
         }
     }

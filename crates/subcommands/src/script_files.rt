@@ -3,8 +3,8 @@
 use crate::faults::Fault;
 use crate::inputs::{Files, ReadFault};
 use embed::Refusal;
-use indexmap::IndexSet;
 use std::alloc::{AllocError, Global};
+use std::collections::BTreeSet;
 
 // The path of a file that the script at a path names: it lies in the same folder.
 fn path_beside(alloc: Global, path: &str, filename: &str) -> Result<String, AllocError> {
@@ -12,6 +12,20 @@ fn path_beside(alloc: Global, path: &str, filename: &str) -> Result<String, Allo
         Some((folder, _)) => format!(in alloc; "{folder}/{filename}"),
         None => String::from_str(alloc, filename),
     }
+}
+
+// The folder of the script at a path.
+fn folder_of(path: &str) -> &str {
+    match path.rsplit_once('/') {
+        Some(("", _)) => "/",
+        Some((folder, _)) => folder,
+        None => ".",
+    }
+}
+
+// Whether a name leads out of a folder: it starts at the root, or goes up.
+fn leads_out(filename: &str) -> bool {
+    filename.starts_with('/') || filename.split('/').any(|part| part == "..")
 }
 
 // The bytes of a file that the script at a path names.
@@ -22,7 +36,10 @@ fn read_beside<'a, F: Files>(
     filename: &str,
 ) -> Result<Vec<u8>, Fault<'a>> {
     let beside = path_beside(alloc, path, filename)?;
-    match files.read(beside.as_str()) {
+    if leads_out(filename) {
+        return Err(Fault::CannotReadNamed(beside));
+    }
+    match files.read_named(folder_of(path), beside.as_str()) {
         Ok(bytes) => Ok(bytes),
         Err(ReadFault::Failed) => Err(Fault::CannotReadNamed(beside)),
         Err(ReadFault::Memory) => Err(Fault::Refused(Refusal::OutOfMemory)),
@@ -44,10 +61,14 @@ fn add_beside<'a, F: Files>(
 }
 
 // The names of files, each once, in the order in which they come first.
-fn distinct_names(alloc: Global, filenames: &[String]) -> Result<IndexSet<&str>, AllocError> {
-    let mut names = IndexSet::new(alloc);
+fn distinct_names(alloc: Global, filenames: &[String]) -> Result<Vec<&str>, AllocError> {
+    let mut seen = BTreeSet::new(alloc);
+    let mut names = Vec::new(alloc);
     for filename in filenames {
-        let _ = names.insert(filename.as_str())?;
+        let name = filename.as_str();
+        if seen.insert(name)? {
+            names.push(name)?;
+        }
     }
     Ok(names)
 }
@@ -66,7 +87,7 @@ fn read_all<'a, F: Files>(
     Ok(read)
 }
 
-/// Reads the files that the script at a path names, from the folder that it lies in: each once, however often it is named.
+/// Reads the files that the script at a path names, from its folder or below it: each once, however often it is named.
 pub fn read_named<'a, F: Files>(
     alloc: Global,
     files: &mut F,

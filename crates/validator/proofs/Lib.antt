@@ -1,5 +1,4 @@
 pub mod Alignments
-pub mod ExportNames
 pub mod Expressions
 pub mod FunctionBodies
 pub mod IndexSpaces

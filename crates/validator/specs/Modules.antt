@@ -1,5 +1,5 @@
 -- The rules of a module in groups, as they are checked.
-use Rattle.std.specs.Prelude.{ℕ, ◌<◌, length, All, ◌≤◌}
+use Rattle.std.specs.Prelude.{ℕ, ◌<◌, length, List, All, ◌≤◌}
 use Rattle.core_types.specs.declared.module.DataSegment.{DataSegment}
 use Rattle.core_types.specs.declared.module.Export.{Export}
 use Rattle.core_types.specs.declared.module.Func.{Func}
@@ -10,7 +10,8 @@ use Rattle.core_types.specs.declared.module.ImportDesc.{ImportDesc}
 use Rattle.core_types.specs.declared.module.Module.{Module}
 use Rattle.core_types.specs.declared.types.Limits.{Limits}
 use Rattle.core_types.specs.declared.types.TableType.{TableType}
-use Rattle.meaning.specs.validation.Modules.{constant_context, Exists, HasDataMode, IsConstantExpression, IsValidElement, IsValidFunction, IsValidStart, memories_of, NamesDiffer}
+use Rattle.export_names.specs.Order.{IsNameOrder}
+use Rattle.meaning.specs.validation.Modules.{constant_context, Exists, HasDataMode, IsConstantExpression, IsValid, IsValidElement, IsValidFunction, IsValidStart, memories_of, NamesDiffer}
 use Rattle.meaning.specs.validation.Types.{AreFewPages, AreOrdered}
 
 abbrev pub IsValidMemory : Limits → Type 0
@@ -39,6 +40,11 @@ pub record HasValidParts (m : Module) : Type 0 where
   pub start : IsValidStart m m.start
   pub exports : All (λ (e : Export). Exists m e.desc) m.exports
   pub names_differ : NamesDiffer m.exports
+
+-- The module is valid, and its exports' names are in this order.
+pub record IsNamedValid (m : Module) (order : List ℕ) : Type 0 where
+  pub valid : IsValid m
+  pub names : IsNameOrder m.exports order
 
 -- Each function of the module is valid.
 abbrev pub HasValidBodies : Module → Type 0

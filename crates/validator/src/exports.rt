@@ -1,12 +1,9 @@
-ghost use Rattle.std.specs.Prelude.{All, IfOk, IsTrue, ◌↔◌};
+ghost use Rattle.std.specs.Prelude.{All, IsTrue, ◌↔◌};
 ghost use Rattle.core_types.specs.declared.module.Export.{Export as Exported};
-ghost use Rattle.meaning.specs.validation.Modules.{NamesDiffer};
 ghost use Rattle.validator.specs.ModuleParts.{ExistsIn};
 
 use crate::context::IndexSpaces;
 use core_types::{Export, ExportDesc};
-use indexmap::IndexSet;
-use std::alloc::{AllocError, Global};
 
 // Whether what is exported exists (Validation, Exports).
 fn exists(spaces: &IndexSpaces, desc: ExportDesc) -> bool
@@ -25,17 +22,4 @@ pub fn all_exist(spaces: &IndexSpaces, exports: &[Export]) -> bool
     ensures { IsTrue result ↔ All (λ (e : Exported). ExistsIn spaces.now e.desc) exports.now }
 {
     exports.iter().all(|export| exists(spaces, export.desc))
-}
-
-// Whether no export has the name of an earlier one.
-pub fn names_differ(alloc: Global, exports: &[Export]) -> Result<bool, AllocError>
-    ensures { IfOk result (λ differ. IsTrue differ ↔ NamesDiffer exports.now) }
-{
-    let mut seen = IndexSet::new(alloc);
-    for export in exports {
-        if !seen.insert(export.name.as_str())? {
-            return Ok(false);
-        }
-    }
-    Ok(true)
 }

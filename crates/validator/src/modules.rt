@@ -1,5 +1,6 @@
 ghost use Rattle.std.specs.Prelude.{IfErr, IfOk, IsTrue, OnErr, OnOk, false, ◌≡◌, ◌⊎◌};
 ghost use Rattle.meaning.specs.validation.Modules.{IsValid};
+ghost use Rattle.export_names.specs.Order.{IsNameOrder};
 ghost use Rattle.validator.specs.Constants.{IsConstantContext};
 ghost use Rattle.validator.specs.IndexSpaces.{AreIndexSpaces};
 ghost use Rattle.validator.specs.Modules.{HasValidDeclarations, HasValidParts};
@@ -13,7 +14,7 @@ use crate::context::index_spaces::index_spaces;
 use crate::data_segments::are_valid_datas;
 use crate::elements::are_valid_elements;
 use crate::errors::{Place, ValidateError};
-use crate::exports::{all_exist, names_differ};
+use crate::exports::all_exist;
 use crate::functions::{are_typed, validate_functions};
 use crate::globals::are_valid_globals;
 use crate::imports::are_valid_imports;
@@ -22,6 +23,7 @@ use crate::start::is_valid_start;
 use crate::tables::are_valid_tables;
 use crate::valid_module::ValidModule;
 use core_types::Module;
+use export_names::NameOrder;
 use std::alloc::Global;
 
 // Refuses the section of this id, unless its rule holds.
@@ -60,25 +62,25 @@ fn constant_context<'a>(decoded: &Module, spaces: &'a IndexSpaces) -> ConstantCo
     }
 }
 
-// Checks the parts of a module outside of its functions, by its index spaces.
+// Checks the parts of a module outside of its functions, by its index spaces and the order of its exports' names.
 fn validate_parts(
-    alloc: Global,
     decoded: &Module,
     spaces: &IndexSpaces,
+    names: &NameOrder,
 ) -> Result<(), ValidateError>
     requires spaces { AreIndexSpaces decoded.now spaces.now }
+    requires names { IsNameOrder decoded.now.exports names.now }
     requires marks { HasMarks decoded.now spaces.now }
     requires declarations { HasValidDeclarations decoded.now }
     ensures valid { OnOk result (HasValidParts decoded.now) }
-    ensures invalid { IfErr result
-        (λ error. (error ≡ OutOfMemory) ⊎ (¬ HasValidParts decoded.now)) }
+    ensures invalid { OnErr result (¬ HasValidParts decoded.now) }
 {
     let exports = decoded.exports.as_slice();
     let context = constant_context(decoded, spaces);
     require(is_at_most_one(&spaces.memories), 5)?;
     require(are_valid_globals(&context, decoded.globals.as_slice()), 6)?;
     require(all_exist(spaces, exports), 7)?;
-    require(names_differ(alloc, exports)?, 7)?;
+    require(names.names_differ(exports), 7)?;
     require(
         is_valid_start(decoded.types.as_slice(), spaces, decoded.start),
         8,
@@ -93,14 +95,15 @@ fn validate_parts(
     )
 }
 
-// Checks a module by each rule.
-fn validate_module(alloc: Global, decoded: &Module) -> Result<(), ValidateError>
+// Checks a module by each rule, given the order of its exports' names.
+fn validate_module(alloc: Global, decoded: &Module, names: &NameOrder) -> Result<(), ValidateError>
+    requires { IsNameOrder decoded.now.exports names.now }
     ensures valid { OnOk result (IsValid decoded.now) }
     ensures invalid { IfErr result (λ error. (error ≡ OutOfMemory) ⊎ (¬ IsValid decoded.now)) }
 {
     validate_declarations(decoded)?;
     let spaces = index_spaces(alloc, decoded)?;
-    validate_parts(alloc, decoded, &spaces)?;
+    validate_parts(decoded, &spaces, names)?;
     validate_functions(alloc, decoded, &spaces)
 }
 
@@ -111,6 +114,7 @@ pub fn validate(alloc: Global, decoded: Module) -> Result<ValidModule, ValidateE
     ensures valid { OnOk result (IsValid decoded) }
     ensures invalid { IfErr result (λ error. (error ≡ OutOfMemory) ⊎ (¬ IsValid decoded)) }
 {
-    validate_module(alloc, &decoded)?;
-    Ok(ValidModule::new(decoded))
+    let names = NameOrder::new(alloc, decoded.exports.as_slice())?;
+    validate_module(alloc, &decoded, &names)?;
+    Ok(ValidModule::new(decoded, names))
 }

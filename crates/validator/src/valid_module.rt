@@ -1,12 +1,14 @@
 ghost use Rattle.std.specs.Prelude.{◌≡◌};
 
-use core_types::Module;
+use core_types::{ExportDesc, Module};
+use export_names::NameOrder;
 use std::marker::Model;
 
-/// A module that is valid.
+/// A module that is valid, with the order of its exports' names.
 #[derive(Drop)]
 pub struct ValidModule {
     inner: Module,
+    names: NameOrder,
 }
 
 impl Model for ValidModule {
@@ -14,30 +16,43 @@ impl Model for ValidModule {
 
     ghost Value = { Module };
 
-    ghost use Rattle.meaning.specs.validation.Modules.{IsValid};
+    ghost use Rattle.validator.specs.Modules.{IsNamedValid};
 
     ghost view = { λ v. v.inner };
 
-    ghost invariant = { λ v. IsValid v.inner };
+    ghost invariant = { λ v. IsNamedValid v.inner v.names };
 }
 
 impl ValidModule {
-    ghost use Rattle.std.specs.Prelude.{◌≡◌};
+    ghost use Rattle.std.specs.Prelude.{◌≡◌, bytes_eq, option_map};
+    ghost use Rattle.std.specs.List.{find};
+    ghost use Rattle.core_types.specs.declared.module.Export.{Export as Exported};
+    ghost use Rattle.export_names.specs.Order.{IsNameOrder};
     ghost use Rattle.meaning.specs.validation.Modules.{IsValid};
 
     // The module, which meets each rule.
-    pub(crate) fn new(inner: Module) -> ValidModule
-        requires { IsValid inner }
+    pub(crate) fn new(inner: Module, names: NameOrder) -> ValidModule
+        requires valid { IsValid inner }
+        requires names { IsNameOrder inner.exports names }
         ensures { result ≡ inner }
     {
-        ValidModule { inner }
+        ValidModule { inner, names }
     }
 
-    /// The module, for reading.
+    /// Borrows the module.
     pub fn module(&self) -> &Module
         ensures same { result.now ≡ self.now }
         ensures valid { IsValid self.now }
     {
         &self.inner
+    }
+
+    /// Returns what the export of a name names, if there is one. It is found by halving, in a number of comparisons that is
+    /// logarithmic in the number of exports (Structure, Modules, Exports).
+    pub fn export(&self, name: &str) -> Option<ExportDesc>
+        ensures { result ≡ option_map (λ (e : Exported). e.desc)
+            (find (λ (e : Exported). bytes_eq e.name name.now) self.now.exports) }
+    {
+        self.names.find(self.inner.exports.as_slice(), name)
     }
 }

@@ -1,7 +1,8 @@
 //! Serves an embedding over standard input and output.
 #![tactic(auto)]
 
-use serve::serve;
+use serve::{Ending, serve};
+use std::io::{ErrorKind, Read};
 use std::process::ExitCode;
 
 // The descriptors of standard output and input.
@@ -9,6 +10,19 @@ const OUTPUT: i32 = 1;
 
 const INPUT: i32 = 0;
 
+// Whether standard input is non-blocking and has no bytes now. The server takes that for its end.
+fn would_block(rt: &HostRuntime) -> bool {
+    let mut byte = [0u8; 1];
+    match rt.stdin().read(&mut byte) {
+        Ok(_) => false,
+        Err(error) => error.kind() == ErrorKind::WouldBlock,
+    }
+}
+
 fn main(rt: HostRuntime) -> ExitCode {
-    ExitCode::from(serve(rt.alloc(), OUTPUT, INPUT).status())
+    let ending = serve(rt.alloc(), OUTPUT, INPUT);
+    if matches!(ending, Ending::InputOver | Ending::CutShort) && would_block(&rt) {
+        let _ = eprintln!(rt; "wasmserve: standard input is non-blocking, and a read would block");
+    }
+    ExitCode::from(ending.status())
 }

@@ -3,7 +3,7 @@ use Rattle.std.proofs.Common.{◌≡◌, ℕ, ◌<◌, Bool, false, List, [], �
 use Rattle.std.proofs.lemmas.List.Elements.{All-get_or, All-head, All-tail, All-weaker}
 use Rattle.std.proofs.lemmas.List.{length-map}
 use Rattle.std.proofs.lemmas.Option.{slice_get-map, slice_get-get_or, slice_get_within}
-use Rattle.std.specs.Prelude.{◌↔◌, All, IfErr, IsTrue, Option, Some, None, Result, Ok, Err, option_map, slice_get, unwrap_or}
+use Rattle.std.specs.Prelude.{◌↔◌, All, IfErr, IsTrue, OnErr, Option, Some, None, Result, Ok, Err, option_map, slice_get, unwrap_or}
 use Rattle.core_types.specs.declared.module.DataMode.TheVariants as data_mode
 use Rattle.core_types.specs.declared.module.DataMode.{DataMode}
 use Rattle.core_types.specs.declared.module.DataSegment.{DataSegment}
@@ -50,6 +50,14 @@ answer_refused answer decides is_false means = λ q. let yes = decides.1 (means 
 pub with_any_error : {T E : Type 0} (Q : E → Type 0) (r : Result T E) → ((error : E) → Q error) → IfErr r Q
 with_any_error Q (Ok x) told = tt
 with_any_error Q (Err error) told = told error
+
+pub on_error_from : {T E Q : Type 0} (P : E → Type 0) (r : Result T E) → ((error : E) → P error → Q) → IfErr r P → OnErr r Q
+on_error_from P (Ok x) means told = tt
+on_error_from P (Err error) means told = means error told
+
+pub on_any_error : {T E P : Type 0} (r : Result T E) → P → OnErr r P
+on_any_error (Ok x) told = tt
+on_any_error (Err error) told = told
 
 constant_global : (g : GlobalType) (t : ValType) → g.value ≡ t → g.mutability ≡ Const → g ≡ record { value = t; mutability = Const }
 constant_global g t value mutability =
