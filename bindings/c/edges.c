@@ -77,8 +77,8 @@ static bool trapped_with(const tegvurn *embedding, uint32_t code) {
 
 /* Who may call */
 
-/* Whether each call of an embedding is answered as busy, and leaves what it was given. */
-static bool is_all_busy(tegvurn *embedding) {
+/* Returns whether each call but tegvurn_free is answered as busy, and leaves what it was given. */
+static bool is_closed(tegvurn *embedding) {
   uint64_t number = 7;
   tegvurn_value value = tegvurn_i32(7);
   tegvurn_export *exports = NULL;
@@ -91,23 +91,42 @@ static bool is_all_busy(tegvurn *embedding) {
          tegvurn_get_global(embedding, 0, tegvurn_string("number"), &value) == TEGVURN_BUSY &&
          tegvurn_set_fuel(embedding, 7) == TEGVURN_BUSY && tegvurn_fuel_left(embedding, &number) == TEGVURN_BUSY &&
          tegvurn_exports(embedding, 0, &exports, &kept) == TEGVURN_BUSY && !exports && kept == 7 &&
-         tegvurn_script(embedding, "{}", 2, NULL, 0, &report) == TEGVURN_BUSY && report.passed == 7 &&
-         tegvurn_free(embedding) == TEGVURN_BUSY && number == 7 && value.i32 == 7;
+         tegvurn_script(embedding, "{}", 2, NULL, 0, &report) == TEGVURN_BUSY && report.passed == 7 && number == 7 && value.i32 == 7;
 }
 
-static void *be_busy_elsewhere(void *embedding) {
+/* Returns whether each call is answered as busy. */
+static bool is_all_busy(tegvurn *embedding) { return is_closed(embedding) && tegvurn_free(embedding) == TEGVURN_BUSY; }
+
+/* Runs a function on a thread of its own, up to its end. */
+static void run_on_thread(void *(*function)(void *), void *argument) {
+  pthread_t thread;
+  CHECK(!pthread_create(&thread, NULL, function, argument) && !pthread_join(thread, NULL));
+}
+
+static void *find_closed(void *embedding) {
+  CHECK(is_closed(embedding));
+  return NULL;
+}
+
+static void *find_busy(void *embedding) {
   CHECK(is_all_busy(embedding));
   return NULL;
 }
 
-static void call_from_another_thread(tegvurn *embedding) {
-  pthread_t thread;
-  CHECK(!pthread_create(&thread, NULL, be_busy_elsewhere, embedding) && !pthread_join(thread, NULL));
+static void *free_it(void *embedding) {
+  CHECK(tegvurn_free(embedding) == TEGVURN_DONE);
+  return NULL;
+}
+
+/* Makes the embedding of what a callback gets. */
+static void *make_it(void *asked) {
+  embedding_of(asked);
+  return NULL;
 }
 
 static bool ask_busily(struct asked *asked, tegvurn_host_call *call) {
   CHECK(is_all_busy(asked->embedding));
-  call_from_another_thread(asked->embedding);
+  run_on_thread(find_busy, asked->embedding);
   CHECK(tegvurn_last(asked->embedding)->status == TEGVURN_DONE);
   call->results[0] = tegvurn_i32(call->args[0].i32 + 1);
   return true;
@@ -119,12 +138,31 @@ static void test_busy(void) {
   tegvurn_value result;
   CHECK(call_one(embedding, "ask", tegvurn_i32(41), &result) == TEGVURN_DONE && result.i32 == 42);
   CHECK(call_one(embedding, "byte", tegvurn_i32(0), &result) == TEGVURN_DONE && result.i32 == 0);
-  call_from_another_thread(embedding);
+  run_on_thread(find_closed, embedding);
   CHECK(call_one(embedding, "trap", tegvurn_i32(0), &result) == TEGVURN_REFUSED);
-  call_from_another_thread(embedding);
+  run_on_thread(find_closed, embedding);
   CHECK(tegvurn_last(embedding)->number == TEGVURN_BAD_ARGUMENTS);
   CHECK(tegvurn_free(embedding) == TEGVURN_DONE);
   CHECK(tegvurn_free(NULL) == TEGVURN_DONE);
+}
+
+/* Any thread frees an embedding that is idle. */
+static void test_free_elsewhere(void) {
+  struct asked asked = {NULL, NULL, NULL, 0};
+  tegvurn_value result;
+  run_on_thread(free_it, embedding_of(&asked));
+  tegvurn *embedding = embedding_of(&asked);
+  CHECK(call_one(embedding, "ask", tegvurn_i32(5), &result) == TEGVURN_DONE && result.i32 == 5);
+  run_on_thread(free_it, embedding);
+}
+
+/* A thread is not taken for an ended one, whose stack and whose thread-local variables it gets. */
+static void test_ended_thread(void) {
+  struct asked asked = {NULL, NULL, NULL, 0};
+  run_on_thread(make_it, &asked);
+  CHECK(is_closed(asked.embedding));
+  run_on_thread(find_closed, asked.embedding);
+  CHECK(tegvurn_free(asked.embedding) == TEGVURN_DONE);
 }
 
 /* Several embeddings */
@@ -505,6 +543,8 @@ static void test_longjmp(void) {
 
 int main(int argc, char **argv) {
   test_busy();
+  test_free_elsewhere();
+  test_ended_thread();
   test_nested();
   test_threads();
   test_room();

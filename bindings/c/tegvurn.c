@@ -12,6 +12,7 @@
 #include "stack.h"
 
 #include <endian.h>
+#include <stdatomic.h>
 #include <stdlib.h>
 #include <sys/types.h>
 
@@ -46,8 +47,8 @@ enum state { AT_START, WAITS, ASKS, AT_END };
 
 struct tegvurn {
   struct stack stack;
-  const void *owner;
-  bool is_busy;
+  uint64_t owner;       /* the number of the thread that made it */
+  atomic_bool is_busy;  /* a call is inside */
   enum state state;
   uint32_t served;      /* what tegvurn_serve answered at its end */
   struct buffer said;   /* the message that the proved code reads, */
@@ -63,8 +64,33 @@ struct tegvurn {
   tegvurn_end end;
 };
 
-/* The embedding whose proved code ran last on this thread. The address of this variable tells threads apart. */
+/* The embedding whose proved code ran last on this thread. */
 static _Thread_local tegvurn *running;
+
+/* Who may call */
+
+/* Returns the number of this thread. No other thread of the process gets the same one, not even after this thread's end. */
+static uint64_t this_thread(void) {
+  static atomic_uint_least64_t last;
+  static _Thread_local atomic_uint_least64_t own;
+  uint64_t number = atomic_load_explicit(&own, memory_order_relaxed);
+  if (number) return number;
+  uint64_t next = atomic_fetch_add_explicit(&last, 1, memory_order_relaxed) + 1;
+  /* If a signal handler numbered the thread in the meantime, that number stays. */
+  return atomic_compare_exchange_strong(&own, &number, next) ? next : number;
+}
+
+/* Takes the embedding, unless a call is inside already. What earlier calls wrote, also on other threads, is visible then. */
+static bool take(tegvurn *m) { return !atomic_exchange_explicit(&m->is_busy, true, memory_order_acquire); }
+
+/* Begins a call, which only the thread that made the embedding may make: done or busy. After done, the call has to end with finish. */
+static tegvurn_status enter(tegvurn *m) { return m->owner == this_thread() && take(m) ? TEGVURN_DONE : TEGVURN_BUSY; }
+
+/* Ends a call with the status. */
+static tegvurn_status finish(tegvurn *m, tegvurn_status status) {
+  atomic_store_explicit(&m->is_busy, false, memory_order_release);
+  return status;
+}
 
 /* Numbers and buffers */
 
@@ -330,16 +356,9 @@ static tegvurn_status end_as_replied(tegvurn *m) {
 
 /* Orders */
 
-/* Whether the embedding may be called now: done, busy or over. */
-static tegvurn_status enter(tegvurn *m) {
-  if (m->owner != &running || m->is_busy) return TEGVURN_BUSY;
-  return m->state == AT_END ? end_as_over(m) : TEGVURN_DONE;
-}
-
 /* Starts an order, and makes room for its fields. */
 static tegvurn_status start_order(tegvurn *m, enum order order, size_t room) {
-  tegvurn_status status = enter(m);
-  if (status) return status;
+  if (m->state == AT_END) return end_as_over(m);
   if (!reserve(&m->said, HEAD + room)) return end_without_memory(&m->end);
   start_message(m, order);
   return TEGVURN_DONE;
@@ -349,9 +368,7 @@ static tegvurn_status start_order(tegvurn *m, enum order order, size_t room) {
 static tegvurn_status send_order(tegvurn *m, const void *bytes, size_t size) {
   m->behind = (struct bytes){bytes, size};
   end_message(m, 0);
-  m->is_busy = true;
   run(m);
-  m->is_busy = false;
   return end_as_replied(m);
 }
 
@@ -410,25 +427,8 @@ static tegvurn_status begin(tegvurn *m, const tegvurn_config *config, const tegv
   return send_order(m, NULL, 0);
 }
 
-tegvurn_status tegvurn_new(const tegvurn_config *config, const tegvurn_host *hosts, size_t host_count, tegvurn **embedding,
-                           tegvurn_end *end) {
-  tegvurn_end unwanted;
-  if (!end) end = &unwanted;
-  *embedding = NULL;
-  tegvurn *m = calloc(1, sizeof *m);
-  if (!m) return end_without_memory(end);
-  m->owner = &running;
-  tegvurn_status status = begin(m, config, hosts, host_count);
-  if (status == TEGVURN_OVER && m->served == NO_MEMORY) status = end_without_memory(&m->end);
-  *end = m->end;
-  if (status) tegvurn_free(m);
-  else *embedding = m;
-  return status;
-}
-
-tegvurn_status tegvurn_free(tegvurn *m) {
-  if (!m) return TEGVURN_DONE;
-  if (enter(m) == TEGVURN_BUSY) return TEGVURN_BUSY;
+/* Frees everything of an embedding that nobody else uses. Any thread may do so. */
+static void drop(tegvurn *m) {
   if (m->state == WAITS) send_short(m, ORDER_END, NULL, NULL, 0);
   drop_stack(&m->stack);
   free(m->said.at);
@@ -437,23 +437,47 @@ tegvurn_status tegvurn_free(tegvurn *m) {
   free(m->args);
   free(m->results);
   free(m);
+}
+
+tegvurn_status tegvurn_new(const tegvurn_config *config, const tegvurn_host *hosts, size_t host_count, tegvurn **embedding,
+                           tegvurn_end *end) {
+  tegvurn_end unwanted;
+  if (!end) end = &unwanted;
+  *embedding = NULL;
+  tegvurn *m = calloc(1, sizeof *m);
+  if (!m) return end_without_memory(end);
+  m->owner = this_thread();
+  tegvurn_status status = begin(m, config, hosts, host_count);
+  if (status == TEGVURN_OVER && m->served == NO_MEMORY) status = end_without_memory(&m->end);
+  *end = m->end;
+  if (status) drop(m);
+  else *embedding = m;
+  return status;
+}
+
+tegvurn_status tegvurn_free(tegvurn *m) {
+  if (!m) return TEGVURN_DONE;
+  if (!take(m)) return TEGVURN_BUSY;
+  drop(m);
   return TEGVURN_DONE;
 }
 
 const tegvurn_end *tegvurn_last(const tegvurn *m) { return &m->end; }
-
 /* The other calls */
 
 tegvurn_status tegvurn_load(tegvurn *m, const void *bytes, size_t size, uint64_t *module) {
-  return take_number(m, send_short(m, ORDER_LOAD, NULL, bytes, size), module);
+  tegvurn_status status = enter(m);
+  return status ? status : finish(m, take_number(m, send_short(m, ORDER_LOAD, NULL, bytes, size), module));
 }
 
 tegvurn_status tegvurn_link(tegvurn *m, uint64_t module, uint64_t *instance) {
-  return take_number(m, send_short(m, ORDER_LINK, &module, NULL, 0), instance);
+  tegvurn_status status = enter(m);
+  return status ? status : finish(m, take_number(m, send_short(m, ORDER_LINK, &module, NULL, 0), instance));
 }
 
 tegvurn_status tegvurn_register(tegvurn *m, uint64_t instance, tegvurn_text name) {
-  return send_short(m, ORDER_REGISTER, &instance, name.bytes, name.size);
+  tegvurn_status status = enter(m);
+  return status ? status : finish(m, send_short(m, ORDER_REGISTER, &instance, name.bytes, name.size));
 }
 
 /* Takes the values that were heard, as many as there is room for. Answers how many there are. */
@@ -464,32 +488,45 @@ static size_t take_values(const tegvurn *m, tegvurn_value *values, size_t room) 
   return count;
 }
 
-tegvurn_status tegvurn_call(tegvurn *m, uint64_t instance, tegvurn_text name, const tegvurn_value *args, size_t arg_count,
-                            tegvurn_value *results, size_t room, size_t *result_count) {
-  size_t unwanted, *count = result_count ? result_count : &unwanted;
-  *count = 0;
+/* Has an export called. With room for the results, the reply needs no more memory after the call. */
+static tegvurn_status call_export(tegvurn *m, uint64_t instance, tegvurn_text name, const tegvurn_value *args, size_t arg_count,
+                                  size_t room) {
   tegvurn_status status = start_order(m, ORDER_CALL, 2 * NUMBER + name.size + arg_count * VALUE);
   if (status) return status;
-  /* With room for the results no memory is wanted behind the call. */
   if (!reserve(&m->heard, HEAD + room * VALUE)) return end_without_memory(&m->end);
   add_number(m, instance);
   add_text(m, name);
   add_values(m, args, arg_count);
-  status = send_order(m, NULL, 0);
+  return send_order(m, NULL, 0);
+}
+
+tegvurn_status tegvurn_call(tegvurn *m, uint64_t instance, tegvurn_text name, const tegvurn_value *args, size_t arg_count,
+                            tegvurn_value *results, size_t room, size_t *result_count) {
+  size_t unwanted, *count = result_count ? result_count : &unwanted;
+  *count = 0;
+  tegvurn_status status = enter(m);
+  if (status) return status;
+  status = call_export(m, instance, name, args, arg_count, room);
   if (!status) *count = take_values(m, results, room);
-  return *count > room ? end_plainly(&m->end, TEGVURN_NO_ROOM) : status;
+  return finish(m, *count > room ? end_plainly(&m->end, TEGVURN_NO_ROOM) : status);
 }
 
 tegvurn_status tegvurn_get_global(tegvurn *m, uint64_t instance, tegvurn_text name, tegvurn_value *value) {
-  tegvurn_status status = send_short(m, ORDER_GET_GLOBAL, &instance, name.bytes, name.size);
+  tegvurn_status status = enter(m);
+  if (status) return status;
+  status = send_short(m, ORDER_GET_GLOBAL, &instance, name.bytes, name.size);
   if (!status) take_values(m, value, 1);
-  return status;
+  return finish(m, status);
 }
 
-tegvurn_status tegvurn_set_fuel(tegvurn *m, uint64_t fuel) { return send_short(m, ORDER_SET_FUEL, &fuel, NULL, 0); }
+tegvurn_status tegvurn_set_fuel(tegvurn *m, uint64_t fuel) {
+  tegvurn_status status = enter(m);
+  return status ? status : finish(m, send_short(m, ORDER_SET_FUEL, &fuel, NULL, 0));
+}
 
 tegvurn_status tegvurn_fuel_left(tegvurn *m, uint64_t *fuel) {
-  return take_number(m, send_short(m, ORDER_FUEL_LEFT, NULL, NULL, 0), fuel);
+  tegvurn_status status = enter(m);
+  return status ? status : finish(m, take_number(m, send_short(m, ORDER_FUEL_LEFT, NULL, NULL, 0), fuel));
 }
 
 /* Exports */
@@ -546,10 +583,12 @@ static tegvurn_export *take_exports(struct bytes fields, size_t *count) {
 }
 
 tegvurn_status tegvurn_exports(tegvurn *m, uint64_t instance, tegvurn_export **exports, size_t *count) {
-  tegvurn_status status = send_short(m, ORDER_EXPORTS, &instance, NULL, 0);
+  tegvurn_status status = enter(m);
   if (status) return status;
+  status = send_short(m, ORDER_EXPORTS, &instance, NULL, 0);
+  if (status) return finish(m, status);
   *exports = m->is_cut ? NULL : take_exports(fields_heard(m), count);
-  return *exports ? status : end_without_memory(&m->end);
+  return finish(m, *exports ? status : end_without_memory(&m->end));
 }
 
 void tegvurn_exports_free(tegvurn_export *exports) { free(exports); }
@@ -581,15 +620,22 @@ static void take_report(tegvurn *m, tegvurn_report *report) {
   for (size_t i = 0; fields.left; i++) lines[i] = next_number(&fields);
 }
 
+/* Hands in the files and runs the script. No command has fewer bytes than the line of one that failed, so the report needs no more memory
+   after the script. */
+static tegvurn_status run_script(tegvurn *m, const void *json, size_t size, const tegvurn_file *files, size_t file_count) {
+  tegvurn_status status = TEGVURN_DONE;
+  if (!reserve(&m->heard, HEAD + 3 * NUMBER + size)) return end_without_memory(&m->end);
+  for (size_t i = 0; i < file_count && !status; i++) status = hand_in_file(m, &files[i]);
+  if (!status) return send_short(m, ORDER_SCRIPT, NULL, json, size);
+  forget_files(m);
+  return status;
+}
+
 tegvurn_status tegvurn_script(tegvurn *m, const void *json, size_t size, const tegvurn_file *files, size_t file_count,
                               tegvurn_report *report) {
   tegvurn_status status = enter(m);
-  /* No command has fewer bytes than the line of one that failed, so no memory is wanted behind the script. */
-  if (!status && !reserve(&m->heard, HEAD + 3 * NUMBER + size)) status = end_without_memory(&m->end);
   if (status) return status;
-  for (size_t i = 0; i < file_count && !status; i++) status = hand_in_file(m, &files[i]);
-  if (status) forget_files(m);
-  else status = send_short(m, ORDER_SCRIPT, NULL, json, size);
+  status = run_script(m, json, size, files, file_count);
   if (!status) take_report(m, report);
-  return status;
+  return finish(m, status);
 }

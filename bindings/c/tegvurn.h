@@ -1,12 +1,13 @@
-/* Tegvurn for C and C++: WebAssembly modules are loaded, linked and called within a fuel, by an engine that is proved.
+/* Tegvurn for C and C++: loads, links and calls WebAssembly modules within a limit of fuel, on a proved engine.
 
    An embedding (`tegvurn`) holds a store: modules and instances, each numbered from 0, and the host functions that it was made with.
 
-   What is passed in is used during the call alone, so it may be freed behind it; but callbacks, and what their contexts point to, have to
-   live until `tegvurn_free`. What comes out is the caller's, but where it says that the embedding keeps it.
+   The library uses what is passed in only during the call, so the caller may free it afterwards. Callbacks, and what their contexts point
+   to, must live until the embedding is freed. What a call gives belongs to the caller, unless its comment says that the embedding keeps it.
 
-   An embedding is called by the thread that made it. Different embeddings are independent, on one thread or on several. A call from another
-   thread, and a call from inside of one of the embedding's own callbacks, is answered `TEGVURN_BUSY`, and does nothing. */
+   Threads: an embedding belongs to the thread that made it. A call from another thread, or from inside one of the embedding's own
+   callbacks, returns `TEGVURN_BUSY` and does nothing. There is one exception: any thread may free an idle embedding. Different embeddings
+   are independent, on one thread or on several. */
 #ifndef TEGVURN_H
 #define TEGVURN_H
 
@@ -205,7 +206,9 @@ typedef struct tegvurn_host {
 TEGVURN_API tegvurn_status tegvurn_new(const tegvurn_config *config, const tegvurn_host *hosts, size_t host_count,
                                        tegvurn **embedding, tegvurn_end *end);
 
-/* Frees an embedding; NULL is done at once. Where the answer is `TEGVURN_BUSY` it is not freed. */
+/* Frees an embedding that is idle. Any thread may call it, also after the end of the thread that made the embedding. While a call of the
+   embedding runs, it returns `TEGVURN_BUSY` and frees nothing. As after free(3), the pointer is dead after `TEGVURN_DONE`: the caller makes
+   sure that no other thread still uses it. NULL is done at once. */
 TEGVURN_API tegvurn_status tegvurn_free(tegvurn *embedding);
 
 /* How the last call ended that was not answered `TEGVURN_BUSY`. The embedding keeps it, up to its next call. For its own thread alone. */
