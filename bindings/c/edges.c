@@ -1,12 +1,15 @@
 /* Edges of the library: who may call, room for results, several embeddings, what callbacks may answer and see, texts, and what is kept.
    With the argument `longjmp` also a callback that is left by longjmp, whose embedding can never be freed. */
+#define _GNU_SOURCE
 #include "tegvurn.h"
 #include "test_module.h"
 
 #include <pthread.h>
 #include <setjmp.h>
+#include <signal.h>
 #include <stdio.h>
 #include <stdlib.h>
+#include <sys/time.h>
 
 #define CHECK(is_so) check((is_so), __LINE__, #is_so)
 #define WIDTH 300
@@ -216,6 +219,61 @@ static void test_threads(void) {
   uint32_t starts[4] = {0, 1000, 2000, 3000};
   for (int i = 0; i < 4; i++) CHECK(!pthread_create(&threads[i], NULL, call_often, &starts[i]));
   for (int i = 0; i < 4; i++) CHECK(!pthread_join(threads[i], NULL));
+}
+
+/* Signal handlers */
+
+#define TICKS 50
+
+/* What the handler of SIGALRM calls, and what it found. */
+static struct { tegvurn *own, *other; } interrupted;
+static volatile sig_atomic_t ticks, busy_ticks, wrong_ticks, is_in_handler;
+
+/* Calls the embedding that may be interrupted, and another one. These calls take no memory. */
+static void tick(int number) {
+  uint64_t fuel = 0, wanted = 1000 + (uint64_t)ticks;
+  (void)number;
+  if (is_in_handler) return;
+  is_in_handler = 1;
+  tegvurn_status own = tegvurn_fuel_left(interrupted.own, &fuel);
+  if (own == TEGVURN_BUSY) busy_ticks++;
+  else if (own) wrong_ticks++;
+  if (tegvurn_set_fuel(interrupted.other, wanted) || tegvurn_fuel_left(interrupted.other, &fuel) || fuel != wanted) wrong_ticks++;
+  ticks++;
+  is_in_handler = 0;
+}
+
+static bool ask_with_signal(struct asked *asked, tegvurn_host_call *call) {
+  (void)asked;
+  call->results[0] = tegvurn_i32((uint32_t)raise(SIGALRM));
+  return true;
+}
+
+/* Sends SIGALRM every so many microseconds, or never if that is 0. */
+static void set_timer(int microseconds) {
+  const struct itimerval timer = {{0, microseconds}, {0, microseconds}};
+  CHECK(!setitimer(ITIMER_REAL, &timer, NULL));
+}
+
+static void test_signals(void) {
+  struct asked asked = {ask_with_signal, NULL, NULL, 0}, other = {NULL, NULL, NULL, 0};
+  struct sigaction action = {.sa_handler = tick, .sa_flags = SA_RESTART};
+  tegvurn_value often = tegvurn_i32(1000), result;
+  bool is_right = true;
+  interrupted.own = embedding_of(&asked), interrupted.other = embedding_of(&other);
+  CHECK(!sigaction(SIGALRM, &action, NULL));
+  CHECK(call_one(interrupted.own, "ask", tegvurn_i32(7), &result) == TEGVURN_DONE && result.i32 == 0);
+  CHECK(ticks == 1 && busy_ticks == 1);
+  set_timer(3000);
+  while (is_right && ticks < TICKS) {
+    is_right = !tegvurn_set_fuel(interrupted.own, 1000000) &&
+               !tegvurn_call(interrupted.own, 0, tegvurn_string("loop"), &often, 1, NULL, 0, NULL);
+  }
+  set_timer(0);
+  /* A signal may still be on its way. */
+  CHECK(signal(SIGALRM, SIG_IGN) == tick);
+  CHECK(is_right && busy_ticks > 1 && wrong_ticks == 0);
+  CHECK(tegvurn_free(interrupted.own) == TEGVURN_DONE && tegvurn_free(interrupted.other) == TEGVURN_DONE);
 }
 
 /* Values, results and their room */
@@ -547,6 +605,7 @@ int main(int argc, char **argv) {
   test_ended_thread();
   test_nested();
   test_threads();
+  test_signals();
   test_room();
   test_references();
   test_traps();

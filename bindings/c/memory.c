@@ -11,7 +11,7 @@
 
 /* The allocations */
 
-static long made, live, refused = -1;
+static long made, freed, live, refused = -1;
 static bool refuses_more;
 
 static bool is_refused(void) {
@@ -47,6 +47,7 @@ void *__wrap_realloc(void *at, size_t size) {
 }
 void __wrap_free(void *at) {
   live -= at != NULL;
+  freed++;
   __real_free(at);
 }
 void *__wrap_mmap(void *at, size_t size, int may, int flags, int file, off_t offset) {
@@ -245,7 +246,8 @@ static const struct step {
   const char *name;
   struct answer (*run)(void);
   uint64_t wanted;   /* the number that it gives */
-  bool wants_memory; /* somewhere it has to answer that there was none */
+  bool wants_memory; /* somewhere it has to answer that there was none; a step that does not want any calls no function of malloc, unless an
+                        earlier step ran out of memory */
 } steps[] = {
     {"new", make, 0, true},
     {"load", load, 0, true},
@@ -300,7 +302,10 @@ static bool builds_on_refused(struct answer answer) {
 
 /* Runs a step. Whether the next one can follow. */
 static bool run_step(size_t step) {
+  bool was_starved = is_starved;
+  long calls = made + freed;
   struct answer answer = steps[step].run();
+  if (!steps[step].wants_memory && !was_starved && made + freed != calls) fail(step, answer, "it takes or frees memory");
   bool lacks_memory = says_no_memory(answer) || is_over(answer) || is_script_in_part(step, answer);
   if (is_as_wanted(step, answer) || (!lacks_memory && builds_on_refused(answer))) return true;
   if (refused < 0 || !lacks_memory) fail(step, answer, "a wrong answer");

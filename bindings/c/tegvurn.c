@@ -64,7 +64,8 @@ struct tegvurn {
   tegvurn_end end;
 };
 
-/* The embedding whose proved code ran last on this thread. */
+/* The embedding whose inner stack this thread is on, or NULL. A function reads it only before it goes out of that stack, since another thread
+   may come back in. */
 static _Thread_local tegvurn *running;
 
 /* Who may call */
@@ -268,11 +269,19 @@ static void answer_host_call(tegvurn *m) {
   end_message(m, 0);
 }
 
+/* Goes in, up to where the proved code goes out. A signal handler may do so in the middle of another embedding's inner stack, which then
+   goes on. */
+static void visit(tegvurn *m) {
+  tegvurn *interrupted = running;
+  running = m;
+  go_in(&m->stack);
+  running = interrupted;
+}
+
 /* Runs the proved code until it has replied, and its host functions meanwhile. */
 static void run(tegvurn *m) {
   for (;;) {
-    running = m;
-    go_in(&m->stack);
+    visit(m);
     if (m->state != ASKS) return;
     answer_host_call(m);
   }

@@ -7,7 +7,14 @@
 
    Threads: an embedding belongs to the thread that made it. A call from another thread, or from inside one of the embedding's own
    callbacks, returns `TEGVURN_BUSY` and does nothing. There is one exception: any thread may free an idle embedding. Different embeddings
-   are independent, on one thread or on several. */
+   are independent, on one thread or on several.
+
+   Signal handlers: on the thread that made the embeddings, a handler may call `tegvurn_set_fuel` and `tegvurn_fuel_left`. They return
+   `TEGVURN_BUSY` for an embedding whose call the handler interrupted. For another embedding they work, and the interrupted call is not
+   disturbed. These two calls take and free no memory, unless an earlier call of the embedding ran out of it. All other calls use malloc,
+   which is not async-signal-safe: a handler may make them only if it cannot have interrupted malloc, and any call of this library may be
+   inside malloc. A handler may find itself on an embedding's own stack, of which more than half a MiB is free. It must return: a longjmp out
+   of it tears the interrupted call apart. */
 #ifndef TEGVURN_H
 #define TEGVURN_H
 
