@@ -430,6 +430,113 @@ static void test_new(void) {
   CHECK(new_with(host_of("", NULL, 0, ask, &asked), &end) == TEGVURN_DONE);
 }
 
+/* Calls with null pointers */
+
+#define NO_TEXT ((tegvurn_text){NULL, 1})
+
+struct row { const char *name; tegvurn_status status; };
+
+/* Checks that each row has the status. */
+static void check_rows(const struct row *rows, size_t count, tegvurn_status wanted) {
+  for (size_t i = 0; i < count; i++) check(rows[i].status == wanted, __LINE__, rows[i].name);
+}
+
+#define CHECK_ROWS(rows, wanted) check_rows((rows), sizeof(rows) / sizeof *(rows), (wanted))
+
+/* How tegvurn_new ends with these host functions. */
+static tegvurn_status end_of_new(const tegvurn_host *hosts) {
+  tegvurn_end end = {.status = TEGVURN_DONE};
+  tegvurn *embedding = (tegvurn *)&config;
+  tegvurn_status status = tegvurn_new(&config, hosts, 1, &embedding, &end);
+  return !embedding && end.status == status && !strcmp(end.name, "BadPointer") ? status : TEGVURN_DONE;
+}
+
+static void test_new_without_pointers(void) {
+  struct asked asked = {NULL, NULL, NULL, 0};
+  const tegvurn_host whole = host_of("ask", i32_type, 1, ask, &asked);
+  tegvurn_host module = whole, name = whole, params = whole, results = whole, callback = whole;
+  tegvurn *embedding;
+  module.module = name.name = NO_TEXT;
+  params.params = results.results = NULL;
+  callback.callback = NULL;
+  const struct row rows[] = {
+      {"new without a configuration", tegvurn_new(NULL, NULL, 0, &embedding, NULL)},
+      {"new without an embedding", tegvurn_new(&config, NULL, 0, NULL, NULL)},
+      {"new without host functions", end_of_new(NULL)},
+      {"new without the module of a host function", end_of_new(&module)},
+      {"new without the name of a host function", end_of_new(&name)},
+      {"new without parameters", end_of_new(&params)},
+      {"new without results", end_of_new(&results)},
+      {"new without a callback", end_of_new(&callback)},
+  };
+  CHECK_ROWS(rows, TEGVURN_BAD_POINTER);
+}
+
+static void test_calls_without_embedding(void) {
+  uint64_t number = 7;
+  tegvurn_value value = tegvurn_i32(7);
+  tegvurn_export *exports = NULL;
+  tegvurn_report report;
+  size_t count = 7;
+  const struct row rows[] = {
+      {"load", tegvurn_load(NULL, test_module, sizeof test_module, &number)},
+      {"link", tegvurn_link(NULL, 0, &number)},
+      {"register", tegvurn_register(NULL, 0, tegvurn_string("m"))},
+      {"call", tegvurn_call(NULL, 0, tegvurn_string("empty"), NULL, 0, NULL, 0, &count)},
+      {"get a global", tegvurn_get_global(NULL, 0, tegvurn_string("number"), &value)},
+      {"set the fuel", tegvurn_set_fuel(NULL, 7)},
+      {"fuel left", tegvurn_fuel_left(NULL, &number)},
+      {"exports", tegvurn_exports(NULL, 0, &exports, &count)},
+      {"script", tegvurn_script(NULL, "{}", 2, NULL, 0, &report)},
+      {"how the last call ended", tegvurn_last(NULL)->status},
+  };
+  CHECK_ROWS(rows, TEGVURN_BAD_POINTER);
+  CHECK(!strcmp(tegvurn_last(NULL)->name, "BadPointer") && !strcmp(tegvurn_last(NULL)->text, "a pointer is null"));
+  CHECK(tegvurn_free(NULL) == TEGVURN_DONE);
+  tegvurn_exports_free(NULL);
+}
+
+/* A call without a pointer is refused before it does anything. */
+static void test_calls_without_pointers(void) {
+  struct asked asked = {NULL, NULL, NULL, 0};
+  tegvurn *embedding = embedding_of(&asked);
+  tegvurn_text empty = tegvurn_string("empty"), two = tegvurn_string("two");
+  const tegvurn_file files[] = {{NO_TEXT, "", 0}, {empty, NULL, 1}};
+  tegvurn_value value = tegvurn_i32(7);
+  tegvurn_export *exports = NULL;
+  tegvurn_report report;
+  size_t count = 7;
+  uint64_t fuel = 0, left = 0;
+  CHECK(tegvurn_fuel_left(embedding, &fuel) == TEGVURN_DONE);
+  const struct row rows[] = {
+      {"load without bytes", tegvurn_load(embedding, NULL, 1, &left)},
+      {"load without a module", tegvurn_load(embedding, test_module, sizeof test_module, NULL)},
+      {"link without an instance", tegvurn_link(embedding, 0, NULL)},
+      {"register without a name", tegvurn_register(embedding, 0, NO_TEXT)},
+      {"call without a name", tegvurn_call(embedding, 0, NO_TEXT, NULL, 0, NULL, 0, NULL)},
+      {"call without arguments", tegvurn_call(embedding, 0, empty, NULL, 1, NULL, 0, NULL)},
+      {"call without results", tegvurn_call(embedding, 0, two, NULL, 0, NULL, 2, &count)},
+      {"get a global without a name", tegvurn_get_global(embedding, 0, NO_TEXT, &value)},
+      {"get a global without a value", tegvurn_get_global(embedding, 0, tegvurn_string("number"), NULL)},
+      {"fuel left without a number", tegvurn_fuel_left(embedding, NULL)},
+      {"exports without a list", tegvurn_exports(embedding, 0, NULL, &count)},
+      {"exports without a count", tegvurn_exports(embedding, 0, &exports, NULL)},
+      {"script without bytes", tegvurn_script(embedding, NULL, 1, NULL, 0, &report)},
+      {"script without files", tegvurn_script(embedding, "{}", 2, NULL, 1, &report)},
+      {"script without the name of a file", tegvurn_script(embedding, "{}", 2, &files[0], 1, &report)},
+      {"script without the bytes of a file", tegvurn_script(embedding, "{}", 2, &files[1], 1, &report)},
+      {"script without a report", tegvurn_script(embedding, "{}", 2, NULL, 0, NULL)},
+      {"how the last call ended", tegvurn_last(embedding)->status},
+  };
+  CHECK_ROWS(rows, TEGVURN_BAD_POINTER);
+  const tegvurn_end *end = tegvurn_last(embedding);
+  CHECK(end->number == 0 && !strcmp(end->name, "BadPointer") && !strcmp(end->text, "a pointer is null"));
+  CHECK(left == 0 && value.i32 == 7 && !exports && count == 0);
+  CHECK(tegvurn_fuel_left(embedding, &left) == TEGVURN_DONE && left == fuel);
+  CHECK(tegvurn_link(embedding, 1, &left) == TEGVURN_REFUSED && end->number == TEGVURN_UNKNOWN_MODULE);
+  CHECK(tegvurn_free(embedding) == TEGVURN_DONE);
+}
+
 static void test_texts(void) {
   struct asked asked = {NULL, NULL, NULL, 0};
   tegvurn *embedding = embedding_of(&asked);
@@ -612,6 +719,9 @@ int main(int argc, char **argv) {
   test_wrong_results();
   test_memory();
   test_new();
+  test_new_without_pointers();
+  test_calls_without_embedding();
+  test_calls_without_pointers();
   test_texts();
   test_long_messages();
   test_copies();

@@ -84,15 +84,6 @@ static uint64_t this_thread(void) {
 /* Takes the embedding, unless a call is inside already. What earlier calls wrote, also on other threads, is visible then. */
 static bool take(tegvurn *m) { return !atomic_exchange_explicit(&m->is_busy, true, memory_order_acquire); }
 
-/* Begins a call, which only the thread that made the embedding may make: done or busy. After done, the call has to end with finish. */
-static tegvurn_status enter(tegvurn *m) { return m->owner == this_thread() && take(m) ? TEGVURN_DONE : TEGVURN_BUSY; }
-
-/* Ends a call with the status. */
-static tegvurn_status finish(tegvurn *m, tegvurn_status status) {
-  atomic_store_explicit(&m->is_busy, false, memory_order_release);
-  return status;
-}
-
 /* Numbers and buffers */
 
 static uint64_t number_at(const uint8_t *at) {
@@ -292,7 +283,8 @@ static void run(tegvurn *m) {
 struct wording { const char *name, *text; };
 static const struct wording statuses[] = {
     {"Done", ""}, {"Refused", ""}, {"Trap", ""}, {"Exhausted", ""}, {"NotSpelt", "a text is no UTF-8, or a type is none"},
-    {"NoRoom", "the results do not fit"}, {"Busy", "the embedding is busy"}, {"Over", "the embedding has ended"}};
+    {"NoRoom", "the results do not fit"}, {"Busy", "the embedding is busy"}, {"Over", "the embedding has ended"},
+    {"BadPointer", "a pointer is null"}};
 static const struct wording refusals[] = {
     {"", ""}, {"Malformed", ""}, {"Unsupported", ""}, {"Limit", ""}, {"Invalid", ""}, {"UnknownModule", ""}, {"UnknownImport", ""},
     {"IncompatibleImport", ""}, {"UnknownInstance", ""}, {"UnknownExport", ""}, {"WrongKind", ""}, {"BadArguments", ""}, {"NameTaken", ""},
@@ -361,6 +353,25 @@ static tegvurn_status end_as_replied(tegvurn *m) {
   if (kind == REPLY_EXHAUSTED) return set_end(end, TEGVURN_EXHAUSTED, number, WORDING(exhaustions, number));
   if (kind == REPLY_REFUSED) return end_as_refused(end, number, fields);
   return kind == REPLY_NOT_SPELT ? end_plainly(end, TEGVURN_NOT_SPELT) : end_as_over(m);
+}
+
+/* Beginning and ending a call */
+
+/* Returns whether there is a pointer to that many elements: it may be null if there are none. */
+static bool is_there(const void *at, size_t count) { return at || !count; }
+
+/* Ends a call with the status. */
+static tegvurn_status finish(tegvurn *m, tegvurn_status status) {
+  atomic_store_explicit(&m->is_busy, false, memory_order_release);
+  return status;
+}
+
+/* Begins a call of the embedding's own thread, given whether all pointers are there that it needs. After done, the call has to end with
+   finish. After any other status it is over. */
+static tegvurn_status enter(tegvurn *m, bool is_whole) {
+  if (!m) return TEGVURN_BAD_POINTER;
+  if (m->owner != this_thread() || !take(m)) return TEGVURN_BUSY;
+  return is_whole ? TEGVURN_DONE : finish(m, end_plainly(&m->end, TEGVURN_BAD_POINTER));
 }
 
 /* Orders */
@@ -448,11 +459,22 @@ static void drop(tegvurn *m) {
   free(m);
 }
 
+/* Returns whether all pointers of the host functions are there. */
+static bool are_hosts_whole(const tegvurn_host *hosts, size_t count) {
+  if (!is_there(hosts, count)) return false;
+  for (const tegvurn_host *host = hosts; count--; host++) {
+    if (!is_there(host->module.bytes, host->module.size) || !is_there(host->name.bytes, host->name.size)) return false;
+    if (!is_there(host->params, host->param_count) || !is_there(host->results, host->result_count) || !host->callback) return false;
+  }
+  return true;
+}
+
 tegvurn_status tegvurn_new(const tegvurn_config *config, const tegvurn_host *hosts, size_t host_count, tegvurn **embedding,
                            tegvurn_end *end) {
   tegvurn_end unwanted;
   if (!end) end = &unwanted;
-  *embedding = NULL;
+  if (embedding) *embedding = NULL;
+  if (!embedding || !config || !are_hosts_whole(hosts, host_count)) return end_plainly(end, TEGVURN_BAD_POINTER);
   tegvurn *m = calloc(1, sizeof *m);
   if (!m) return end_without_memory(end);
   m->owner = this_thread();
@@ -471,21 +493,24 @@ tegvurn_status tegvurn_free(tegvurn *m) {
   return TEGVURN_DONE;
 }
 
-const tegvurn_end *tegvurn_last(const tegvurn *m) { return &m->end; }
+const tegvurn_end *tegvurn_last(const tegvurn *m) {
+  static const tegvurn_end without_embedding = {.status = TEGVURN_BAD_POINTER, .name = "BadPointer", .text = "a pointer is null"};
+  return m ? &m->end : &without_embedding;
+}
 /* The other calls */
 
 tegvurn_status tegvurn_load(tegvurn *m, const void *bytes, size_t size, uint64_t *module) {
-  tegvurn_status status = enter(m);
+  tegvurn_status status = enter(m, module && is_there(bytes, size));
   return status ? status : finish(m, take_number(m, send_short(m, ORDER_LOAD, NULL, bytes, size), module));
 }
 
 tegvurn_status tegvurn_link(tegvurn *m, uint64_t module, uint64_t *instance) {
-  tegvurn_status status = enter(m);
+  tegvurn_status status = enter(m, instance);
   return status ? status : finish(m, take_number(m, send_short(m, ORDER_LINK, &module, NULL, 0), instance));
 }
 
 tegvurn_status tegvurn_register(tegvurn *m, uint64_t instance, tegvurn_text name) {
-  tegvurn_status status = enter(m);
+  tegvurn_status status = enter(m, is_there(name.bytes, name.size));
   return status ? status : finish(m, send_short(m, ORDER_REGISTER, &instance, name.bytes, name.size));
 }
 
@@ -513,7 +538,7 @@ tegvurn_status tegvurn_call(tegvurn *m, uint64_t instance, tegvurn_text name, co
                             tegvurn_value *results, size_t room, size_t *result_count) {
   size_t unwanted, *count = result_count ? result_count : &unwanted;
   *count = 0;
-  tegvurn_status status = enter(m);
+  tegvurn_status status = enter(m, is_there(name.bytes, name.size) && is_there(args, arg_count) && is_there(results, room));
   if (status) return status;
   status = call_export(m, instance, name, args, arg_count, room);
   if (!status) *count = take_values(m, results, room);
@@ -521,7 +546,7 @@ tegvurn_status tegvurn_call(tegvurn *m, uint64_t instance, tegvurn_text name, co
 }
 
 tegvurn_status tegvurn_get_global(tegvurn *m, uint64_t instance, tegvurn_text name, tegvurn_value *value) {
-  tegvurn_status status = enter(m);
+  tegvurn_status status = enter(m, value && is_there(name.bytes, name.size));
   if (status) return status;
   status = send_short(m, ORDER_GET_GLOBAL, &instance, name.bytes, name.size);
   if (!status) take_values(m, value, 1);
@@ -529,12 +554,12 @@ tegvurn_status tegvurn_get_global(tegvurn *m, uint64_t instance, tegvurn_text na
 }
 
 tegvurn_status tegvurn_set_fuel(tegvurn *m, uint64_t fuel) {
-  tegvurn_status status = enter(m);
+  tegvurn_status status = enter(m, true);
   return status ? status : finish(m, send_short(m, ORDER_SET_FUEL, &fuel, NULL, 0));
 }
 
 tegvurn_status tegvurn_fuel_left(tegvurn *m, uint64_t *fuel) {
-  tegvurn_status status = enter(m);
+  tegvurn_status status = enter(m, fuel);
   return status ? status : finish(m, take_number(m, send_short(m, ORDER_FUEL_LEFT, NULL, NULL, 0), fuel));
 }
 
@@ -592,7 +617,7 @@ static tegvurn_export *take_exports(struct bytes fields, size_t *count) {
 }
 
 tegvurn_status tegvurn_exports(tegvurn *m, uint64_t instance, tegvurn_export **exports, size_t *count) {
-  tegvurn_status status = enter(m);
+  tegvurn_status status = enter(m, exports && count);
   if (status) return status;
   status = send_short(m, ORDER_EXPORTS, &instance, NULL, 0);
   if (status) return finish(m, status);
@@ -640,9 +665,17 @@ static tegvurn_status run_script(tegvurn *m, const void *json, size_t size, cons
   return status;
 }
 
+/* Returns whether all pointers of the files are there. */
+static bool are_files_whole(const tegvurn_file *files, size_t count) {
+  if (!is_there(files, count)) return false;
+  for (const tegvurn_file *file = files; count--; file++)
+    if (!is_there(file->name.bytes, file->name.size) || !is_there(file->bytes, file->size)) return false;
+  return true;
+}
+
 tegvurn_status tegvurn_script(tegvurn *m, const void *json, size_t size, const tegvurn_file *files, size_t file_count,
                               tegvurn_report *report) {
-  tegvurn_status status = enter(m);
+  tegvurn_status status = enter(m, report && is_there(json, size) && are_files_whole(files, file_count));
   if (status) return status;
   status = run_script(m, json, size, files, file_count);
   if (!status) take_report(m, report);

@@ -9,6 +9,9 @@
    callbacks, returns `TEGVURN_BUSY` and does nothing. There is one exception: any thread may free an idle embedding. Different embeddings
    are independent, on one thread or on several.
 
+   Pointers: a pointer to elements, to bytes or to a text may be null if its count or size is 0. So may `end`, `result_count` and a callback's
+   `context`. If any other pointer is null, a call returns `TEGVURN_BAD_POINTER` before it does anything.
+
    Signal handlers: on the thread that made the embeddings, a handler may call `tegvurn_set_fuel` and `tegvurn_fuel_left`. They return
    `TEGVURN_BUSY` for an embedding whose call the handler interrupted. For another embedding they work, and the interrupted call is not
    disturbed. These two calls take and free no memory, unless an earlier call of the embedding ran out of it. All other calls use malloc,
@@ -109,7 +112,8 @@ typedef enum tegvurn_status {
   TEGVURN_NOT_SPELT = 4, /* a text is no UTF-8, or a type is none: nothing has changed */
   TEGVURN_NO_ROOM = 5,   /* the function was called, but not all of its results fit */
   TEGVURN_BUSY = 6,      /* nothing was done: see the top of this page */
-  TEGVURN_OVER = 7       /* the embedding has ended, for want of memory or by a fault of the library: all that is left is to free it */
+  TEGVURN_OVER = 7,      /* the embedding has ended, for want of memory or by a fault of the library: all that is left is to free it */
+  TEGVURN_BAD_POINTER = 8 /* a pointer is null that must not be: nothing was done; see the top of this page */
 } tegvurn_status;
 
 /* Why a call is refused. */
@@ -218,7 +222,8 @@ TEGVURN_API tegvurn_status tegvurn_new(const tegvurn_config *config, const tegvu
    sure that no other thread still uses it. NULL is done at once. */
 TEGVURN_API tegvurn_status tegvurn_free(tegvurn *embedding);
 
-/* How the last call ended that was not answered `TEGVURN_BUSY`. The embedding keeps it, up to its next call. For its own thread alone. */
+/* Returns how the last call ended that did not return `TEGVURN_BUSY`. The embedding keeps it, up to its next call. Only the thread that made
+   the embedding may look at it. For NULL it is an end with `TEGVURN_BAD_POINTER`. */
 TEGVURN_API const tegvurn_end *tegvurn_last(const tegvurn *embedding);
 
 /* Loads a module, and gives its number. */
