@@ -1,5 +1,6 @@
 /* How much of its stack the proved code uses: with modules and scripts that are nested deeply or long, and calls to the greatest depth.
-   Ends with 1 where it is more than MOST, a part of what there is. For stacks that are switched by assembly. */
+   Ends with 1 where it is more than MOST, a part of what there is. For stacks that are switched by assembly. It also compares how the C side
+   and the proved code end the loading of a module that is too large. */
 #include "tegvurn.c"
 
 #include <stdio.h>
@@ -120,6 +121,28 @@ static void refuse_script(const char *what) {
   end_painted(m, what);
 }
 
+static bool is_same_end(const tegvurn_end *one, const tegvurn_end *other) {
+  return one->status == other->status && one->number == other->number && !strcmp(one->name, other->name) && one->place == other->place &&
+         one->at == other->at && one->code == other->code && !strcmp(one->text, other->text);
+}
+
+/* Loads zeros of the greatest size, and one byte more. The C side refuses only the second, and does so as the proved code does. */
+static void load_too_much(void) {
+  void *zeros = mmap(NULL, MOST_BYTES + 1, PROT_READ, MAP_PRIVATE | MAP_ANONYMOUS, -1, 0);
+  check(zeros != MAP_FAILED, "no zeros");
+  for (size_t more = 0; more < 2; more++) {
+    tegvurn *m = begin_painted();
+    uint64_t number;
+    send_short(m, ORDER_LOAD, NULL, zeros, MOST_BYTES + more);
+    tegvurn_end proved = m->end;
+    check((proved.number == TEGVURN_LIMIT) == (more == 1), "another size is the greatest");
+    check(tegvurn_load(m, zeros, MOST_BYTES + more, &number) == TEGVURN_REFUSED, "it is not refused");
+    check(is_same_end(&m->end, &proved), "the C side refuses it in another way");
+    end_painted(m, "a module that is too large");
+  }
+  munmap(zeros, MOST_BYTES + 1);
+}
+
 int main(void) {
   spell_blocks("\2\x40");
   load("nested blocks");
@@ -138,6 +161,7 @@ int main(void) {
   size = 0;
   put_often("{\"a\":", LEVELS);
   refuse_script("nested objects that do not end");
+  load_too_much();
   printf("%zu bytes of stack at most, %d failed\n", most_used, failed);
   return failed != 0;
 }

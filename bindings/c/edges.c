@@ -9,7 +9,9 @@
 #include <signal.h>
 #include <stdio.h>
 #include <stdlib.h>
+#include <sys/mman.h>
 #include <sys/time.h>
+#include <time.h>
 
 #define CHECK(is_so) check((is_so), __LINE__, #is_so)
 #define WIDTH 300
@@ -564,6 +566,32 @@ static void test_texts(void) {
   tegvurn_free(embedding);
 }
 
+static double seconds(void) {
+  struct timespec time;
+  clock_gettime(CLOCK_MONOTONIC, &time);
+  return (double)time.tv_sec + (double)time.tv_nsec / 1e9;
+}
+
+/* A module that is too large is refused at once: its bytes cannot be read here. */
+static void test_too_large(void) {
+  static const size_t sizes[] = {67108865, 3u << 30, SIZE_MAX / 2, SIZE_MAX};
+  struct asked asked = {NULL, NULL, NULL, 0};
+  tegvurn *embedding = embedding_of(&asked);
+  void *bytes = mmap(NULL, sizes[1], PROT_NONE, MAP_PRIVATE | MAP_ANONYMOUS | MAP_NORESERVE, -1, 0);
+  CHECK(bytes != MAP_FAILED);
+  for (int i = 0; i < 4; i++) {
+    uint64_t module = 77;
+    double start = seconds();
+    CHECK(tegvurn_load(embedding, bytes, sizes[i], &module) == TEGVURN_REFUSED && module == 77);
+    CHECK(seconds() - start < 0.1);
+    const tegvurn_end *end = tegvurn_last(embedding);
+    CHECK(end->status == TEGVURN_REFUSED && end->number == TEGVURN_LIMIT && !strcmp(end->name, "Limit"));
+    CHECK(end->place == TEGVURN_NOWHERE && end->at == 0 && end->code == 0 && !strcmp(end->text, "a limit is passed"));
+  }
+  munmap(bytes, sizes[1]);
+  CHECK(tegvurn_free(embedding) == TEGVURN_DONE);
+}
+
 /* Arguments and a name that are longer than all that was said before. */
 static void test_long_messages(void) {
   static tegvurn_value args[1000];
@@ -723,6 +751,7 @@ int main(int argc, char **argv) {
   test_calls_without_embedding();
   test_calls_without_pointers();
   test_texts();
+  test_too_large();
   test_long_messages();
   test_copies();
   test_files();

@@ -26,6 +26,7 @@ uint32_t tegvurn_serve(int32_t ask, int32_t hear);
 #define HEAD (2 * NUMBER)  /* of the head of a message */
 #define VALUE (2 * NUMBER) /* of a value */
 #define SMALLEST_EXPORT (4 * NUMBER)
+#define MOST_BYTES ((size_t)64 << 20) /* of a module */
 #define ROOM_AT_FIRST ((size_t)512) /* of a message: more than a refusal takes */
 
 /* The kinds of messages. */
@@ -286,7 +287,7 @@ static const struct wording statuses[] = {
     {"NoRoom", "the results do not fit"}, {"Busy", "the embedding is busy"}, {"Over", "the embedding has ended"},
     {"BadPointer", "a pointer is null"}};
 static const struct wording refusals[] = {
-    {"", ""}, {"Malformed", ""}, {"Unsupported", ""}, {"Limit", ""}, {"Invalid", ""}, {"UnknownModule", ""}, {"UnknownImport", ""},
+    {"", ""}, {"Malformed", ""}, {"Unsupported", ""}, {"Limit", "a limit is passed"}, {"Invalid", ""}, {"UnknownModule", ""}, {"UnknownImport", ""},
     {"IncompatibleImport", ""}, {"UnknownInstance", ""}, {"UnknownExport", ""}, {"WrongKind", ""}, {"BadArguments", ""}, {"NameTaken", ""},
     {"OutOfMemory", "out of memory"}, {"HostFuncRef", ""}, {"NotJson", ""}, {"BadCommand", ""}, {"MissingFile", ""}, {"BadSetup", ""}};
 static const struct wording traps[] = {
@@ -499,9 +500,17 @@ const tegvurn_end *tegvurn_last(const tegvurn *m) {
 }
 /* The other calls */
 
+/* Has a module loaded. If it is too large, its size alone decides: the proved code would read all bytes, and then refuse it like this. */
+static tegvurn_status send_module(tegvurn *m, const void *bytes, size_t size) {
+  tegvurn_status status = start_order(m, ORDER_LOAD, 0);
+  if (status) return status;
+  if (size > MOST_BYTES) return set_end(&m->end, TEGVURN_REFUSED, TEGVURN_LIMIT, refusals[TEGVURN_LIMIT]);
+  return send_order(m, bytes, size);
+}
+
 tegvurn_status tegvurn_load(tegvurn *m, const void *bytes, size_t size, uint64_t *module) {
   tegvurn_status status = enter(m, module && is_there(bytes, size));
-  return status ? status : finish(m, take_number(m, send_short(m, ORDER_LOAD, NULL, bytes, size), module));
+  return status ? status : finish(m, take_number(m, send_module(m, bytes, size), module));
 }
 
 tegvurn_status tegvurn_link(tegvurn *m, uint64_t module, uint64_t *instance) {

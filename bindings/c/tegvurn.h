@@ -226,7 +226,7 @@ TEGVURN_API tegvurn_status tegvurn_free(tegvurn *embedding);
    the embedding may look at it. For NULL it is an end with `TEGVURN_BAD_POINTER`. */
 TEGVURN_API const tegvurn_end *tegvurn_last(const tegvurn *embedding);
 
-/* Loads a module, and gives its number. */
+/* Loads a module, and gives its number. More than 67,108,864 bytes are refused as `TEGVURN_LIMIT`, and not read. */
 TEGVURN_API tegvurn_status tegvurn_load(tegvurn *embedding, const void *bytes, size_t size, uint64_t *module);
 
 /* Links a module to the host functions and to what registered instances export, runs its start function, and gives the instance's number. */
