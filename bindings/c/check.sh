@@ -83,6 +83,11 @@ header() {
   echo "no complaint"
 }
 
+# A C++ exception leaves a callback.
+thrown() {
+  "${CXX:-c++}" -std=c++11 -Wall -Wextra -I. -o "$BUILD/thrown" thrown.cpp "$BUILD/libtegvurn.a" && "$BUILD/thrown"
+}
+
 # What is installed serves the example, by pkg-config, statically and shared.
 installed() {
   place=$(cd "$BUILD" && pwd)/installed
@@ -99,7 +104,12 @@ installed() {
 }
 
 run "global names" names
-if has "${CXX:-c++}"; then run "header for C++" header; else echo "skipped: the header for C++ (no ${CXX:-c++})"; fi
+if has "${CXX:-c++}"; then
+  run "header for C++" header
+  run "exception" thrown
+else
+  echo "skipped: the header for C++, and an exception (no ${CXX:-c++})"
+fi
 if has pkg-config; then run "installed" installed; else echo "skipped: what is installed (no pkg-config)"; fi
 
 for way in assembly ucontext; do
@@ -107,7 +117,6 @@ for way in assembly ucontext; do
   if [ $way = ucontext ]; then define=-DTEGVURN_UCONTEXT; fi
   if build $way "$CFLAGS" $define; then
     programs $way $way
-    run "$way edges with longjmp" "$BUILD/$way/edges" longjmp
     run "$way refused allocations" "$BUILD/$way/memory"
     if [ $way = assembly ]; then run "$way stack" deep "$way"; fi
   fi

@@ -1,5 +1,5 @@
-/* Edges of the library: who may call, room for results, several embeddings, what callbacks may answer and see, texts, and what is kept.
-   With the argument `longjmp` also a callback that is left by longjmp, whose embedding can never be freed. */
+/* Edges of the library: who may call, room for results, several embeddings, what callbacks may answer and see, texts, what is kept, and
+   callbacks that are left. */
 #define _GNU_SOURCE
 #include "tegvurn.h"
 #include "test_module.h"
@@ -714,27 +714,124 @@ static void test_wide(void) {
   tegvurn_free(embedding);
 }
 
-/* A callback that is left by longjmp */
+/* Callbacks that are left */
+
+#define LEFT_OFTEN 1000
+
+/* Valgrind and sanitizers keep freed memory for a while. */
+#if defined(TEGVURN_VALGRIND) || defined(__SANITIZE_ADDRESS__)
+#define FREES_AT_ONCE false
+#else
+#define FREES_AT_ONCE true
+#endif
 
 static jmp_buf way_out;
 
 static bool jump(struct asked *asked, tegvurn_host_call *call) {
-  (void)asked, (void)call;
+  (void)call;
+  asked->number++;
   longjmp(way_out, 1);
 }
 
-static void test_longjmp(void) {
-  static struct asked asked = {jump, NULL, NULL, 0}, other = {NULL, NULL, NULL, 0};
+/* Calls an export whose host function is left, and returns whether the embedding is busy then. */
+static bool is_left(tegvurn *embedding, const char *name) {
   tegvurn_value result;
-  embedding_of(&asked);
-  if (!setjmp(way_out)) call_one(asked.embedding, "ask", tegvurn_i32(1), &result);
-  CHECK(is_all_busy(asked.embedding));
-  embedding_of(&other);
+  if (!setjmp(way_out)) {
+    call_one(embedding, name, tegvurn_i32(1), &result);
+    return false;
+  }
+  return is_all_busy(embedding);
+}
+
+/* The count of the process's mappings and its resident pages, or 0 where the system does not say. */
+static void count_memory(long *mappings, long *pages) {
+  FILE *maps = fopen("/proc/self/maps", "r"), *sizes = fopen("/proc/self/statm", "r");
+  *mappings = *pages = 0;
+  for (int byte; maps && (byte = fgetc(maps)) != EOF;) *mappings += byte == '\n';
+  if (sizes && fscanf(sizes, "%*d %ld", pages) != 1) *pages = 0;
+  if (maps) fclose(maps);
+  if (sizes) fclose(sizes);
+}
+
+/* Leaves and abandons many. With the memory lent and without: the proved code waits in another place. */
+static void test_left_often(void) {
+  struct asked asked = {jump, NULL, NULL, 0};
+  bool is_right = true;
+  long mappings_before, pages_before, mappings, pages;
+  for (int i = 0; i < LEFT_OFTEN; i++) {
+    if (i == LEFT_OFTEN / 10) count_memory(&mappings_before, &pages_before);
+    tegvurn *embedding = embedding_of(&asked);
+    is_right = is_right && is_left(embedding, i % 2 ? "ask" : "ask_outside") && tegvurn_abandon(embedding) == TEGVURN_DONE;
+  }
+  count_memory(&mappings, &pages);
+  CHECK(is_right && asked.number == LEFT_OFTEN);
+  CHECK(mappings <= mappings_before + 10 && (pages <= pages_before + 1000 || !FREES_AT_ONCE));
+}
+
+/* The callback of one embedding calls another one, whose callback leaves both. */
+static void test_left_nested(void) {
+  struct asked inner = {jump, NULL, NULL, 0}, outer = {ask_next, NULL, &inner, 0}, other = {NULL, NULL, NULL, 0};
+  tegvurn_value result;
+  embedding_of(&inner), embedding_of(&outer), embedding_of(&other);
+  CHECK(is_left(outer.embedding, "ask") && is_all_busy(inner.embedding));
+  CHECK(tegvurn_abandon(outer.embedding) == TEGVURN_DONE && is_all_busy(inner.embedding));
   CHECK(call_one(other.embedding, "ask", tegvurn_i32(1), &result) == TEGVURN_DONE && result.i32 == 1);
+  CHECK(tegvurn_abandon(inner.embedding) == TEGVURN_DONE);
+  CHECK(call_one(other.embedding, "ask", tegvurn_i32(2), &result) == TEGVURN_DONE && result.i32 == 2);
   CHECK(tegvurn_free(other.embedding) == TEGVURN_DONE);
 }
 
-int main(int argc, char **argv) {
+/* The commands of a script that come after the one that was left call no host function. */
+static void test_left_script(void) {
+#define COMMAND "{\"type\":\"action\",\"line\":1,\"action\":{\"type\":\"invoke\",\"field\":\"ask\",\"args\":[{\"type\":\"i32\",\"value\":\"1\"}]}}"
+  static const char json[] = "{\"commands\":[{\"type\":\"module\",\"line\":1,\"filename\":\"a\"}," COMMAND "," COMMAND "," COMMAND "]}";
+  static struct asked asked = {jump, NULL, NULL, 0};
+  const tegvurn_file file = {{"a", 1}, test_module, sizeof test_module};
+  static tegvurn_report report;
+  embedding_of(&asked);
+  if (!setjmp(way_out)) CHECK(tegvurn_script(asked.embedding, json, sizeof json - 1, &file, 1, &report) == TEGVURN_BUSY);
+  CHECK(is_all_busy(asked.embedding) && asked.number == 1);
+  CHECK(tegvurn_abandon(asked.embedding) == TEGVURN_DONE && asked.number == 1);
+}
+
+static bool end_thread(struct asked *asked, tegvurn_host_call *call) {
+  (void)asked, (void)call;
+  pthread_exit(NULL);
+}
+
+static void *call_to_the_end(void *asked) {
+  tegvurn_value result;
+  call_one(embedding_of(asked), "ask", tegvurn_i32(1), &result);
+  CHECK(!"the thread goes on");
+  return NULL;
+}
+
+static void *abandon_it(void *embedding) {
+  CHECK(tegvurn_abandon(embedding) == TEGVURN_DONE);
+  return NULL;
+}
+
+/* A thread ends inside a callback, and another one abandons the embedding. */
+static void test_left_by_thread(void) {
+  struct asked asked = {end_thread, NULL, NULL, 0};
+  run_on_thread(call_to_the_end, &asked);
+  CHECK(is_all_busy(asked.embedding));
+  CHECK(tegvurn_abandon(asked.embedding) == TEGVURN_DONE);
+  run_on_thread(call_to_the_end, &asked);
+  run_on_thread(abandon_it, asked.embedding);
+}
+
+/* What is idle, also where it has no more than begun, is freed. */
+static void test_abandon_idle(void) {
+  struct asked asked = {NULL, NULL, NULL, 0};
+  tegvurn *embedding;
+  CHECK(tegvurn_abandon(NULL) == TEGVURN_DONE);
+  CHECK(tegvurn_new(&config, NULL, 0, &embedding, NULL) == TEGVURN_DONE && tegvurn_abandon(embedding) == TEGVURN_DONE);
+  CHECK(tegvurn_abandon(embedding_of(&asked)) == TEGVURN_DONE);
+  run_on_thread(abandon_it, embedding_of(&asked));
+}
+
+int main(void) {
   test_busy();
   test_free_elsewhere();
   test_ended_thread();
@@ -756,7 +853,11 @@ int main(int argc, char **argv) {
   test_copies();
   test_files();
   test_wide();
-  if (argc == 2 && !strcmp(argv[1], "longjmp")) test_longjmp();
+  test_left_often();
+  test_left_nested();
+  test_left_script();
+  test_left_by_thread();
+  test_abandon_idle();
   printf("%d passed, %d failed\n", passed, failed);
   return failed != 0;
 }

@@ -1,7 +1,8 @@
 /* How the C side takes what the proved code writes, over a stand-in of it: ends that the proved code does not come to, texts that are long,
-   and replies that are none. */
+   replies that are none, and what an abandoned embedding reads and writes. */
 #include "tegvurn.c"
 
+#include <setjmp.h>
 #include <stdio.h>
 
 /* The sizes that the declarations of other languages rest on. */
@@ -51,6 +52,10 @@ static void ask_for_host(void) {
   if (last_read == 10 && lent[9] == 'x') was_answered = read_whole(answer, sizeof answer) && number_at(answer + NUMBER) == 20;
 }
 
+/* What the stand-in found last: how it was answered when it abandoned its own embedding, and what it could still read and write. */
+static tegvurn_status abandoned_inside;
+static ssize_t read_last = 9, written_last;
+
 uint32_t tegvurn_serve(int32_t ask, int32_t hear) {
   static const uint8_t done[HEAD];
   (void)ask, (void)hear;
@@ -64,8 +69,10 @@ uint32_t tegvurn_serve(int32_t ask, int32_t hear) {
     if (tegvurn_read(0, &byte, 0)) return 2;
     bool is_special = order == special_order && special_status != ASKS_FIRST;
     if (order == special_order && special_status == ASKS_FIRST) ask_for_host();
+    if (!running->is_abandoned) abandoned_inside = tegvurn_abandon(running);
     const uint8_t *reply = is_special ? special_reply : done;
-    tegvurn_write(0, reply, is_special ? special_size : HEAD);
+    written_last = tegvurn_write(0, reply, is_special ? special_size : HEAD);
+    if (running->is_abandoned) read_last = tegvurn_read(0, &byte, 1);
     if (is_special && special_status != GOES_ON) return special_status;
     if (number_at(head + NUMBER) == ORDER_END) return 0;
   }
@@ -153,10 +160,35 @@ static void test_lent_pieces(void) {
     was_answered = false;
     CHECK(tegvurn_new(&config, &host, 1, &embedding, NULL) == TEGVURN_DONE);
     CHECK(tegvurn_set_fuel(embedding, 1) == TEGVURN_DONE && calls == is_whole && last_read == (is_whole ? 10 : -1));
-    CHECK(was_answered == is_whole);
+    CHECK(was_answered == is_whole && abandoned_inside == TEGVURN_BUSY);
     CHECK(tegvurn_set_fuel(embedding, 1) == TEGVURN_DONE && calls == is_whole);
     tegvurn_free(embedding);
   }
+}
+
+static jmp_buf way_out;
+
+static bool leave_callback(void *context, tegvurn_host_call *call) {
+  (void)call;
+  ++*(int *)context;
+  longjmp(way_out, 1);
+}
+
+/* Whichever way the lent memory would be read, the stand-in reads and writes nothing after the embedding is abandoned, and ends. While it runs
+   itself, its embedding is not abandoned. */
+static void test_abandoned(void) {
+  static tegvurn *embedding;
+  static int calls;
+  tegvurn_host host = {{"m", 1}, {"f", 1}, NULL, 0, NULL, 0, leave_callback, &calls};
+  lent_piece = 10;
+  have_reply(2, NULL, 0, ASKS_FIRST);
+  was_answered = false;
+  CHECK(tegvurn_new(&config, &host, 1, &embedding, NULL) == TEGVURN_DONE);
+  CHECK(abandoned_inside == TEGVURN_BUSY);
+  if (!setjmp(way_out)) CHECK(tegvurn_set_fuel(embedding, 1) == TEGVURN_BUSY);
+  CHECK(calls == 1 && tegvurn_set_fuel(embedding, 1) == TEGVURN_BUSY && tegvurn_free(embedding) == TEGVURN_BUSY);
+  CHECK(embedding->state == ASKS && tegvurn_abandon(embedding) == TEGVURN_DONE && calls == 1);
+  CHECK(!was_answered && read_last == 0 && written_last == -1);
 }
 
 /* The status of an order that is answered so. */
@@ -235,6 +267,7 @@ int main(void) {
   test_over();
   test_over_without_memory();
   test_lent_pieces();
+  test_abandoned();
   test_kinds_of_replies();
   test_texts();
   test_names();

@@ -1,10 +1,12 @@
 /* memory [EACH]: refuses each allocation in turn, or each EACHth, of a life of an embedding, the C side's and the proved code's alike: once
    that one alone, and once all from that one on. A call has to end as with ample memory, or say that there was none; where that one alone
    was refused, the same call ends as with ample memory when it is made again, unless there was no memory for its reply, which ends the
-   embedding. In the end nothing is left allocated. Linked with --wrap. */
+   embedding. In the end nothing is left allocated, whether the embedding is freed, or abandoned after a callback was left. Linked with
+   --wrap. */
 #include "tegvurn.h"
 #include "test_module.h"
 
+#include <setjmp.h>
 #include <stdio.h>
 #include <stdlib.h>
 #include <sys/mman.h>
@@ -76,8 +78,13 @@ struct answer {
 
 static tegvurn *embedding;
 
+/* Whether the next callback is left, and where it goes. */
+static bool leaves;
+static jmp_buf way_out;
+
 static bool echo(void *context, tegvurn_host_call *call) {
   (void)context;
+  if (leaves) longjmp(way_out, 1);
   for (size_t i = 0; i < call->result_count; i++) call->results[i] = call->args[i];
   return true;
 }
@@ -318,26 +325,34 @@ static bool run_step(size_t step) {
   return true;
 }
 
-/* A whole life. Answers how many allocations there were. */
-static long live_once(void) {
+/* Leaves a callback, if there is memory to come to it, and abandons the embedding. */
+static tegvurn_status leave_it(void) {
+  leaves = true;
+  if (!setjmp(way_out)) call();
+  leaves = false;
+  return tegvurn_abandon(embedding);
+}
+
+/* A whole life, up to where the embedding is freed or abandoned. Returns how many allocations there were. */
+static long live_once(bool is_abandoned) {
   struct answer none = {TEGVURN_DONE, 0, 0};
   made = live = 0;
   is_starved = false;
   embedding = NULL;
   for (size_t step = 0; step < STEPS; step++)
     if (!run_step(step)) break;
-  if (tegvurn_free(embedding)) fail(0, none, "it is not freed");
+  if (is_abandoned ? leave_it() : tegvurn_free(embedding)) fail(0, none, "it is not freed");
   if (live) fail(0, none, "something is left allocated");
   return made;
 }
 
 int main(int argc, char **argv) {
   long each = argc == 2 ? atol(argv[1]) : 1, number = 0, runs = 0;
-  long all = live_once();
+  long all = live_once(true);
   for (refused = 0; refused <= all && each > 0; refused += each) {
-    for (int more = 0; more < 2; more++, runs++) {
-      refuses_more = more;
-      live_once();
+    for (int way = 0; way < 4; way++, runs++) {
+      refuses_more = way % 2;
+      live_once(way / 2);
     }
   }
   for (size_t step = 0; step < STEPS; step++) {

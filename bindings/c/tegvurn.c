@@ -43,13 +43,14 @@ struct bytes { const uint8_t *at; size_t left; };
 
 struct host { tegvurn_callback callback; void *context; size_t param_count, result_count; };
 
-/* Where the proved code is: at its start, waiting for an order or for the answer of a host function, or at its end. */
-enum state { AT_START, WAITS, ASKS, AT_END };
+/* Where the proved code is: at its start, waiting for an order or for the answer of a host function, at its end, or running. */
+enum state { AT_START, WAITS, ASKS, AT_END, RUNS };
 
 struct tegvurn {
   struct stack stack;
   uint64_t owner;       /* the number of the thread that made it */
   atomic_bool is_busy;  /* a call is inside */
+  bool is_abandoned;    /* the proved code reads and writes nothing more */
   enum state state;
   uint32_t served;      /* what tegvurn_serve answered at its end */
   struct buffer said;   /* the message that the proved code reads, */
@@ -196,6 +197,7 @@ __attribute__((visibility("hidden"))) ssize_t tegvurn_write(int descriptor, cons
   tegvurn *m = running;
   struct buffer *heard = &m->heard;
   (void)descriptor;
+  if (m->is_abandoned) return -1;
   if (!m->is_cut && !reserve(heard, heard->size + size)) m->is_cut = true;
   size_t fits = heard->room > heard->size ? heard->room - heard->size : 0;
   if (fits && size) memcpy(heard->at + heard->size, bytes, fits < size ? fits : size);
@@ -233,7 +235,7 @@ static ssize_t lend(tegvurn *m, uint8_t *memory, size_t size) {
 __attribute__((visibility("hidden"))) ssize_t tegvurn_read(int descriptor, void *to, size_t size) {
   tegvurn *m = running;
   (void)descriptor;
-  if (!size) return 0;
+  if (!size || m->is_abandoned) return 0;
   if (!m->rest.left && !m->behind.left && m->lends) return lend(m, to, size);
   if (!m->rest.left && !m->behind.left) wait_for_message(m);
   struct bytes *from = m->rest.left ? &m->rest : &m->behind;
@@ -266,6 +268,7 @@ static void answer_host_call(tegvurn *m) {
 static void visit(tegvurn *m) {
   tegvurn *interrupted = running;
   running = m;
+  m->state = RUNS;
   go_in(&m->stack);
   running = interrupted;
 }
@@ -479,17 +482,35 @@ tegvurn_status tegvurn_new(const tegvurn_config *config, const tegvurn_host *hos
   tegvurn *m = calloc(1, sizeof *m);
   if (!m) return end_without_memory(end);
   m->owner = this_thread();
+  take(m);
   tegvurn_status status = begin(m, config, hosts, host_count);
   if (status == TEGVURN_OVER && m->served == NO_MEMORY) status = end_without_memory(&m->end);
   *end = m->end;
-  if (status) drop(m);
-  else *embedding = m;
-  return status;
+  if (status) {
+    drop(m);
+    return status;
+  }
+  *embedding = m;
+  return finish(m, status);
 }
 
 tegvurn_status tegvurn_free(tegvurn *m) {
   if (!m) return TEGVURN_DONE;
   if (!take(m)) return TEGVURN_BUSY;
+  drop(m);
+  return TEGVURN_DONE;
+}
+
+/* The callback that was left ran on its caller's stack, so the inner stack is whole: the proved code still waits for the answer. It now finds
+   that its input has ended and that it cannot write. So the host function traps, none is asked for any more, and the proved code frees all
+   that it has and ends. */
+tegvurn_status tegvurn_abandon(tegvurn *m) {
+  if (!m) return TEGVURN_DONE;
+  if (!take(m)) {
+    if (m->state != ASKS) return TEGVURN_BUSY;
+    m->is_abandoned = true;
+    visit(m);
+  }
   drop(m);
   return TEGVURN_DONE;
 }

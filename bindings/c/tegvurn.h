@@ -197,8 +197,9 @@ typedef struct tegvurn_host_call {
 } tegvurn_host_call;
 
 /* What a host function does: true where the results are there, false for a trap. It runs on the caller's stack, inside of the call that
-   runs the module. It may read and write the lent memory until it returns, and not later. It has to return: no longjmp and no exception may
-   leave it; where one does, the embedding stays busy for ever. It may call other embeddings, and not its own. */
+   runs the module. It may read and write the lent memory until it returns, and not later. It must return: no longjmp and no exception may
+   leave it, and its thread may not end inside it. If that happens, the embedding stays busy, and only `tegvurn_abandon` frees it. It may call
+   other embeddings, and not its own. */
 typedef bool (*tegvurn_callback)(void *context, tegvurn_host_call *call);
 
 /* A host function: what modules import it by, its type, what it does, and what its calls get as their context. */
@@ -221,6 +222,13 @@ TEGVURN_API tegvurn_status tegvurn_new(const tegvurn_config *config, const tegvu
    embedding runs, it returns `TEGVURN_BUSY` and frees nothing. As after free(3), the pointer is dead after `TEGVURN_DONE`: the caller makes
    sure that no other thread still uses it. NULL is done at once. */
 TEGVURN_API tegvurn_status tegvurn_free(tegvurn *embedding);
+
+/* Frees an embedding whose callback was left: by longjmp, by a C++ exception, or because its thread was cancelled or ended. Any thread may
+   call it. The caller guarantees that no thread is inside a call of the embedding, nor will be. The host function that was left traps, and no
+   callback is called again. A script runs the rest of its commands first, each within its fuel. An idle embedding is freed as by
+   `tegvurn_free`. If not a callback was left but the library's own code, as by a signal handler or by asynchronous cancellation, it returns
+   `TEGVURN_BUSY` and frees nothing. NULL is done at once. */
+TEGVURN_API tegvurn_status tegvurn_abandon(tegvurn *embedding);
 
 /* Returns how the last call ended that did not return `TEGVURN_BUSY`. The embedding keeps it, up to its next call. Only the thread that made
    the embedding may look at it. For NULL it is an end with `TEGVURN_BAD_POINTER`. */
