@@ -74,6 +74,26 @@ names() {
     echo "$(wc -l < "$BUILD/names.wanted") names"
 }
 
+# The shared library is bound when it is loaded, and read-only then; no code is written, the stack is no code, and no control-flow enforcement
+# is claimed (the Makefile says why).
+hardened() {
+  readelf -dW "$BUILD/libtegvurn.so" > "$BUILD/dynamic" && readelf -lW "$BUILD/libtegvurn.so" > "$BUILD/segments" || return 1
+  grep -q 'FLAGS.*BIND_NOW' "$BUILD/dynamic" || { echo "not bound when it is loaded"; return 1; }
+  ! grep TEXTREL "$BUILD/dynamic" || return 1
+  grep -q GNU_RELRO "$BUILD/segments" || { echo "no read-only relocations"; return 1; }
+  grep -q 'GNU_STACK.* RW ' "$BUILD/segments" || { echo "an executable stack"; return 1; }
+  ! readelf -nW "$BUILD/libtegvurn.so" "$BUILD/libtegvurn.a" | grep -E 'IBT|SHSTK' || return 1
+  echo "as it has to be"
+}
+
+# The switch of stacks has unwind information: that many bytes of code from its address on.
+unwound() {
+  start=$(nm "$BUILD/libtegvurn.so" | awk '$3 == "tegvurn_switch" { print $1 }')
+  [ -n "$start" ] || { echo "no tegvurn_switch"; return 1; }
+  readelf --debug-dump=frames "$BUILD/libtegvurn.so" | awk '/^Contents/ { section = $4 } /FDE/ && section == ".eh_frame"' |
+    grep "pc=$start\.\." || { echo "no unwind information of tegvurn_switch"; return 1; }
+}
+
 # The header for C++, strictly.
 header() {
   for standard in c++98 c++11 c++20; do
@@ -104,6 +124,12 @@ installed() {
 }
 
 run "global names" names
+if has readelf; then
+  run "hardening" hardened
+  if [ "$(uname -m)" = x86_64 ]; then run "unwind information" unwound; fi
+else
+  echo "skipped: hardening and unwind information of the shared library (no readelf)"
+fi
 if has "${CXX:-c++}"; then
   run "header for C++" header
   run "exception" thrown
