@@ -86,14 +86,13 @@ impl Instance {
         store.embedding.register(self.number, name)
     }
 
-    /// What it exports.
+    /// Returns what it exports.
+    ///
+    /// # Errors
+    /// The call is refused with [`Cause::OutOfMemory`] if there is no memory for the list.
     pub fn exports<T>(self, store: &mut Store<T>) -> Result<Vec<Export>, Error> {
         store.own(self.store)?;
-        let exports = store.embedding.exports(self.number)?;
-        Ok(exports
-            .into_iter()
-            .map(|(name, ty)| Export { name, ty })
-            .collect())
+        store.embedding.exports(self.number)
     }
 
     // The type of what it exports under a name.

@@ -91,8 +91,8 @@ impl From<u64> for Val {
 /// The type of a function.
 #[derive(Clone, Debug, PartialEq, Eq, Hash)]
 pub struct FuncType {
-    params: Vec<ValType>,
-    results: Vec<ValType>,
+    pub(crate) params: Vec<ValType>,
+    pub(crate) results: Vec<ValType>,
 }
 
 impl FuncType {

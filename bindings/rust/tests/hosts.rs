@@ -1,6 +1,9 @@
-//! Host functions that panic, that are lent memory, and that keep things; stores that are mixed up; and the example.
+//! Host functions that panic, that borrow memory, and that keep things; stores that are mixed up; allocations that fail; and the example.
 
-use std::cell::RefCell;
+#![warn(unsafe_op_in_unsafe_fn)]
+
+use std::alloc::{GlobalAlloc, Layout, System};
+use std::cell::{Cell, RefCell};
 use std::panic::{self, AssertUnwindSafe};
 use std::process::Command;
 use std::rc::Rc;
@@ -72,6 +75,50 @@ fn a_panic_goes_on_behind_the_call() {
     assert_eq!(panic.downcast_ref(), Some(&"thirteen"));
     assert_eq!(call(&mut store, instance, "ask", 2), Ok(Val::I32(3)));
     assert_eq!(*store.data(), 3);
+}
+
+/// A command of a script that calls `ask` with this number.
+fn ask_command(number: i32) -> String {
+    format!(
+        r#"{{"type":"action","line":1,"action":{{"type":"invoke","field":"ask","args":[{{"type":"i32","value":"{number}"}}]}}}}"#
+    )
+}
+
+/// Runs a script that links the module and calls `ask` with each number.
+fn script(store: &mut Store<u32>, numbers: &[i32]) -> Result<tegvurn::Report, Error> {
+    let commands: Vec<String> = numbers.iter().copied().map(ask_command).collect();
+    let json = format!(
+        r#"{{"commands":[{{"type":"module","line":1,"filename":"a"}},{}]}}"#,
+        commands.join(",")
+    );
+    store.run_script(json.as_bytes(), &[("a", MODULE)])
+}
+
+/// What a closure panics with: dropping it panics, too.
+struct Bomb(i32);
+
+impl Drop for Bomb {
+    fn drop(&mut self) {
+        panic!("the bomb {} goes off", self.0);
+    }
+}
+
+#[test]
+fn the_first_panic_of_a_script_continues_and_no_closure_is_called_after_it() {
+    let (mut store, _) = store_of(|calls, _memory, number| {
+        *calls += 1;
+        if number > 1 {
+            panic::panic_any(Bomb(number));
+        }
+        Ok(Val::I32(number))
+    });
+    let panic = panic::catch_unwind(AssertUnwindSafe(|| script(&mut store, &[1, 2, 3, 4])))
+        .expect_err("a panic");
+    let bomb = panic.downcast::<Bomb>().expect("a bomb");
+    assert_eq!((bomb.0, *store.data()), (2, 2));
+    std::mem::forget(*bomb);
+    let report = script(&mut store, &[1, 1]).expect("a report");
+    assert_eq!((report.passed, *store.data()), (3, 4));
 }
 
 #[test]
@@ -218,6 +265,73 @@ fn refusals_say_where() {
         ),
         other => panic!("{other:?}"),
     }
+}
+
+/// An allocator that refuses allocations of a thread.
+struct Refusing;
+
+#[derive(Clone, Copy)]
+enum Refused {
+    None,
+    /// The one after that many, and also all later ones if the flag is set.
+    After(usize, bool),
+}
+
+thread_local! {
+    static REFUSED: Cell<Refused> = const { Cell::new(Refused::None) };
+}
+
+unsafe impl GlobalAlloc for Refusing {
+    unsafe fn alloc(&self, layout: Layout) -> *mut u8 {
+        match REFUSED.with(Cell::get) {
+            Refused::After(0, more) => {
+                if !more {
+                    REFUSED.with(|refused| refused.set(Refused::None));
+                }
+                return std::ptr::null_mut();
+            }
+            Refused::After(allowed, more) => {
+                REFUSED.with(|refused| refused.set(Refused::After(allowed - 1, more)));
+            }
+            Refused::None => {}
+        }
+        unsafe { System.alloc(layout) }
+    }
+
+    unsafe fn dealloc(&self, at: *mut u8, layout: Layout) {
+        unsafe { System.dealloc(at, layout) }
+    }
+}
+
+#[global_allocator]
+static ALLOCATOR: Refusing = Refusing;
+
+#[test]
+fn exports_are_refused_when_an_allocation_fails() {
+    let (mut store, instance) = store_of(|_, _, number| Ok(Val::I32(number)));
+    let wanted = instance.exports(&mut store).expect("exports");
+    let mut refusals = 0;
+    for more in [false, true] {
+        for allowed in 0.. {
+            REFUSED.with(|refused| refused.set(Refused::After(allowed, more)));
+            let exports = instance.exports(&mut store);
+            REFUSED.with(|refused| refused.set(Refused::None));
+            match exports {
+                Ok(exports) => {
+                    assert_eq!(exports, wanted);
+                    break;
+                }
+                Err(Error::Refused(refusal)) => {
+                    assert_eq!((refusal.cause, refusal.place), (Cause::OutOfMemory, None));
+                    assert_eq!(refusal.text, if more { "" } else { "out of memory" });
+                    refusals += 1;
+                }
+                Err(other) => panic!("{other:?}"),
+            }
+        }
+    }
+    // The list, and for each of two functions its name, its parameters and its results.
+    assert_eq!(refusals, 2 * (1 + 2 * 3));
 }
 
 #[test]
