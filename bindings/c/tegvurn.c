@@ -49,8 +49,8 @@ enum state { AT_START, WAITS, ASKS, AT_END, RUNS };
 struct tegvurn {
   struct stack stack;
   uint64_t owner;       /* the number of the thread that made it */
-  atomic_bool is_busy;  /* a call is inside */
-  bool is_abandoned;    /* the proved code reads and writes nothing more */
+  atomic_bool is_busy;  /* a call is inside, or a callback was left */
+  bool is_abandoned;    /* the proved code finds both of its streams at their end */
   enum state state;
   uint32_t served;      /* what tegvurn_serve answered at its end */
   struct buffer said;   /* the message that the proved code reads, */
@@ -66,8 +66,8 @@ struct tegvurn {
   tegvurn_end end;
 };
 
-/* The embedding whose inner stack this thread is on, or NULL. A function reads it only before it goes out of that stack, since another thread
-   may come back in. */
+/* The embedding whose inner stack this thread is on, or NULL. A function reads it only before it goes out of that stack, because another
+   thread may come back in. */
 static _Thread_local tegvurn *running;
 
 /* Who may call */
@@ -263,8 +263,8 @@ static void answer_host_call(tegvurn *m) {
   end_message(m, 0);
 }
 
-/* Goes in, up to where the proved code goes out. A signal handler may do so in the middle of another embedding's inner stack, which then
-   goes on. */
+/* Goes in, up to where the proved code goes out. A signal handler does so in the middle of the inner stack that it interrupted, which then
+   goes on as before. */
 static void visit(tegvurn *m) {
   tegvurn *interrupted = running;
   running = m;
@@ -290,9 +290,10 @@ static const struct wording statuses[] = {
     {"NoRoom", "the results do not fit"}, {"Busy", "the embedding is busy"}, {"Over", "the embedding has ended"},
     {"BadPointer", "a pointer is null"}};
 static const struct wording refusals[] = {
-    {"", ""}, {"Malformed", ""}, {"Unsupported", ""}, {"Limit", "a limit is passed"}, {"Invalid", ""}, {"UnknownModule", ""}, {"UnknownImport", ""},
-    {"IncompatibleImport", ""}, {"UnknownInstance", ""}, {"UnknownExport", ""}, {"WrongKind", ""}, {"BadArguments", ""}, {"NameTaken", ""},
-    {"OutOfMemory", "out of memory"}, {"HostFuncRef", ""}, {"NotJson", ""}, {"BadCommand", ""}, {"MissingFile", ""}, {"BadSetup", ""}};
+    {"", ""}, {"Malformed", ""}, {"Unsupported", ""}, {"Limit", "a limit is passed"}, {"Invalid", ""}, {"UnknownModule", ""},
+    {"UnknownImport", ""}, {"IncompatibleImport", ""}, {"UnknownInstance", ""}, {"UnknownExport", ""}, {"WrongKind", ""}, {"BadArguments", ""},
+    {"NameTaken", ""}, {"OutOfMemory", "out of memory"}, {"HostFuncRef", ""}, {"NotJson", ""}, {"BadCommand", ""}, {"MissingFile", ""},
+    {"BadSetup", ""}};
 static const struct wording traps[] = {
     {"", ""}, {"Unreachable", "unreachable"}, {"DivideByZero", "integer divide by zero"}, {"IntegerOverflow", "integer overflow"},
     {"MemoryBounds", "out of bounds memory access"}, {"TableBounds", "out of bounds table access"},
@@ -361,7 +362,7 @@ static tegvurn_status end_as_replied(tegvurn *m) {
 
 /* Beginning and ending a call */
 
-/* Returns whether there is a pointer to that many elements: it may be null if there are none. */
+/* Returns whether a pointer to that many elements is there. It may be null if there are none. */
 static bool is_there(const void *at, size_t count) { return at || !count; }
 
 /* Ends a call with the status. */
@@ -370,8 +371,8 @@ static tegvurn_status finish(tegvurn *m, tegvurn_status status) {
   return status;
 }
 
-/* Begins a call of the embedding's own thread, given whether all pointers are there that it needs. After done, the call has to end with
-   finish. After any other status it is over. */
+/* Begins a call on the embedding's own thread, given whether all pointers that it needs are there. If it returns done, the call must end with
+   finish. Otherwise the call is over. */
 static tegvurn_status enter(tegvurn *m, bool is_whole) {
   if (!m) return TEGVURN_BAD_POINTER;
   if (m->owner != this_thread() || !take(m)) return TEGVURN_BUSY;
@@ -451,7 +452,7 @@ static tegvurn_status begin(tegvurn *m, const tegvurn_config *config, const tegv
   return send_order(m, NULL, 0);
 }
 
-/* Frees everything of an embedding that nobody else uses. Any thread may do so. */
+/* Frees an embedding that is taken, on any thread. */
 static void drop(tegvurn *m) {
   if (m->state == WAITS) send_short(m, ORDER_END, NULL, NULL, 0);
   drop_stack(&m->stack);
@@ -501,9 +502,9 @@ tegvurn_status tegvurn_free(tegvurn *m) {
   return TEGVURN_DONE;
 }
 
-/* The callback that was left ran on its caller's stack, so the inner stack is whole: the proved code still waits for the answer. It now finds
-   that its input has ended and that it cannot write. So the host function traps, none is asked for any more, and the proved code frees all
-   that it has and ends. */
+/* The callback that was left ran on its caller's stack, so the inner stack is whole: the proved code still waits for an answer. Now it finds
+   that it can neither read nor write. So the host function traps, the proved code frees all that it has, and ends. It gets no further request
+   through, so no other callback runs. */
 tegvurn_status tegvurn_abandon(tegvurn *m) {
   if (!m) return TEGVURN_DONE;
   if (!take(m)) {
@@ -519,9 +520,10 @@ const tegvurn_end *tegvurn_last(const tegvurn *m) {
   static const tegvurn_end without_embedding = {.status = TEGVURN_BAD_POINTER, .name = "BadPointer", .text = "a pointer is null"};
   return m ? &m->end : &without_embedding;
 }
+
 /* The other calls */
 
-/* Has a module loaded. If it is too large, its size alone decides: the proved code would read all bytes, and then refuse it like this. */
+/* Loads a module. If it is too large, it is refused for its size alone, with the end that the proved code gives after reading all bytes. */
 static tegvurn_status send_module(tegvurn *m, const void *bytes, size_t size) {
   tegvurn_status status = start_order(m, ORDER_LOAD, 0);
   if (status) return status;
@@ -552,7 +554,7 @@ static size_t take_values(const tegvurn *m, tegvurn_value *values, size_t room) 
   return count;
 }
 
-/* Has an export called. With room for the results, the reply needs no more memory after the call. */
+/* Calls an export. With room for the results, the reply needs no more memory after the call. */
 static tegvurn_status call_export(tegvurn *m, uint64_t instance, tegvurn_text name, const tegvurn_value *args, size_t arg_count,
                                   size_t room) {
   tegvurn_status status = start_order(m, ORDER_CALL, 2 * NUMBER + name.size + arg_count * VALUE);
