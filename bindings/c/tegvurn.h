@@ -6,11 +6,12 @@
    to, must live until the embedding is freed. What a call gives belongs to the caller, unless its comment says that the embedding keeps it.
 
    Threads: an embedding belongs to the thread that made it. A call from another thread, or from inside one of the embedding's own
-   callbacks, returns `TEGVURN_BUSY` and does nothing. There is one exception: any thread may free an idle embedding. Different embeddings
-   are independent, on one thread or on several.
+   callbacks, returns `TEGVURN_BUSY` and does nothing. The exceptions are `tegvurn_free` and `tegvurn_abandon`, which any thread may call.
+   Different embeddings are independent, on one thread or on several.
 
    Pointers: a pointer to elements, to bytes or to a text may be null if its count or size is 0. So may `end`, `result_count` and a callback's
-   `context`. If any other pointer is null, a call returns `TEGVURN_BAD_POINTER` before it does anything.
+   `context`. If any other pointer is null, the call returns `TEGVURN_BAD_POINTER` and does nothing. `tegvurn_free`, `tegvurn_abandon`,
+   `tegvurn_exports_free` and `tegvurn_last` accept NULL.
 
    Signal handlers: on the thread that made the embeddings, a handler may call `tegvurn_set_fuel` and `tegvurn_fuel_left`. They return
    `TEGVURN_BUSY` for an embedding whose call the handler interrupted. For another embedding they work, and the interrupted call is not
@@ -218,16 +219,16 @@ typedef struct tegvurn_host {
 TEGVURN_API tegvurn_status tegvurn_new(const tegvurn_config *config, const tegvurn_host *hosts, size_t host_count,
                                        tegvurn **embedding, tegvurn_end *end);
 
-/* Frees an embedding that is idle. Any thread may call it, also after the end of the thread that made the embedding. While a call of the
-   embedding runs, it returns `TEGVURN_BUSY` and frees nothing. As after free(3), the pointer is dead after `TEGVURN_DONE`: the caller makes
-   sure that no other thread still uses it. NULL is done at once. */
+/* Frees an idle embedding. Any thread may call it, also after the end of the thread that made the embedding. While a call of the embedding
+   runs, it returns `TEGVURN_BUSY` and frees nothing. After `TEGVURN_DONE` the pointer is dead, as after free(3): the caller ensures that no
+   other thread uses it any more. For NULL it returns `TEGVURN_DONE`. */
 TEGVURN_API tegvurn_status tegvurn_free(tegvurn *embedding);
 
 /* Frees an embedding whose callback was left: by longjmp, by a C++ exception, or because its thread was cancelled or ended. Any thread may
-   call it. The caller guarantees that no thread is inside a call of the embedding, nor will be. The host function that was left traps, and no
-   callback is called again. A script runs the rest of its commands first, each within its fuel. An idle embedding is freed as by
-   `tegvurn_free`. If not a callback was left but the library's own code, as by a signal handler or by asynchronous cancellation, it returns
-   `TEGVURN_BUSY` and frees nothing. NULL is done at once. */
+   call it. The caller guarantees that no thread is inside a call of the embedding, and that none will be. The host function that was left
+   traps, and no callback is called again. If a script was running, its remaining commands run first, each within its fuel. An idle embedding
+   is freed as by `tegvurn_free`. If the library's own code was left instead, by a signal handler or by asynchronous cancellation, the call
+   returns `TEGVURN_BUSY` and frees nothing. For NULL it returns `TEGVURN_DONE`. The Rust and Python libraries never leave a callback. */
 TEGVURN_API tegvurn_status tegvurn_abandon(tegvurn *embedding);
 
 /* Returns how the last call ended that did not return `TEGVURN_BUSY`. The embedding keeps it, up to its next call. Only the thread that made
