@@ -1,7 +1,8 @@
 /* How the C side takes what the proved code writes, over a stand-in of it: ends that the proved code does not come to, texts that are long,
-   replies that are none, and what an abandoned embedding reads and writes. */
+   replies that are none, what an abandoned embedding reads and writes, and two threads that take one embedding. */
 #include "tegvurn.c"
 
+#include <pthread.h>
 #include <setjmp.h>
 #include <stdio.h>
 
@@ -191,6 +192,32 @@ static void test_abandoned(void) {
   CHECK(!was_answered && read_last == 0 && written_last == -1);
 }
 
+#define TAKEN_OFTEN 1000000
+
+/* How often the embedding of the test was taken. Only the thread that has taken it counts. */
+static long times_taken;
+static atomic_int threads_begun;
+
+static void *take_often(void *embedding) {
+  for (atomic_fetch_add(&threads_begun, 1); threads_begun < 2;) continue;
+  for (int times = 0; times < TAKEN_OFTEN;) {
+    if (!take(embedding)) continue;
+    times_taken++, times++;
+    finish(embedding, TEGVURN_DONE);
+  }
+  return NULL;
+}
+
+/* Two threads, as one that calls and one that frees, are never both inside. */
+static void test_take(void) {
+  pthread_t threads[2];
+  have_reply(-1, NULL, 0, 0);
+  tegvurn *embedding = embedding_of();
+  for (int i = 0; i < 2; i++) CHECK(!pthread_create(&threads[i], NULL, take_often, embedding));
+  for (int i = 0; i < 2; i++) CHECK(!pthread_join(threads[i], NULL));
+  CHECK(times_taken == 2 * TAKEN_OFTEN && tegvurn_free(embedding) == TEGVURN_DONE);
+}
+
 /* The status of an order that is answered so. */
 static tegvurn_status status_of(const void *reply, size_t size) {
   have_reply(1, reply, size, GOES_ON);
@@ -268,6 +295,7 @@ int main(void) {
   test_over_without_memory();
   test_lent_pieces();
   test_abandoned();
+  test_take();
   test_kinds_of_replies();
   test_texts();
   test_names();
