@@ -126,7 +126,7 @@ static bool is_same_end(const tegvurn_end *one, const tegvurn_end *other) {
          one->at == other->at && one->code == other->code && !strcmp(one->text, other->text);
 }
 
-/* Loads zeros of the greatest size, and one byte more. The C side refuses only the second, and does so as the proved code does. */
+/* Loads as many zeros as are allowed, and one more. The C side refuses only the second module by itself, with the end of the proved code. */
 static void load_too_much(void) {
   void *zeros = mmap(NULL, MOST_BYTES + 1, PROT_READ, MAP_PRIVATE | MAP_ANONYMOUS, -1, 0);
   check(zeros != MAP_FAILED, "no zeros");

@@ -82,7 +82,7 @@ static bool trapped_with(const tegvurn *embedding, uint32_t code) {
 
 /* Who may call */
 
-/* Returns whether each call but tegvurn_free is answered as busy, and leaves what it was given. */
+/* Returns whether each call except tegvurn_free returns TEGVURN_BUSY and changes nothing that it was passed. */
 static bool is_closed(tegvurn *embedding) {
   uint64_t number = 7;
   tegvurn_value value = tegvurn_i32(7);
@@ -99,10 +99,10 @@ static bool is_closed(tegvurn *embedding) {
          tegvurn_script(embedding, "{}", 2, NULL, 0, &report) == TEGVURN_BUSY && report.passed == 7 && number == 7 && value.i32 == 7;
 }
 
-/* Returns whether each call is answered as busy. */
+/* Returns whether each call returns TEGVURN_BUSY. */
 static bool is_all_busy(tegvurn *embedding) { return is_closed(embedding) && tegvurn_free(embedding) == TEGVURN_BUSY; }
 
-/* Runs a function on a thread of its own, up to its end. */
+/* Runs a function on a new thread and waits for its end. */
 static void run_on_thread(void *(*function)(void *), void *argument) {
   pthread_t thread;
   CHECK(!pthread_create(&thread, NULL, function, argument) && !pthread_join(thread, NULL));
@@ -123,7 +123,7 @@ static void *free_it(void *embedding) {
   return NULL;
 }
 
-/* Makes the embedding of what a callback gets. */
+/* Makes an embedding with these callbacks, on a thread that then ends. */
 static void *make_it(void *asked) {
   embedding_of(asked);
   return NULL;
@@ -151,7 +151,7 @@ static void test_busy(void) {
   CHECK(tegvurn_free(NULL) == TEGVURN_DONE);
 }
 
-/* Any thread frees an embedding that is idle. */
+/* Any thread may free an idle embedding. */
 static void test_free_elsewhere(void) {
   struct asked asked = {NULL, NULL, NULL, 0};
   tegvurn_value result;
@@ -161,7 +161,7 @@ static void test_free_elsewhere(void) {
   run_on_thread(free_it, embedding);
 }
 
-/* A thread is not taken for an ended one, whose stack and whose thread-local variables it gets. */
+/* A thread is not taken for an ended one, even if it gets the same stack and the same addresses of thread-local variables. */
 static void test_ended_thread(void) {
   struct asked asked = {NULL, NULL, NULL, 0};
   run_on_thread(make_it, &asked);
@@ -227,11 +227,11 @@ static void test_threads(void) {
 
 #define TICKS 50
 
-/* What the handler of SIGALRM calls, and what it found. */
+/* The embeddings that the handler of SIGALRM calls, and what it found. */
 static struct { tegvurn *own, *other; } interrupted;
 static volatile sig_atomic_t ticks, busy_ticks, wrong_ticks, is_in_handler;
 
-/* Calls the embedding that may be interrupted, and another one. These calls take no memory. */
+/* Calls the embedding that may be interrupted, and another one. These calls take no memory, so the handler may make them. */
 static void tick(int number) {
   uint64_t fuel = 0, wanted = 1000 + (uint64_t)ticks;
   (void)number;
@@ -251,7 +251,7 @@ static bool ask_with_signal(struct asked *asked, tegvurn_host_call *call) {
   return true;
 }
 
-/* Sends SIGALRM every so many microseconds, or never if that is 0. */
+/* Sends SIGALRM once every that many microseconds, or never if that is 0. */
 static void set_timer(int microseconds) {
   const struct itimerval timer = {{0, microseconds}, {0, microseconds}};
   CHECK(!setitimer(ITIMER_REAL, &timer, NULL));
@@ -445,7 +445,7 @@ static void check_rows(const struct row *rows, size_t count, tegvurn_status want
 
 #define CHECK_ROWS(rows, wanted) check_rows((rows), sizeof(rows) / sizeof *(rows), (wanted))
 
-/* How tegvurn_new ends with these host functions. */
+/* Returns how tegvurn_new ends with these host functions, if it gives no embedding and says the same twice. */
 static tegvurn_status end_of_new(const tegvurn_host *hosts) {
   tegvurn_end end = {.status = TEGVURN_DONE};
   tegvurn *embedding = (tegvurn *)&config;
@@ -498,7 +498,7 @@ static void test_calls_without_embedding(void) {
   tegvurn_exports_free(NULL);
 }
 
-/* A call without a pointer is refused before it does anything. */
+/* A call with a null pointer is refused before it does anything. */
 static void test_calls_without_pointers(void) {
   struct asked asked = {NULL, NULL, NULL, 0};
   tegvurn *embedding = embedding_of(&asked);
@@ -733,7 +733,7 @@ static bool jump(struct asked *asked, tegvurn_host_call *call) {
   longjmp(way_out, 1);
 }
 
-/* Calls an export whose host function is left, and returns whether the embedding is busy then. */
+/* Calls an export whose host function is left, and returns whether the embedding is busy after that. */
 static bool is_left(tegvurn *embedding, const char *name) {
   tegvurn_value result;
   if (!setjmp(way_out)) {
@@ -743,7 +743,7 @@ static bool is_left(tegvurn *embedding, const char *name) {
   return is_all_busy(embedding);
 }
 
-/* The count of the process's mappings and its resident pages, or 0 where the system does not say. */
+/* Counts the mappings and the resident pages of the process, as 0 if the system does not say. */
 static void count_memory(long *mappings, long *pages) {
   FILE *maps = fopen("/proc/self/maps", "r"), *sizes = fopen("/proc/self/statm", "r");
   *mappings = *pages = 0;
@@ -753,7 +753,7 @@ static void count_memory(long *mappings, long *pages) {
   if (sizes) fclose(sizes);
 }
 
-/* Leaves and abandons many. With the memory lent and without: the proved code waits in another place. */
+/* Leaves and abandons many embeddings. The proved code waits at different places with and without borrowed memory. */
 static void test_left_often(void) {
   struct asked asked = {jump, NULL, NULL, 0};
   bool is_right = true;
@@ -768,7 +768,7 @@ static void test_left_often(void) {
   CHECK(mappings <= mappings_before + 10 && (pages <= pages_before + 1000 || !FREES_AT_ONCE));
 }
 
-/* The callback of one embedding calls another one, whose callback leaves both. */
+/* The callback of one embedding calls another embedding, whose callback leaves both. */
 static void test_left_nested(void) {
   struct asked inner = {jump, NULL, NULL, 0}, outer = {ask_next, NULL, &inner, 0}, other = {NULL, NULL, NULL, 0};
   tegvurn_value result;
@@ -781,7 +781,7 @@ static void test_left_nested(void) {
   CHECK(tegvurn_free(other.embedding) == TEGVURN_DONE);
 }
 
-/* The commands of a script that come after the one that was left call no host function. */
+/* The remaining commands of a script call no host function. */
 static void test_left_script(void) {
 #define COMMAND "{\"type\":\"action\",\"line\":1,\"action\":{\"type\":\"invoke\",\"field\":\"ask\",\"args\":[{\"type\":\"i32\",\"value\":\"1\"}]}}"
   static const char json[] = "{\"commands\":[{\"type\":\"module\",\"line\":1,\"filename\":\"a\"}," COMMAND "," COMMAND "," COMMAND "]}";
@@ -821,7 +821,7 @@ static void test_left_by_thread(void) {
   run_on_thread(abandon_it, asked.embedding);
 }
 
-/* What is idle, also where it has no more than begun, is freed. */
+/* An idle embedding is freed, on any thread. */
 static void test_abandon_idle(void) {
   struct asked asked = {NULL, NULL, NULL, 0};
   tegvurn *embedding;

@@ -53,7 +53,7 @@ static void ask_for_host(void) {
   if (last_read == 10 && lent[9] == 'x') was_answered = read_whole(answer, sizeof answer) && number_at(answer + NUMBER) == 20;
 }
 
-/* What the stand-in found last: how it was answered when it abandoned its own embedding, and what it could still read and write. */
+/* What the stand-in found last: the status when it abandoned its own embedding, and what it could read and write after that. */
 static tegvurn_status abandoned_inside;
 static ssize_t read_last = 9, written_last;
 
@@ -175,8 +175,8 @@ static bool leave_callback(void *context, tegvurn_host_call *call) {
   longjmp(way_out, 1);
 }
 
-/* Whichever way the lent memory would be read, the stand-in reads and writes nothing after the embedding is abandoned, and ends. While it runs
-   itself, its embedding is not abandoned. */
+/* After its embedding is abandoned, the stand-in can neither read nor write, and ends. While it runs itself, its embedding cannot be
+   abandoned. */
 static void test_abandoned(void) {
   static tegvurn *embedding;
   static int calls;
@@ -192,9 +192,9 @@ static void test_abandoned(void) {
   CHECK(!was_answered && read_last == 0 && written_last == -1);
 }
 
-#define TAKEN_OFTEN 1000000
+#define TAKEN_OFTEN 5000000
 
-/* How often the embedding of the test was taken. Only the thread that has taken it counts. */
+/* How often the embedding of the test was taken. Only the thread that has taken it adds to that. */
 static long times_taken;
 static atomic_int threads_begun;
 
@@ -208,7 +208,7 @@ static void *take_often(void *embedding) {
   return NULL;
 }
 
-/* Two threads, as one that calls and one that frees, are never both inside. */
+/* Two threads are never both inside an embedding, such as one that calls it and one that frees it. */
 static void test_take(void) {
   pthread_t threads[2];
   have_reply(-1, NULL, 0, 0);

@@ -78,7 +78,7 @@ struct answer {
 
 static tegvurn *embedding;
 
-/* Whether the next callback is left, and where it goes. */
+/* Whether the next callback is left by longjmp, and where that goes. */
 static bool leaves;
 static jmp_buf way_out;
 
@@ -325,7 +325,7 @@ static bool run_step(size_t step) {
   return true;
 }
 
-/* Leaves a callback, if there is memory to come to it, and abandons the embedding. */
+/* Leaves a callback, unless memory runs out before it is called, and abandons the embedding. */
 static tegvurn_status leave_it(void) {
   leaves = true;
   if (!setjmp(way_out)) call();
@@ -333,7 +333,7 @@ static tegvurn_status leave_it(void) {
   return tegvurn_abandon(embedding);
 }
 
-/* A whole life, up to where the embedding is freed or abandoned. Returns how many allocations there were. */
+/* A whole life, in the end of which the embedding is freed or abandoned. Returns how many allocations there were. */
 static long live_once(bool is_abandoned) {
   struct answer none = {TEGVURN_DONE, 0, 0};
   made = live = 0;

@@ -114,7 +114,7 @@ typedef enum tegvurn_status {
   TEGVURN_NO_ROOM = 5,   /* the function was called, but not all of its results fit */
   TEGVURN_BUSY = 6,      /* nothing was done: see the top of this page */
   TEGVURN_OVER = 7,      /* the embedding has ended, for want of memory or by a fault of the library: all that is left is to free it */
-  TEGVURN_BAD_POINTER = 8 /* a pointer is null that must not be: nothing was done; see the top of this page */
+  TEGVURN_BAD_POINTER = 8 /* a pointer is null that may not be, and nothing was done: see the top of this page */
 } tegvurn_status;
 
 /* Why a call is refused. */
@@ -197,10 +197,10 @@ typedef struct tegvurn_host_call {
   uint32_t trap; /* to be written, with a trap's code, where the answer is false */
 } tegvurn_host_call;
 
-/* What a host function does: true where the results are there, false for a trap. It runs on the caller's stack, inside of the call that
-   runs the module. It may read and write the lent memory until it returns, and not later. It must return: no longjmp and no exception may
+/* A callback of a host function. It returns true if it wrote the results, or false for a trap. It runs on the caller's stack, inside the call
+   that runs the module. It may read and write the memory until it returns, but not later. It must return: no longjmp and no exception may
    leave it, and its thread may not end inside it. If that happens, the embedding stays busy, and only `tegvurn_abandon` frees it. It may call
-   other embeddings, and not its own. */
+   other embeddings, but not its own. */
 typedef bool (*tegvurn_callback)(void *context, tegvurn_host_call *call);
 
 /* A host function: what modules import it by, its type, what it does, and what its calls get as their context. */
@@ -235,7 +235,7 @@ TEGVURN_API tegvurn_status tegvurn_abandon(tegvurn *embedding);
    the embedding may look at it. For NULL it is an end with `TEGVURN_BAD_POINTER`. */
 TEGVURN_API const tegvurn_end *tegvurn_last(const tegvurn *embedding);
 
-/* Loads a module, and gives its number. More than 67,108,864 bytes are refused as `TEGVURN_LIMIT`, and not read. */
+/* Loads a module, and gives its number. More than 67,108,864 bytes are refused as `TEGVURN_LIMIT` without being read. */
 TEGVURN_API tegvurn_status tegvurn_load(tegvurn *embedding, const void *bytes, size_t size, uint64_t *module);
 
 /* Links a module to the host functions and to what registered instances export, runs its start function, and gives the instance's number. */
