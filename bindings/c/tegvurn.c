@@ -25,13 +25,13 @@ uint32_t tegvurn_serve(int32_t ask, int32_t hear);
 #define NUMBER ((size_t)8) /* the bytes of a number */
 #define HEAD (2 * NUMBER)  /* of the head of a message */
 #define VALUE (2 * NUMBER) /* of a value */
-#define SMALLEST_EXPORT (4 * NUMBER)
+#define SMALLEST_TYPE (3 * NUMBER) /* of an export */
 #define MOST_BYTES ((size_t)64 << 20) /* of a module */
 #define ROOM_AT_FIRST ((size_t)512) /* of a message: more than a refusal takes */
 
 /* The kinds of messages. */
 enum order { ORDER_END, ORDER_LOAD, ORDER_LINK, ORDER_REGISTER, ORDER_CALL, ORDER_GET_GLOBAL, ORDER_SET_FUEL, ORDER_FUEL_LEFT,
-             ORDER_EXPORTS, ORDER_FILE, ORDER_SCRIPT, ORDER_DEFINE, ORDER_BEGIN };
+             ORDER_EXPORTS, ORDER_FILE, ORDER_SCRIPT, ORDER_DEFINE, ORDER_BEGIN, ORDER_EXPORT };
 enum reply { REPLY_DONE, REPLY_NUMBER, REPLY_VALUES, REPLY_TRAP, REPLY_EXHAUSTED, REPLY_REFUSED, REPLY_EXPORTS, REPLY_REPORT,
              REPLY_NOT_SPELT, REQUEST_CALL = 10 };
 enum answer { ANSWER_RESULTS = 20, ANSWER_TRAP = 21, ANSWER_PUT = 23 };
@@ -166,6 +166,20 @@ static uint64_t next_number(struct bytes *fields) {
   return number_at(fields->at - NUMBER);
 }
 
+/* Returns how many things of at least that many bytes follow, but no more than fit into what is left. */
+static size_t next_count(struct bytes *fields, size_t least) {
+  uint64_t count = next_number(fields), most = fields->left / least;
+  return (size_t)(count < most ? count : most);
+}
+
+static struct bytes next_text(struct bytes *fields) {
+  struct bytes text = {NULL, next_count(fields, 1)};
+  text.at = fields->at;
+  fields->at += text.left;
+  fields->left -= text.left;
+  return text;
+}
+
 static tegvurn_value next_value(struct bytes *fields) {
   tegvurn_type type = (tegvurn_type)next_number(fields);
   uint64_t number = next_number(fields);
@@ -291,9 +305,9 @@ static const struct wording statuses[] = {
     {"BadPointer", "a pointer is null"}};
 static const struct wording refusals[] = {
     {"", ""}, {"Malformed", ""}, {"Unsupported", ""}, {"Limit", "a limit is passed"}, {"Invalid", ""}, {"UnknownModule", ""},
-    {"UnknownImport", ""}, {"IncompatibleImport", ""}, {"UnknownInstance", ""}, {"UnknownExport", ""}, {"WrongKind", ""}, {"BadArguments", ""},
-    {"NameTaken", ""}, {"OutOfMemory", "out of memory"}, {"HostFuncRef", ""}, {"NotJson", ""}, {"BadCommand", ""}, {"MissingFile", ""},
-    {"BadSetup", ""}};
+    {"UnknownImport", ""}, {"IncompatibleImport", ""}, {"UnknownInstance", ""}, {"UnknownExport", "nothing is exported under the name"}, {"WrongKind", ""},
+    {"BadArguments", ""}, {"NameTaken", ""}, {"OutOfMemory", "out of memory"}, {"HostFuncRef", ""}, {"NotJson", ""}, {"BadCommand", ""},
+    {"MissingFile", ""}, {"BadSetup", ""}};
 static const struct wording traps[] = {
     {"", ""}, {"Unreachable", "unreachable"}, {"DivideByZero", "integer divide by zero"}, {"IntegerOverflow", "integer overflow"},
     {"MemoryBounds", "out of bounds memory access"}, {"TableBounds", "out of bounds table access"},
@@ -597,64 +611,107 @@ tegvurn_status tegvurn_fuel_left(tegvurn *m, uint64_t *fuel) {
 
 /* Exports */
 
-/* Where the types and the names of exports are put next. */
-struct export_room { tegvurn_type *types; char *names; };
-
-static tegvurn_text next_name(struct bytes *fields, struct export_room *room) {
-  tegvurn_text name = {room->names, next_number(fields)};
-  if (name.size > fields->left) name.size = fields->left;
-  memcpy(room->names, fields->at, name.size);
-  room->names[name.size] = 0;
-  room->names += name.size + 1;
-  fields->at += name.size;
-  fields->left -= name.size;
-  return name;
-}
-
-static const tegvurn_type *next_types(struct bytes *fields, struct export_room *room, size_t *count) {
-  tegvurn_type *types = room->types;
-  *count = next_number(fields);
-  if (*count > fields->left / NUMBER) *count = fields->left / NUMBER;
-  for (size_t i = 0; i < *count; i++) *room->types++ = (tegvurn_type)next_number(fields);
+/* Takes the types of parameters or results, and moves the room on. Without room they are only counted. */
+static const tegvurn_type *next_types(struct bytes *fields, tegvurn_type **room, size_t *count) {
+  const tegvurn_type *types = room ? *room : NULL;
+  *count = next_count(fields, NUMBER);
+  for (size_t i = 0; i < *count; i++) {
+    tegvurn_type type = (tegvurn_type)next_number(fields);
+    if (room) *(*room)++ = type;
+  }
   return types;
 }
 
-static tegvurn_export next_export(struct bytes *fields, struct export_room *room) {
-  tegvurn_export export = {.name = next_name(fields, room)};
-  export.kind = (tegvurn_kind)next_number(fields);
-  bool is_table = export.kind == TEGVURN_A_TABLE, is_global = export.kind == TEGVURN_A_GLOBAL;
-  if (export.kind == TEGVURN_A_FUNCTION) {
-    export.params = next_types(fields, room, &export.param_count);
-    export.results = next_types(fields, room, &export.result_count);
+/* Takes a type as an export that has no name yet. */
+static tegvurn_export next_type(struct bytes *fields, tegvurn_type **room) {
+  tegvurn_export type = {.kind = (tegvurn_kind)next_number(fields)};
+  bool is_table = type.kind == TEGVURN_A_TABLE, is_global = type.kind == TEGVURN_A_GLOBAL;
+  if (type.kind == TEGVURN_A_FUNCTION) {
+    type.params = next_types(fields, room, &type.param_count);
+    type.results = next_types(fields, room, &type.result_count);
   }
-  if (is_table || is_global) export.type = (tegvurn_type)next_number(fields);
-  if (is_global) export.is_mutable = next_number(fields) == 1;
-  if (is_table || export.kind == TEGVURN_A_MEMORY) {
-    export.minimum = next_number(fields);
-    export.has_maximum = next_number(fields) == 1;
-    export.maximum = next_number(fields);
+  if (is_table || is_global) type.type = (tegvurn_type)next_number(fields);
+  if (is_global) type.is_mutable = next_number(fields) == 1;
+  if (is_table || type.kind == TEGVURN_A_MEMORY) {
+    type.minimum = next_number(fields);
+    type.has_maximum = next_number(fields) == 1;
+    type.maximum = next_number(fields);
   }
+  return type;
+}
+
+/* Takes an export, whose type is one of these, and moves the room of names on. If the type is none of these, it is all zeros. */
+static tegvurn_export next_export(struct bytes *fields, const tegvurn_export *types, size_t type_count, char **names) {
+  struct bytes name = next_text(fields);
+  uint64_t number = next_number(fields);
+  tegvurn_export export = {.kind = TEGVURN_A_FUNCTION};
+  if (number < type_count) export = types[number];
+  export.name = (tegvurn_text){*names, name.left};
+  if (name.left) memcpy(*names, name.at, name.left);
+  (*names)[name.left] = 0;
+  *names += name.left + 1;
   return export;
 }
 
-/* The exports that were heard, in one piece of memory: room for the most exports that so many bytes can be, the most types, and names. */
+/* How many exports there are, how many types, how many parameters and results these have, and how many bytes the names take. */
+struct export_counts { size_t exports, types, values, names; };
+
+static struct export_counts count_exports(struct bytes fields) {
+  struct export_counts counts = {.types = next_count(&fields, SMALLEST_TYPE)};
+  for (size_t i = 0; i < counts.types; i++) {
+    tegvurn_export type = next_type(&fields, NULL);
+    counts.values += type.param_count + type.result_count;
+  }
+  for (; fields.left; counts.exports++) {
+    counts.names += next_text(&fields).left + 1;
+    next_number(&fields);
+  }
+  return counts;
+}
+
+/* Takes the exports in one piece of memory: first the exports themselves, then their types, whose parameters and results all exports of a
+   type share, and then the names. The last byte is for a piece that would be empty. */
 static tegvurn_export *take_exports(struct bytes fields, size_t *count) {
-  size_t exports_most = fields.left / SMALLEST_EXPORT + 1, types_most = fields.left / NUMBER, name_bytes = fields.left + exports_most;
-  tegvurn_export *exports = malloc(exports_most * sizeof *exports + types_most * sizeof(tegvurn_type) + name_bytes);
+  struct export_counts counts = count_exports(fields);
+  size_t values_size = counts.values * sizeof(tegvurn_type);
+  tegvurn_export *exports = malloc((counts.exports + counts.types) * sizeof *exports + values_size + counts.names + 1);
   if (!exports) return NULL;
-  tegvurn_type *types = (tegvurn_type *)(exports + exports_most);
-  struct export_room room = {types, (char *)(types + types_most)};
-  for (*count = 0; fields.left; ++*count) exports[*count] = next_export(&fields, &room);
+  tegvurn_export *types = exports + counts.exports;
+  tegvurn_type *values = (tegvurn_type *)(types + counts.types);
+  char *names = (char *)(values + counts.values);
+  next_number(&fields);
+  for (size_t i = 0; i < counts.types; i++) types[i] = next_type(&fields, &values);
+  for (size_t i = 0; i < counts.exports; i++) exports[i] = next_export(&fields, types, counts.types, &names);
+  *count = counts.exports;
   return exports;
+}
+
+/* Takes the exports that were heard, if the order was done. */
+static tegvurn_status take_list(tegvurn *m, tegvurn_status status, tegvurn_export **exports, size_t *count) {
+  if (status) return status;
+  *exports = m->is_cut ? NULL : take_exports(fields_heard(m), count);
+  return *exports ? status : end_without_memory(&m->end);
+}
+
+/* Finds one export. A list of none means that what is exported is not in the store. */
+static tegvurn_status find_export(tegvurn *m, uint64_t instance, tegvurn_text name, tegvurn_export **found) {
+  tegvurn_export *list = NULL;
+  size_t count = 0;
+  tegvurn_status status = take_list(m, send_short(m, ORDER_EXPORT, &instance, name.bytes, name.size), &list, &count);
+  if (!status && !count) status = set_end(&m->end, TEGVURN_REFUSED, TEGVURN_UNKNOWN_EXPORT, refusals[TEGVURN_UNKNOWN_EXPORT]);
+  if (status) free(list);
+  else *found = list;
+  return status;
 }
 
 tegvurn_status tegvurn_exports(tegvurn *m, uint64_t instance, tegvurn_export **exports, size_t *count) {
   tegvurn_status status = enter(m, exports && count);
-  if (status) return status;
-  status = send_short(m, ORDER_EXPORTS, &instance, NULL, 0);
-  if (status) return finish(m, status);
-  *exports = m->is_cut ? NULL : take_exports(fields_heard(m), count);
-  return finish(m, *exports ? status : end_without_memory(&m->end));
+  return status ? status : finish(m, take_list(m, send_short(m, ORDER_EXPORTS, &instance, NULL, 0), exports, count));
+}
+
+tegvurn_status tegvurn_find_export(tegvurn *m, uint64_t instance, tegvurn_text name, tegvurn_export **found) {
+  tegvurn_status status = enter(m, found && is_there(name.bytes, name.size));
+  return status ? status : finish(m, find_export(m, instance, name, found));
 }
 
 void tegvurn_exports_free(tegvurn_export *exports) { free(exports); }

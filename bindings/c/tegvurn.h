@@ -263,7 +263,8 @@ typedef enum tegvurn_kind {
   TEGVURN_A_GLOBAL = 3
 } tegvurn_kind;
 
-/* An export: its name, behind which stands a zero byte, and its type. */
+/* An export: its name, which a zero byte follows, and its type. Exports of one list may share the arrays of parameters and results, which
+   belong to the whole list. */
 typedef struct tegvurn_export {
   tegvurn_text name;
   tegvurn_kind kind;
@@ -278,9 +279,16 @@ typedef struct tegvurn_export {
   uint64_t maximum;
 } tegvurn_export;
 
-/* Gives what an instance exports: nothing where there is no such instance. The caller frees *exports, with all that its members point to,
-   by `tegvurn_exports_free`. */
+/* Gives what an instance exports: nothing if there is no such instance. The caller frees *exports, with all that its members point to, by
+   `tegvurn_exports_free`. The memory that the list takes grows with the modules that declare what is exported: functions that are declared
+   at one place share one type. */
 TEGVURN_API tegvurn_status tegvurn_exports(tegvurn *embedding, uint64_t instance, tegvurn_export **exports, size_t *count);
+
+/* Gives one export, however many there are. The caller frees *found, with all that its members point to, by `tegvurn_exports_free`. The call
+   is refused as `TEGVURN_UNKNOWN_INSTANCE`, `TEGVURN_UNKNOWN_EXPORT` or `TEGVURN_OUT_OF_MEMORY`. */
+TEGVURN_API tegvurn_status tegvurn_find_export(tegvurn *embedding, uint64_t instance, tegvurn_text name, tegvurn_export **found);
+
+/* Frees what `tegvurn_exports` or `tegvurn_find_export` gave. */
 TEGVURN_API void tegvurn_exports_free(tegvurn_export *exports);
 
 /* A file of a script. */
