@@ -1,7 +1,9 @@
-/* How much of its stack the proved code uses: with modules and scripts that are nested deeply or long, and calls to the greatest depth.
+/* How much of its stack the proved code uses: with modules and scripts that are nested deeply or long, calls to the greatest depth, and many
+   exports.
    Ends with 1 where it is more than MOST, a part of what there is. For stacks that are switched by assembly. It also compares how the C side
    and the proved code end the loading of a module that is too large. */
 #include "tegvurn.c"
+#include "test_module.h"
 
 #include <stdio.h>
 
@@ -113,6 +115,22 @@ static void call_to_the_greatest_depth(void) {
   end_painted(m, "a recursion to the depth of 65,535");
 }
 
+/* Lists many exports, and finds one of them. */
+static void list_many_exports(void) {
+  tegvurn *m = begin_painted();
+  tegvurn_export *exports = NULL, *found = NULL;
+  uint64_t number;
+  size_t count = 0;
+  size = spell_exports(bytes, MANY_EXPORTS, MANY_TYPES);
+  check(tegvurn_load(m, bytes, size, &number) == TEGVURN_DONE, "it is not loaded");
+  check(tegvurn_link(m, number, &number) == TEGVURN_DONE, "it is not linked");
+  check(tegvurn_exports(m, number, &exports, &count) == TEGVURN_DONE && count == MANY_EXPORTS, "its exports are not listed");
+  check(tegvurn_find_export(m, number, tegvurn_string("000"), &found) == TEGVURN_DONE, "no export is found");
+  tegvurn_exports_free(exports);
+  tegvurn_exports_free(found);
+  end_painted(m, "many exports");
+}
+
 /* Runs a script that is refused. */
 static void refuse_script(const char *what) {
   tegvurn *m = begin_painted();
@@ -153,6 +171,7 @@ int main(void) {
   spell_sum();
   load("a constant expression");
   call_to_the_greatest_depth();
+  list_many_exports();
   size = 0;
   put_often("[", LEVELS);
   refuse_script("nested arrays that do not end");

@@ -1,5 +1,5 @@
-/* Edges of the library: who may call, room for results, several embeddings, what callbacks may answer and see, texts, what is kept, and
-   callbacks that are left. */
+/* Edges of the library: who may call, room for results, several embeddings, what callbacks may answer and see, texts, what is kept, many
+   exports, and callbacks that are left. */
 #define _GNU_SOURCE
 #include "tegvurn.h"
 #include "test_module.h"
@@ -95,7 +95,8 @@ static bool is_closed(tegvurn *embedding) {
          tegvurn_call(embedding, 0, tegvurn_string("empty"), NULL, 0, &value, 1, &count) == TEGVURN_BUSY && count == 0 &&
          tegvurn_get_global(embedding, 0, tegvurn_string("number"), &value) == TEGVURN_BUSY &&
          tegvurn_set_fuel(embedding, 7) == TEGVURN_BUSY && tegvurn_fuel_left(embedding, &number) == TEGVURN_BUSY &&
-         tegvurn_exports(embedding, 0, &exports, &kept) == TEGVURN_BUSY && !exports && kept == 7 &&
+         tegvurn_exports(embedding, 0, &exports, &kept) == TEGVURN_BUSY && kept == 7 &&
+         tegvurn_find_export(embedding, 0, tegvurn_string("number"), &exports) == TEGVURN_BUSY && !exports &&
          tegvurn_script(embedding, "{}", 2, NULL, 0, &report) == TEGVURN_BUSY && report.passed == 7 && number == 7 && value.i32 == 7;
 }
 
@@ -489,6 +490,7 @@ static void test_calls_without_embedding(void) {
       {"set the fuel", tegvurn_set_fuel(NULL, 7)},
       {"fuel left", tegvurn_fuel_left(NULL, &number)},
       {"exports", tegvurn_exports(NULL, 0, &exports, &count)},
+      {"find an export", tegvurn_find_export(NULL, 0, tegvurn_string("number"), &exports)},
       {"script", tegvurn_script(NULL, "{}", 2, NULL, 0, &report)},
       {"how the last call ended", tegvurn_last(NULL)->status},
   };
@@ -523,6 +525,8 @@ static void test_calls_without_pointers(void) {
       {"fuel left without a number", tegvurn_fuel_left(embedding, NULL)},
       {"exports without a list", tegvurn_exports(embedding, 0, NULL, &count)},
       {"exports without a count", tegvurn_exports(embedding, 0, &exports, NULL)},
+      {"find an export without a name", tegvurn_find_export(embedding, 0, NO_TEXT, &exports)},
+      {"find an export without a place for it", tegvurn_find_export(embedding, 0, empty, NULL)},
       {"script without bytes", tegvurn_script(embedding, NULL, 1, NULL, 0, &report)},
       {"script without files", tegvurn_script(embedding, "{}", 2, NULL, 1, &report)},
       {"script without the name of a file", tegvurn_script(embedding, "{}", 2, &files[0], 1, &report)},
@@ -543,6 +547,7 @@ static void test_texts(void) {
   struct asked asked = {NULL, NULL, NULL, 0};
   tegvurn *embedding = embedding_of(&asked);
   tegvurn_value value = tegvurn_i32(1);
+  tegvurn_export *export = NULL;
   uint64_t number;
   CHECK(tegvurn_register(embedding, 0, tegvurn_string("\xc3")) == TEGVURN_NOT_SPELT);
   CHECK(tegvurn_register(embedding, 0, (tegvurn_text){"", 0}) == TEGVURN_DONE);
@@ -553,6 +558,7 @@ static void test_texts(void) {
   CHECK(tegvurn_last(embedding)->number == TEGVURN_UNKNOWN_EXPORT);
   CHECK(tegvurn_get_global(embedding, 0, (tegvurn_text){"numbers", 6}, &value) == TEGVURN_DONE);
   CHECK(call_one(embedding, "\xff", value, &value) == TEGVURN_NOT_SPELT);
+  CHECK(tegvurn_find_export(embedding, 0, tegvurn_string("\xff"), &export) == TEGVURN_NOT_SPELT && !export);
   value.type = (tegvurn_type)5;
   CHECK(call_one(embedding, "ask", value, &value) == TEGVURN_NOT_SPELT);
   CHECK(tegvurn_load(embedding, "\0asm\1\0\0", 7, &number) == TEGVURN_REFUSED);
@@ -650,6 +656,100 @@ static void test_copies(void) {
   CHECK(!strcmp(exports[0].name.bytes, "f") && exports[0].name.size == 1 && exports[0].kind == TEGVURN_A_FUNCTION);
   CHECK(exports[0].param_count == 1 && exports[0].params[0] == TEGVURN_I32 && exports[0].results[0] == TEGVURN_I32);
   tegvurn_exports_free(exports);
+}
+
+/* Exports */
+
+static bool is_same_type(const tegvurn_export *one, const tegvurn_export *other) {
+  return one->kind == other->kind && one->param_count == other->param_count && one->result_count == other->result_count &&
+         (!one->param_count || !memcmp(one->params, other->params, one->param_count * sizeof *one->params)) &&
+         (!one->result_count || !memcmp(one->results, other->results, one->result_count * sizeof *one->results)) &&
+         one->type == other->type && one->is_mutable == other->is_mutable && one->minimum == other->minimum &&
+         one->has_maximum == other->has_maximum && one->maximum == other->maximum;
+}
+
+/* Each export is found as it is listed. */
+static void test_find_export(void) {
+  struct asked asked = {NULL, NULL, NULL, 0};
+  tegvurn *embedding = embedding_of(&asked);
+  tegvurn_export *exports, *export, *unchanged = NULL;
+  size_t count;
+  CHECK(tegvurn_exports(embedding, 0, &exports, &count) == TEGVURN_DONE && count == 12);
+  for (size_t i = 0; i < count; i++) {
+    const char *name = exports[i].name.bytes;
+    check(tegvurn_find_export(embedding, 0, tegvurn_string(name), &export) == TEGVURN_DONE, __LINE__, name);
+    check(export->name.size == strlen(name) && !strcmp(export->name.bytes, name) && is_same_type(export, &exports[i]), __LINE__, name);
+    tegvurn_exports_free(export);
+  }
+  tegvurn_exports_free(exports);
+  const struct { const char *name; uint64_t instance; tegvurn_text text; tegvurn_refusal refusal; } rows[] = {
+      {"find in an unknown instance", 1, tegvurn_string("ask"), TEGVURN_UNKNOWN_INSTANCE},
+      {"find in the last instance", UINT64_MAX, tegvurn_string("ask"), TEGVURN_UNKNOWN_INSTANCE},
+      {"find an unknown export", 0, tegvurn_string("asks"), TEGVURN_UNKNOWN_EXPORT},
+      {"find an empty name", 0, {NULL, 0}, TEGVURN_UNKNOWN_EXPORT},
+      {"find a name and a zero byte", 0, {"ask\0", 4}, TEGVURN_UNKNOWN_EXPORT},
+  };
+  for (size_t i = 0; i < sizeof rows / sizeof *rows; i++) {
+    tegvurn_status status = tegvurn_find_export(embedding, rows[i].instance, rows[i].text, &unchanged);
+    const tegvurn_end *end = tegvurn_last(embedding);
+    check(status == TEGVURN_REFUSED && end->number == rows[i].refusal && *end->text && !unchanged, __LINE__, rows[i].name);
+  }
+  CHECK(tegvurn_free(embedding) == TEGVURN_DONE);
+}
+
+/* Returns an embedding in which instance 0 exports a function of that many parameters and results under that many names. */
+static tegvurn *embedding_with(size_t exports, size_t types) {
+  uint8_t *bytes = malloc(EXPORTS_ROOM(exports, types));
+  tegvurn *embedding;
+  uint64_t number;
+  if (!bytes) exit(2);
+  CHECK(tegvurn_new(&config, NULL, 0, &embedding, NULL) == TEGVURN_DONE);
+  CHECK(tegvurn_load(embedding, bytes, spell_exports(bytes, exports, types), &number) == TEGVURN_DONE);
+  CHECK(tegvurn_link(embedding, number, &number) == TEGVURN_DONE && number == 0);
+  free(bytes);
+  return embedding;
+}
+
+/* All exports of a function share the arrays of its type, which outlive the embedding. */
+static void test_many_exports(void) {
+  tegvurn *embedding = embedding_with(MANY_EXPORTS, MANY_TYPES);
+  tegvurn_export *exports, *last;
+  uint8_t name[4] = {0};
+  size_t count;
+  bool is_right = true;
+  CHECK(tegvurn_exports(embedding, 0, &exports, &count) == TEGVURN_DONE && count == MANY_EXPORTS);
+  spell_name(name, MANY_EXPORTS - 1);
+  CHECK(tegvurn_find_export(embedding, 0, tegvurn_string((char *)name), &last) == TEGVURN_DONE);
+  CHECK(tegvurn_free(embedding) == TEGVURN_DONE);
+  for (size_t i = 0; i < count; i++) {
+    spell_name(name, i);
+    is_right = is_right && exports[i].name.size == 3 && !memcmp(exports[i].name.bytes, name, 4) &&
+               exports[i].params == exports[0].params && exports[i].results == exports[0].results;
+  }
+  CHECK(is_right && is_same_type(&exports[0], last) && is_same_type(&exports[count - 1], last));
+  for (size_t i = 0; i < MANY_TYPES; i++) is_right = is_right && last->params[i] == TEGVURN_I32 && last->results[i] == TEGVURN_I32;
+  CHECK(is_right && last->param_count == MANY_TYPES && last->result_count == MANY_TYPES && !memcmp(last->name.bytes, name, 4));
+  tegvurn_exports_free(exports);
+  tegvurn_exports_free(last);
+}
+
+#define MORE_EXPORTS 200000
+#define FOUND_OFTEN 1000
+
+/* Finding an export takes the time of a few exports, however many there are. */
+static void test_find_among_more(void) {
+  tegvurn *embedding = embedding_with(MORE_EXPORTS, 1);
+  bool is_right = true;
+  double start = seconds();
+  for (size_t i = 0; i < FOUND_OFTEN; i++) {
+    tegvurn_export *export = NULL;
+    uint8_t name[4] = {0};
+    spell_name(name, MORE_EXPORTS - 1 - i);
+    is_right = is_right && !tegvurn_find_export(embedding, 0, tegvurn_string((char *)name), &export) && export->param_count == 1;
+    tegvurn_exports_free(export);
+  }
+  CHECK(is_right && seconds() - start < 0.5);
+  CHECK(tegvurn_free(embedding) == TEGVURN_DONE);
 }
 
 /* Files are forgotten behind a script, and where one of them is not taken. */
@@ -851,6 +951,9 @@ int main(void) {
   test_too_large();
   test_long_messages();
   test_copies();
+  test_find_export();
+  test_many_exports();
+  test_find_among_more();
   test_files();
   test_wide();
   test_left_often();
