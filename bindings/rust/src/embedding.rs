@@ -1,4 +1,4 @@
-//! The C library, and all that is unsafe in this crate. The declarations are those of tegvurn.h.
+//! The C library, and all that is unsafe in this crate except shared values (`counted.rs`). The declarations are those of tegvurn.h.
 //!
 //! The C library's requirements are met as follows. Pointers and counts are those of slices that live during the call, and none is null. Host
 //! functions live as long as the embedding. No panic unwinds into C: a closure's panic is caught and kept, and nothing is dropped between C's
@@ -13,7 +13,7 @@ use crate::linker::{Caller, Config, Definition, HostFunction, HostTrap};
 use crate::store::Report;
 use crate::types::{ExternType, FuncType, Limits, Val, ValType};
 use std::any::Any;
-use std::collections::TryReserveError;
+use std::collections::{HashMap, TryReserveError};
 use std::ffi::CStr;
 use std::mem::{size_of, ManuallyDrop};
 use std::os::raw::{c_char, c_void};
@@ -163,6 +163,12 @@ extern "C" {
         exports: *mut *mut RawExport,
         count: *mut usize,
     ) -> u32;
+    fn tegvurn_find_export(
+        embedding: *mut Handle,
+        instance: u64,
+        name: RawText,
+        found: *mut *mut RawExport,
+    ) -> u32;
     fn tegvurn_exports_free(exports: *mut RawExport);
     fn tegvurn_script(
         embedding: *mut Handle,
@@ -283,6 +289,31 @@ fn place_of(place: u32, at: u64) -> Option<Place> {
     })
 }
 
+fn owned(text: &str) -> Result<String, TryReserveError> {
+    let mut owned = String::new();
+    owned.try_reserve_exact(text.len())?;
+    owned.push_str(text);
+    Ok(owned)
+}
+
+/// A name that is kept.
+pub(crate) fn kept(name: &str) -> Result<String, Error> {
+    owned(name).map_err(|_| out_of_memory())
+}
+
+/// A refusal, in words if there is memory for them.
+pub(crate) fn refused(cause: Cause, place: Option<Place>, text: &str) -> Error {
+    Error::Refused(Refusal {
+        cause,
+        place,
+        text: owned(text).unwrap_or_default(),
+    })
+}
+
+fn out_of_memory() -> Error {
+    refused(Cause::OutOfMemory, None, "out of memory")
+}
+
 // The error of a status that is not done, with how the last call ended. The C library keeps no end for some statuses, as busy: then it is the
 // end of an earlier call.
 fn error_of_status(status: u32, last: &RawEnd) -> Error {
@@ -298,15 +329,9 @@ fn error_of(end: &RawEnd) -> Error {
     match end.status {
         REFUSED => {
             // The text ends with a zero byte.
-            let text = unsafe { CStr::from_ptr(end.text.as_ptr()) }
-                .to_string_lossy()
-                .into_owned();
+            let text = unsafe { CStr::from_ptr(end.text.as_ptr()) }.to_string_lossy();
             match Cause::ALL.get(index) {
-                Some(&cause) => Error::Refused(Refusal {
-                    cause,
-                    place: place_of(end.place, end.at),
-                    text,
-                }),
+                Some(&cause) => refused(cause, place_of(end.place, end.at), &text),
                 None => Error::Over,
             }
         }
@@ -620,6 +645,18 @@ impl<T: 'static> Embedding<T> {
         list.map_err(|_| out_of_memory())
     }
 
+    /// The type of one export.
+    pub(crate) fn find_export(&mut self, instance: u64, name: &str) -> Result<ExternType, Error> {
+        let mut found = ptr::null_mut();
+        let status = unsafe {
+            tegvurn_find_export(self.handle.as_ptr(), instance, raw_text(name), &mut found)
+        };
+        self.done(status)?;
+        let ty = unsafe { extern_type_of(&*found, &mut Known::new()) };
+        unsafe { tegvurn_exports_free(found) };
+        ty.map_err(|_| out_of_memory())
+    }
+
     pub(crate) fn script(&mut self, json: &[u8], files: &[(&str, &[u8])]) -> Result<Report, Error> {
         let raw_files: Vec<RawFile> = files
             .iter()
@@ -655,68 +692,67 @@ impl<T: 'static> Embedding<T> {
     }
 }
 
-// Exports, whose number and size the module decides: allocations that fail are answered
+// Exports, whose number and size the module decides: if an allocation fails, that is an error
+
+// The types of functions that are known, by the arrays of the C library. Exports with the same arrays share a type.
+type Known = HashMap<(*const u32, usize, *const u32, usize), FuncType>;
 
 /// # Safety
-/// The exports are those of the C library.
+/// The exports are those of one list of the C library.
 unsafe fn exports_of(raw: &[RawExport]) -> Result<Vec<Export>, TryReserveError> {
-    let mut list = Vec::new();
+    let (mut list, mut known) = (Vec::new(), Known::new());
     list.try_reserve_exact(raw.len())?;
     for export in raw {
         list.push(Export {
             name: owned(&String::from_utf8_lossy(unsafe {
                 slice_of(export.name.bytes, export.name.size)
             }))?,
-            ty: unsafe { extern_type_of(export) }?,
+            ty: unsafe { extern_type_of(export, &mut known) }?,
         });
     }
     Ok(list)
 }
 
-fn owned(text: &str) -> Result<String, TryReserveError> {
-    let mut owned = String::new();
-    owned.try_reserve_exact(text.len())?;
-    owned.push_str(text);
-    Ok(owned)
-}
-
 /// # Safety
-/// There are that many numbers at the pointer.
-unsafe fn types_of(at: *const u32, count: usize) -> Result<Vec<ValType>, TryReserveError> {
-    let raw = unsafe { slice_of(at, count) };
+/// The export is a function of the C library's list whose types are known.
+unsafe fn func_type_of(raw: &RawExport, known: &mut Known) -> Result<FuncType, TryReserveError> {
+    let arrays = (raw.params, raw.param_count, raw.results, raw.result_count);
+    if let Some(ty) = known.get(&arrays) {
+        return Ok(ty.clone());
+    }
+    known.try_reserve(1)?;
+    let (params, results) = unsafe {
+        (
+            slice_of(raw.params, raw.param_count),
+            slice_of(raw.results, raw.result_count),
+        )
+    };
     let mut types = Vec::new();
-    types.try_reserve_exact(raw.len())?;
-    types.extend(raw.iter().copied().map(type_of));
-    Ok(types)
+    types.try_reserve_exact(params.len() + results.len())?;
+    types.extend(params.iter().chain(results).copied().map(type_of));
+    let ty = FuncType::try_new(types, params.len())?;
+    known.insert(arrays, ty.clone());
+    Ok(ty)
 }
 
 /// # Safety
-/// The export is one of the C library's.
-unsafe fn extern_type_of(raw: &RawExport) -> Result<ExternType, TryReserveError> {
+/// The export is one of the C library's list whose types are known.
+unsafe fn extern_type_of(
+    raw: &RawExport,
+    known: &mut Known,
+) -> Result<ExternType, TryReserveError> {
     let limits = Limits {
         minimum: raw.minimum,
         maximum: raw.has_maximum.then_some(raw.maximum),
     };
     Ok(match raw.kind {
-        0 => ExternType::Func(FuncType {
-            params: unsafe { types_of(raw.params, raw.param_count) }?,
-            results: unsafe { types_of(raw.results, raw.result_count) }?,
-        }),
+        0 => ExternType::Func(unsafe { func_type_of(raw, known) }?),
         1 => ExternType::Table(type_of(raw.ty), limits),
         2 => ExternType::Memory(limits),
         _ => ExternType::Global {
             ty: type_of(raw.ty),
             is_mutable: raw.is_mutable,
         },
-    })
-}
-
-// The refusal in words, if there is memory for them.
-fn out_of_memory() -> Error {
-    Error::Refused(Refusal {
-        cause: Cause::OutOfMemory,
-        place: None,
-        text: owned("out of memory").unwrap_or_default(),
     })
 }
 
