@@ -74,6 +74,27 @@ names() {
     echo "$(wc -l < "$BUILD/names.wanted") names"
 }
 
+# The shared library is bound when it is loaded, and read-only then; no code is written, the stack is no code, and no control-flow enforcement
+# is claimed (the Makefile says why).
+hardened() {
+  readelf -dW "$BUILD/libtegvurn.so" > "$BUILD/dynamic" && readelf -lW "$BUILD/libtegvurn.so" > "$BUILD/segments" || return 1
+  grep -q 'FLAGS.*BIND_NOW' "$BUILD/dynamic" || { echo "not bound when it is loaded"; return 1; }
+  ! grep TEXTREL "$BUILD/dynamic" || return 1
+  grep -q GNU_RELRO "$BUILD/segments" || { echo "no read-only relocations"; return 1; }
+  grep -q 'GNU_STACK.* RW ' "$BUILD/segments" || { echo "an executable stack"; return 1; }
+  ! readelf -nW "$BUILD/libtegvurn.so" "$BUILD/libtegvurn.a" | grep -E 'IBT|SHSTK' || return 1
+  echo "as it has to be"
+}
+
+# The switch of stacks has unwind information: that many bytes of code from its address on.
+unwound() {
+  start=$(nm "$BUILD/libtegvurn.so" | awk '$3 == "tegvurn_switch" { print $1 }')
+  [ -n "$start" ] || { echo "no tegvurn_switch"; return 1; }
+  readelf --debug-dump=frames "$BUILD/libtegvurn.so" | awk '/^Contents/ { section = $4 } /FDE/ && section == ".eh_frame"' |
+    grep -q "pc=$start\.\." || { echo "no unwind information of tegvurn_switch"; return 1; }
+  echo "as it has to be"
+}
+
 # The header for C++, strictly.
 header() {
   for standard in c++98 c++11 c++20; do
@@ -81,6 +102,11 @@ header() {
       "${CXX:-c++}" -std=$standard -pedantic -Wall -Wextra -Werror -I. -x c++ -fsyntax-only - || return 1
   done
   echo "no complaint"
+}
+
+# A C++ exception leaves a callback.
+thrown() {
+  "${CXX:-c++}" -std=c++11 -Wall -Wextra -I. -o "$BUILD/thrown" thrown.cpp "$BUILD/libtegvurn.a" && "$BUILD/thrown"
 }
 
 # What is installed serves the example, by pkg-config, statically and shared.
@@ -99,7 +125,18 @@ installed() {
 }
 
 run "global names" names
-if has "${CXX:-c++}"; then run "header for C++" header; else echo "skipped: the header for C++ (no ${CXX:-c++})"; fi
+if has readelf; then
+  run "hardening" hardened
+  if [ "$(uname -m)" = x86_64 ]; then run "unwind information" unwound; fi
+else
+  echo "skipped: hardening and unwind information of the shared library (no readelf)"
+fi
+if has "${CXX:-c++}"; then
+  run "header for C++" header
+  run "exception" thrown
+else
+  echo "skipped: the header for C++, and an exception (no ${CXX:-c++})"
+fi
 if has pkg-config; then run "installed" installed; else echo "skipped: what is installed (no pkg-config)"; fi
 
 for way in assembly ucontext; do
@@ -107,7 +144,6 @@ for way in assembly ucontext; do
   if [ $way = ucontext ]; then define=-DTEGVURN_UCONTEXT; fi
   if build $way "$CFLAGS" $define; then
     programs $way $way
-    run "$way edges with longjmp" "$BUILD/$way/edges" longjmp
     run "$way refused allocations" "$BUILD/$way/memory"
     if [ $way = assembly ]; then run "$way stack" deep "$way"; fi
   fi

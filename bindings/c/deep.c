@@ -1,6 +1,9 @@
-/* How much of its stack the proved code uses: with modules and scripts that are nested deeply or long, and calls to the greatest depth.
-   Ends with 1 where it is more than MOST, a part of what there is. For stacks that are switched by assembly. */
+/* How much of its stack the proved code uses: with modules and scripts that are nested deeply or long, calls to the greatest depth, and many
+   exports.
+   Ends with 1 where it is more than MOST, a part of what there is. For stacks that are switched by assembly. It also compares how the C side
+   and the proved code end the loading of a module that is too large. */
 #include "tegvurn.c"
+#include "test_module.h"
 
 #include <stdio.h>
 
@@ -112,12 +115,50 @@ static void call_to_the_greatest_depth(void) {
   end_painted(m, "a recursion to the depth of 65,535");
 }
 
+/* Lists many exports, and finds one of them. */
+static void list_many_exports(void) {
+  tegvurn *m = begin_painted();
+  tegvurn_export *exports = NULL, *found = NULL;
+  uint64_t number;
+  size_t count = 0;
+  size = spell_exports(bytes, MANY_EXPORTS, MANY_TYPES);
+  check(tegvurn_load(m, bytes, size, &number) == TEGVURN_DONE, "it is not loaded");
+  check(tegvurn_link(m, number, &number) == TEGVURN_DONE, "it is not linked");
+  check(tegvurn_exports(m, number, &exports, &count) == TEGVURN_DONE && count == MANY_EXPORTS, "its exports are not listed");
+  check(tegvurn_find_export(m, number, tegvurn_string("000"), &found) == TEGVURN_DONE, "no export is found");
+  tegvurn_exports_free(exports);
+  tegvurn_exports_free(found);
+  end_painted(m, "many exports");
+}
+
 /* Runs a script that is refused. */
 static void refuse_script(const char *what) {
   tegvurn *m = begin_painted();
   tegvurn_report report;
   check(tegvurn_script(m, bytes, size, NULL, 0, &report) == TEGVURN_REFUSED, "it is not refused");
   end_painted(m, what);
+}
+
+static bool is_same_end(const tegvurn_end *one, const tegvurn_end *other) {
+  return one->status == other->status && one->number == other->number && !strcmp(one->name, other->name) && one->place == other->place &&
+         one->at == other->at && one->code == other->code && !strcmp(one->text, other->text);
+}
+
+/* Loads as many zeros as are allowed, and one more. The C side refuses only the second module by itself, with the end of the proved code. */
+static void load_too_much(void) {
+  void *zeros = mmap(NULL, MOST_BYTES + 1, PROT_READ, MAP_PRIVATE | MAP_ANONYMOUS, -1, 0);
+  check(zeros != MAP_FAILED, "no zeros");
+  for (size_t more = 0; more < 2; more++) {
+    tegvurn *m = begin_painted();
+    uint64_t number;
+    send_short(m, ORDER_LOAD, NULL, zeros, MOST_BYTES + more);
+    tegvurn_end proved = m->end;
+    check((proved.number == TEGVURN_LIMIT) == (more == 1), "another size is the greatest");
+    check(tegvurn_load(m, zeros, MOST_BYTES + more, &number) == TEGVURN_REFUSED, "it is not refused");
+    check(is_same_end(&m->end, &proved), "the C side refuses it in another way");
+    end_painted(m, "a module that is too large");
+  }
+  munmap(zeros, MOST_BYTES + 1);
 }
 
 int main(void) {
@@ -130,6 +171,7 @@ int main(void) {
   spell_sum();
   load("a constant expression");
   call_to_the_greatest_depth();
+  list_many_exports();
   size = 0;
   put_often("[", LEVELS);
   refuse_script("nested arrays that do not end");
@@ -138,6 +180,7 @@ int main(void) {
   size = 0;
   put_often("{\"a\":", LEVELS);
   refuse_script("nested objects that do not end");
+  load_too_much();
   printf("%zu bytes of stack at most, %d failed\n", most_used, failed);
   return failed != 0;
 }

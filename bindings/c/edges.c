@@ -1,12 +1,17 @@
-/* Edges of the library: who may call, room for results, several embeddings, what callbacks may answer and see, texts, and what is kept.
-   With the argument `longjmp` also a callback that is left by longjmp, whose embedding can never be freed. */
+/* Edges of the library: who may call, room for results, several embeddings, what callbacks may answer and see, texts, what is kept, many
+   exports, and callbacks that are left. */
+#define _GNU_SOURCE
 #include "tegvurn.h"
 #include "test_module.h"
 
 #include <pthread.h>
 #include <setjmp.h>
+#include <signal.h>
 #include <stdio.h>
 #include <stdlib.h>
+#include <sys/mman.h>
+#include <sys/time.h>
+#include <time.h>
 
 #define CHECK(is_so) check((is_so), __LINE__, #is_so)
 #define WIDTH 300
@@ -77,8 +82,8 @@ static bool trapped_with(const tegvurn *embedding, uint32_t code) {
 
 /* Who may call */
 
-/* Whether each call of an embedding is answered as busy, and leaves what it was given. */
-static bool is_all_busy(tegvurn *embedding) {
+/* Returns whether each call except tegvurn_free returns TEGVURN_BUSY and changes nothing that it was passed. */
+static bool is_closed(tegvurn *embedding) {
   uint64_t number = 7;
   tegvurn_value value = tegvurn_i32(7);
   tegvurn_export *exports = NULL;
@@ -90,24 +95,44 @@ static bool is_all_busy(tegvurn *embedding) {
          tegvurn_call(embedding, 0, tegvurn_string("empty"), NULL, 0, &value, 1, &count) == TEGVURN_BUSY && count == 0 &&
          tegvurn_get_global(embedding, 0, tegvurn_string("number"), &value) == TEGVURN_BUSY &&
          tegvurn_set_fuel(embedding, 7) == TEGVURN_BUSY && tegvurn_fuel_left(embedding, &number) == TEGVURN_BUSY &&
-         tegvurn_exports(embedding, 0, &exports, &kept) == TEGVURN_BUSY && !exports && kept == 7 &&
-         tegvurn_script(embedding, "{}", 2, NULL, 0, &report) == TEGVURN_BUSY && report.passed == 7 &&
-         tegvurn_free(embedding) == TEGVURN_BUSY && number == 7 && value.i32 == 7;
+         tegvurn_exports(embedding, 0, &exports, &kept) == TEGVURN_BUSY && kept == 7 &&
+         tegvurn_find_export(embedding, 0, tegvurn_string("number"), &exports) == TEGVURN_BUSY && !exports &&
+         tegvurn_script(embedding, "{}", 2, NULL, 0, &report) == TEGVURN_BUSY && report.passed == 7 && number == 7 && value.i32 == 7;
 }
 
-static void *be_busy_elsewhere(void *embedding) {
+/* Returns whether each call returns TEGVURN_BUSY. */
+static bool is_all_busy(tegvurn *embedding) { return is_closed(embedding) && tegvurn_free(embedding) == TEGVURN_BUSY; }
+
+/* Runs a function on a new thread and waits for its end. */
+static void run_on_thread(void *(*function)(void *), void *argument) {
+  pthread_t thread;
+  CHECK(!pthread_create(&thread, NULL, function, argument) && !pthread_join(thread, NULL));
+}
+
+static void *find_closed(void *embedding) {
+  CHECK(is_closed(embedding));
+  return NULL;
+}
+
+static void *find_busy(void *embedding) {
   CHECK(is_all_busy(embedding));
   return NULL;
 }
 
-static void call_from_another_thread(tegvurn *embedding) {
-  pthread_t thread;
-  CHECK(!pthread_create(&thread, NULL, be_busy_elsewhere, embedding) && !pthread_join(thread, NULL));
+static void *free_it(void *embedding) {
+  CHECK(tegvurn_free(embedding) == TEGVURN_DONE);
+  return NULL;
+}
+
+/* Makes an embedding with these callbacks, on a thread that then ends. */
+static void *make_it(void *asked) {
+  embedding_of(asked);
+  return NULL;
 }
 
 static bool ask_busily(struct asked *asked, tegvurn_host_call *call) {
   CHECK(is_all_busy(asked->embedding));
-  call_from_another_thread(asked->embedding);
+  run_on_thread(find_busy, asked->embedding);
   CHECK(tegvurn_last(asked->embedding)->status == TEGVURN_DONE);
   call->results[0] = tegvurn_i32(call->args[0].i32 + 1);
   return true;
@@ -119,12 +144,31 @@ static void test_busy(void) {
   tegvurn_value result;
   CHECK(call_one(embedding, "ask", tegvurn_i32(41), &result) == TEGVURN_DONE && result.i32 == 42);
   CHECK(call_one(embedding, "byte", tegvurn_i32(0), &result) == TEGVURN_DONE && result.i32 == 0);
-  call_from_another_thread(embedding);
+  run_on_thread(find_closed, embedding);
   CHECK(call_one(embedding, "trap", tegvurn_i32(0), &result) == TEGVURN_REFUSED);
-  call_from_another_thread(embedding);
+  run_on_thread(find_closed, embedding);
   CHECK(tegvurn_last(embedding)->number == TEGVURN_BAD_ARGUMENTS);
   CHECK(tegvurn_free(embedding) == TEGVURN_DONE);
   CHECK(tegvurn_free(NULL) == TEGVURN_DONE);
+}
+
+/* Any thread may free an idle embedding. */
+static void test_free_elsewhere(void) {
+  struct asked asked = {NULL, NULL, NULL, 0};
+  tegvurn_value result;
+  run_on_thread(free_it, embedding_of(&asked));
+  tegvurn *embedding = embedding_of(&asked);
+  CHECK(call_one(embedding, "ask", tegvurn_i32(5), &result) == TEGVURN_DONE && result.i32 == 5);
+  run_on_thread(free_it, embedding);
+}
+
+/* A thread is not taken for an ended one, even if it gets the same stack and the same addresses of thread-local variables. */
+static void test_ended_thread(void) {
+  struct asked asked = {NULL, NULL, NULL, 0};
+  run_on_thread(make_it, &asked);
+  CHECK(is_closed(asked.embedding));
+  run_on_thread(find_closed, asked.embedding);
+  CHECK(tegvurn_free(asked.embedding) == TEGVURN_DONE);
 }
 
 /* Several embeddings */
@@ -178,6 +222,61 @@ static void test_threads(void) {
   uint32_t starts[4] = {0, 1000, 2000, 3000};
   for (int i = 0; i < 4; i++) CHECK(!pthread_create(&threads[i], NULL, call_often, &starts[i]));
   for (int i = 0; i < 4; i++) CHECK(!pthread_join(threads[i], NULL));
+}
+
+/* Signal handlers */
+
+#define TICKS 50
+
+/* The embeddings that the handler of SIGALRM calls, and what it found. */
+static struct { tegvurn *own, *other; } interrupted;
+static volatile sig_atomic_t ticks, busy_ticks, wrong_ticks, is_in_handler;
+
+/* Calls the embedding that may be interrupted, and another one. These calls take no memory, so the handler may make them. */
+static void tick(int number) {
+  uint64_t fuel = 0, wanted = 1000 + (uint64_t)ticks;
+  (void)number;
+  if (is_in_handler) return;
+  is_in_handler = 1;
+  tegvurn_status own = tegvurn_fuel_left(interrupted.own, &fuel);
+  if (own == TEGVURN_BUSY) busy_ticks++;
+  else if (own) wrong_ticks++;
+  if (tegvurn_set_fuel(interrupted.other, wanted) || tegvurn_fuel_left(interrupted.other, &fuel) || fuel != wanted) wrong_ticks++;
+  ticks++;
+  is_in_handler = 0;
+}
+
+static bool ask_with_signal(struct asked *asked, tegvurn_host_call *call) {
+  (void)asked;
+  call->results[0] = tegvurn_i32((uint32_t)raise(SIGALRM));
+  return true;
+}
+
+/* Sends SIGALRM once every that many microseconds, or never if that is 0. */
+static void set_timer(int microseconds) {
+  const struct itimerval timer = {{0, microseconds}, {0, microseconds}};
+  CHECK(!setitimer(ITIMER_REAL, &timer, NULL));
+}
+
+static void test_signals(void) {
+  struct asked asked = {ask_with_signal, NULL, NULL, 0}, other = {NULL, NULL, NULL, 0};
+  struct sigaction action = {.sa_handler = tick, .sa_flags = SA_RESTART};
+  tegvurn_value often = tegvurn_i32(1000), result;
+  bool is_right = true;
+  interrupted.own = embedding_of(&asked), interrupted.other = embedding_of(&other);
+  CHECK(!sigaction(SIGALRM, &action, NULL));
+  CHECK(call_one(interrupted.own, "ask", tegvurn_i32(7), &result) == TEGVURN_DONE && result.i32 == 0);
+  CHECK(ticks == 1 && busy_ticks == 1);
+  set_timer(3000);
+  while (is_right && ticks < TICKS) {
+    is_right = !tegvurn_set_fuel(interrupted.own, 1000000) &&
+               !tegvurn_call(interrupted.own, 0, tegvurn_string("loop"), &often, 1, NULL, 0, NULL);
+  }
+  set_timer(0);
+  /* A signal may still be on its way. */
+  CHECK(signal(SIGALRM, SIG_IGN) == tick);
+  CHECK(is_right && busy_ticks > 1 && wrong_ticks == 0);
+  CHECK(tegvurn_free(interrupted.own) == TEGVURN_DONE && tegvurn_free(interrupted.other) == TEGVURN_DONE);
 }
 
 /* Values, results and their room */
@@ -334,10 +433,121 @@ static void test_new(void) {
   CHECK(new_with(host_of("", NULL, 0, ask, &asked), &end) == TEGVURN_DONE);
 }
 
+/* Calls with null pointers */
+
+#define NO_TEXT ((tegvurn_text){NULL, 1})
+
+struct row { const char *name; tegvurn_status status; };
+
+/* Checks that each row has the status. */
+static void check_rows(const struct row *rows, size_t count, tegvurn_status wanted) {
+  for (size_t i = 0; i < count; i++) check(rows[i].status == wanted, __LINE__, rows[i].name);
+}
+
+#define CHECK_ROWS(rows, wanted) check_rows((rows), sizeof(rows) / sizeof *(rows), (wanted))
+
+/* Returns how tegvurn_new ends with these host functions, if it gives no embedding and says the same twice. */
+static tegvurn_status end_of_new(const tegvurn_host *hosts) {
+  tegvurn_end end = {.status = TEGVURN_DONE};
+  tegvurn *embedding = (tegvurn *)&config;
+  tegvurn_status status = tegvurn_new(&config, hosts, 1, &embedding, &end);
+  return !embedding && end.status == status && !strcmp(end.name, "BadPointer") ? status : TEGVURN_DONE;
+}
+
+static void test_new_without_pointers(void) {
+  struct asked asked = {NULL, NULL, NULL, 0};
+  const tegvurn_host whole = host_of("ask", i32_type, 1, ask, &asked);
+  tegvurn_host module = whole, name = whole, params = whole, results = whole, callback = whole;
+  tegvurn *embedding;
+  module.module = name.name = NO_TEXT;
+  params.params = results.results = NULL;
+  callback.callback = NULL;
+  const struct row rows[] = {
+      {"new without a configuration", tegvurn_new(NULL, NULL, 0, &embedding, NULL)},
+      {"new without an embedding", tegvurn_new(&config, NULL, 0, NULL, NULL)},
+      {"new without host functions", end_of_new(NULL)},
+      {"new without the module of a host function", end_of_new(&module)},
+      {"new without the name of a host function", end_of_new(&name)},
+      {"new without parameters", end_of_new(&params)},
+      {"new without results", end_of_new(&results)},
+      {"new without a callback", end_of_new(&callback)},
+  };
+  CHECK_ROWS(rows, TEGVURN_BAD_POINTER);
+}
+
+static void test_calls_without_embedding(void) {
+  uint64_t number = 7;
+  tegvurn_value value = tegvurn_i32(7);
+  tegvurn_export *exports = NULL;
+  tegvurn_report report;
+  size_t count = 7;
+  const struct row rows[] = {
+      {"load", tegvurn_load(NULL, test_module, sizeof test_module, &number)},
+      {"link", tegvurn_link(NULL, 0, &number)},
+      {"register", tegvurn_register(NULL, 0, tegvurn_string("m"))},
+      {"call", tegvurn_call(NULL, 0, tegvurn_string("empty"), NULL, 0, NULL, 0, &count)},
+      {"get a global", tegvurn_get_global(NULL, 0, tegvurn_string("number"), &value)},
+      {"set the fuel", tegvurn_set_fuel(NULL, 7)},
+      {"fuel left", tegvurn_fuel_left(NULL, &number)},
+      {"exports", tegvurn_exports(NULL, 0, &exports, &count)},
+      {"find an export", tegvurn_find_export(NULL, 0, tegvurn_string("number"), &exports)},
+      {"script", tegvurn_script(NULL, "{}", 2, NULL, 0, &report)},
+      {"how the last call ended", tegvurn_last(NULL)->status},
+  };
+  CHECK_ROWS(rows, TEGVURN_BAD_POINTER);
+  CHECK(!strcmp(tegvurn_last(NULL)->name, "BadPointer") && !strcmp(tegvurn_last(NULL)->text, "a pointer is null"));
+  CHECK(tegvurn_free(NULL) == TEGVURN_DONE);
+  tegvurn_exports_free(NULL);
+}
+
+/* A call with a null pointer is refused before it does anything. */
+static void test_calls_without_pointers(void) {
+  struct asked asked = {NULL, NULL, NULL, 0};
+  tegvurn *embedding = embedding_of(&asked);
+  tegvurn_text empty = tegvurn_string("empty"), two = tegvurn_string("two");
+  const tegvurn_file files[] = {{NO_TEXT, "", 0}, {empty, NULL, 1}};
+  tegvurn_value value = tegvurn_i32(7);
+  tegvurn_export *exports = NULL;
+  tegvurn_report report;
+  size_t count = 7;
+  uint64_t fuel = 0, left = 0;
+  CHECK(tegvurn_fuel_left(embedding, &fuel) == TEGVURN_DONE);
+  const struct row rows[] = {
+      {"load without bytes", tegvurn_load(embedding, NULL, 1, &left)},
+      {"load without a module", tegvurn_load(embedding, test_module, sizeof test_module, NULL)},
+      {"link without an instance", tegvurn_link(embedding, 0, NULL)},
+      {"register without a name", tegvurn_register(embedding, 0, NO_TEXT)},
+      {"call without a name", tegvurn_call(embedding, 0, NO_TEXT, NULL, 0, NULL, 0, NULL)},
+      {"call without arguments", tegvurn_call(embedding, 0, empty, NULL, 1, NULL, 0, NULL)},
+      {"call without results", tegvurn_call(embedding, 0, two, NULL, 0, NULL, 2, &count)},
+      {"get a global without a name", tegvurn_get_global(embedding, 0, NO_TEXT, &value)},
+      {"get a global without a value", tegvurn_get_global(embedding, 0, tegvurn_string("number"), NULL)},
+      {"fuel left without a number", tegvurn_fuel_left(embedding, NULL)},
+      {"exports without a list", tegvurn_exports(embedding, 0, NULL, &count)},
+      {"exports without a count", tegvurn_exports(embedding, 0, &exports, NULL)},
+      {"find an export without a name", tegvurn_find_export(embedding, 0, NO_TEXT, &exports)},
+      {"find an export without a place for it", tegvurn_find_export(embedding, 0, empty, NULL)},
+      {"script without bytes", tegvurn_script(embedding, NULL, 1, NULL, 0, &report)},
+      {"script without files", tegvurn_script(embedding, "{}", 2, NULL, 1, &report)},
+      {"script without the name of a file", tegvurn_script(embedding, "{}", 2, &files[0], 1, &report)},
+      {"script without the bytes of a file", tegvurn_script(embedding, "{}", 2, &files[1], 1, &report)},
+      {"script without a report", tegvurn_script(embedding, "{}", 2, NULL, 0, NULL)},
+      {"how the last call ended", tegvurn_last(embedding)->status},
+  };
+  CHECK_ROWS(rows, TEGVURN_BAD_POINTER);
+  const tegvurn_end *end = tegvurn_last(embedding);
+  CHECK(end->number == 0 && !strcmp(end->name, "BadPointer") && !strcmp(end->text, "a pointer is null"));
+  CHECK(left == 0 && value.i32 == 7 && !exports && count == 0);
+  CHECK(tegvurn_fuel_left(embedding, &left) == TEGVURN_DONE && left == fuel);
+  CHECK(tegvurn_link(embedding, 1, &left) == TEGVURN_REFUSED && end->number == TEGVURN_UNKNOWN_MODULE);
+  CHECK(tegvurn_free(embedding) == TEGVURN_DONE);
+}
+
 static void test_texts(void) {
   struct asked asked = {NULL, NULL, NULL, 0};
   tegvurn *embedding = embedding_of(&asked);
   tegvurn_value value = tegvurn_i32(1);
+  tegvurn_export *export = NULL;
   uint64_t number;
   CHECK(tegvurn_register(embedding, 0, tegvurn_string("\xc3")) == TEGVURN_NOT_SPELT);
   CHECK(tegvurn_register(embedding, 0, (tegvurn_text){"", 0}) == TEGVURN_DONE);
@@ -348,6 +558,7 @@ static void test_texts(void) {
   CHECK(tegvurn_last(embedding)->number == TEGVURN_UNKNOWN_EXPORT);
   CHECK(tegvurn_get_global(embedding, 0, (tegvurn_text){"numbers", 6}, &value) == TEGVURN_DONE);
   CHECK(call_one(embedding, "\xff", value, &value) == TEGVURN_NOT_SPELT);
+  CHECK(tegvurn_find_export(embedding, 0, tegvurn_string("\xff"), &export) == TEGVURN_NOT_SPELT && !export);
   value.type = (tegvurn_type)5;
   CHECK(call_one(embedding, "ask", value, &value) == TEGVURN_NOT_SPELT);
   CHECK(tegvurn_load(embedding, "\0asm\1\0\0", 7, &number) == TEGVURN_REFUSED);
@@ -359,6 +570,32 @@ static void test_texts(void) {
   CHECK(call_one(embedding, "byte", tegvurn_i32(0), &value) == TEGVURN_EXHAUSTED);
   CHECK(end->number == TEGVURN_FUEL && !strcmp(end->name, "Fuel") && !strcmp(end->text, "out of fuel"));
   tegvurn_free(embedding);
+}
+
+static double seconds(void) {
+  struct timespec time;
+  clock_gettime(CLOCK_MONOTONIC, &time);
+  return (double)time.tv_sec + (double)time.tv_nsec / 1e9;
+}
+
+/* A module that is too large is refused at once: its bytes cannot be read here. */
+static void test_too_large(void) {
+  static const size_t sizes[] = {67108865, 3u << 30, SIZE_MAX / 2, SIZE_MAX};
+  struct asked asked = {NULL, NULL, NULL, 0};
+  tegvurn *embedding = embedding_of(&asked);
+  void *bytes = mmap(NULL, sizes[1], PROT_NONE, MAP_PRIVATE | MAP_ANONYMOUS | MAP_NORESERVE, -1, 0);
+  CHECK(bytes != MAP_FAILED);
+  for (int i = 0; i < 4; i++) {
+    uint64_t module = 77;
+    double start = seconds();
+    CHECK(tegvurn_load(embedding, bytes, sizes[i], &module) == TEGVURN_REFUSED && module == 77);
+    CHECK(seconds() - start < 0.1);
+    const tegvurn_end *end = tegvurn_last(embedding);
+    CHECK(end->status == TEGVURN_REFUSED && end->number == TEGVURN_LIMIT && !strcmp(end->name, "Limit"));
+    CHECK(end->place == TEGVURN_NOWHERE && end->at == 0 && end->code == 0 && !strcmp(end->text, "a limit is passed"));
+  }
+  munmap(bytes, sizes[1]);
+  CHECK(tegvurn_free(embedding) == TEGVURN_DONE);
 }
 
 /* Arguments and a name that are longer than all that was said before. */
@@ -419,6 +656,100 @@ static void test_copies(void) {
   CHECK(!strcmp(exports[0].name.bytes, "f") && exports[0].name.size == 1 && exports[0].kind == TEGVURN_A_FUNCTION);
   CHECK(exports[0].param_count == 1 && exports[0].params[0] == TEGVURN_I32 && exports[0].results[0] == TEGVURN_I32);
   tegvurn_exports_free(exports);
+}
+
+/* Exports */
+
+static bool is_same_type(const tegvurn_export *one, const tegvurn_export *other) {
+  return one->kind == other->kind && one->param_count == other->param_count && one->result_count == other->result_count &&
+         (!one->param_count || !memcmp(one->params, other->params, one->param_count * sizeof *one->params)) &&
+         (!one->result_count || !memcmp(one->results, other->results, one->result_count * sizeof *one->results)) &&
+         one->type == other->type && one->is_mutable == other->is_mutable && one->minimum == other->minimum &&
+         one->has_maximum == other->has_maximum && one->maximum == other->maximum;
+}
+
+/* Each export is found as it is listed. */
+static void test_find_export(void) {
+  struct asked asked = {NULL, NULL, NULL, 0};
+  tegvurn *embedding = embedding_of(&asked);
+  tegvurn_export *exports, *export, *unchanged = NULL;
+  size_t count;
+  CHECK(tegvurn_exports(embedding, 0, &exports, &count) == TEGVURN_DONE && count == 12);
+  for (size_t i = 0; i < count; i++) {
+    const char *name = exports[i].name.bytes;
+    check(tegvurn_find_export(embedding, 0, tegvurn_string(name), &export) == TEGVURN_DONE, __LINE__, name);
+    check(export->name.size == strlen(name) && !strcmp(export->name.bytes, name) && is_same_type(export, &exports[i]), __LINE__, name);
+    tegvurn_exports_free(export);
+  }
+  tegvurn_exports_free(exports);
+  const struct { const char *name; uint64_t instance; tegvurn_text text; tegvurn_refusal refusal; } rows[] = {
+      {"find in an unknown instance", 1, tegvurn_string("ask"), TEGVURN_UNKNOWN_INSTANCE},
+      {"find in the last instance", UINT64_MAX, tegvurn_string("ask"), TEGVURN_UNKNOWN_INSTANCE},
+      {"find an unknown export", 0, tegvurn_string("asks"), TEGVURN_UNKNOWN_EXPORT},
+      {"find an empty name", 0, {NULL, 0}, TEGVURN_UNKNOWN_EXPORT},
+      {"find a name and a zero byte", 0, {"ask\0", 4}, TEGVURN_UNKNOWN_EXPORT},
+  };
+  for (size_t i = 0; i < sizeof rows / sizeof *rows; i++) {
+    tegvurn_status status = tegvurn_find_export(embedding, rows[i].instance, rows[i].text, &unchanged);
+    const tegvurn_end *end = tegvurn_last(embedding);
+    check(status == TEGVURN_REFUSED && end->number == rows[i].refusal && *end->text && !unchanged, __LINE__, rows[i].name);
+  }
+  CHECK(tegvurn_free(embedding) == TEGVURN_DONE);
+}
+
+/* Returns an embedding in which instance 0 exports a function of that many parameters and results under that many names. */
+static tegvurn *embedding_with(size_t exports, size_t types) {
+  uint8_t *bytes = malloc(EXPORTS_ROOM(exports, types));
+  tegvurn *embedding;
+  uint64_t number;
+  if (!bytes) exit(2);
+  CHECK(tegvurn_new(&config, NULL, 0, &embedding, NULL) == TEGVURN_DONE);
+  CHECK(tegvurn_load(embedding, bytes, spell_exports(bytes, exports, types), &number) == TEGVURN_DONE);
+  CHECK(tegvurn_link(embedding, number, &number) == TEGVURN_DONE && number == 0);
+  free(bytes);
+  return embedding;
+}
+
+/* All exports of a function share the arrays of its type, which outlive the embedding. */
+static void test_many_exports(void) {
+  tegvurn *embedding = embedding_with(MANY_EXPORTS, MANY_TYPES);
+  tegvurn_export *exports, *last;
+  uint8_t name[4] = {0};
+  size_t count;
+  bool is_right = true;
+  CHECK(tegvurn_exports(embedding, 0, &exports, &count) == TEGVURN_DONE && count == MANY_EXPORTS);
+  spell_name(name, MANY_EXPORTS - 1);
+  CHECK(tegvurn_find_export(embedding, 0, tegvurn_string((char *)name), &last) == TEGVURN_DONE);
+  CHECK(tegvurn_free(embedding) == TEGVURN_DONE);
+  for (size_t i = 0; i < count; i++) {
+    spell_name(name, i);
+    is_right = is_right && exports[i].name.size == 3 && !memcmp(exports[i].name.bytes, name, 4) &&
+               exports[i].params == exports[0].params && exports[i].results == exports[0].results;
+  }
+  CHECK(is_right && is_same_type(&exports[0], last) && is_same_type(&exports[count - 1], last));
+  for (size_t i = 0; i < MANY_TYPES; i++) is_right = is_right && last->params[i] == TEGVURN_I32 && last->results[i] == TEGVURN_I32;
+  CHECK(is_right && last->param_count == MANY_TYPES && last->result_count == MANY_TYPES && !memcmp(last->name.bytes, name, 4));
+  tegvurn_exports_free(exports);
+  tegvurn_exports_free(last);
+}
+
+#define MORE_EXPORTS 200000
+#define FOUND_OFTEN 1000
+
+/* Finding an export takes the time of a few exports, however many there are. */
+static void test_find_among_more(void) {
+  tegvurn *embedding = embedding_with(MORE_EXPORTS, 1);
+  bool is_right = true;
+  double start = seconds();
+  for (size_t i = 0; i < FOUND_OFTEN; i++) {
+    tegvurn_export *export = NULL;
+    uint8_t name[4] = {0};
+    spell_name(name, MORE_EXPORTS - 1 - i);
+    is_right = is_right && !tegvurn_find_export(embedding, 0, tegvurn_string((char *)name), &export) && export->param_count == 1;
+    tegvurn_exports_free(export);
+  }
+  CHECK(is_right && seconds() - start < 0.5);
+  CHECK(tegvurn_free(embedding) == TEGVURN_DONE);
 }
 
 /* Files are forgotten behind a script, and where one of them is not taken. */
@@ -483,42 +814,153 @@ static void test_wide(void) {
   tegvurn_free(embedding);
 }
 
-/* A callback that is left by longjmp */
+/* Callbacks that are left */
+
+#define LEFT_OFTEN 1000
+
+/* Valgrind and sanitizers keep freed memory for a while. */
+#if defined(TEGVURN_VALGRIND) || defined(__SANITIZE_ADDRESS__)
+#define FREES_AT_ONCE false
+#else
+#define FREES_AT_ONCE true
+#endif
 
 static jmp_buf way_out;
 
 static bool jump(struct asked *asked, tegvurn_host_call *call) {
-  (void)asked, (void)call;
+  (void)call;
+  asked->number++;
   longjmp(way_out, 1);
 }
 
-static void test_longjmp(void) {
-  static struct asked asked = {jump, NULL, NULL, 0}, other = {NULL, NULL, NULL, 0};
+/* Calls an export whose host function is left, and returns whether the embedding is busy after that. */
+static bool is_left(tegvurn *embedding, const char *name) {
   tegvurn_value result;
-  embedding_of(&asked);
-  if (!setjmp(way_out)) call_one(asked.embedding, "ask", tegvurn_i32(1), &result);
-  CHECK(is_all_busy(asked.embedding));
-  embedding_of(&other);
+  if (!setjmp(way_out)) {
+    call_one(embedding, name, tegvurn_i32(1), &result);
+    return false;
+  }
+  return is_all_busy(embedding);
+}
+
+/* Counts the mappings and the resident pages of the process, as 0 if the system does not say. */
+static void count_memory(long *mappings, long *pages) {
+  FILE *maps = fopen("/proc/self/maps", "r"), *sizes = fopen("/proc/self/statm", "r");
+  *mappings = *pages = 0;
+  for (int byte; maps && (byte = fgetc(maps)) != EOF;) *mappings += byte == '\n';
+  if (sizes && fscanf(sizes, "%*d %ld", pages) != 1) *pages = 0;
+  if (maps) fclose(maps);
+  if (sizes) fclose(sizes);
+}
+
+/* Leaves and abandons many embeddings. The proved code waits at different places with and without borrowed memory. */
+static void test_left_often(void) {
+  struct asked asked = {jump, NULL, NULL, 0};
+  bool is_right = true;
+  long mappings_before, pages_before, mappings, pages;
+  for (int i = 0; i < LEFT_OFTEN; i++) {
+    if (i == LEFT_OFTEN / 10) count_memory(&mappings_before, &pages_before);
+    tegvurn *embedding = embedding_of(&asked);
+    is_right = is_right && is_left(embedding, i % 2 ? "ask" : "ask_outside") && tegvurn_abandon(embedding) == TEGVURN_DONE;
+  }
+  count_memory(&mappings, &pages);
+  CHECK(is_right && asked.number == LEFT_OFTEN);
+  CHECK(mappings <= mappings_before + 10 && (pages <= pages_before + 1000 || !FREES_AT_ONCE));
+}
+
+/* The callback of one embedding calls another embedding, whose callback leaves both. */
+static void test_left_nested(void) {
+  struct asked inner = {jump, NULL, NULL, 0}, outer = {ask_next, NULL, &inner, 0}, other = {NULL, NULL, NULL, 0};
+  tegvurn_value result;
+  embedding_of(&inner), embedding_of(&outer), embedding_of(&other);
+  CHECK(is_left(outer.embedding, "ask") && is_all_busy(inner.embedding));
+  CHECK(tegvurn_abandon(outer.embedding) == TEGVURN_DONE && is_all_busy(inner.embedding));
   CHECK(call_one(other.embedding, "ask", tegvurn_i32(1), &result) == TEGVURN_DONE && result.i32 == 1);
+  CHECK(tegvurn_abandon(inner.embedding) == TEGVURN_DONE);
+  CHECK(call_one(other.embedding, "ask", tegvurn_i32(2), &result) == TEGVURN_DONE && result.i32 == 2);
   CHECK(tegvurn_free(other.embedding) == TEGVURN_DONE);
 }
 
-int main(int argc, char **argv) {
+/* The remaining commands of a script call no host function. */
+static void test_left_script(void) {
+#define COMMAND "{\"type\":\"action\",\"line\":1,\"action\":{\"type\":\"invoke\",\"field\":\"ask\",\"args\":[{\"type\":\"i32\",\"value\":\"1\"}]}}"
+  static const char json[] = "{\"commands\":[{\"type\":\"module\",\"line\":1,\"filename\":\"a\"}," COMMAND "," COMMAND "," COMMAND "]}";
+  static struct asked asked = {jump, NULL, NULL, 0};
+  const tegvurn_file file = {{"a", 1}, test_module, sizeof test_module};
+  static tegvurn_report report;
+  embedding_of(&asked);
+  if (!setjmp(way_out)) CHECK(tegvurn_script(asked.embedding, json, sizeof json - 1, &file, 1, &report) == TEGVURN_BUSY);
+  CHECK(is_all_busy(asked.embedding) && asked.number == 1);
+  CHECK(tegvurn_abandon(asked.embedding) == TEGVURN_DONE && asked.number == 1);
+}
+
+static bool end_thread(struct asked *asked, tegvurn_host_call *call) {
+  (void)asked, (void)call;
+  pthread_exit(NULL);
+}
+
+static void *call_to_the_end(void *asked) {
+  tegvurn_value result;
+  call_one(embedding_of(asked), "ask", tegvurn_i32(1), &result);
+  CHECK(!"the thread goes on");
+  return NULL;
+}
+
+static void *abandon_it(void *embedding) {
+  CHECK(tegvurn_abandon(embedding) == TEGVURN_DONE);
+  return NULL;
+}
+
+/* A thread ends inside a callback, and another one abandons the embedding. */
+static void test_left_by_thread(void) {
+  struct asked asked = {end_thread, NULL, NULL, 0};
+  run_on_thread(call_to_the_end, &asked);
+  CHECK(is_all_busy(asked.embedding));
+  CHECK(tegvurn_abandon(asked.embedding) == TEGVURN_DONE);
+  run_on_thread(call_to_the_end, &asked);
+  run_on_thread(abandon_it, asked.embedding);
+}
+
+/* An idle embedding is freed, on any thread. */
+static void test_abandon_idle(void) {
+  struct asked asked = {NULL, NULL, NULL, 0};
+  tegvurn *embedding;
+  CHECK(tegvurn_abandon(NULL) == TEGVURN_DONE);
+  CHECK(tegvurn_new(&config, NULL, 0, &embedding, NULL) == TEGVURN_DONE && tegvurn_abandon(embedding) == TEGVURN_DONE);
+  CHECK(tegvurn_abandon(embedding_of(&asked)) == TEGVURN_DONE);
+  run_on_thread(abandon_it, embedding_of(&asked));
+}
+
+int main(void) {
   test_busy();
+  test_free_elsewhere();
+  test_ended_thread();
   test_nested();
   test_threads();
+  test_signals();
   test_room();
   test_references();
   test_traps();
   test_wrong_results();
   test_memory();
   test_new();
+  test_new_without_pointers();
+  test_calls_without_embedding();
+  test_calls_without_pointers();
   test_texts();
+  test_too_large();
   test_long_messages();
   test_copies();
+  test_find_export();
+  test_many_exports();
+  test_find_among_more();
   test_files();
   test_wide();
-  if (argc == 2 && !strcmp(argv[1], "longjmp")) test_longjmp();
+  test_left_often();
+  test_left_nested();
+  test_left_script();
+  test_left_by_thread();
+  test_abandon_idle();
   printf("%d passed, %d failed\n", passed, failed);
   return failed != 0;
 }

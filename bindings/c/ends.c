@@ -1,7 +1,10 @@
 /* How the C side takes what the proved code writes, over a stand-in of it: ends that the proved code does not come to, texts that are long,
-   and replies that are none. */
+   replies that are none, lists of exports that are wrong, what an abandoned embedding reads and writes, and two threads that take one
+   embedding. */
 #include "tegvurn.c"
 
+#include <pthread.h>
+#include <setjmp.h>
 #include <stdio.h>
 
 /* The sizes that the declarations of other languages rest on. */
@@ -51,6 +54,10 @@ static void ask_for_host(void) {
   if (last_read == 10 && lent[9] == 'x') was_answered = read_whole(answer, sizeof answer) && number_at(answer + NUMBER) == 20;
 }
 
+/* What the stand-in found last: the status when it abandoned its own embedding, and what it could read and write after that. */
+static tegvurn_status abandoned_inside;
+static ssize_t read_last = 9, written_last;
+
 uint32_t tegvurn_serve(int32_t ask, int32_t hear) {
   static const uint8_t done[HEAD];
   (void)ask, (void)hear;
@@ -64,8 +71,10 @@ uint32_t tegvurn_serve(int32_t ask, int32_t hear) {
     if (tegvurn_read(0, &byte, 0)) return 2;
     bool is_special = order == special_order && special_status != ASKS_FIRST;
     if (order == special_order && special_status == ASKS_FIRST) ask_for_host();
+    if (!running->is_abandoned) abandoned_inside = tegvurn_abandon(running);
     const uint8_t *reply = is_special ? special_reply : done;
-    tegvurn_write(0, reply, is_special ? special_size : HEAD);
+    written_last = tegvurn_write(0, reply, is_special ? special_size : HEAD);
+    if (running->is_abandoned) read_last = tegvurn_read(0, &byte, 1);
     if (is_special && special_status != GOES_ON) return special_status;
     if (number_at(head + NUMBER) == ORDER_END) return 0;
   }
@@ -119,6 +128,7 @@ static void test_over(void) {
   CHECK(tegvurn_get_global(embedding, 0, tegvurn_string("g"), &value) == TEGVURN_OVER && value.i32 == 5);
   CHECK(tegvurn_fuel_left(embedding, &number) == TEGVURN_OVER && number == 77);
   CHECK(tegvurn_exports(embedding, 0, &exports, &count) == TEGVURN_OVER);
+  CHECK(tegvurn_find_export(embedding, 0, tegvurn_string("f"), &exports) == TEGVURN_OVER);
   CHECK(tegvurn_script(embedding, "", 0, NULL, 0, &report) == TEGVURN_OVER);
   const tegvurn_end *end = tegvurn_last(embedding);
   CHECK(end->status == TEGVURN_OVER && !end->number && !strcmp(end->text, "the embedding has ended"));
@@ -153,10 +163,61 @@ static void test_lent_pieces(void) {
     was_answered = false;
     CHECK(tegvurn_new(&config, &host, 1, &embedding, NULL) == TEGVURN_DONE);
     CHECK(tegvurn_set_fuel(embedding, 1) == TEGVURN_DONE && calls == is_whole && last_read == (is_whole ? 10 : -1));
-    CHECK(was_answered == is_whole);
+    CHECK(was_answered == is_whole && abandoned_inside == TEGVURN_BUSY);
     CHECK(tegvurn_set_fuel(embedding, 1) == TEGVURN_DONE && calls == is_whole);
     tegvurn_free(embedding);
   }
+}
+
+static jmp_buf way_out;
+
+static bool leave_callback(void *context, tegvurn_host_call *call) {
+  (void)call;
+  ++*(int *)context;
+  longjmp(way_out, 1);
+}
+
+/* After its embedding is abandoned, the stand-in can neither read nor write, and ends. While it runs itself, its embedding cannot be
+   abandoned. */
+static void test_abandoned(void) {
+  static tegvurn *embedding;
+  static int calls;
+  tegvurn_host host = {{"m", 1}, {"f", 1}, NULL, 0, NULL, 0, leave_callback, &calls};
+  lent_piece = 10;
+  have_reply(2, NULL, 0, ASKS_FIRST);
+  was_answered = false;
+  CHECK(tegvurn_new(&config, &host, 1, &embedding, NULL) == TEGVURN_DONE);
+  CHECK(abandoned_inside == TEGVURN_BUSY);
+  if (!setjmp(way_out)) CHECK(tegvurn_set_fuel(embedding, 1) == TEGVURN_BUSY);
+  CHECK(calls == 1 && tegvurn_set_fuel(embedding, 1) == TEGVURN_BUSY && tegvurn_free(embedding) == TEGVURN_BUSY);
+  CHECK(embedding->state == ASKS && tegvurn_abandon(embedding) == TEGVURN_DONE && calls == 1);
+  CHECK(!was_answered && read_last == 0 && written_last == -1);
+}
+
+#define TAKEN_OFTEN 5000000
+
+/* How often the embedding of the test was taken. Only the thread that has taken it adds to that. */
+static long times_taken;
+static atomic_int threads_begun;
+
+static void *take_often(void *embedding) {
+  for (atomic_fetch_add(&threads_begun, 1); threads_begun < 2;) continue;
+  for (int times = 0; times < TAKEN_OFTEN;) {
+    if (!take(embedding)) continue;
+    times_taken++, times++;
+    finish(embedding, TEGVURN_DONE);
+  }
+  return NULL;
+}
+
+/* Two threads are never both inside an embedding, such as one that calls it and one that frees it. */
+static void test_take(void) {
+  pthread_t threads[2];
+  have_reply(-1, NULL, 0, 0);
+  tegvurn *embedding = embedding_of();
+  for (int i = 0; i < 2; i++) CHECK(!pthread_create(&threads[i], NULL, take_often, embedding));
+  for (int i = 0; i < 2; i++) CHECK(!pthread_join(threads[i], NULL));
+  CHECK(times_taken == 2 * TAKEN_OFTEN && tegvurn_free(embedding) == TEGVURN_DONE);
 }
 
 /* The status of an order that is answered so. */
@@ -205,6 +266,97 @@ static void test_texts(void) {
   }
 }
 
+/* Lists of exports */
+
+#define NAME 0x6867666564636261 /* of eight bytes */
+static const char name_bytes[] = "abcdefgh";
+
+/* A reply of exports: its fields are the first bytes of these numbers. Then what is wanted: how many exports there are, and the first one, by
+   the size of its name, its kind, how many parameters and results it has, and its type. */
+struct list {
+  const char *name;
+  uint64_t numbers[16];
+  size_t size, count, name_size;
+  unsigned kind, params, results, type;
+};
+
+static const struct list lists[] = {
+    {"no bytes", {0}, 0, 0, 0, 0, 0, 0, 0},
+    {"no types", {0}, 8, 0, 0, 0, 0, 0, 0},
+    {"a type alone", {1, 3, 127, 1}, 32, 0, 0, 0, 0, 0, 0},
+    {"an export of a type", {1, 3, 126, 1, 8, NAME, 0}, 56, 1, 8, 3, 0, 0, 126},
+    {"two exports of a type", {1, 0, 2, 127, 126, 1, 112, 8, NAME, 0, 8, NAME, 0}, 104, 2, 8, 0, 2, 1, 0},
+    {"the second type first", {2, 3, 127, 0, 0, 0, 1, 126, 8, NAME, 1, 0, 0}, 104, 2, 8, 0, 0, 1, 0},
+    {"an unknown kind", {1, 9, 0, 0, 0, 0}, 48, 2, 0, 9, 0, 0, 0},
+    {"a type after the last", {1, 3, 126, 1, 8, NAME, 1}, 56, 1, 8, 0, 0, 0, 0},
+    {"a type far after the last", {1, 3, 126, 1, 8, NAME, UINT64_MAX}, 56, 1, 8, 0, 0, 0, 0},
+    {"more types than bytes", {UINT64_MAX, 3, 126, 0, 8, NAME}, 48, 1, 8, 3, 0, 0, 126},
+    {"more parameters than bytes", {1, 0, UINT64_MAX, 127, 127}, 40, 0, 0, 0, 0, 0, 0},
+    {"more results than bytes", {1, 0, 0, UINT64_MAX, 127}, 40, 0, 0, 0, 0, 0, 0},
+    {"a longer name than bytes", {0, UINT64_MAX, NAME}, 24, 1, 8, 0, 0, 0, 0},
+    {"a cut name", {0, 8, NAME}, 19, 1, 3, 0, 0, 0, 0},
+    {"a cut size of a name", {0, 8, NAME}, 11, 1, 0, 0, 0, 0, 0},
+    {"a cut number of a type", {1, 3, 126, 1, 8, NAME, UINT64_MAX}, 50, 1, 8, 3, 0, 0, 126},
+};
+
+static bool is_as_listed(const struct list *list, const tegvurn_export *export) {
+  return export->name.size == list->name_size && !memcmp(export->name.bytes, name_bytes, list->name_size) &&
+         !export->name.bytes[list->name_size] && (unsigned)export->kind == list->kind && export->param_count == list->params &&
+         export->result_count == list->results && (unsigned)export->type == list->type;
+}
+
+/* Returns an embedding whose next order is answered with the list. The order before that gets numbers that are all set, so that bytes after
+   the end of the list are no zeros. */
+static tegvurn *embedding_with(const struct list *list, uint8_t *reply) {
+  static uint64_t numbers[20];
+  tegvurn_export *export;
+  memset(numbers, 0xFF, sizeof numbers);
+  set_number((uint8_t *)&numbers[1], REPLY_REFUSED);
+  have_reply(1, numbers, sizeof numbers, GOES_ON);
+  tegvurn *embedding = embedding_of();
+  CHECK(tegvurn_find_export(embedding, 0, tegvurn_string("f"), &export) == TEGVURN_REFUSED);
+  set_number(reply, list->size);
+  set_number(reply + NUMBER, REPLY_EXPORTS);
+  for (size_t i = 0; i < 16; i++) set_number(reply + HEAD + i * NUMBER, list->numbers[i]);
+  have_reply(2, reply, HEAD + list->size, GOES_ON);
+  return embedding;
+}
+
+static void test_list(const struct list *list) {
+  uint8_t reply[HEAD + 16 * NUMBER];
+  tegvurn_export *exports = NULL;
+  size_t count = 77;
+  tegvurn *embedding = embedding_with(list, reply);
+  tegvurn_status status = tegvurn_exports(embedding, 0, &exports, &count);
+  check(status == TEGVURN_DONE && count == list->count, __LINE__, list->name);
+  if (!status && count) check(is_as_listed(list, &exports[0]), __LINE__, list->name);
+  for (size_t i = 1; i < count && !status; i++)
+    check(exports[i].params == exports[0].params || exports[i].kind != exports[0].kind, __LINE__, list->name);
+  tegvurn_exports_free(exports);
+  tegvurn_free(embedding);
+}
+
+/* If one export is asked for, an empty list is refused. */
+static void test_list_of_one(const struct list *list) {
+  uint8_t reply[HEAD + 16 * NUMBER];
+  tegvurn_export *export = NULL;
+  tegvurn *embedding = embedding_with(list, reply);
+  tegvurn_status status = tegvurn_find_export(embedding, 0, tegvurn_string("f"), &export);
+  const tegvurn_end *end = tegvurn_last(embedding);
+  bool is_unknown = end->number == TEGVURN_UNKNOWN_EXPORT && !strcmp(end->name, "UnknownExport") && *end->text;
+  if (list->count) check(status == TEGVURN_DONE && is_as_listed(list, export), __LINE__, list->name);
+  else check(status == TEGVURN_REFUSED && end->status == status && is_unknown && !export, __LINE__, list->name);
+  tegvurn_exports_free(export);
+  tegvurn_free(embedding);
+}
+
+static void test_lists(void) {
+  for (size_t i = 0; i < sizeof lists / sizeof *lists; i++) {
+    test_list(&lists[i]);
+    test_list_of_one(&lists[i]);
+  }
+}
+
 /* The names of all refusals, traps and exhaustions, and of numbers that are none. */
 static void test_names(void) {
   static const char *const names[] = {"Malformed",       "Unsupported",   "Limit",     "Invalid",      "UnknownModule", "UnknownImport",
@@ -235,8 +387,11 @@ int main(void) {
   test_over();
   test_over_without_memory();
   test_lent_pieces();
+  test_abandoned();
+  test_take();
   test_kinds_of_replies();
   test_texts();
+  test_lists();
   test_names();
   printf("%d passed, %d failed\n", passed, failed);
   return failed != 0;

@@ -1,17 +1,20 @@
 /* memory [EACH]: refuses each allocation in turn, or each EACHth, of a life of an embedding, the C side's and the proved code's alike: once
    that one alone, and once all from that one on. A call has to end as with ample memory, or say that there was none; where that one alone
    was refused, the same call ends as with ample memory when it is made again, unless there was no memory for its reply, which ends the
-   embedding. In the end nothing is left allocated. Linked with --wrap. */
+   embedding. In the end nothing is left allocated, whether the embedding is freed, or abandoned after a callback was left. Before that, it
+   measures how much memory many exports take. Linked with --wrap. */
 #include "tegvurn.h"
 #include "test_module.h"
 
+#include <malloc.h>
+#include <setjmp.h>
 #include <stdio.h>
 #include <stdlib.h>
 #include <sys/mman.h>
 
 /* The allocations */
 
-static long made, live, refused = -1;
+static long made, freed, live, refused = -1;
 static bool refuses_more;
 
 static bool is_refused(void) {
@@ -21,6 +24,19 @@ static bool is_refused(void) {
 
 static void *counted(void *at, const void *none) {
   live += at != none;
+  return at;
+}
+
+/* The bytes that are allocated, and the most that ever were. */
+static size_t held, most_held;
+
+static void hold(size_t size) {
+  held += size;
+  if (most_held < held) most_held = held;
+}
+
+static void *held_block(void *at) {
+  if (at) hold(malloc_usable_size(at));
   return at;
 }
 
@@ -39,21 +55,31 @@ void *__wrap_mmap(void *at, size_t size, int may, int flags, int file, off_t off
 int __wrap_munmap(void *at, size_t size);
 int __wrap_mprotect(void *at, size_t size, int may);
 
-void *__wrap_malloc(size_t size) { return is_refused() ? NULL : counted(__real_malloc(size), NULL); }
-void *__wrap_calloc(size_t count, size_t size) { return is_refused() ? NULL : counted(__real_calloc(count, size), NULL); }
+void *__wrap_malloc(size_t size) { return is_refused() ? NULL : held_block(counted(__real_malloc(size), NULL)); }
+void *__wrap_calloc(size_t count, size_t size) { return is_refused() ? NULL : held_block(counted(__real_calloc(count, size), NULL)); }
+/* While it grows, a block may be there twice. */
 void *__wrap_realloc(void *at, size_t size) {
   if (is_refused()) return NULL;
-  return at ? __real_realloc(at, size) : counted(__real_realloc(at, size), NULL);
+  size_t before = at ? malloc_usable_size(at) : 0;
+  void *grown = __real_realloc(at, size);
+  if (!held_block(at ? grown : counted(grown, NULL))) return NULL;
+  held -= before;
+  return grown;
 }
 void __wrap_free(void *at) {
   live -= at != NULL;
+  freed++;
+  held -= at ? malloc_usable_size(at) : 0;
   __real_free(at);
 }
 void *__wrap_mmap(void *at, size_t size, int may, int flags, int file, off_t offset) {
-  return is_refused() ? MAP_FAILED : counted(__real_mmap(at, size, may, flags, file, offset), MAP_FAILED);
+  if (is_refused()) return MAP_FAILED;
+  hold(size);
+  return counted(__real_mmap(at, size, may, flags, file, offset), MAP_FAILED);
 }
 int __wrap_munmap(void *at, size_t size) {
   live--;
+  held -= size;
   return __real_munmap(at, size);
 }
 int __wrap_mprotect(void *at, size_t size, int may) { return is_refused() ? -1 : __real_mprotect(at, size, may); }
@@ -75,8 +101,13 @@ struct answer {
 
 static tegvurn *embedding;
 
+/* Whether the next callback is left by longjmp, and where that goes. */
+static bool leaves;
+static jmp_buf way_out;
+
 static bool echo(void *context, tegvurn_host_call *call) {
   (void)context;
+  if (leaves) longjmp(way_out, 1);
   for (size_t i = 0; i < call->result_count; i++) call->results[i] = call->args[i];
   return true;
 }
@@ -208,6 +239,15 @@ static struct answer list_exports(void) {
   return answer_of(status, count * 1000 + bytes);
 }
 
+/* An export with two results. */
+static struct answer find_export(void) {
+  tegvurn_export *found = NULL;
+  tegvurn_status status = tegvurn_find_export(embedding, 0, tegvurn_string("two"), &found);
+  uint64_t given = status ? 0 : 1000 * found->result_count + found->name.size;
+  tegvurn_exports_free(found);
+  return answer_of(status, given);
+}
+
 static struct answer set_fuel(void) { return answer_of(tegvurn_set_fuel(embedding, 500), 0); }
 
 static struct answer look_at_fuel(void) {
@@ -245,12 +285,14 @@ static const struct step {
   const char *name;
   struct answer (*run)(void);
   uint64_t wanted;   /* the number that it gives */
-  bool wants_memory; /* somewhere it has to answer that there was none */
+  bool wants_memory; /* somewhere it has to answer that there was none; a step that does not want any calls no function of malloc, unless an
+                        earlier step ran out of memory */
 } steps[] = {
     {"new", make, 0, true},
     {"load", load, 0, true},
     {"link", link_it, 0, true},
     {"exports", list_exports, 12 * 1000 + 59, true},
+    {"find an export", find_export, 2 * 1000 + 3, true},
     {"register", register_it, 0, true},
     {"load another", load_another, 1, true},
     {"link another", link_another, 1, true},
@@ -300,7 +342,10 @@ static bool builds_on_refused(struct answer answer) {
 
 /* Runs a step. Whether the next one can follow. */
 static bool run_step(size_t step) {
+  bool was_starved = is_starved;
+  long calls = made + freed;
   struct answer answer = steps[step].run();
+  if (!steps[step].wants_memory && !was_starved && made + freed != calls) fail(step, answer, "it takes or frees memory");
   bool lacks_memory = says_no_memory(answer) || is_over(answer) || is_script_in_part(step, answer);
   if (is_as_wanted(step, answer) || (!lacks_memory && builds_on_refused(answer))) return true;
   if (refused < 0 || !lacks_memory) fail(step, answer, "a wrong answer");
@@ -313,26 +358,69 @@ static bool run_step(size_t step) {
   return true;
 }
 
-/* A whole life. Answers how many allocations there were. */
-static long live_once(void) {
+/* Leaves a callback, unless memory runs out before it is called, and abandons the embedding. */
+static tegvurn_status leave_it(void) {
+  leaves = true;
+  if (!setjmp(way_out)) call();
+  leaves = false;
+  return tegvurn_abandon(embedding);
+}
+
+/* A whole life, in the end of which the embedding is freed or abandoned. Returns how many allocations there were. */
+static long live_once(bool is_abandoned) {
   struct answer none = {TEGVURN_DONE, 0, 0};
   made = live = 0;
   is_starved = false;
   embedding = NULL;
   for (size_t step = 0; step < STEPS; step++)
     if (!run_step(step)) break;
-  if (tegvurn_free(embedding)) fail(0, none, "it is not freed");
+  if (is_abandoned ? leave_it() : tegvurn_free(embedding)) fail(0, none, "it is not freed");
   if (live) fail(0, none, "something is left allocated");
   return made;
 }
 
+/* What many exports take */
+
+#define MOST_LISTED ((size_t)20 << 20) /* bytes for the module, its instance and the list of its exports */
+#define MOST_FOUND ((size_t)200 << 10) /* bytes more for one export */
+
+static void check(bool is_so, const char *what) {
+  if (is_so) return;
+  printf("%s\n", what);
+  failed++;
+}
+
+static size_t measure_exports(void) {
+  static uint8_t bytes[EXPORTS_ROOM(MANY_EXPORTS, MANY_TYPES)];
+  const tegvurn_config config = {1000, 100, 16, 100};
+  size_t size = spell_exports(bytes, MANY_EXPORTS, MANY_TYPES), count = 0, before = held;
+  tegvurn_export *exports = NULL, *found = NULL;
+  uint64_t number;
+  live = 0;
+  most_held = held;
+  check(tegvurn_new(&config, NULL, 0, &embedding, NULL) == TEGVURN_DONE, "many exports: no embedding");
+  check(tegvurn_load(embedding, bytes, size, &number) == TEGVURN_DONE, "many exports: not loaded");
+  check(tegvurn_link(embedding, number, &number) == TEGVURN_DONE, "many exports: not linked");
+  size_t linked = most_held = held;
+  check(tegvurn_find_export(embedding, number, tegvurn_string("7cZ"), &found) == TEGVURN_DONE, "many exports: none is found");
+  check(most_held - linked < MOST_FOUND, "many exports: one takes too much memory");
+  check(tegvurn_exports(embedding, number, &exports, &count) == TEGVURN_DONE && count == MANY_EXPORTS, "many exports: not listed");
+  size_t listed = most_held - before;
+  check(listed < MOST_LISTED, "many exports: their list takes too much memory");
+  tegvurn_exports_free(found);
+  tegvurn_exports_free(exports);
+  check(tegvurn_free(embedding) == TEGVURN_DONE && !live && held == before, "many exports: something is left allocated");
+  return listed;
+}
+
 int main(int argc, char **argv) {
   long each = argc == 2 ? atol(argv[1]) : 1, number = 0, runs = 0;
-  long all = live_once();
+  printf("%zu bytes for the list of many exports\n", measure_exports());
+  long all = live_once(true);
   for (refused = 0; refused <= all && each > 0; refused += each) {
-    for (int more = 0; more < 2; more++, runs++) {
-      refuses_more = more;
-      live_once();
+    for (int way = 0; way < 4; way++, runs++) {
+      refuses_more = way % 2;
+      live_once(way / 2);
     }
   }
   for (size_t step = 0; step < STEPS; step++) {

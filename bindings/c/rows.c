@@ -345,17 +345,34 @@ static void run_left(void) {
   say_number(status, fuel);
 }
 
+/* Finds an export by its name. If it is another one than is said from that position on, the answer goes on with it. */
+static void say_found(uint64_t instance, tegvurn_text name, size_t start) {
+  size_t end = answer_size, size = end - start;
+  tegvurn_export *found;
+  if (tegvurn_find_export(embedding, instance, name, &found)) {
+    say_end(tegvurn_last(embedding));
+    return;
+  }
+  say_export(found);
+  tegvurn_exports_free(found);
+  bool is_same = answer_size - end == size && !memcmp(answer + start, answer + end, size);
+  if (is_same) answer[answer_size = end] = 0;
+}
+
 static void run_exports(void) {
   tegvurn_export *exports;
+  uint64_t instance = read_number(words[1]);
   size_t number;
-  if (tegvurn_exports(embedding, read_number(words[1]), &exports, &number)) {
+  if (tegvurn_exports(embedding, instance, &exports, &number)) {
     say_end(tegvurn_last(embedding));
     return;
   }
   if (!number) say("nothing");
   for (size_t i = 0; i < number; i++) {
     if (i) say(" ");
+    size_t start = answer_size;
     say_export(&exports[i]);
+    say_found(instance, exports[i].name, start);
   }
   tegvurn_exports_free(exports);
 }

@@ -37,14 +37,22 @@ static void go_in(struct stack *stack) { swapcontext(&stack->outside, &stack->in
 static void go_out(struct stack *stack) { swapcontext(&stack->inside, &stack->outside); }
 #else
 /* Keeps the registers that a function keeps, and the stack pointer in *save; then takes those of the other stack. The code inside does not
-   touch the control words of floating point. */
+   touch the control words of floating point.
+
+   Both stacks hold the registers at the same offsets. So the unwind information is right on both sides of the switch: it leads to the caller
+   on the stack that the stack pointer is on. No jump through a register or memory leads here, so there is no endbr64. The `ret` returns to
+   an address that another `call` pushed, which a shadow stack forbids. */
 void tegvurn_switch(void **save, void *load);
+#define PUSH(name) " pushq %" name "\n .cfi_adjust_cfa_offset 8\n .cfi_rel_offset %" name ", 0\n"
+#define POP(name) " popq %" name "\n .cfi_adjust_cfa_offset -8\n .cfi_restore %" name "\n"
 __asm__(".text\n.local tegvurn_switch\n.type tegvurn_switch, @function\n"
-        "tegvurn_switch:\n"
-        " pushq %rbp\n pushq %rbx\n pushq %r12\n pushq %r13\n pushq %r14\n pushq %r15\n"
+        "tegvurn_switch:\n .cfi_startproc\n"
+        PUSH("rbp") PUSH("rbx") PUSH("r12") PUSH("r13") PUSH("r14") PUSH("r15")
         " movq %rsp, (%rdi)\n movq %rsi, %rsp\n"
-        " popq %r15\n popq %r14\n popq %r13\n popq %r12\n popq %rbx\n popq %rbp\n ret\n"
-        ".size tegvurn_switch, . - tegvurn_switch\n");
+        POP("r15") POP("r14") POP("r13") POP("r12") POP("rbx") POP("rbp")
+        " ret\n .cfi_endproc\n.size tegvurn_switch, . - tegvurn_switch\n");
+#undef PUSH
+#undef POP
 static void go_in(struct stack *stack) { tegvurn_switch(&stack->outside, stack->inside); }
 static void go_out(struct stack *stack) { tegvurn_switch(&stack->inside, stack->outside); }
 #endif

@@ -12,6 +12,7 @@
 #include "stack.h"
 
 #include <endian.h>
+#include <stdatomic.h>
 #include <stdlib.h>
 #include <sys/types.h>
 
@@ -24,12 +25,13 @@ uint32_t tegvurn_serve(int32_t ask, int32_t hear);
 #define NUMBER ((size_t)8) /* the bytes of a number */
 #define HEAD (2 * NUMBER)  /* of the head of a message */
 #define VALUE (2 * NUMBER) /* of a value */
-#define SMALLEST_EXPORT (4 * NUMBER)
+#define SMALLEST_TYPE (3 * NUMBER) /* of an export */
+#define MOST_BYTES ((size_t)64 << 20) /* of a module */
 #define ROOM_AT_FIRST ((size_t)512) /* of a message: more than a refusal takes */
 
 /* The kinds of messages. */
 enum order { ORDER_END, ORDER_LOAD, ORDER_LINK, ORDER_REGISTER, ORDER_CALL, ORDER_GET_GLOBAL, ORDER_SET_FUEL, ORDER_FUEL_LEFT,
-             ORDER_EXPORTS, ORDER_FILE, ORDER_SCRIPT, ORDER_DEFINE, ORDER_BEGIN };
+             ORDER_EXPORTS, ORDER_FILE, ORDER_SCRIPT, ORDER_DEFINE, ORDER_BEGIN, ORDER_EXPORT };
 enum reply { REPLY_DONE, REPLY_NUMBER, REPLY_VALUES, REPLY_TRAP, REPLY_EXHAUSTED, REPLY_REFUSED, REPLY_EXPORTS, REPLY_REPORT,
              REPLY_NOT_SPELT, REQUEST_CALL = 10 };
 enum answer { ANSWER_RESULTS = 20, ANSWER_TRAP = 21, ANSWER_PUT = 23 };
@@ -41,13 +43,14 @@ struct bytes { const uint8_t *at; size_t left; };
 
 struct host { tegvurn_callback callback; void *context; size_t param_count, result_count; };
 
-/* Where the proved code is: at its start, waiting for an order or for the answer of a host function, or at its end. */
-enum state { AT_START, WAITS, ASKS, AT_END };
+/* Where the proved code is: at its start, waiting for an order or for the answer of a host function, at its end, or running. */
+enum state { AT_START, WAITS, ASKS, AT_END, RUNS };
 
 struct tegvurn {
   struct stack stack;
-  const void *owner;
-  bool is_busy;
+  uint64_t owner;       /* the number of the thread that made it */
+  atomic_bool is_busy;  /* a call is inside, or a callback was left */
+  bool is_abandoned;    /* the proved code finds both of its streams at their end */
   enum state state;
   uint32_t served;      /* what tegvurn_serve answered at its end */
   struct buffer said;   /* the message that the proved code reads, */
@@ -63,8 +66,25 @@ struct tegvurn {
   tegvurn_end end;
 };
 
-/* The embedding whose proved code ran last on this thread. The address of this variable tells threads apart. */
+/* The embedding whose inner stack this thread is on, or NULL. A function reads it only before it goes out of that stack, because another
+   thread may come back in. */
 static _Thread_local tegvurn *running;
+
+/* Who may call */
+
+/* Returns the number of this thread. No other thread of the process gets the same one, not even after this thread's end. */
+static uint64_t this_thread(void) {
+  static atomic_uint_least64_t last;
+  static _Thread_local atomic_uint_least64_t own;
+  uint64_t number = atomic_load_explicit(&own, memory_order_relaxed);
+  if (number) return number;
+  uint64_t next = atomic_fetch_add_explicit(&last, 1, memory_order_relaxed) + 1;
+  /* If a signal handler numbered the thread in the meantime, that number stays. */
+  return atomic_compare_exchange_strong(&own, &number, next) ? next : number;
+}
+
+/* Takes the embedding, unless a call is inside already. What earlier calls wrote, also on other threads, is visible then. */
+static bool take(tegvurn *m) { return !atomic_exchange_explicit(&m->is_busy, true, memory_order_acquire); }
 
 /* Numbers and buffers */
 
@@ -146,6 +166,20 @@ static uint64_t next_number(struct bytes *fields) {
   return number_at(fields->at - NUMBER);
 }
 
+/* Returns how many things of at least that many bytes follow, but no more than fit into what is left. */
+static size_t next_count(struct bytes *fields, size_t least) {
+  uint64_t count = next_number(fields), most = fields->left / least;
+  return (size_t)(count < most ? count : most);
+}
+
+static struct bytes next_text(struct bytes *fields) {
+  struct bytes text = {NULL, next_count(fields, 1)};
+  text.at = fields->at;
+  fields->at += text.left;
+  fields->left -= text.left;
+  return text;
+}
+
 static tegvurn_value next_value(struct bytes *fields) {
   tegvurn_type type = (tegvurn_type)next_number(fields);
   uint64_t number = next_number(fields);
@@ -177,6 +211,7 @@ __attribute__((visibility("hidden"))) ssize_t tegvurn_write(int descriptor, cons
   tegvurn *m = running;
   struct buffer *heard = &m->heard;
   (void)descriptor;
+  if (m->is_abandoned) return -1;
   if (!m->is_cut && !reserve(heard, heard->size + size)) m->is_cut = true;
   size_t fits = heard->room > heard->size ? heard->room - heard->size : 0;
   if (fits && size) memcpy(heard->at + heard->size, bytes, fits < size ? fits : size);
@@ -214,7 +249,7 @@ static ssize_t lend(tegvurn *m, uint8_t *memory, size_t size) {
 __attribute__((visibility("hidden"))) ssize_t tegvurn_read(int descriptor, void *to, size_t size) {
   tegvurn *m = running;
   (void)descriptor;
-  if (!size) return 0;
+  if (!size || m->is_abandoned) return 0;
   if (!m->rest.left && !m->behind.left && m->lends) return lend(m, to, size);
   if (!m->rest.left && !m->behind.left) wait_for_message(m);
   struct bytes *from = m->rest.left ? &m->rest : &m->behind;
@@ -242,11 +277,20 @@ static void answer_host_call(tegvurn *m) {
   end_message(m, 0);
 }
 
+/* Goes in, up to where the proved code goes out. A signal handler does so in the middle of the inner stack that it interrupted, which then
+   goes on as before. */
+static void visit(tegvurn *m) {
+  tegvurn *interrupted = running;
+  running = m;
+  m->state = RUNS;
+  go_in(&m->stack);
+  running = interrupted;
+}
+
 /* Runs the proved code until it has replied, and its host functions meanwhile. */
 static void run(tegvurn *m) {
   for (;;) {
-    running = m;
-    go_in(&m->stack);
+    visit(m);
     if (m->state != ASKS) return;
     answer_host_call(m);
   }
@@ -257,11 +301,13 @@ static void run(tegvurn *m) {
 struct wording { const char *name, *text; };
 static const struct wording statuses[] = {
     {"Done", ""}, {"Refused", ""}, {"Trap", ""}, {"Exhausted", ""}, {"NotSpelt", "a text is no UTF-8, or a type is none"},
-    {"NoRoom", "the results do not fit"}, {"Busy", "the embedding is busy"}, {"Over", "the embedding has ended"}};
+    {"NoRoom", "the results do not fit"}, {"Busy", "the embedding is busy"}, {"Over", "the embedding has ended"},
+    {"BadPointer", "a pointer is null"}};
 static const struct wording refusals[] = {
-    {"", ""}, {"Malformed", ""}, {"Unsupported", ""}, {"Limit", ""}, {"Invalid", ""}, {"UnknownModule", ""}, {"UnknownImport", ""},
-    {"IncompatibleImport", ""}, {"UnknownInstance", ""}, {"UnknownExport", ""}, {"WrongKind", ""}, {"BadArguments", ""}, {"NameTaken", ""},
-    {"OutOfMemory", "out of memory"}, {"HostFuncRef", ""}, {"NotJson", ""}, {"BadCommand", ""}, {"MissingFile", ""}, {"BadSetup", ""}};
+    {"", ""}, {"Malformed", ""}, {"Unsupported", ""}, {"Limit", "a limit is passed"}, {"Invalid", ""}, {"UnknownModule", ""},
+    {"UnknownImport", ""}, {"IncompatibleImport", ""}, {"UnknownInstance", ""}, {"UnknownExport", "nothing is exported under the name"}, {"WrongKind", ""},
+    {"BadArguments", ""}, {"NameTaken", ""}, {"OutOfMemory", "out of memory"}, {"HostFuncRef", ""}, {"NotJson", ""}, {"BadCommand", ""},
+    {"MissingFile", ""}, {"BadSetup", ""}};
 static const struct wording traps[] = {
     {"", ""}, {"Unreachable", "unreachable"}, {"DivideByZero", "integer divide by zero"}, {"IntegerOverflow", "integer overflow"},
     {"MemoryBounds", "out of bounds memory access"}, {"TableBounds", "out of bounds table access"},
@@ -328,18 +374,30 @@ static tegvurn_status end_as_replied(tegvurn *m) {
   return kind == REPLY_NOT_SPELT ? end_plainly(end, TEGVURN_NOT_SPELT) : end_as_over(m);
 }
 
-/* Orders */
+/* Beginning and ending a call */
 
-/* Whether the embedding may be called now: done, busy or over. */
-static tegvurn_status enter(tegvurn *m) {
-  if (m->owner != &running || m->is_busy) return TEGVURN_BUSY;
-  return m->state == AT_END ? end_as_over(m) : TEGVURN_DONE;
+/* Returns whether a pointer to that many elements is there. It may be null if there are none. */
+static bool is_there(const void *at, size_t count) { return at || !count; }
+
+/* Ends a call with the status. */
+static tegvurn_status finish(tegvurn *m, tegvurn_status status) {
+  atomic_store_explicit(&m->is_busy, false, memory_order_release);
+  return status;
 }
+
+/* Begins a call on the embedding's own thread, given whether all pointers that it needs are there. If it returns done, the call must end with
+   finish. Otherwise the call is over. */
+static tegvurn_status enter(tegvurn *m, bool is_whole) {
+  if (!m) return TEGVURN_BAD_POINTER;
+  if (m->owner != this_thread() || !take(m)) return TEGVURN_BUSY;
+  return is_whole ? TEGVURN_DONE : finish(m, end_plainly(&m->end, TEGVURN_BAD_POINTER));
+}
+
+/* Orders */
 
 /* Starts an order, and makes room for its fields. */
 static tegvurn_status start_order(tegvurn *m, enum order order, size_t room) {
-  tegvurn_status status = enter(m);
-  if (status) return status;
+  if (m->state == AT_END) return end_as_over(m);
   if (!reserve(&m->said, HEAD + room)) return end_without_memory(&m->end);
   start_message(m, order);
   return TEGVURN_DONE;
@@ -349,9 +407,7 @@ static tegvurn_status start_order(tegvurn *m, enum order order, size_t room) {
 static tegvurn_status send_order(tegvurn *m, const void *bytes, size_t size) {
   m->behind = (struct bytes){bytes, size};
   end_message(m, 0);
-  m->is_busy = true;
   run(m);
-  m->is_busy = false;
   return end_as_replied(m);
 }
 
@@ -410,25 +466,8 @@ static tegvurn_status begin(tegvurn *m, const tegvurn_config *config, const tegv
   return send_order(m, NULL, 0);
 }
 
-tegvurn_status tegvurn_new(const tegvurn_config *config, const tegvurn_host *hosts, size_t host_count, tegvurn **embedding,
-                           tegvurn_end *end) {
-  tegvurn_end unwanted;
-  if (!end) end = &unwanted;
-  *embedding = NULL;
-  tegvurn *m = calloc(1, sizeof *m);
-  if (!m) return end_without_memory(end);
-  m->owner = &running;
-  tegvurn_status status = begin(m, config, hosts, host_count);
-  if (status == TEGVURN_OVER && m->served == NO_MEMORY) status = end_without_memory(&m->end);
-  *end = m->end;
-  if (status) tegvurn_free(m);
-  else *embedding = m;
-  return status;
-}
-
-tegvurn_status tegvurn_free(tegvurn *m) {
-  if (!m) return TEGVURN_DONE;
-  if (enter(m) == TEGVURN_BUSY) return TEGVURN_BUSY;
+/* Frees an embedding that is taken, on any thread. */
+static void drop(tegvurn *m) {
   if (m->state == WAITS) send_short(m, ORDER_END, NULL, NULL, 0);
   drop_stack(&m->stack);
   free(m->said.at);
@@ -437,23 +476,88 @@ tegvurn_status tegvurn_free(tegvurn *m) {
   free(m->args);
   free(m->results);
   free(m);
+}
+
+/* Returns whether all pointers of the host functions are there. */
+static bool are_hosts_whole(const tegvurn_host *hosts, size_t count) {
+  if (!is_there(hosts, count)) return false;
+  for (const tegvurn_host *host = hosts; count--; host++) {
+    if (!is_there(host->module.bytes, host->module.size) || !is_there(host->name.bytes, host->name.size)) return false;
+    if (!is_there(host->params, host->param_count) || !is_there(host->results, host->result_count) || !host->callback) return false;
+  }
+  return true;
+}
+
+tegvurn_status tegvurn_new(const tegvurn_config *config, const tegvurn_host *hosts, size_t host_count, tegvurn **embedding,
+                           tegvurn_end *end) {
+  tegvurn_end unwanted;
+  if (!end) end = &unwanted;
+  if (embedding) *embedding = NULL;
+  if (!embedding || !config || !are_hosts_whole(hosts, host_count)) return end_plainly(end, TEGVURN_BAD_POINTER);
+  tegvurn *m = calloc(1, sizeof *m);
+  if (!m) return end_without_memory(end);
+  m->owner = this_thread();
+  take(m);
+  tegvurn_status status = begin(m, config, hosts, host_count);
+  if (status == TEGVURN_OVER && m->served == NO_MEMORY) status = end_without_memory(&m->end);
+  *end = m->end;
+  if (status) {
+    drop(m);
+    return status;
+  }
+  *embedding = m;
+  return finish(m, status);
+}
+
+tegvurn_status tegvurn_free(tegvurn *m) {
+  if (!m) return TEGVURN_DONE;
+  if (!take(m)) return TEGVURN_BUSY;
+  drop(m);
   return TEGVURN_DONE;
 }
 
-const tegvurn_end *tegvurn_last(const tegvurn *m) { return &m->end; }
+/* The callback that was left ran on its caller's stack, so the inner stack is whole: the proved code still waits for an answer. Now it finds
+   that it can neither read nor write. So the host function traps, the proved code frees all that it has, and ends. It gets no further request
+   through, so no other callback runs. */
+tegvurn_status tegvurn_abandon(tegvurn *m) {
+  if (!m) return TEGVURN_DONE;
+  if (!take(m)) {
+    if (m->state != ASKS) return TEGVURN_BUSY;
+    m->is_abandoned = true;
+    visit(m);
+  }
+  drop(m);
+  return TEGVURN_DONE;
+}
+
+const tegvurn_end *tegvurn_last(const tegvurn *m) {
+  static const tegvurn_end without_embedding = {.status = TEGVURN_BAD_POINTER, .name = "BadPointer", .text = "a pointer is null"};
+  return m ? &m->end : &without_embedding;
+}
 
 /* The other calls */
 
+/* Loads a module. If it is too large, it is refused for its size alone, with the end that the proved code gives after reading all bytes. */
+static tegvurn_status send_module(tegvurn *m, const void *bytes, size_t size) {
+  tegvurn_status status = start_order(m, ORDER_LOAD, 0);
+  if (status) return status;
+  if (size > MOST_BYTES) return set_end(&m->end, TEGVURN_REFUSED, TEGVURN_LIMIT, refusals[TEGVURN_LIMIT]);
+  return send_order(m, bytes, size);
+}
+
 tegvurn_status tegvurn_load(tegvurn *m, const void *bytes, size_t size, uint64_t *module) {
-  return take_number(m, send_short(m, ORDER_LOAD, NULL, bytes, size), module);
+  tegvurn_status status = enter(m, module && is_there(bytes, size));
+  return status ? status : finish(m, take_number(m, send_module(m, bytes, size), module));
 }
 
 tegvurn_status tegvurn_link(tegvurn *m, uint64_t module, uint64_t *instance) {
-  return take_number(m, send_short(m, ORDER_LINK, &module, NULL, 0), instance);
+  tegvurn_status status = enter(m, instance);
+  return status ? status : finish(m, take_number(m, send_short(m, ORDER_LINK, &module, NULL, 0), instance));
 }
 
 tegvurn_status tegvurn_register(tegvurn *m, uint64_t instance, tegvurn_text name) {
-  return send_short(m, ORDER_REGISTER, &instance, name.bytes, name.size);
+  tegvurn_status status = enter(m, is_there(name.bytes, name.size));
+  return status ? status : finish(m, send_short(m, ORDER_REGISTER, &instance, name.bytes, name.size));
 }
 
 /* Takes the values that were heard, as many as there is room for. Answers how many there are. */
@@ -464,92 +568,150 @@ static size_t take_values(const tegvurn *m, tegvurn_value *values, size_t room) 
   return count;
 }
 
-tegvurn_status tegvurn_call(tegvurn *m, uint64_t instance, tegvurn_text name, const tegvurn_value *args, size_t arg_count,
-                            tegvurn_value *results, size_t room, size_t *result_count) {
-  size_t unwanted, *count = result_count ? result_count : &unwanted;
-  *count = 0;
+/* Calls an export. With room for the results, the reply needs no more memory after the call. */
+static tegvurn_status call_export(tegvurn *m, uint64_t instance, tegvurn_text name, const tegvurn_value *args, size_t arg_count,
+                                  size_t room) {
   tegvurn_status status = start_order(m, ORDER_CALL, 2 * NUMBER + name.size + arg_count * VALUE);
   if (status) return status;
-  /* With room for the results no memory is wanted behind the call. */
   if (!reserve(&m->heard, HEAD + room * VALUE)) return end_without_memory(&m->end);
   add_number(m, instance);
   add_text(m, name);
   add_values(m, args, arg_count);
-  status = send_order(m, NULL, 0);
+  return send_order(m, NULL, 0);
+}
+
+tegvurn_status tegvurn_call(tegvurn *m, uint64_t instance, tegvurn_text name, const tegvurn_value *args, size_t arg_count,
+                            tegvurn_value *results, size_t room, size_t *result_count) {
+  size_t unwanted, *count = result_count ? result_count : &unwanted;
+  *count = 0;
+  tegvurn_status status = enter(m, is_there(name.bytes, name.size) && is_there(args, arg_count) && is_there(results, room));
+  if (status) return status;
+  status = call_export(m, instance, name, args, arg_count, room);
   if (!status) *count = take_values(m, results, room);
-  return *count > room ? end_plainly(&m->end, TEGVURN_NO_ROOM) : status;
+  return finish(m, *count > room ? end_plainly(&m->end, TEGVURN_NO_ROOM) : status);
 }
 
 tegvurn_status tegvurn_get_global(tegvurn *m, uint64_t instance, tegvurn_text name, tegvurn_value *value) {
-  tegvurn_status status = send_short(m, ORDER_GET_GLOBAL, &instance, name.bytes, name.size);
+  tegvurn_status status = enter(m, value && is_there(name.bytes, name.size));
+  if (status) return status;
+  status = send_short(m, ORDER_GET_GLOBAL, &instance, name.bytes, name.size);
   if (!status) take_values(m, value, 1);
-  return status;
+  return finish(m, status);
 }
 
-tegvurn_status tegvurn_set_fuel(tegvurn *m, uint64_t fuel) { return send_short(m, ORDER_SET_FUEL, &fuel, NULL, 0); }
+tegvurn_status tegvurn_set_fuel(tegvurn *m, uint64_t fuel) {
+  tegvurn_status status = enter(m, true);
+  return status ? status : finish(m, send_short(m, ORDER_SET_FUEL, &fuel, NULL, 0));
+}
 
 tegvurn_status tegvurn_fuel_left(tegvurn *m, uint64_t *fuel) {
-  return take_number(m, send_short(m, ORDER_FUEL_LEFT, NULL, NULL, 0), fuel);
+  tegvurn_status status = enter(m, fuel);
+  return status ? status : finish(m, take_number(m, send_short(m, ORDER_FUEL_LEFT, NULL, NULL, 0), fuel));
 }
 
 /* Exports */
 
-/* Where the types and the names of exports are put next. */
-struct export_room { tegvurn_type *types; char *names; };
-
-static tegvurn_text next_name(struct bytes *fields, struct export_room *room) {
-  tegvurn_text name = {room->names, next_number(fields)};
-  if (name.size > fields->left) name.size = fields->left;
-  memcpy(room->names, fields->at, name.size);
-  room->names[name.size] = 0;
-  room->names += name.size + 1;
-  fields->at += name.size;
-  fields->left -= name.size;
-  return name;
-}
-
-static const tegvurn_type *next_types(struct bytes *fields, struct export_room *room, size_t *count) {
-  tegvurn_type *types = room->types;
-  *count = next_number(fields);
-  if (*count > fields->left / NUMBER) *count = fields->left / NUMBER;
-  for (size_t i = 0; i < *count; i++) *room->types++ = (tegvurn_type)next_number(fields);
+/* Takes the types of parameters or results, and moves the room on. Without room they are only counted. */
+static const tegvurn_type *next_types(struct bytes *fields, tegvurn_type **room, size_t *count) {
+  const tegvurn_type *types = room ? *room : NULL;
+  *count = next_count(fields, NUMBER);
+  for (size_t i = 0; i < *count; i++) {
+    tegvurn_type type = (tegvurn_type)next_number(fields);
+    if (room) *(*room)++ = type;
+  }
   return types;
 }
 
-static tegvurn_export next_export(struct bytes *fields, struct export_room *room) {
-  tegvurn_export export = {.name = next_name(fields, room)};
-  export.kind = (tegvurn_kind)next_number(fields);
-  bool is_table = export.kind == TEGVURN_A_TABLE, is_global = export.kind == TEGVURN_A_GLOBAL;
-  if (export.kind == TEGVURN_A_FUNCTION) {
-    export.params = next_types(fields, room, &export.param_count);
-    export.results = next_types(fields, room, &export.result_count);
+/* Takes a type as an export that has no name yet. */
+static tegvurn_export next_type(struct bytes *fields, tegvurn_type **room) {
+  tegvurn_export type = {.kind = (tegvurn_kind)next_number(fields)};
+  bool is_table = type.kind == TEGVURN_A_TABLE, is_global = type.kind == TEGVURN_A_GLOBAL;
+  if (type.kind == TEGVURN_A_FUNCTION) {
+    type.params = next_types(fields, room, &type.param_count);
+    type.results = next_types(fields, room, &type.result_count);
   }
-  if (is_table || is_global) export.type = (tegvurn_type)next_number(fields);
-  if (is_global) export.is_mutable = next_number(fields) == 1;
-  if (is_table || export.kind == TEGVURN_A_MEMORY) {
-    export.minimum = next_number(fields);
-    export.has_maximum = next_number(fields) == 1;
-    export.maximum = next_number(fields);
+  if (is_table || is_global) type.type = (tegvurn_type)next_number(fields);
+  if (is_global) type.is_mutable = next_number(fields) == 1;
+  if (is_table || type.kind == TEGVURN_A_MEMORY) {
+    type.minimum = next_number(fields);
+    type.has_maximum = next_number(fields) == 1;
+    type.maximum = next_number(fields);
   }
+  return type;
+}
+
+/* Takes an export, whose type is one of these, and moves the room of names on. If the type is none of these, it is all zeros. */
+static tegvurn_export next_export(struct bytes *fields, const tegvurn_export *types, size_t type_count, char **names) {
+  struct bytes name = next_text(fields);
+  uint64_t number = next_number(fields);
+  tegvurn_export export = {.kind = TEGVURN_A_FUNCTION};
+  if (number < type_count) export = types[number];
+  export.name = (tegvurn_text){*names, name.left};
+  if (name.left) memcpy(*names, name.at, name.left);
+  (*names)[name.left] = 0;
+  *names += name.left + 1;
   return export;
 }
 
-/* The exports that were heard, in one piece of memory: room for the most exports that so many bytes can be, the most types, and names. */
+/* How many exports there are, how many types, how many parameters and results these have, and how many bytes the names take. */
+struct export_counts { size_t exports, types, values, names; };
+
+static struct export_counts count_exports(struct bytes fields) {
+  struct export_counts counts = {.types = next_count(&fields, SMALLEST_TYPE)};
+  for (size_t i = 0; i < counts.types; i++) {
+    tegvurn_export type = next_type(&fields, NULL);
+    counts.values += type.param_count + type.result_count;
+  }
+  for (; fields.left; counts.exports++) {
+    counts.names += next_text(&fields).left + 1;
+    next_number(&fields);
+  }
+  return counts;
+}
+
+/* Takes the exports in one piece of memory: first the exports themselves, then their types, whose parameters and results all exports of a
+   type share, and then the names. The last byte is for a piece that would be empty. */
 static tegvurn_export *take_exports(struct bytes fields, size_t *count) {
-  size_t exports_most = fields.left / SMALLEST_EXPORT + 1, types_most = fields.left / NUMBER, name_bytes = fields.left + exports_most;
-  tegvurn_export *exports = malloc(exports_most * sizeof *exports + types_most * sizeof(tegvurn_type) + name_bytes);
+  struct export_counts counts = count_exports(fields);
+  size_t values_size = counts.values * sizeof(tegvurn_type);
+  tegvurn_export *exports = malloc((counts.exports + counts.types) * sizeof *exports + values_size + counts.names + 1);
   if (!exports) return NULL;
-  tegvurn_type *types = (tegvurn_type *)(exports + exports_most);
-  struct export_room room = {types, (char *)(types + types_most)};
-  for (*count = 0; fields.left; ++*count) exports[*count] = next_export(&fields, &room);
+  tegvurn_export *types = exports + counts.exports;
+  tegvurn_type *values = (tegvurn_type *)(types + counts.types);
+  char *names = (char *)(values + counts.values);
+  next_number(&fields);
+  for (size_t i = 0; i < counts.types; i++) types[i] = next_type(&fields, &values);
+  for (size_t i = 0; i < counts.exports; i++) exports[i] = next_export(&fields, types, counts.types, &names);
+  *count = counts.exports;
   return exports;
 }
 
-tegvurn_status tegvurn_exports(tegvurn *m, uint64_t instance, tegvurn_export **exports, size_t *count) {
-  tegvurn_status status = send_short(m, ORDER_EXPORTS, &instance, NULL, 0);
+/* Takes the exports that were heard, if the order was done. */
+static tegvurn_status take_list(tegvurn *m, tegvurn_status status, tegvurn_export **exports, size_t *count) {
   if (status) return status;
   *exports = m->is_cut ? NULL : take_exports(fields_heard(m), count);
   return *exports ? status : end_without_memory(&m->end);
+}
+
+/* Finds one export. A list of none means that what is exported is not in the store. */
+static tegvurn_status find_export(tegvurn *m, uint64_t instance, tegvurn_text name, tegvurn_export **found) {
+  tegvurn_export *list = NULL;
+  size_t count = 0;
+  tegvurn_status status = take_list(m, send_short(m, ORDER_EXPORT, &instance, name.bytes, name.size), &list, &count);
+  if (!status && !count) status = set_end(&m->end, TEGVURN_REFUSED, TEGVURN_UNKNOWN_EXPORT, refusals[TEGVURN_UNKNOWN_EXPORT]);
+  if (status) free(list);
+  else *found = list;
+  return status;
+}
+
+tegvurn_status tegvurn_exports(tegvurn *m, uint64_t instance, tegvurn_export **exports, size_t *count) {
+  tegvurn_status status = enter(m, exports && count);
+  return status ? status : finish(m, take_list(m, send_short(m, ORDER_EXPORTS, &instance, NULL, 0), exports, count));
+}
+
+tegvurn_status tegvurn_find_export(tegvurn *m, uint64_t instance, tegvurn_text name, tegvurn_export **found) {
+  tegvurn_status status = enter(m, found && is_there(name.bytes, name.size));
+  return status ? status : finish(m, find_export(m, instance, name, found));
 }
 
 void tegvurn_exports_free(tegvurn_export *exports) { free(exports); }
@@ -581,15 +743,30 @@ static void take_report(tegvurn *m, tegvurn_report *report) {
   for (size_t i = 0; fields.left; i++) lines[i] = next_number(&fields);
 }
 
+/* Hands in the files and runs the script. No command has fewer bytes than the line of one that failed, so the report needs no more memory
+   after the script. */
+static tegvurn_status run_script(tegvurn *m, const void *json, size_t size, const tegvurn_file *files, size_t file_count) {
+  tegvurn_status status = TEGVURN_DONE;
+  if (!reserve(&m->heard, HEAD + 3 * NUMBER + size)) return end_without_memory(&m->end);
+  for (size_t i = 0; i < file_count && !status; i++) status = hand_in_file(m, &files[i]);
+  if (!status) return send_short(m, ORDER_SCRIPT, NULL, json, size);
+  forget_files(m);
+  return status;
+}
+
+/* Returns whether all pointers of the files are there. */
+static bool are_files_whole(const tegvurn_file *files, size_t count) {
+  if (!is_there(files, count)) return false;
+  for (const tegvurn_file *file = files; count--; file++)
+    if (!is_there(file->name.bytes, file->name.size) || !is_there(file->bytes, file->size)) return false;
+  return true;
+}
+
 tegvurn_status tegvurn_script(tegvurn *m, const void *json, size_t size, const tegvurn_file *files, size_t file_count,
                               tegvurn_report *report) {
-  tegvurn_status status = enter(m);
-  /* No command has fewer bytes than the line of one that failed, so no memory is wanted behind the script. */
-  if (!status && !reserve(&m->heard, HEAD + 3 * NUMBER + size)) status = end_without_memory(&m->end);
+  tegvurn_status status = enter(m, report && is_there(json, size) && are_files_whole(files, file_count));
   if (status) return status;
-  for (size_t i = 0; i < file_count && !status; i++) status = hand_in_file(m, &files[i]);
-  if (status) forget_files(m);
-  else status = send_short(m, ORDER_SCRIPT, NULL, json, size);
+  status = run_script(m, json, size, files, file_count);
   if (!status) take_report(m, report);
-  return status;
+  return finish(m, status);
 }

@@ -1,12 +1,24 @@
-/* Tegvurn for C and C++: WebAssembly modules are loaded, linked and called within a fuel, by an engine that is proved.
+/* Tegvurn for C and C++: loads, links and calls WebAssembly modules within a limit of fuel, on a proved engine.
 
    An embedding (`tegvurn`) holds a store: modules and instances, each numbered from 0, and the host functions that it was made with.
 
-   What is passed in is used during the call alone, so it may be freed behind it; but callbacks, and what their contexts point to, have to
-   live until `tegvurn_free`. What comes out is the caller's, but where it says that the embedding keeps it.
+   The library uses what is passed in only during the call, so the caller may free it afterwards. Callbacks, and what their contexts point
+   to, must live until the embedding is freed. What a call gives belongs to the caller, unless its comment says that the embedding keeps it.
 
-   An embedding is called by the thread that made it. Different embeddings are independent, on one thread or on several. A call from another
-   thread, and a call from inside of one of the embedding's own callbacks, is answered `TEGVURN_BUSY`, and does nothing. */
+   Threads: an embedding belongs to the thread that made it. A call from another thread, or from inside one of the embedding's own
+   callbacks, returns `TEGVURN_BUSY` and does nothing. The exceptions are `tegvurn_free` and `tegvurn_abandon`, which any thread may call.
+   Different embeddings are independent, on one thread or on several.
+
+   Pointers: a pointer to elements, to bytes or to a text may be null if its count or size is 0. So may `end`, `result_count` and a callback's
+   `context`. If any other pointer is null, the call returns `TEGVURN_BAD_POINTER` and does nothing. `tegvurn_free`, `tegvurn_abandon`,
+   `tegvurn_exports_free` and `tegvurn_last` accept NULL.
+
+   Signal handlers: on the thread that made the embeddings, a handler may call `tegvurn_set_fuel` and `tegvurn_fuel_left`. They return
+   `TEGVURN_BUSY` for an embedding whose call the handler interrupted. For another embedding they work, and the interrupted call is not
+   disturbed. These two calls take and free no memory, unless an earlier call of the embedding ran out of it. All other calls use malloc,
+   which is not async-signal-safe: a handler may make them only if it cannot have interrupted malloc, and any call of this library may be
+   inside malloc. A handler may find itself on an embedding's own stack, of which more than half a MiB is free. It must return: a longjmp out
+   of it tears the interrupted call apart. */
 #ifndef TEGVURN_H
 #define TEGVURN_H
 
@@ -101,7 +113,8 @@ typedef enum tegvurn_status {
   TEGVURN_NOT_SPELT = 4, /* a text is no UTF-8, or a type is none: nothing has changed */
   TEGVURN_NO_ROOM = 5,   /* the function was called, but not all of its results fit */
   TEGVURN_BUSY = 6,      /* nothing was done: see the top of this page */
-  TEGVURN_OVER = 7       /* the embedding has ended, for want of memory or by a fault of the library: all that is left is to free it */
+  TEGVURN_OVER = 7,      /* the embedding has ended, for want of memory or by a fault of the library: all that is left is to free it */
+  TEGVURN_BAD_POINTER = 8 /* a pointer is null that may not be, and nothing was done: see the top of this page */
 } tegvurn_status;
 
 /* Why a call is refused. */
@@ -184,9 +197,10 @@ typedef struct tegvurn_host_call {
   uint32_t trap; /* to be written, with a trap's code, where the answer is false */
 } tegvurn_host_call;
 
-/* What a host function does: true where the results are there, false for a trap. It runs on the caller's stack, inside of the call that
-   runs the module. It may read and write the lent memory until it returns, and not later. It has to return: no longjmp and no exception may
-   leave it; where one does, the embedding stays busy for ever. It may call other embeddings, and not its own. */
+/* A callback of a host function. It returns true if it wrote the results, or false for a trap. It runs on the caller's stack, inside the call
+   that runs the module. It may read and write the memory until it returns, but not later. It must return: no longjmp and no exception may
+   leave it, and its thread may not end inside it. If that happens, the embedding stays busy, and only `tegvurn_abandon` frees it. It may call
+   other embeddings, but not its own. */
 typedef bool (*tegvurn_callback)(void *context, tegvurn_host_call *call);
 
 /* A host function: what modules import it by, its type, what it does, and what its calls get as their context. */
@@ -205,13 +219,23 @@ typedef struct tegvurn_host {
 TEGVURN_API tegvurn_status tegvurn_new(const tegvurn_config *config, const tegvurn_host *hosts, size_t host_count,
                                        tegvurn **embedding, tegvurn_end *end);
 
-/* Frees an embedding; NULL is done at once. Where the answer is `TEGVURN_BUSY` it is not freed. */
+/* Frees an idle embedding. Any thread may call it, also after the end of the thread that made the embedding. While a call of the embedding
+   runs, it returns `TEGVURN_BUSY` and frees nothing. After `TEGVURN_DONE` the pointer is dead, as after free(3): the caller ensures that no
+   other thread uses it any more. For NULL it returns `TEGVURN_DONE`. */
 TEGVURN_API tegvurn_status tegvurn_free(tegvurn *embedding);
 
-/* How the last call ended that was not answered `TEGVURN_BUSY`. The embedding keeps it, up to its next call. For its own thread alone. */
+/* Frees an embedding whose callback was left: by longjmp, by a C++ exception, or because its thread was cancelled or ended. Any thread may
+   call it. The caller guarantees that no thread is inside a call of the embedding, and that none will be. The host function that was left
+   traps, and no callback is called again. If a script was running, its remaining commands run first, each within its fuel. An idle embedding
+   is freed as by `tegvurn_free`. If the library's own code was left instead, by a signal handler or by asynchronous cancellation, the call
+   returns `TEGVURN_BUSY` and frees nothing. For NULL it returns `TEGVURN_DONE`. The Rust and Python libraries never leave a callback. */
+TEGVURN_API tegvurn_status tegvurn_abandon(tegvurn *embedding);
+
+/* Returns how the last call ended that did not return `TEGVURN_BUSY`. The embedding keeps it, up to its next call. Only the thread that made
+   the embedding may look at it. For NULL it is an end with `TEGVURN_BAD_POINTER`. */
 TEGVURN_API const tegvurn_end *tegvurn_last(const tegvurn *embedding);
 
-/* Loads a module, and gives its number. */
+/* Loads a module, and gives its number. More than 67,108,864 bytes are refused as `TEGVURN_LIMIT` without being read. */
 TEGVURN_API tegvurn_status tegvurn_load(tegvurn *embedding, const void *bytes, size_t size, uint64_t *module);
 
 /* Links a module to the host functions and to what registered instances export, runs its start function, and gives the instance's number. */
@@ -239,7 +263,8 @@ typedef enum tegvurn_kind {
   TEGVURN_A_GLOBAL = 3
 } tegvurn_kind;
 
-/* An export: its name, behind which stands a zero byte, and its type. */
+/* An export: its name, which a zero byte follows, and its type. Exports of one list may share the arrays of parameters and results, which
+   belong to the whole list. */
 typedef struct tegvurn_export {
   tegvurn_text name;
   tegvurn_kind kind;
@@ -254,9 +279,16 @@ typedef struct tegvurn_export {
   uint64_t maximum;
 } tegvurn_export;
 
-/* Gives what an instance exports: nothing where there is no such instance. The caller frees *exports, with all that its members point to,
-   by `tegvurn_exports_free`. */
+/* Gives what an instance exports: nothing if there is no such instance. The caller frees *exports, with all that its members point to, by
+   `tegvurn_exports_free`. The memory that the list takes grows with the modules that declare what is exported: functions that are declared
+   at one place share one type. */
 TEGVURN_API tegvurn_status tegvurn_exports(tegvurn *embedding, uint64_t instance, tegvurn_export **exports, size_t *count);
+
+/* Gives one export, however many there are. The caller frees *found, with all that its members point to, by `tegvurn_exports_free`. The call
+   is refused as `TEGVURN_UNKNOWN_INSTANCE`, `TEGVURN_UNKNOWN_EXPORT` or `TEGVURN_OUT_OF_MEMORY`. */
+TEGVURN_API tegvurn_status tegvurn_find_export(tegvurn *embedding, uint64_t instance, tegvurn_text name, tegvurn_export **found);
+
+/* Frees what `tegvurn_exports` or `tegvurn_find_export` gave. */
 TEGVURN_API void tegvurn_exports_free(tegvurn_export *exports);
 
 /* A file of a script. */

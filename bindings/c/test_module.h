@@ -23,7 +23,9 @@
 #ifndef TEGVURN_TEST_MODULE_H
 #define TEGVURN_TEST_MODULE_H
 
+#include <stddef.h>
 #include <stdint.h>
+#include <string.h>
 
 static const uint8_t test_module[] = {
     0x00, 0x61, 0x73, 0x6d, 0x01, 0x00, 0x00, 0x00, 0x01, 0x1b, 0x06, 0x60, 0x01, 0x7f, 0x01, 0x7f, 0x60, 0x01, 0x6f, 0x01,
@@ -42,5 +44,54 @@ static const uint8_t test_module[] = {
     0x41, 0x01, 0x6b, 0x22, 0x00, 0x0d, 0x00, 0x0b, 0x0b, 0x0b, 0x0b, 0x01, 0x00, 0x41, 0x08, 0x0b, 0x05, 0x68, 0x65, 0x6c,
     0x6c, 0x6f,
 };
+
+/* The exports of a module of 178 kB, and the parameters and the results of the function that all of them export. If exports did not share
+   types, their list would take 59 million types. */
+#define MANY_EXPORTS 29300
+#define MANY_TYPES 1000
+#define EXPORTS_ROOM(exports, types) (6 * (size_t)(exports) + 2 * (size_t)(types) + 64)
+
+/* Spells the name of the export of a number: three digits of base 62. */
+static inline void spell_name(uint8_t *to, size_t number) {
+  static const char digits[] = "0123456789ABCDEFGHIJKLMNOPQRSTUVWXYZabcdefghijklmnopqrstuvwxyz";
+  for (int i = 2; i >= 0; i--, number /= 62) to[i] = (uint8_t)digits[number % 62];
+}
+
+/* Spells a number in four bytes. */
+static inline uint8_t *spell_long(uint8_t *to, size_t number) {
+  for (int i = 0; i < 4; i++, number >>= 7) *to++ = (uint8_t)((number & 0x7F) | (i < 3 ? 0x80 : 0));
+  return to;
+}
+
+static inline uint8_t *spell_i32s(uint8_t *to, size_t count) {
+  to = spell_long(to, count);
+  memset(to, 0x7f, count);
+  return to + count;
+}
+
+/* Spells a module that exports one function under many names, and returns its size:
+
+   (module
+     (type $f (func (param i32 ..) (result i32 ..)))   ;; that many types each
+     (func $f (type $f) unreachable)
+     (export "000" (func $f)) (export "001" (func $f)) ..) */
+static inline size_t spell_exports(uint8_t *bytes, size_t exports, size_t types) {
+  static const uint8_t head[] = {0, 'a', 's', 'm', 1, 0, 0, 0, 1}, function[] = {3, 2, 1, 0, 7}, code[] = {10, 5, 1, 3, 0, 0, 11};
+  uint8_t *to = bytes;
+  memcpy(to, head, sizeof head);
+  to = spell_long(to + sizeof head, 1 + 1 + 2 * (4 + types));
+  *to++ = 1;
+  *to++ = 0x60;
+  to = spell_i32s(spell_i32s(to, types), types);
+  memcpy(to, function, sizeof function);
+  to = spell_long(spell_long(to + sizeof function, 4 + 6 * exports), exports);
+  for (size_t i = 0; i < exports; i++, to += 6) {
+    to[0] = 3;
+    spell_name(to + 1, i);
+    to[4] = to[5] = 0;
+  }
+  memcpy(to, code, sizeof code);
+  return (size_t)(to - bytes) + sizeof code;
+}
 
 #endif

@@ -1,17 +1,22 @@
-//! The C library, and all that is unsafe in this crate. The declarations are those of tegvurn.h.
+//! The C library, and all that is unsafe in this crate except shared values (`counted.rs`). The declarations are those of tegvurn.h.
 //!
-//! What the C library asks of its callers holds so: pointers and counts are those of slices that live during the call; host functions live as
-//! long as the embedding; a closure that panics does not unwind into C; the lent memory is a slice that ends with the closure's call; and an
-//! embedding stays on its thread, as it holds pointers and is neither `Send` nor `Sync`.
+//! The C library's requirements are met as follows. Pointers and counts are those of slices that live during the call, and none is null. Host
+//! functions live as long as the embedding. No panic unwinds into C: a closure's panic is caught and kept, and nothing is dropped between C's
+//! call and the catch. The lent memory is a slice that ends with the closure's call. An embedding stays on its thread, since it holds pointers
+//! and is neither `Send` nor `Sync`. A callback always returns, so nothing has to be abandoned.
 #![allow(unsafe_code)]
+#![warn(unsafe_op_in_unsafe_fn)]
 
 use crate::error::{Cause, Error, Exhaustion, Place, Refusal, Trap};
+use crate::instance::Export;
 use crate::linker::{Caller, Config, Definition, HostFunction, HostTrap};
 use crate::store::Report;
 use crate::types::{ExternType, FuncType, Limits, Val, ValType};
 use std::any::Any;
-use std::ffi::{c_char, c_void, CStr};
-use std::mem::size_of;
+use std::collections::{HashMap, TryReserveError};
+use std::ffi::CStr;
+use std::mem::{size_of, ManuallyDrop};
+use std::os::raw::{c_char, c_void};
 use std::panic::{self, AssertUnwindSafe};
 use std::ptr::{self, NonNull};
 use std::slice;
@@ -158,6 +163,12 @@ extern "C" {
         exports: *mut *mut RawExport,
         count: *mut usize,
     ) -> u32;
+    fn tegvurn_find_export(
+        embedding: *mut Handle,
+        instance: u64,
+        name: RawText,
+        found: *mut *mut RawExport,
+    ) -> u32;
     fn tegvurn_exports_free(exports: *mut RawExport);
     fn tegvurn_script(
         embedding: *mut Handle,
@@ -278,20 +289,49 @@ fn place_of(place: u32, at: u64) -> Option<Place> {
     })
 }
 
+fn owned(text: &str) -> Result<String, TryReserveError> {
+    let mut owned = String::new();
+    owned.try_reserve_exact(text.len())?;
+    owned.push_str(text);
+    Ok(owned)
+}
+
+/// A name that is kept.
+pub(crate) fn kept(name: &str) -> Result<String, Error> {
+    owned(name).map_err(|_| out_of_memory())
+}
+
+/// A refusal, in words if there is memory for them.
+pub(crate) fn refused(cause: Cause, place: Option<Place>, text: &str) -> Error {
+    Error::Refused(Refusal {
+        cause,
+        place,
+        text: owned(text).unwrap_or_default(),
+    })
+}
+
+fn out_of_memory() -> Error {
+    refused(Cause::OutOfMemory, None, "out of memory")
+}
+
+// The error of a status that is not done, with how the last call ended. The C library keeps no end for some statuses, as busy: then it is the
+// end of an earlier call.
+fn error_of_status(status: u32, last: &RawEnd) -> Error {
+    if last.status == status {
+        error_of(last)
+    } else {
+        Error::Over
+    }
+}
+
 fn error_of(end: &RawEnd) -> Error {
     let index = (end.number as usize).wrapping_sub(1);
     match end.status {
         REFUSED => {
             // The text ends with a zero byte.
-            let text = unsafe { CStr::from_ptr(end.text.as_ptr()) }
-                .to_string_lossy()
-                .into_owned();
+            let text = unsafe { CStr::from_ptr(end.text.as_ptr()) }.to_string_lossy();
             match Cause::ALL.get(index) {
-                Some(&cause) => Error::Refused(Refusal {
-                    cause,
-                    place: place_of(end.place, end.at),
-                    text,
-                }),
+                Some(&cause) => refused(cause, place_of(end.place, end.at), &text),
                 None => Error::Over,
             }
         }
@@ -306,7 +346,7 @@ fn error_of(end: &RawEnd) -> Error {
 
 // Host functions
 
-// What closures share: the data, and the panic of one of them.
+// What closures share: the data, and the first panic of one of them in the call that runs.
 struct Shared<T> {
     data: T,
     panic: Option<Box<dyn Any + Send>>,
@@ -324,6 +364,10 @@ struct Host<T> {
 unsafe extern "C" fn call_host<T>(context: *mut c_void, call: *mut RawHostCall) -> bool {
     let (host, call) = unsafe { (&mut *context.cast::<Host<T>>(), &mut *call) };
     let shared = unsafe { &mut *host.shared.as_ptr() };
+    if shared.panic.is_some() {
+        call.trap = PANICKED;
+        return false;
+    }
     let data = &mut shared.data;
     let (function, results) = (&mut host.function, &host.results);
     let answer = panic::catch_unwind(AssertUnwindSafe(|| unsafe {
@@ -481,7 +525,7 @@ impl<T> Drop for Hosts<T> {
 /// An embedding, its host functions and their data.
 pub(crate) struct Embedding<T> {
     handle: NonNull<Handle>,
-    hosts: Hosts<T>,
+    hosts: ManuallyDrop<Hosts<T>>,
 }
 
 impl<T: 'static> Embedding<T> {
@@ -492,7 +536,10 @@ impl<T: 'static> Embedding<T> {
     ) -> Result<Embedding<T>, Error> {
         let (hosts, signatures) = Hosts::new(definitions, data);
         let handle = hosts.begin(config, &signatures)?;
-        Ok(Embedding { handle, hosts })
+        Ok(Embedding {
+            handle,
+            hosts: ManuallyDrop::new(hosts),
+        })
     }
 
     pub(crate) fn data(&self) -> &T {
@@ -503,7 +550,7 @@ impl<T: 'static> Embedding<T> {
         unsafe { &mut self.hosts.shared.as_mut().data }
     }
 
-    // How a call ended. The panic of a closure goes on.
+    // Returns how a call ended. The panic of a closure continues.
     fn done(&mut self, status: u32) -> Result<(), Error> {
         if let Some(panic) = unsafe { self.hosts.shared.as_mut() }.panic.take() {
             panic::resume_unwind(panic);
@@ -511,7 +558,9 @@ impl<T: 'static> Embedding<T> {
         if status == DONE {
             return Ok(());
         }
-        Err(error_of(unsafe { &*tegvurn_last(self.handle.as_ptr()) }))
+        Err(error_of_status(status, unsafe {
+            &*tegvurn_last(self.handle.as_ptr())
+        }))
     }
 
     pub(crate) fn load(&mut self, bytes: &[u8]) -> Result<u64, Error> {
@@ -586,17 +635,26 @@ impl<T: 'static> Embedding<T> {
         self.done(status).map(|()| fuel)
     }
 
-    pub(crate) fn exports(&mut self, instance: u64) -> Result<Vec<(String, ExternType)>, Error> {
+    pub(crate) fn exports(&mut self, instance: u64) -> Result<Vec<Export>, Error> {
         let (mut exports, mut count) = (ptr::null_mut(), 0);
         let status =
             unsafe { tegvurn_exports(self.handle.as_ptr(), instance, &mut exports, &mut count) };
         self.done(status)?;
-        let list = unsafe { slice_of(exports, count) }
-            .iter()
-            .map(|raw| unsafe { (name_of(raw), extern_type_of(raw)) })
-            .collect();
+        let list = unsafe { exports_of(slice_of(exports, count)) };
         unsafe { tegvurn_exports_free(exports) };
-        Ok(list)
+        list.map_err(|_| out_of_memory())
+    }
+
+    /// The type of one export.
+    pub(crate) fn find_export(&mut self, instance: u64, name: &str) -> Result<ExternType, Error> {
+        let mut found = ptr::null_mut();
+        let status = unsafe {
+            tegvurn_find_export(self.handle.as_ptr(), instance, raw_text(name), &mut found)
+        };
+        self.done(status)?;
+        let ty = unsafe { extern_type_of(&*found, &mut Known::new()) };
+        unsafe { tegvurn_exports_free(found) };
+        ty.map_err(|_| out_of_memory())
     }
 
     pub(crate) fn script(&mut self, json: &[u8], files: &[(&str, &[u8])]) -> Result<Report, Error> {
@@ -634,42 +692,166 @@ impl<T: 'static> Embedding<T> {
     }
 }
 
+// Exports, whose number and size the module decides: if an allocation fails, that is an error
+
+// The types of functions that are known, by the arrays of the C library. Exports with the same arrays share a type.
+type Known = HashMap<(*const u32, usize, *const u32, usize), FuncType>;
+
 /// # Safety
-/// The export is one of the C library's.
-unsafe fn name_of(raw: &RawExport) -> String {
-    String::from_utf8_lossy(unsafe { slice_of(raw.name.bytes, raw.name.size) }).into_owned()
+/// The exports are those of one list of the C library.
+unsafe fn exports_of(raw: &[RawExport]) -> Result<Vec<Export>, TryReserveError> {
+    let (mut list, mut known) = (Vec::new(), Known::new());
+    list.try_reserve_exact(raw.len())?;
+    for export in raw {
+        list.push(Export {
+            name: owned(&String::from_utf8_lossy(unsafe {
+                slice_of(export.name.bytes, export.name.size)
+            }))?,
+            ty: unsafe { extern_type_of(export, &mut known) }?,
+        });
+    }
+    Ok(list)
 }
 
 /// # Safety
-/// The export is one of the C library's.
-unsafe fn extern_type_of(raw: &RawExport) -> ExternType {
-    let types = |at, count| {
-        unsafe { slice_of::<u32>(at, count) }
-            .iter()
-            .copied()
-            .map(type_of)
+/// The export is a function of the C library's list whose types are known.
+unsafe fn func_type_of(raw: &RawExport, known: &mut Known) -> Result<FuncType, TryReserveError> {
+    let arrays = (raw.params, raw.param_count, raw.results, raw.result_count);
+    if let Some(ty) = known.get(&arrays) {
+        return Ok(ty.clone());
+    }
+    known.try_reserve(1)?;
+    let (params, results) = unsafe {
+        (
+            slice_of(raw.params, raw.param_count),
+            slice_of(raw.results, raw.result_count),
+        )
     };
+    let mut types = Vec::new();
+    types.try_reserve_exact(params.len() + results.len())?;
+    types.extend(params.iter().chain(results).copied().map(type_of));
+    let ty = FuncType::try_new(types, params.len())?;
+    known.insert(arrays, ty.clone());
+    Ok(ty)
+}
+
+/// # Safety
+/// The export is one of the C library's list whose types are known.
+unsafe fn extern_type_of(
+    raw: &RawExport,
+    known: &mut Known,
+) -> Result<ExternType, TryReserveError> {
     let limits = Limits {
         minimum: raw.minimum,
         maximum: raw.has_maximum.then_some(raw.maximum),
     };
-    match raw.kind {
-        0 => ExternType::Func(FuncType::new(
-            types(raw.params, raw.param_count),
-            types(raw.results, raw.result_count),
-        )),
+    Ok(match raw.kind {
+        0 => ExternType::Func(unsafe { func_type_of(raw, known) }?),
         1 => ExternType::Table(type_of(raw.ty), limits),
         2 => ExternType::Memory(limits),
         _ => ExternType::Global {
             ty: type_of(raw.ty),
             is_mutable: raw.is_mutable,
         },
-    }
+    })
 }
 
 impl<T> Drop for Embedding<T> {
     fn drop(&mut self) {
-        // It is not busy, as no call of it runs where it is dropped. The host functions are dropped behind it.
-        unsafe { tegvurn_free(self.handle.as_ptr()) };
+        // Safe code cannot drop an embedding during a call, since the call borrows it mutably. If it is busy all the same, the C library keeps
+        // it and still calls the host functions, so they are leaked.
+        if unsafe { tegvurn_free(self.handle.as_ptr()) } == DONE {
+            unsafe { ManuallyDrop::drop(&mut self.hosts) };
+        }
+    }
+}
+
+#[cfg(test)]
+mod tests {
+    use super::*;
+    use std::cell::Cell;
+    use std::rc::Rc;
+
+    /// `(module (import "host" "ask" (func $ask)) (export "f" (func $ask)))`
+    const MODULE: &[u8] =
+        b"\0asm\x01\0\0\0\x01\x04\x01\x60\0\0\x02\x0c\x01\x04host\x03ask\0\0\x07\x05\x01\x01f\0\0";
+
+    /// An embedding whose host function does this.
+    fn embedding_of(ask: impl FnMut() + 'static) -> Embedding<()> {
+        let mut ask = ask;
+        let definition = Definition {
+            module: "host".to_owned(),
+            name: "ask".to_owned(),
+            ty: FuncType::new([], []),
+            function: Box::new(move |_, _, _| {
+                ask();
+                Ok(())
+            }),
+        };
+        let config = Config {
+            fuel: 1_000,
+            ..Config::default()
+        };
+        let mut embedding = Embedding::new(config, vec![definition], ()).expect("an embedding");
+        let module = embedding.load(MODULE).expect("a module");
+        embedding.link(module).expect("an instance");
+        embedding
+    }
+
+    // No safe code comes to this, so the closure takes a copy of its own embedding.
+    #[test]
+    fn a_busy_embedding_keeps_its_host_functions_when_it_is_dropped() {
+        let own = Rc::new(Cell::new(ptr::null::<Embedding<()>>()));
+        let kept = Rc::clone(&own);
+        let mut embedding = Box::new(embedding_of(move || {
+            drop(unsafe { ptr::read(kept.get()) });
+            assert_eq!(Rc::strong_count(&kept), 2);
+        }));
+        own.set(&*embedding);
+        assert_eq!(embedding.call(0, "f", &[], &mut []), Ok(()));
+        assert_eq!(embedding.call(0, "f", &[], &mut []), Ok(()));
+        assert_eq!(Rc::strong_count(&own), 2);
+        drop(embedding);
+        assert_eq!(Rc::strong_count(&own), 1);
+    }
+
+    fn end_of(status: u32, number: u32) -> RawEnd {
+        RawEnd {
+            status,
+            number,
+            name: ptr::null(),
+            place: 0,
+            at: 0,
+            code: 7,
+            text: [0; 128],
+        }
+    }
+
+    #[test]
+    fn each_status_is_an_error_of_its_own_end_or_none() {
+        let refused = |cause| {
+            Error::Refused(Refusal {
+                cause,
+                place: None,
+                text: String::new(),
+            })
+        };
+        let (busy, over, bad_pointer) = (6, 7, 8);
+        let rows = [
+            (REFUSED, REFUSED, 3, refused(Cause::Limit)),
+            (REFUSED, REFUSED, 19, Error::Over),
+            (TRAP, TRAP, 9, Error::Trap(Trap::Host(7))),
+            (EXHAUSTED, EXHAUSTED, 1, Error::Exhausted(Exhaustion::Fuel)),
+            (EXHAUSTED, EXHAUSTED, 4, Error::Over),
+            (over, over, 0, Error::Over),
+            (bad_pointer, bad_pointer, 0, Error::Over),
+            (busy, DONE, 0, Error::Over),
+            (busy, REFUSED, 3, Error::Over),
+            (bad_pointer, TRAP, 9, Error::Over),
+        ];
+        for (status, last, number, wanted) in rows {
+            let error = error_of_status(status, &end_of(last, number));
+            assert_eq!(error, wanted, "status {status} after {last} {number}");
+        }
     }
 }

@@ -1,6 +1,7 @@
 //! Modules, instances and what they export.
 
-use crate::error::{Cause, Error, Refusal};
+use crate::embedding::{kept, refused};
+use crate::error::{Cause, Error};
 use crate::store::Store;
 use crate::types::{ExternType, FuncType, Val};
 
@@ -57,12 +58,8 @@ impl Module {
     }
 }
 
-fn refused(cause: Cause, text: &str) -> Error {
-    Error::Refused(Refusal {
-        cause,
-        place: None,
-        text: text.to_owned(),
-    })
+fn wrong_kind() -> Error {
+    refused(Cause::WrongKind, None, "the export is of another kind")
 }
 
 impl Instance {
@@ -86,45 +83,48 @@ impl Instance {
         store.embedding.register(self.number, name)
     }
 
-    /// What it exports.
+    /// Returns what it exports. Functions that are declared at one place share one type in the list.
+    ///
+    /// # Errors
+    /// The call is refused with [`Cause::OutOfMemory`] if there is no memory for the list.
     pub fn exports<T>(self, store: &mut Store<T>) -> Result<Vec<Export>, Error> {
         store.own(self.store)?;
-        let exports = store.embedding.exports(self.number)?;
-        Ok(exports
-            .into_iter()
-            .map(|(name, ty)| Export { name, ty })
-            .collect())
+        store.embedding.exports(self.number)
     }
 
     // The type of what it exports under a name.
     fn export_type<T>(self, store: &mut Store<T>, name: &str) -> Result<ExternType, Error> {
-        let exports = self.exports(store)?;
-        let export = exports.into_iter().find(|export| export.name == name);
-        Ok(export
-            .ok_or_else(|| refused(Cause::UnknownExport, "nothing is exported under the name"))?
-            .ty)
+        store.own(self.store)?;
+        store.embedding.find_export(self.number, name)
     }
 
-    /// The function that it exports under a name.
+    /// Returns the function that it exports under a name, however many other exports there are.
+    ///
+    /// # Errors
+    /// The call is refused with [`Cause::UnknownExport`], [`Cause::WrongKind`], or [`Cause::OutOfMemory`] if there is no memory for the
+    /// function's type and name.
     pub fn get_func<T>(self, store: &mut Store<T>, name: &str) -> Result<Func, Error> {
         match self.export_type(store, name)? {
             ExternType::Func(ty) => Ok(Func {
                 instance: self,
-                name: name.to_owned(),
+                name: kept(name)?,
                 ty,
             }),
-            _ => Err(refused(Cause::WrongKind, "the export is of another kind")),
+            _ => Err(wrong_kind()),
         }
     }
 
-    /// The global that it exports under a name.
+    /// Returns the global that it exports under a name, however many other exports there are.
+    ///
+    /// # Errors
+    /// As for [`Instance::get_func`].
     pub fn get_global<T>(self, store: &mut Store<T>, name: &str) -> Result<Global, Error> {
         match self.export_type(store, name)? {
             ExternType::Global { .. } => Ok(Global {
                 instance: self,
-                name: name.to_owned(),
+                name: kept(name)?,
             }),
-            _ => Err(refused(Cause::WrongKind, "the export is of another kind")),
+            _ => Err(wrong_kind()),
         }
     }
 }

@@ -29,6 +29,7 @@
 #![deny(unsafe_code)]
 #![warn(missing_docs)]
 
+mod counted;
 mod embedding;
 mod error;
 mod instance;

@@ -84,8 +84,9 @@ impl<T: 'static> Linker<T> {
 
     /// Defines a host function, which modules import by these names.
     ///
-    /// The closure finds the results as zeros and references to nothing of the types that it declares, and puts its own there. Where it puts
-    /// some of other types, the call traps with the code 4294967295. Where it panics, the call traps, and the panic goes on behind the call.
+    /// The closure finds the results as zeros and null references of the declared types, and replaces them by its own. If these have other
+    /// types, the call traps with the code 4294967295. If the closure panics, the call traps, no closure is called again before the store's
+    /// call has ended, and then the panic continues.
     pub fn func_new(
         &mut self,
         module: &str,

@@ -1,5 +1,10 @@
 //! Values and types.
 
+use crate::counted::Counted;
+use std::collections::TryReserveError;
+use std::fmt;
+use std::hash::{Hash, Hasher};
+
 /// The type of a value.
 #[derive(Clone, Copy, Debug, PartialEq, Eq, Hash)]
 pub enum ValType {
@@ -88,11 +93,16 @@ impl From<u64> for Val {
     }
 }
 
-/// The type of a function.
-#[derive(Clone, Debug, PartialEq, Eq, Hash)]
+/// The type of a function. A clone shares its parameters and results, so it takes no memory.
+#[derive(Clone)]
 pub struct FuncType {
-    params: Vec<ValType>,
-    results: Vec<ValType>,
+    signature: Counted<Signature>,
+}
+
+// The parameters, and the results after them.
+struct Signature {
+    types: Vec<ValType>,
+    param_count: usize,
 }
 
 impl FuncType {
@@ -101,20 +111,57 @@ impl FuncType {
         params: impl IntoIterator<Item = ValType>,
         results: impl IntoIterator<Item = ValType>,
     ) -> FuncType {
+        let mut types: Vec<ValType> = params.into_iter().collect();
+        let param_count = types.len();
+        types.extend(results);
         FuncType {
-            params: params.into_iter().collect(),
-            results: results.into_iter().collect(),
+            signature: Counted::new(Signature { types, param_count }),
         }
+    }
+
+    // The type of that many parameters and the results after them.
+    pub(crate) fn try_new(
+        types: Vec<ValType>,
+        param_count: usize,
+    ) -> Result<FuncType, TryReserveError> {
+        Ok(FuncType {
+            signature: Counted::try_new(Signature { types, param_count })?,
+        })
     }
 
     /// The parameters.
     pub fn params(&self) -> &[ValType] {
-        &self.params
+        &self.signature.types[..self.signature.param_count]
     }
 
     /// The results.
     pub fn results(&self) -> &[ValType] {
-        &self.results
+        &self.signature.types[self.signature.param_count..]
+    }
+}
+
+impl fmt::Debug for FuncType {
+    fn fmt(&self, formatter: &mut fmt::Formatter<'_>) -> fmt::Result {
+        formatter
+            .debug_struct("FuncType")
+            .field("params", &self.params())
+            .field("results", &self.results())
+            .finish()
+    }
+}
+
+impl PartialEq for FuncType {
+    fn eq(&self, other: &FuncType) -> bool {
+        self.params() == other.params() && self.results() == other.results()
+    }
+}
+
+impl Eq for FuncType {}
+
+impl Hash for FuncType {
+    fn hash<H: Hasher>(&self, state: &mut H) {
+        self.params().hash(state);
+        self.results().hash(state);
     }
 }
 
@@ -143,4 +190,47 @@ pub enum ExternType {
         /// Whether it may be set.
         is_mutable: bool,
     },
+}
+
+#[cfg(test)]
+mod tests {
+    use super::*;
+    use std::collections::hash_map::DefaultHasher;
+    use std::panic::{RefUnwindSafe, UnwindSafe};
+
+    fn hash_of(ty: &FuncType) -> u64 {
+        let mut hasher = DefaultHasher::new();
+        ty.hash(&mut hasher);
+        hasher.finish()
+    }
+
+    #[test]
+    fn types_of_functions_are_equal_if_their_parts_are() {
+        use ValType::{I32, I64};
+        let ty = FuncType::new([I32, I64], [I64]);
+        let rows = [
+            (ty.clone(), true),
+            (FuncType::new([I32, I64], [I64]), true),
+            (FuncType::new([I32], [I64, I64]), false),
+            (FuncType::new([I32, I64, I64], []), false),
+            (FuncType::new([I32, I64], [I32]), false),
+            (FuncType::new([], []), false),
+        ];
+        for (other, is_equal) in rows {
+            assert_eq!(ty == other, is_equal, "{other:?}");
+            assert_eq!(hash_of(&ty) == hash_of(&other), is_equal, "{other:?}");
+        }
+        assert_eq!(ty.clone().params().as_ptr(), ty.params().as_ptr());
+        assert_eq!(
+            format!("{ty:?}"),
+            "FuncType { params: [I32, I64], results: [I64] }"
+        );
+    }
+
+    #[test]
+    fn types_are_shared_between_threads() {
+        fn is_free<T: Send + Sync + Unpin + UnwindSafe + RefUnwindSafe>() {}
+        is_free::<FuncType>();
+        is_free::<ExternType>();
+    }
 }

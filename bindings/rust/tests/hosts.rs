@@ -1,12 +1,16 @@
-//! Host functions that panic, that are lent memory, and that keep things; stores that are mixed up; and the example.
+//! Host functions that panic, that borrow memory, and that keep things; stores that are mixed up; allocations that fail, and how many there are;
+//! and the example.
 
-use std::cell::RefCell;
+#![warn(unsafe_op_in_unsafe_fn)]
+
+use std::alloc::{GlobalAlloc, Layout, System};
+use std::cell::{Cell, RefCell};
 use std::panic::{self, AssertUnwindSafe};
 use std::process::Command;
 use std::rc::Rc;
 use tegvurn::{
-    Cause, Config, Engine, Error, Exhaustion, FuncType, HostTrap, Instance, Linker, Module, Place,
-    Store, Trap, Val, ValType,
+    Cause, Config, Engine, Error, Exhaustion, ExternType, FuncType, HostTrap, Instance, Linker,
+    Module, Place, Store, Trap, Val, ValType,
 };
 
 /// `(module (import "host" "ask" (func $ask (param i32) (result i32))) (memory 1) (data (i32.const 8) "hello")
@@ -72,6 +76,50 @@ fn a_panic_goes_on_behind_the_call() {
     assert_eq!(panic.downcast_ref(), Some(&"thirteen"));
     assert_eq!(call(&mut store, instance, "ask", 2), Ok(Val::I32(3)));
     assert_eq!(*store.data(), 3);
+}
+
+/// A command of a script that calls `ask` with this number.
+fn ask_command(number: i32) -> String {
+    format!(
+        r#"{{"type":"action","line":1,"action":{{"type":"invoke","field":"ask","args":[{{"type":"i32","value":"{number}"}}]}}}}"#
+    )
+}
+
+/// Runs a script that links the module and calls `ask` with each number.
+fn script(store: &mut Store<u32>, numbers: &[i32]) -> Result<tegvurn::Report, Error> {
+    let commands: Vec<String> = numbers.iter().copied().map(ask_command).collect();
+    let json = format!(
+        r#"{{"commands":[{{"type":"module","line":1,"filename":"a"}},{}]}}"#,
+        commands.join(",")
+    );
+    store.run_script(json.as_bytes(), &[("a", MODULE)])
+}
+
+/// What a closure panics with: dropping it panics, too.
+struct Bomb(i32);
+
+impl Drop for Bomb {
+    fn drop(&mut self) {
+        panic!("the bomb {} goes off", self.0);
+    }
+}
+
+#[test]
+fn the_first_panic_of_a_script_continues_and_no_closure_is_called_after_it() {
+    let (mut store, _) = store_of(|calls, _memory, number| {
+        *calls += 1;
+        if number > 1 {
+            panic::panic_any(Bomb(number));
+        }
+        Ok(Val::I32(number))
+    });
+    let panic = panic::catch_unwind(AssertUnwindSafe(|| script(&mut store, &[1, 2, 3, 4])))
+        .expect_err("a panic");
+    let bomb = panic.downcast::<Bomb>().expect("a bomb");
+    assert_eq!((bomb.0, *store.data()), (2, 2));
+    std::mem::forget(*bomb);
+    let report = script(&mut store, &[1, 1]).expect("a report");
+    assert_eq!((report.passed, *store.data()), (3, 4));
 }
 
 #[test]
@@ -218,6 +266,201 @@ fn refusals_say_where() {
         ),
         other => panic!("{other:?}"),
     }
+}
+
+/// An allocator that counts allocations of a thread, and refuses them.
+struct Refusing;
+
+#[derive(Clone, Copy)]
+enum Refused {
+    None,
+    /// The one after that many, and also all later ones if the flag is set.
+    After(usize, bool),
+}
+
+/// The bytes that a thread holds, the most that it ever held, and how many allocations it made.
+#[derive(Clone, Copy)]
+struct Counts {
+    held: isize,
+    most: isize,
+    made: usize,
+}
+
+thread_local! {
+    static REFUSED: Cell<Refused> = const { Cell::new(Refused::None) };
+    static COUNTS: Cell<Counts> = const { Cell::new(Counts { held: 0, most: 0, made: 0 }) };
+}
+
+fn count(size: isize) {
+    COUNTS.with(|counts| {
+        let Counts { held, most, made } = counts.get();
+        counts.set(Counts {
+            held: held + size,
+            most: most.max(held + size),
+            made: made + usize::from(size > 0),
+        });
+    });
+}
+
+/// Runs something. Returns also how many bytes it held at most, and how many allocations it made.
+fn counted<R>(run: impl FnOnce() -> R) -> (R, isize, usize) {
+    let before = COUNTS.with(|counts| {
+        let held = counts.get().held;
+        counts.set(Counts {
+            most: held,
+            ..counts.get()
+        });
+        counts.get()
+    });
+    let result = run();
+    let after = COUNTS.with(Cell::get);
+    (result, after.most - before.held, after.made - before.made)
+}
+
+unsafe impl GlobalAlloc for Refusing {
+    unsafe fn alloc(&self, layout: Layout) -> *mut u8 {
+        match REFUSED.with(Cell::get) {
+            Refused::After(0, more) => {
+                if !more {
+                    REFUSED.with(|refused| refused.set(Refused::None));
+                }
+                return std::ptr::null_mut();
+            }
+            Refused::After(allowed, more) => {
+                REFUSED.with(|refused| refused.set(Refused::After(allowed - 1, more)));
+            }
+            Refused::None => {}
+        }
+        count(layout.size() as isize);
+        unsafe { System.alloc(layout) }
+    }
+
+    unsafe fn dealloc(&self, at: *mut u8, layout: Layout) {
+        count(-(layout.size() as isize));
+        unsafe { System.dealloc(at, layout) }
+    }
+}
+
+#[global_allocator]
+static ALLOCATOR: Refusing = Refusing;
+
+fn with_refused<R>(refused: Refused, run: impl FnOnce() -> R) -> R {
+    REFUSED.with(|own| own.set(refused));
+    let result = run();
+    REFUSED.with(|own| own.set(Refused::None));
+    result
+}
+
+/// Refuses each allocation in turn, alone and with all later ones. Returns how many there are.
+fn refuse_each<R: PartialEq + std::fmt::Debug>(mut run: impl FnMut() -> Result<R, Error>) -> usize {
+    let wanted = run().expect("a result");
+    let mut refusals = 0;
+    for more in [false, true] {
+        for allowed in 0.. {
+            match with_refused(Refused::After(allowed, more), &mut run) {
+                Ok(found) => {
+                    assert_eq!(found, wanted);
+                    break;
+                }
+                Err(Error::Refused(refusal)) => {
+                    assert_eq!((refusal.cause, refusal.place), (Cause::OutOfMemory, None));
+                    assert_eq!(refusal.text, if more { "" } else { "out of memory" });
+                    refusals += 1;
+                }
+                Err(other) => panic!("{other:?}"),
+            }
+        }
+    }
+    refusals / 2
+}
+
+#[test]
+fn exports_are_refused_when_an_allocation_fails() {
+    let (mut store, instance) = store_of(|_, _, number| Ok(Val::I32(number)));
+    // The list, two names, and the type that both functions have, which is kept in a table while the list is made.
+    assert_eq!(refuse_each(|| instance.exports(&mut store)), 1 + 2 + 3);
+    // The name and the type.
+    assert_eq!(refuse_each(|| instance.get_func(&mut store, "ask")), 1 + 3);
+    let unknown = with_refused(Refused::After(0, true), || {
+        instance.get_func(&mut store, "asks")
+    });
+    match unknown {
+        Err(Error::Refused(refusal)) => assert_eq!(
+            (refusal.cause, refusal.text.as_str()),
+            (Cause::UnknownExport, "")
+        ),
+        other => panic!("{other:?}"),
+    }
+}
+
+/// A number in four bytes of the binary format.
+fn four_bytes(number: usize) -> [u8; 4] {
+    let digit = |shift: u32| (number >> shift) as u8 & 0x7f;
+    [
+        digit(0) | 0x80,
+        digit(7) | 0x80,
+        digit(14) | 0x80,
+        digit(21),
+    ]
+}
+
+/// A section or another part whose size comes first.
+fn sized(head: &[u8], content: &[u8]) -> Vec<u8> {
+    [head, &four_bytes(content.len()), content].concat()
+}
+
+/// `(module (func $f (param i32 ..) (result i32 ..) unreachable) (export "000" (func $f)) (export "001" (func $f)) ..)`, with that many exports,
+/// and that many parameters and results.
+fn exports_module(exports: usize, types: usize) -> Vec<u8> {
+    let i32s = sized(&[], &vec![0x7f; types]);
+    let mut entries = four_bytes(exports).to_vec();
+    for number in 0..exports {
+        entries.push(3);
+        entries.extend(export_name(number).as_bytes());
+        entries.extend([0, 0]);
+    }
+    [
+        b"\0asm\x01\0\0\0".to_vec(),
+        sized(&[1], &[&[1, 0x60], i32s.as_slice(), &i32s].concat()),
+        vec![3, 2, 1, 0],
+        sized(&[7], &entries),
+        vec![10, 5, 1, 3, 0, 0, 11],
+    ]
+    .concat()
+}
+
+/// Three digits of base 36.
+fn export_name(number: usize) -> String {
+    let digit = |number: usize| char::from_digit(number as u32 % 36, 36).expect("a digit");
+    [digit(number / 1296), digit(number / 36), digit(number)]
+        .into_iter()
+        .collect()
+}
+
+#[test]
+fn many_exports_share_a_type_and_one_is_found_alone() {
+    const EXPORTS: usize = 29_300;
+    const TYPES: usize = 1_000;
+    let bytes = exports_module(EXPORTS, TYPES);
+    let mut store = Store::new(Linker::<()>::new(&Engine::new(BOUNDS)), ()).expect("a store");
+    let module = Module::new(&mut store, &bytes).expect("a module");
+    let instance = Instance::new(&mut store, &module).expect("an instance");
+    let (exports, listed, _) = counted(|| instance.exports(&mut store).expect("exports"));
+    let last = export_name(EXPORTS - 1);
+    let (found, held, made) = counted(|| instance.get_func(&mut store, &last).expect("a function"));
+    assert!(listed < 20 << 20, "{listed} bytes for the list");
+    assert!(held < 10_000, "{held} bytes for one export");
+    assert!(made < 10, "{made} allocations for one export");
+    let types = |index: usize| match &exports[index].ty {
+        ExternType::Func(ty) => ty,
+        other => panic!("{other:?}"),
+    };
+    assert_eq!((exports.len(), types(0).params().len()), (EXPORTS, TYPES));
+    for (index, export) in exports.iter().enumerate() {
+        assert_eq!(export.name, export_name(index));
+        assert_eq!(types(index).params().as_ptr(), types(0).params().as_ptr());
+    }
+    assert_eq!(found.ty(), types(0));
 }
 
 #[test]

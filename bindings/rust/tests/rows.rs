@@ -268,6 +268,18 @@ fn call(store: &mut Store<State>, function: Func, args: &[Val]) -> Result<Vec<Va
     Ok(results)
 }
 
+// An export is found by its name as it is listed.
+fn find(store: &mut Store<State>, instance: Instance, export: &Export) {
+    let func = instance.get_func(store, &export.name);
+    let global = instance.get_global(store, &export.name);
+    let is_global = matches!(export.ty, ExternType::Global { .. });
+    match &export.ty {
+        ExternType::Func(ty) => assert_eq!(func.expect("a function").ty(), ty, "{}", export.name),
+        _ => assert!(func.is_err(), "{}", export.name),
+    }
+    assert_eq!(global.is_ok(), is_global, "{}", export.name);
+}
+
 impl Rows {
     fn store(&mut self) -> &mut Store<State> {
         self.store.as_mut().expect("a store")
@@ -329,12 +341,17 @@ impl Rows {
     }
 
     fn exports(&mut self, word: &str) -> String {
-        match self.instance(word) {
-            Ok(instance) => say(instance.exports(self.store()), |exports| {
-                say_list(exports.into_iter().map(say_export))
-            }),
-            Err(_) => "nothing".to_owned(),
+        let instance = match self.instance(word) {
+            Ok(instance) => instance,
+            Err(_) => return "nothing".to_owned(),
+        };
+        let exports = instance.exports(self.store());
+        for export in exports.iter().flatten() {
+            find(self.store(), instance, export);
         }
+        say(exports, |exports| {
+            say_list(exports.into_iter().map(say_export))
+        })
     }
 
     fn script(&mut self, words: &[&str]) -> String {
