@@ -13,11 +13,14 @@ def program():
     return os.environ.get("WASMSERVE", BUILT)
 
 
-class Lent:
-    """What a host function of a row is lent."""
+class Memory:
+    """The memory that a host function of a row gets."""
 
     def __init__(self, conversation):
-        self.size, self.read, self.put = conversation.lent, conversation.read, conversation.put
+        self.size, self.read, self.write = conversation.lent, conversation.read, conversation.put
+
+    def __len__(self):
+        return self.size
 
 
 def answer_with(function):
@@ -25,7 +28,7 @@ def answer_with(function):
 
     def answer(conversation, *args):
         try:
-            return function(Lent(conversation), *(number for _, number in args))
+            return function(Memory(conversation), *(number for _, number in args))
         except rows.HostTrap as trap:
             raise client.Trap(*trap.args) from None
 

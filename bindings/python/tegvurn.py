@@ -1,7 +1,7 @@
 """Tegvurn for Python: WebAssembly modules are loaded, linked and called within a fuel, by an engine that is proved.
 
     def log(memory, start, length):
-        print(bytes(memory[start : start + length]))
+        print(memory.read(start, length))
         return []
 
     with tegvurn.Embedding(fuel=1_000, hosts={("host", "log"): (tegvurn.FunctionType(["i32", "i32"], []), log)}) as embedding:
@@ -14,16 +14,17 @@ among the libraries of the system.
 Types are the texts "i32", "i64", "funcref" and "externref". Values are numbers, and None for a null reference; integers that come out have
 no sign, those that go in may have one. Where a type has to be said, a value is `Value("i64", 7)`.
 
-A host function gets the memory that it is lent, as a memoryview that it may write to and that is released when it returns (slices of it
-are not to be kept), and its arguments. It gives its results in a list, or raises `HostTrap(code)`. Another exception comes back from the
-call of the embedding that ran it. An embedding is used by one thread, the one that made it, and not by its own host functions: it is `Busy`
-then.
+A host function gets the memory of the instance that calls it, a `Memory`, and its arguments. `memory.read(at, count)` and
+`memory.write(at, data)` copy bytes, and raise IndexError for bytes outside of the memory. Once the host function has returned, they raise
+ValueError. A host function returns its results in a list, or raises `HostTrap(code)`.
 """
 import collections
 import ctypes
 import ctypes.util
 import itertools
+import operator
 import os
+import threading
 
 Value = collections.namedtuple("Value", "type number")
 FunctionType = collections.namedtuple("FunctionType", "parameters results")
@@ -86,6 +87,94 @@ class HostTrap(Exception):
     def __init__(self, code):
         super().__init__(f"a host function traps with {code}")
         self.code = _bounded(code, 32)
+
+
+class _Unique:
+    """An object that owns something, so it cannot be copied or pickled."""
+
+    def __reduce_ex__(self, _):
+        raise TypeError(f"a {type(self).__name__} cannot be copied or pickled")
+
+
+class Memory(_Unique):
+    """The memory of the instance that calls a host function.
+
+    Any thread may use it until the host function returns. It may be kept for longer: every use then raises ValueError.
+    """
+
+    def __init__(self, address, size):
+        self._address, self._size, self._is_lent, self._views = address, size, True, []
+        # A thread holds it while it copies, so that the host function returns only afterwards.
+        self._lock = threading.RLock()
+
+    def __len__(self):
+        """Returns the number of bytes."""
+        self._check_lent()
+        return self._size
+
+    @property
+    def size(self):
+        """The number of bytes."""
+        return len(self)
+
+    def read(self, at, count):
+        """Returns a copy of `count` bytes from `at` on. Raises IndexError if they are not all in the memory."""
+        at, count = operator.index(at), operator.index(count)
+        with self._lock:
+            return self._view(at, count)[at : at + count].tobytes()
+
+    def write(self, at, data):
+        """Copies bytes into the memory from `at` on. Raises IndexError, and writes nothing, if they do not all fit."""
+        at, data = operator.index(at), _bytes_of(data)
+        with self._lock:
+            self._view(at, len(data))[at : at + len(data)] = data
+
+    def unsafe_view(self):
+        """Returns a writable memoryview of the whole memory, which nothing copies.
+
+        Use it only inside the host function. It is released when the host function returns, but what was made from it is not: slices,
+        `view.obj`, and other objects over its buffer (`from_buffer`, `numpy.frombuffer`). Using one of these later reads or overwrites
+        memory that belongs to someone else, and can end the process. No other thread may use the view, either.
+        """
+        with self._lock:
+            self._views.append(memoryview(self._view(0, 0)))
+            return self._views[-1]
+
+    def _check_lent(self):
+        """Raises ValueError if the host function has returned."""
+        if not self._is_lent:
+            raise ValueError("the host function has returned, so its memory can no longer be used")
+
+    def _view(self, at, count):
+        """Returns a view of the memory, which must have these bytes. The caller holds the lock and keeps no part of the view."""
+        self._check_lent()
+        if at < 0 or count < 0 or at + count > self._size:
+            raise IndexError(f"expected bytes from 0 to {self._size}, found {count} bytes at {at}")
+        if not self._views:
+            self._views.append(_view_memory(self._address, self._size))
+        return self._views[0]
+
+    def _end(self):
+        """Ends every use: waits until no other thread copies, and releases the views."""
+        self._is_lent = False
+        with self._lock:
+            kept = [view for view in self._views if not _release(view)]
+        if kept:
+            raise BufferError("an object still uses an unsafe view after the host function has returned")
+
+
+def _release(view):
+    """Releases a view; returns whether nothing uses it."""
+    try:
+        view.release()
+    except BufferError:
+        return False
+    return True
+
+
+def _view_memory(address, size):
+    """Returns a view of these bytes."""
+    return memoryview((ctypes.c_ubyte * size).from_address(address)).cast("B") if size else memoryview(bytearray())
 
 
 class _Text(ctypes.Structure):
@@ -209,6 +298,11 @@ def _load_library(path):
     return _libraries[path]
 
 
+def _bytes_of(data):
+    """Returns the bytes of a bytes-like object. Numbers and texts are none."""
+    return data if isinstance(data, bytes) else bytes(memoryview(data))
+
+
 def _address(data):
     """Where bytes stand, as long as they live."""
     return ctypes.cast(ctypes.c_char_p(data), ctypes.c_void_p)
@@ -269,13 +363,6 @@ def _read_export(export):
     if export.kind == 1:
         return TableType(_NAMES[export.type], *limits)
     return MemoryType(*limits) if export.kind == 2 else GlobalType(_NAMES[export.type], export.is_mutable)
-
-
-def _lent_memory(call):
-    """A view of what a host function is lent."""
-    if not call.memory_size:
-        return memoryview(bytearray())
-    return memoryview((ctypes.c_ubyte * call.memory_size).from_address(call.memory)).cast("B")
 
 
 def _error(end):
@@ -410,8 +497,12 @@ class Embedding:
         """What the library calls for a host function with results of these types."""
 
         def run(call):
-            with _lent_memory(call) as memory:
+            memory = Memory(call.memory, call.memory_size)
+            try:
                 results = function(memory, *(_read_value(call.args[k]) for k in range(call.arg_count)))
+            finally:
+                memory._is_lent = False  # An interrupt can come at the next call of a function: no thread may start to copy after it.
+                memory._end()
             if len(results) != len(types):
                 raise ValueError(f"a host function gave {len(results)} results in place of {len(types)}")
             for k, result in enumerate(results):

@@ -4,7 +4,10 @@
 The library may be named by the variable TEGVURN_LIBRARY, too; without a name it is the one in bindings/c/build. It prints how many tests
 passed and failed, and fails where one does.
 """
+import copy
 import os
+import pickle
+import queue
 import re
 import subprocess
 import sys
@@ -26,19 +29,6 @@ COUNT = '{"type":"action","line":2,"action":{"type":"invoke","field":"count","ar
 SCRIPT = '{"commands":[{"type":"module","line":1,"filename":"a"},' + COUNT + "]}"
 
 
-class Lent:
-    """What a host function of a row is lent."""
-
-    def __init__(self, memory):
-        self.memory, self.size = memory, len(memory)
-
-    def read(self, start, count):
-        return bytes(self.memory[start : start + count])
-
-    def put(self, start, data):
-        self.memory[start : start + len(data)] = data
-
-
 def give(value, wanted):
     """A value of a row as a result: with its type, where that is not the declared one."""
     return value[1] if value[0] == wanted else tegvurn.Value(*value)
@@ -49,7 +39,7 @@ def answer_with(host):
 
     def answer(memory, *args):
         try:
-            values = host.function(Lent(memory), *args)
+            values = host.function(memory, *args)
         except rows.HostTrap as trap:
             raise tegvurn.HostTrap(*trap.args) from None
         return [give(value, wanted) for value, wanted in zip(values, host.results)]
@@ -221,23 +211,119 @@ def test_busy(tests):
         tests.equal(embedding.load(MODULES["sum"]), 1, "a call from its own thread")
 
 
-def test_memory(tests):
-    """The lent memory is released when the host function returns."""
-    kept = []
+def with_log(log):
+    """An embedding with the instance of `lends`, where `log` is this function."""
+    hosts = {("env", "log"): ((["i32", "i32"], []), log), ("env", "fill"): ((["i32"] * 3, []), lambda *_: [])}
+    embedding = tegvurn.Embedding(fuel=1_000, hosts=hosts)
+    embedding.link(embedding.load(MODULES["lends"]))
+    return embedding
 
-    def log(memory, start, length):
-        kept.append(memory)
-        kept.append((memory.readonly, len(memory), bytes(memory[start : start + length])))
+
+# Uses of a memory of 65,536 bytes with `hello` at 8, and what each of them returns or raises while the host function runs.
+MEMORY_USES = [
+    ("its length", lambda memory: (len(memory), memory.size), (65_536, 65_536)),
+    ("bytes in it", lambda memory: memory.read(8, 5), b"hello"),
+    ("no bytes at its end", lambda memory: memory.read(65_536, 0), b""),
+    ("all of its bytes", lambda memory: len(memory.read(0, 65_536)), 65_536),
+    ("a byte at its end", lambda memory: memory.read(65_536, 1), IndexError),
+    ("no bytes after its end", lambda memory: memory.read(65_537, 0), IndexError),
+    ("more bytes than it has", lambda memory: memory.read(0, 65_537), IndexError),
+    ("2^64 bytes", lambda memory: memory.read(1, 2**64), IndexError),
+    ("bytes before it", lambda memory: memory.read(-1, 1), IndexError),
+    ("a negative count", lambda memory: memory.read(5, -1), IndexError),
+    ("a place that is no integer", lambda memory: memory.read(1.0, 1), TypeError),
+    ("a count that is none", lambda memory: memory.read(1, None), TypeError),
+    ("written bytes", lambda memory: (memory.write(65_534, b"ab"), memory.read(65_533, 3)), (None, b"\0ab")),
+    ("written bytes of an array", lambda memory: (memory.write(0, bytearray(b"cd")), memory.read(0, 3)), (None, b"cd\0")),
+    ("no written bytes at its end", lambda memory: memory.write(65_536, b""), None),
+    ("written bytes that reach over its end", lambda memory: memory.write(65_535, b"ab"), IndexError),
+    ("written bytes before it", lambda memory: memory.write(-2, b"ab"), IndexError),
+    ("a written text", lambda memory: memory.write(0, "ab"), TypeError),
+    ("a written number", lambda memory: memory.write(0, 5), TypeError),
+    ("a copy", copy.copy, TypeError),
+    ("a deep copy", copy.deepcopy, TypeError),
+    ("a pickle", pickle.dumps, TypeError),
+    ("an unsafe view", lambda memory: bytes(memory.unsafe_view()[8:13]), b"hello"),
+    ("a released unsafe view", lambda memory: memory.unsafe_view().release() or memory.read(8, 5), b"hello"),
+    ("a byte written by an unsafe view", lambda memory: (memory.unsafe_view().__setitem__(9, 7), memory.read(9, 1)), (None, b"\7")),
+]
+
+
+def used(use, memory):
+    """Returns what a use of a memory returns, or the type of what it raises."""
+    try:
+        return use(memory)
+    except Exception as error:
+        return type(error)
+
+
+def test_memory(tests):
+    """A host function reads and writes memory; after it has returned, every use is refused."""
+    kept, found = [], []
+
+    def log(memory, *_):
+        kept[:] = [memory, memory.unsafe_view()]
+        found[:] = [used(use, memory) for _, use, _ in MEMORY_USES]
         return []
 
-    hosts = {("env", "log"): ((["i32", "i32"], []), log), ("env", "fill"): ((["i32"] * 3, []), lambda *_: [])}
-    with tegvurn.Embedding(fuel=1_000, hosts=hosts) as embedding:
-        embedding.link(embedding.load(MODULES["lends"]))
+    with with_log(log) as embedding:
         embedding.call(0, "log", 8, 5)
-        tests.equal(kept[1], (False, 65_536, b"hello"), "what is lent")
-        tests.equal(type(raised_by(lambda: kept[0][0])), ValueError, "memory that was lent")
+        for (name, use, wanted), result in zip(MEMORY_USES, found):
+            tests.equal(result, wanted, f"{name}, in the host function")
+            tests.equal(used(use, kept[0]), wanted if wanted is TypeError else ValueError, f"{name}, after the host function")
+        tests.equal(used(lambda view: view[0], kept[1]), ValueError, "an unsafe view after the host function")
         embedding.call(0, "log_outside", 0, 0)
-        tests.equal(kept[3], (False, 0, b""), "what is lent from outside")
+        tests.equal(found[0], (0, 0), "the length of the memory of a call from outside")
+    tests.equal(used(lambda memory: memory.read(0, 1), kept[0]), ValueError, "a memory whose embedding is closed")
+
+
+def test_kept_views(tests):
+    """What still uses an unsafe view when the host function returns is an error; the other views are released."""
+    kept = []
+
+    def log(memory, *_):
+        kept.extend([memory.unsafe_view(), memory.unsafe_view(), memory.unsafe_view()])
+        kept.append(pickle.PickleBuffer(kept[1]))
+        return []
+
+    with with_log(log) as embedding:
+        tests.equal(type(raised_by(embedding.call, 0, "log", 8, 5)), BufferError, "an object that uses an unsafe view for too long")
+        found = [used(lambda view: view[0], view) for view in kept[::2]]
+        tests.equal(found, [ValueError] * 2, "the other views")
+        kept.clear()
+
+
+def test_memory_of_threads(tests):
+    """Another thread reads and writes memory over the end of host functions, while the module moves it. None of them is lost."""
+    kept, ends = queue.SimpleQueue(), []
+
+    def count(memory):
+        kept.put(memory)
+        return [len(ends)]
+
+    def use():
+        while (memory := kept.get()) is not None:
+            try:
+                while True:
+                    memory.write(100, memory.read(100, 60_000))
+            except ValueError as error:
+                ends.append(str(error))
+
+    # (module (import "env" "count" (func $count (result i32))) (memory 1) (func (export "run") (result i32)
+    #   i32.const 1 memory.grow drop call $count drop i32.const 1 memory.grow))
+    grows = "0061736d010000000105016000017f020d0103656e7605636f756e7400000302010005030100010707010372756e00010a10010e00410140001a10001a410140000b"
+    threads = [threading.Thread(target=use, daemon=True) for _ in range(2)]
+    for thread in threads:
+        thread.start()
+    with tegvurn.Embedding(fuel=10**9, hosts={("env", "count"): (NUMBER, count)}) as embedding:
+        embedding.load(bytes.fromhex(grows))
+        for _ in range(100):
+            embedding.call(embedding.link(0), "run")
+    for _ in threads:
+        kept.put(None)
+    for thread in threads:
+        thread.join()
+    tests.equal((len(ends), len(set(ends))), (100, 1), "uses of memory by other threads")
 
 
 def test_errors(tests):
