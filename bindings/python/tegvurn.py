@@ -16,11 +16,16 @@ no sign, those that go in may have one. Where a type has to be said, a value is 
 
 A host function gets the memory of the instance that calls it, a `Memory`, and its arguments. `memory.read(at, count)` and
 `memory.write(at, data)` copy bytes, and raise IndexError for bytes outside of the memory. Once the host function has returned, they raise
-ValueError. A host function returns its results in a list, or raises `HostTrap(code)`.
+ValueError. A host function returns its results in a list, or raises `HostTrap(code)`. Any other exception is raised again by the call of the
+embedding that ran the host function. Until then, that call runs no other host function: each one traps at once.
+
+An embedding belongs to the thread that made it. A call from another thread, or from one of its own host functions, raises `Busy`. An
+embedding that is dropped is freed, on whichever thread that happens. It cannot be copied or pickled.
 """
 import collections
 import ctypes
 import ctypes.util
+import functools
 import itertools
 import operator
 import os
@@ -37,15 +42,18 @@ Report = collections.namedtuple("Report", "passed failed skipped failed_lines")
 _NUMBERS = {"i32": 127, "i64": 126, "funcref": 112, "externref": 111}
 _NAMES = {number: name for name, number in _NUMBERS.items()}
 _PLACES = [None, "byte", "import", "section", "function", "command"]
-_DONE, _REFUSED, _TRAP, _EXHAUSTED, _NOT_SPELT, _NO_ROOM, _BUSY, _OVER = range(8)
-# The code of the trap where a host function raises an exception.
+_DONE, _REFUSED, _TRAP, _EXHAUSTED, _NOT_SPELT, _NO_ROOM, _BUSY, _OVER, _BAD_POINTER = range(9)
+# The code of the trap when a host function raises an exception.
 _RAISED = 2**32 - 1
 
 
 def _bounded(number, bits):
-    """A number that fits into so many bits."""
+    """Returns an integer that fits into this many bits."""
+    if isinstance(number, bool):
+        raise TypeError(f"expected an integer, found {number}")
+    number = operator.index(number)
     if not 0 <= number < 2**bits:
-        raise ValueError(f"{number} is not from 0 to {2**bits - 1}")
+        raise ValueError(f"expected an integer from 0 to {2**bits - 1}, found {number}")
     return number
 
 
@@ -85,8 +93,8 @@ class HostTrap(Exception):
     """A host function raises it to trap with a code of its own, from 0 to 4,294,967,295."""
 
     def __init__(self, code):
-        super().__init__(f"a host function traps with {code}")
         self.code = _bounded(code, 32)
+        super().__init__(f"a host function traps with {code}")
 
 
 class _Unique:
@@ -281,20 +289,45 @@ _FUNCTIONS = {
     "script": [_AT, ctypes.c_char_p, _SIZE, ctypes.POINTER(_File), _SIZE, ctypes.POINTER(_Report)],
 }
 _GIVEN = {"last": ctypes.POINTER(_End), "exports_free": None}
-_libraries = {}
 
 
-def _load_library(path):
-    """The library at a path, or where the variable or the system has it."""
-    path = path or os.environ.get("TEGVURN_LIBRARY") or ctypes.util.find_library("tegvurn")
-    if not path:
-        raise FileNotFoundError("libtegvurn is not found: name it by `library` or by TEGVURN_LIBRARY")
-    if path not in _libraries:
+class _Library:
+    """The functions of a library, and the embeddings that were busy when they were dropped."""
+
+    def __init__(self, path):
         library = ctypes.CDLL(path)
         for name, types in _FUNCTIONS.items():
             function = getattr(library, "tegvurn_" + name)
             function.argtypes, function.restype = types, _GIVEN.get(name, ctypes.c_uint)
-        _libraries[path] = library
+            setattr(self, name, function)
+        self.dropped = collections.deque()
+
+    def drop(self, embedding, kept):
+        """Frees an embedding, now or later. Until then, it keeps what the callbacks need."""
+        self.dropped.append((embedding, kept))
+        self.free_dropped()
+
+    def free_dropped(self):
+        """Frees each dropped embedding that is not busy."""
+        for _ in range(len(self.dropped)):
+            try:
+                embedding, kept = self.dropped.popleft()
+            except IndexError:  # another thread frees it
+                return
+            if self.free(embedding) != _DONE:
+                self.dropped.append((embedding, kept))
+
+
+_libraries = {}
+
+
+def _load_library(path):
+    """Returns the library at a path, or the one that the variable names or the system has."""
+    path = path or os.environ.get("TEGVURN_LIBRARY") or ctypes.util.find_library("tegvurn")
+    if not path:
+        raise FileNotFoundError("libtegvurn is not found: name it by `library` or by TEGVURN_LIBRARY")
+    if path not in _libraries:
+        _libraries.setdefault(path, _Library(path))
     return _libraries[path]
 
 
@@ -308,12 +341,14 @@ def _address(data):
     return ctypes.cast(ctypes.c_char_p(data), ctypes.c_void_p)
 
 
-def _spell_text(text):
-    """A text for the library, whose bytes live as long as what is given."""
+def _encode_text(text):
+    """Returns a text for the library, whose bytes live as long as it."""
+    if not isinstance(text, str):
+        raise TypeError(f"expected a str, found {text!r}")
     data = text.encode()
-    spelt = _Text(_address(data), len(data))
-    spelt.kept = data
-    return spelt
+    encoded = _Text(_address(data), len(data))
+    encoded.kept = data
+    return encoded
 
 
 def _read_text(text):
@@ -321,21 +356,36 @@ def _read_text(text):
     return ctypes.string_at(text.bytes, text.size).decode()
 
 
-def _spell_types(names):
-    """Types for the library."""
-    return (ctypes.c_uint * len(names))(*(_NUMBERS[name] for name in names))
+def _encode_types(names):
+    """Returns types for the library."""
+    return (ctypes.c_uint * len(names))(*(_number_of(name) for name in names))
+
+
+def _number_of(name):
+    """Returns the number of a type."""
+    if name not in _NUMBERS:
+        raise ValueError(f"expected one of the types {', '.join(_NUMBERS)}, found {name!r}")
+    return _NUMBERS[name]
+
+
+def _name_of(number):
+    """Returns the name of a type that the library has written."""
+    if number not in _NAMES:
+        raise ValueError(f"expected the number of one of the types {', '.join(_NUMBERS)}, found {number}")
+    return _NAMES[number]
 
 
 def _read_types(numbers, count):
-    """The types that the library has written."""
-    return [_NAMES[numbers[k]] for k in range(count)]
+    """Returns the types that the library has written."""
+    return [_name_of(numbers[k]) for k in range(count)]
 
 
 def _write_value(value, number, type_):
     """Writes a number, or a value with its type, for the library."""
     if isinstance(number, Value):
         type_, number = number
-    value.type, value.is_null, value.i64 = _NUMBERS[type_], number is None, 0
+    value.type, value.is_null, value.i64 = _number_of(type_), number is None, 0
+    number = None if number is None else operator.index(number)
     if number is None:
         in_range = type_ in ("funcref", "externref")
     elif type_ == "i64":
@@ -361,33 +411,55 @@ def _read_export(export):
     if export.kind == 0:
         return FunctionType(_read_types(export.params, export.param_count), _read_types(export.results, export.result_count))
     if export.kind == 1:
-        return TableType(_NAMES[export.type], *limits)
-    return MemoryType(*limits) if export.kind == 2 else GlobalType(_NAMES[export.type], export.is_mutable)
+        return TableType(_name_of(export.type), *limits)
+    return MemoryType(*limits) if export.kind == 2 else GlobalType(_name_of(export.type), export.is_mutable)
 
 
-def _error(end):
-    """The exception for how a call ended."""
-    name, text = end.name.decode(), end.text.decode(errors="replace")
-    if end.status == _REFUSED:
-        return Refused(text, end.number, name, _PLACES[end.place], end.at)
-    if end.status == _TRAP:
+# The exceptions for calls whose end the library does not write.
+_PLAIN_ERRORS = {
+    _BUSY: functools.partial(Busy, "the embedding is busy", _BUSY, "Busy"),
+    _BAD_POINTER: functools.partial(Error, "a pointer is null", _BAD_POINTER, "BadPointer"),
+}
+
+
+def _read_report(report):
+    """Returns the report that the library has written."""
+    return Report(report.passed, report.failed, report.skipped, [report.failed_lines[k] for k in range(report.failed)])
+
+
+def _error(status, end):
+    """Returns the exception for how a call ended, which the library has written at `end`."""
+    if status in _PLAIN_ERRORS or not end:
+        return _PLAIN_ERRORS.get(status, functools.partial(Error, "the call was not done"))()
+    end = end.contents
+    name, text = (end.name or b"").decode(), end.text.decode(errors="replace")
+    if status == _REFUSED:
+        return Refused(text, end.number, name, _PLACES[end.place] if end.place < len(_PLACES) else None, end.at)
+    if status == _TRAP:
         return Trap(text, end.number, name, end.code)
-    return (Exhausted if end.status == _EXHAUSTED else Error)(text, end.number, name)
+    return (Exhausted if status == _EXHAUSTED else Error)(text, end.number, name)
 
 
-class Embedding:
+class Embedding(_Unique):
     """A store of modules and instances, with the host functions and the fuel for them."""
+
+    _at = None  # the embedding of the library, until it is closed
 
     def __init__(self, fuel, depth=1_024, pages=1_024, entries=1_000_000, hosts=(), library=None):
         """Makes an embedding. The host functions are a type and a function for each module and name, in a dictionary or as its items."""
-        self._at, self._raised, self._functions, self._kept = ctypes.c_void_p(), None, {}, []
+        if self._at:
+            raise TypeError("the embedding is made already")
+        # `_raised` has the exception of a host function of the running call. Callbacks refer to it alone, so they do not keep the embedding.
+        self._lock, self._raised, self._functions, self._kept = threading.Lock(), [], {}, []
         self._library = _load_library(library)
+        self._library.free_dropped()
         pairs = list(hosts.items() if isinstance(hosts, dict) else hosts)
         host_array = (_Host * len(pairs))(*(self._host(*names, *rest) for names, rest in pairs))
         config, end = _Config(_bounded(fuel, 64), _bounded(depth, 32), _bounded(pages, 32), _bounded(entries, 32)), _End()
-        status = self._library.tegvurn_new(config, host_array, len(pairs), ctypes.byref(self._at), ctypes.byref(end))
+        self._at = ctypes.c_void_p()
+        status = self._library.new(config, host_array, len(pairs), ctypes.byref(self._at), ctypes.byref(end))
         if status != _DONE:
-            raise _error(end)
+            raise _error(status, ctypes.pointer(end))
 
     def __enter__(self):
         return self
@@ -397,17 +469,23 @@ class Embedding:
 
     def __del__(self):
         if self._at:
-            self._library.tegvurn_free(self._at)
+            self._library.drop(self._at, self._kept)
+            self._at = None
 
     def close(self):
-        """Frees the embedding, if it was not yet."""
-        if self._at and self._library.tegvurn_free(self._at) == _BUSY:
-            raise Busy("the embedding is busy", _BUSY, "Busy")
-        self._at = ctypes.c_void_p()
+        """Frees the embedding; a closed one stays as it is."""
+        self._library.free_dropped()
+        self._claim()
+        try:
+            if self._at and self._library.free(self._at) != _DONE:
+                raise _PLAIN_ERRORS[_BUSY]()
+            self._at = None
+        finally:
+            self._lock.release()
 
     def load(self, module):
         """Loads a module from its bytes, and gives its number."""
-        number, module = ctypes.c_uint64(), bytes(module)
+        number, module = ctypes.c_uint64(), _bytes_of(module)
         self._do("load", module, len(module), ctypes.byref(number))
         return number.value
 
@@ -419,7 +497,7 @@ class Embedding:
 
     def register(self, instance, name):
         """Registers an instance under a name, by which modules that are linked later import from it."""
-        self._do("register", _bounded(instance, 64), _spell_text(name))
+        self._do("register", _bounded(instance, 64), _encode_text(name))
 
     def call(self, instance, name, *args):
         """Calls an exported function, and gives its results in a list."""
@@ -434,7 +512,7 @@ class Embedding:
     def get_global(self, instance, name):
         """The value of an exported global."""
         value = _Value()
-        self._do("get_global", _bounded(instance, 64), _spell_text(name), ctypes.byref(value))
+        self._do("get_global", _bounded(instance, 64), _encode_text(name), ctypes.byref(value))
         return _read_value(value)
 
     @property
@@ -455,68 +533,80 @@ class Embedding:
         try:
             return {_read_text(found[k].name): _read_export(found[k]) for k in range(count.value)}
         finally:
-            self._library.tegvurn_exports_free(found)
+            self._library.exports_free(found)
 
     def script(self, json, files=()):
         """Runs a command file of wast2json, given as a text or as bytes, with the bytes of its files by their names; gives the report."""
-        json, report = json.encode() if isinstance(json, str) else bytes(json), _Report()
-        given = [(_spell_text(name), bytes(data)) for name, data in dict(files).items()]
+        json, report = json.encode() if isinstance(json, str) else _bytes_of(json), _Report()
+        given = [(_encode_text(name), _bytes_of(data)) for name, data in dict(files).items()]
         file_array = (_File * len(given))(*(_File(name, _address(data), len(data)) for name, data in given))
-        self._do("script", json, len(json), file_array, len(given), ctypes.byref(report))
-        return Report(report.passed, report.failed, report.skipped, [report.failed_lines[k] for k in range(report.failed)])
+        return self._do("script", json, len(json), file_array, len(given), ctypes.byref(report), read=lambda: _read_report(report))
 
-    def _do(self, name, *args):
-        """Has the library do something, and raises what came of it, if it was not done."""
-        if not self._at:
-            raise ValueError("the embedding is closed")
-        status = getattr(self._library, "tegvurn_" + name)(self._at, *args)
-        if status == _BUSY:
-            raise Busy("the embedding is busy", _BUSY, "Busy")
-        raised, self._raised = self._raised, None
-        if raised:
-            raise raised
-        if status != _DONE:
-            raise _error(self._library.tegvurn_last(self._at).contents)
+    def _claim(self):
+        """Begins to use the embedding, as nothing else does."""
+        if not self._lock.acquire(blocking=False):
+            raise _PLAIN_ERRORS[_BUSY]()
+
+    def _do(self, name, *args, read=lambda: None):
+        """Calls a function of the library; returns what `read` reads afterwards. Raises what came of the call, if it was not done."""
+        self._library.free_dropped()
+        self._claim()
+        try:
+            if not self._at:
+                raise ValueError("the embedding is closed")
+            self._raised.clear()
+            status = getattr(self._library, name)(self._at, *args)
+            if self._raised:
+                raise self._raised.pop()
+            if status != _DONE:
+                raise _error(status, self._library.last(self._at))
+            return read()
+        finally:
+            self._lock.release()
 
     def _function(self, instance, name):
         """The name of an exported function for the library, and its type; one of nothing where there is no such function."""
         if (instance, name) not in self._functions:
             types = {export: type_ for export, type_ in self.exports(instance).items() if isinstance(type_, FunctionType)}
-            self._functions.update({(instance, export): (_spell_text(export), type_) for export, type_ in types.items()})
-        return self._functions.get((instance, name)) or (_spell_text(name), FunctionType([], []))
+            self._functions.update({(instance, export): (_encode_text(export), type_) for export, type_ in types.items()})
+        return self._functions.get((instance, name)) or (_encode_text(name), FunctionType([], []))
 
     def _host(self, module, name, type_, function):
         """A host function for the library. What it points to is kept as long as the embedding."""
         params, results = type_
-        types = _spell_types(params), _spell_types(results)
-        kept = _spell_text(module), _spell_text(name), _Callback(self._callback(results, function)), types
+        types = _encode_types(params), _encode_types(results)
+        kept = _encode_text(module), _encode_text(name), _Callback(self._callback(results, function)), types
         self._kept.append(kept)
         return _Host(kept[0], kept[1], types[0], len(params), types[1], len(results), kept[2], None)
 
     def _callback(self, types, function):
-        """What the library calls for a host function with results of these types."""
-
-        def run(call):
-            memory = Memory(call.memory, call.memory_size)
-            try:
-                results = function(memory, *(_read_value(call.args[k]) for k in range(call.arg_count)))
-            finally:
-                memory._is_lent = False  # An interrupt can come at the next call of a function: no thread may start to copy after it.
-                memory._end()
-            if len(results) != len(types):
-                raise ValueError(f"a host function gave {len(results)} results in place of {len(types)}")
-            for k, result in enumerate(results):
-                _write_value(call.results[k], result, types[k])
+        """Returns what the library calls for a host function with results of these types."""
+        raised = self._raised
 
         def callback(_, at):
             try:
-                run(at.contents)
-                return True
-            except HostTrap as trap:
-                at.contents.trap = trap.code
-            except BaseException as raised:  # it is raised again where the call of the library has ended
-                self._raised = self._raised or raised
                 at.contents.trap = _RAISED
+                return not raised and _run(at.contents, types, function)
+            except BaseException as error:  # it is raised again when the call of the library has ended
+                raised.append(error)
             return False
 
         return callback
+
+
+def _run(call, types, function):
+    """Runs a host function with results of these types; returns whether the results are there."""
+    memory = Memory(call.memory, call.memory_size)
+    try:
+        results = function(memory, *(_read_value(call.args[k]) for k in range(call.arg_count)))
+    except HostTrap as trap:
+        call.trap = _bounded(trap.code, 32)
+        return False
+    finally:
+        memory._is_lent = False  # An interrupt can come at the next call of a function: no thread may start to copy after it.
+        memory._end()
+    if len(results) != len(types):
+        raise ValueError(f"a host function returned {len(results)} results, and its type has {len(types)}")
+    for k, result in enumerate(results):
+        _write_value(call.results[k], result, types[k])
+    return True

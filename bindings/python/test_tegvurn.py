@@ -5,6 +5,8 @@ The library may be named by the variable TEGVURN_LIBRARY, too; without a name it
 passed and failed, and fails where one does.
 """
 import copy
+import ctypes
+import gc
 import os
 import pickle
 import queue
@@ -12,6 +14,7 @@ import re
 import subprocess
 import sys
 import threading
+import weakref
 
 HERE = os.path.dirname(os.path.abspath(__file__))
 LIBRARY = sys.argv[1] if len(sys.argv) > 1 else os.environ.get("TEGVURN_LIBRARY", os.path.join(HERE, "../c/build/libtegvurn.so"))
@@ -153,6 +156,27 @@ def test_rows(tests):
     rows.Rows(begin).run(tests)
 
 
+class Falsy(Exception):
+    """An exception that is false."""
+
+    def __bool__(self):
+        return False
+
+
+class Empty(Exception):
+    """An exception that is empty."""
+
+    def __len__(self):
+        return 0
+
+
+class Unmade(tegvurn.HostTrap):
+    """A trap without a code."""
+
+    def __init__(self):
+        pass
+
+
 def test_exceptions(tests):
     """What a host function raises comes back, and the embedding goes on."""
     thrown = []
@@ -163,17 +187,54 @@ def test_exceptions(tests):
         return [5]
 
     with with_count(count) as embedding:
-        for error in (KeyError("a key"), KeyboardInterrupt(), SystemExit(3), MemoryError(), tegvurn.Error("another's")):
+        errors = [KeyError("a key"), KeyboardInterrupt(), SystemExit(3), MemoryError(), tegvurn.Error("another's"), Falsy(), Empty()]
+        for error in errors:
             thrown.append(error)
             tests.equal(raised_by(embedding.call, 0, "count") is error, True, f"{error!r} comes back")
-            tests.equal(embedding.call(0, "count"), [5], f"a call behind {error!r}")
+            tests.equal(embedding.call(0, "count"), [5], f"a call after {error!r}")
+        thrown.append(Unmade())
+        tests.equal(type(raised_by(embedding.call, 0, "count")), AttributeError, "a trap without a code")
         thrown.append(tegvurn.HostTrap(7))
         trap = raised_by(embedding.call, 0, "count")
         found = (type(trap), trap.number, trap.name, trap.code, str(trap))
         tests.equal(found, (tegvurn.Trap, 9, "Host", 7, "host trap"), "a trap of a host function")
         thrown.append(KeyError("in a script"))
         tests.equal(str(raised_by(embedding.script, SCRIPT, {"a": MODULES["hosts"]})), "'in a script'", "an exception in a script")
-        tests.equal(embedding.script(SCRIPT, {"a": MODULES["hosts"]}), tegvurn.Report(2, 0, 0, []), "a script behind it")
+        tests.equal(embedding.script(SCRIPT, {"a": MODULES["hosts"]}), tegvurn.Report(2, 0, 0, []), "a script after it")
+
+
+def test_first_exception(tests):
+    """After a host function has raised an exception, the same call runs no other one, and raises the first exception."""
+    raised = []
+
+    def count(_):
+        raised.append(Falsy(len(raised)))
+        raise raised[-1]
+
+    thrice = SCRIPT.replace(COUNT, ",".join([COUNT] * 3))
+    with with_count(count) as embedding:
+        error = raised_by(embedding.script, thrice, {"a": MODULES["hosts"]})
+        tests.equal((error is raised[0], len(raised)), (True, 1), "three calls of a host function that raises, in a script")
+        tests.equal(raised_by(embedding.call, 0, "count") is raised[1], True, "the exception of the next call")
+
+
+# Codes of traps, and the exception when a HostTrap is made with one.
+WRONG_CODES = [("x", TypeError), (1.0, TypeError), (None, TypeError), (True, TypeError), (-1, ValueError), (2**32, ValueError)]
+
+
+def test_trap_codes(tests):
+    """A trap with a wrong code is refused where it is made."""
+    codes = []
+
+    def count(_):
+        raise tegvurn.HostTrap(codes.pop())
+
+    with with_count(count) as embedding:
+        for code, error in WRONG_CODES:
+            codes.append(code)
+            tests.equal(type(raised_by(embedding.call, 0, "count")), error, f"a trap with the code {code!r}")
+        codes.append(2**32 - 2)
+        tests.equal(show_error(raised_by(embedding.call, 0, "count")), "trap 9 4294967294", "a trap after these")
 
 
 def test_results(tests):
@@ -350,6 +411,181 @@ def test_errors(tests):
     tests.equal(type(raised_by(embedding.load, b"")), ValueError, "an embedding that is closed")
     tests.equal(type(raised_by(tegvurn.Embedding, 1, 2**32 + 1)), ValueError, "a depth of 2^32 + 1")
     tests.equal(type(raised_by(tegvurn.HostTrap, 2**32)), ValueError, "a code of 2^32")
+
+
+# Wrong uses of an embedding that has the instance of `traps`, and the exception of each.
+WRONG_USES = [
+    ("a call without a name", lambda embedding: embedding.call(0, None), TypeError),
+    ("a call by a name of bytes", lambda embedding: embedding.call(0, b"div_s", 1, 1), TypeError),
+    ("a call by a name with a surrogate", lambda embedding: embedding.call(0, "\udc80"), UnicodeEncodeError),
+    ("a call of a negative instance", lambda embedding: embedding.call(-1, "div_s", 1, 1), ValueError),
+    ("a call of an instance of 2^64", lambda embedding: embedding.call(2**64, "div_s", 1, 1), ValueError),
+    ("a call of no instance", lambda embedding: embedding.call(None, "div_s", 1, 1), TypeError),
+    ("a call with a float", lambda embedding: embedding.call(0, "div_s", 1.0, 1), TypeError),
+    ("a call with a text", lambda embedding: embedding.call(0, "div_s", "1", 1), TypeError),
+    ("a call with a float value", lambda embedding: embedding.call(0, "div_s", tegvurn.Value("f64", 1), 1), ValueError),
+    ("a call with a value of no type", lambda embedding: embedding.call(0, "div_s", tegvurn.Value(None, 1), 1), ValueError),
+    ("a text as a module", lambda embedding: embedding.load("text"), TypeError),
+    ("a number as a module", lambda embedding: embedding.load(5), TypeError),
+    ("nothing as a module", lambda embedding: embedding.load(None), TypeError),
+    ("a link of a negative module", lambda embedding: embedding.link(-1), ValueError),
+    ("a link of a float", lambda embedding: embedding.link(0.0), TypeError),
+    ("a name of bytes for an instance", lambda embedding: embedding.register(0, b"name"), TypeError),
+    ("a global without a name", lambda embedding: embedding.get_global(0, None), TypeError),
+    ("the exports of a negative instance", lambda embedding: embedding.exports(-1), ValueError),
+    ("a fuel that is no integer", lambda embedding: setattr(embedding, "fuel", 1.0), TypeError),
+    ("a number as a script", lambda embedding: embedding.script(5), TypeError),
+    ("a script with a file that is no bytes", lambda embedding: embedding.script("{}", {"a": "text"}), TypeError),
+    ("a script with a file whose name is no text", lambda embedding: embedding.script("{}", {1: b""}), TypeError),
+    ("a host function of a type f64", lambda _: tegvurn.Embedding(1, hosts={("m", "n"): (([], ["f64"]), len)}), ValueError),
+    ("a host function without a name", lambda _: tegvurn.Embedding(1, hosts={("m", None): (([], []), len)}), TypeError),
+    ("an embedding without fuel", lambda _: tegvurn.Embedding(None), TypeError),
+    ("an embedding with negative pages", lambda _: tegvurn.Embedding(1, pages=-1), ValueError),
+    ("an embedding that is made again", lambda embedding: embedding.__init__(1), TypeError),
+    ("a copy", copy.copy, TypeError),
+    ("a deep copy", copy.deepcopy, TypeError),
+    ("a pickle", pickle.dumps, TypeError),
+]
+
+
+def test_wrong_uses(tests):
+    """Wrong uses raise TypeError or ValueError, and change nothing."""
+    embedding = tegvurn.Embedding(fuel=10)
+    embedding.link(embedding.load(MODULES["traps"]))
+    embedding.fuel = 10
+    for name, use, error in WRONG_USES:
+        tests.equal(type(raised_by(use, embedding)), error, name)
+    tests.equal((embedding.fuel, embedding.call(0, "div_s", 6, 2)), (10, [3]), "the embedding after these")
+    tests.equal(str(raised_by(tegvurn._read_types, [124], 1)), str(raised_by(tegvurn._name_of, 124)), "an unknown type of the library")
+    embedding.close()
+    embedding.close()
+    tests.equal(type(raised_by(embedding.load, b"")), ValueError, "the embedding after its end")
+
+
+def test_ends(tests):
+    """How a call ended is read in every form that the library may write."""
+    ends = [
+        (tegvurn._BAD_POINTER, None, (tegvurn.Error, 8, "BadPointer", "a pointer is null")),
+        (tegvurn._BUSY, None, (tegvurn.Busy, 6, "Busy", "the embedding is busy")),
+        (99, None, (tegvurn.Error, 0, "", "the call was not done")),
+        (tegvurn._REFUSED, tegvurn._End(number=3, place=99, text=b"\xff"), (tegvurn.Refused, 3, "", "\ufffd")),
+        (tegvurn._OVER, tegvurn._End(name=b"Over"), (tegvurn.Error, 0, "Over", "")),
+    ]
+    for status, end, wanted in ends:
+        error = tegvurn._error(status, end and ctypes.pointer(end))
+        tests.equal((type(error), error.number, error.name, str(error)), wanted, f"an end of status {status}")
+
+
+def count_mappings():
+    """Returns how many mappings this process has."""
+    with open("/proc/self/maps", encoding="utf-8") as file:
+        return len(file.readlines())
+
+
+def on_thread(function):
+    """Runs a function on a thread of its own."""
+    thread = threading.Thread(target=function)
+    thread.start()
+    thread.join()
+
+
+def drop(embeddings):
+    """Drops embeddings, also those that are in cycles."""
+    embeddings.clear()
+    gc.collect()
+
+
+def make_simply():
+    """Returns an embedding that is freed as soon as it is dropped."""
+    return with_count(lambda _: [1])
+
+
+def make_cycle():
+    """Returns an embedding that only the garbage collector frees."""
+    embedding = with_count(lambda _: [embedding.fuel])
+    return embedding
+
+
+MAKERS = [(make_simply, "embeddings"), (make_cycle, "embeddings in cycles")]
+MANY = 50
+
+
+def test_drops(tests):
+    """Embeddings that are dropped are freed by the next call of their thread at the latest."""
+    made = []
+    make_simply().close()
+    before = count_mappings()
+    for make, name in MAKERS:
+        made.extend(make() for _ in range(MANY))
+        drop(made)
+        tests.equal(count_mappings() - before < MANY, True, f"{name} that are dropped")
+        made.extend(make() for _ in range(MANY))
+        on_thread(lambda: drop(made))
+        tegvurn.Embedding(fuel=1).close()
+        tests.equal(count_mappings() - before < MANY, True, f"{name} that another thread drops, after a call")
+
+
+def test_busy_drops(tests):
+    """An embedding that is busy when it is dropped keeps its callbacks, and is freed by a later call of any embedding."""
+    embedding, other = with_count(lambda _: [1]), tegvurn.Embedding(fuel=7)
+    library, callback, busy = embedding._library, weakref.ref(embedding._kept[0][2]), [True, True]
+    free, before = library.free, count_mappings()
+    library.free = lambda at: tegvurn._BUSY if busy and busy.pop() else free(at)
+    del embedding
+    tests.equal((len(library.dropped), callback() is None), (1, False), "a busy embedding that is dropped")
+    tests.equal((other.fuel, len(library.dropped), callback() is None), (7, 1, False), "a call while it is busy")
+    tests.equal((other.fuel, len(library.dropped), callback() is None), (7, 0, True), "a call when it is no longer busy")
+    tests.equal(count_mappings() < before, True, "its memory")
+    library.free = free
+    other.close()
+
+
+# A program that ends with embeddings that are idle, in cycles, of threads that have ended, of a thread that runs on, and half made.
+AT_EXIT = """
+import threading, tegvurn
+def make():
+    embedding = tegvurn.Embedding(1_000, hosts={("env", "f"): (([], []), lambda _: embedding.fuel)})
+    return embedding
+kept, made = [make(), tegvurn.Embedding(1)], threading.Event()
+kept[0].itself = kept
+def thread():
+    kept.append(make())
+    mine = make()
+    made.set()
+    threading.Event().wait()
+threading.Thread(target=thread, daemon=True).start()
+made.wait()
+ended = threading.Thread(target=lambda: kept.append(make()))
+ended.start()
+ended.join()
+class Last:
+    def __del__(self):
+        kept[1].fuel
+last = Last()
+try:
+    tegvurn.Embedding()
+except TypeError:
+    tegvurn.Embedding.__new__(tegvurn.Embedding)
+"""
+
+
+def test_exit(tests):
+    """The end of the program frees what is left, and says nothing."""
+    ran = subprocess.run([sys.executable, "-B", "-c", AT_EXIT], capture_output=True, text=True, timeout=60, cwd=HERE)
+    tests.equal((ran.stdout, ran.stderr, ran.returncode), ("", "", 0), "a program that ends with embeddings")
+
+
+def test_drops_by_other_threads(tests):
+    """Embeddings that another thread drops are freed at once, also when their own thread has ended."""
+    made = []
+    before = count_mappings()
+    for make, name in MAKERS:
+        made.extend(make() for _ in range(MANY))
+        on_thread(lambda: drop(made))
+        tests.equal(count_mappings() - before < MANY, True, f"{name} that another thread drops")
+        on_thread(lambda: made.extend(make() for _ in range(MANY)))  # noqa: B023
+        drop(made)
+        tests.equal(count_mappings() - before < MANY, True, f"{name} whose thread has ended")
 
 
 def test_header(tests):
