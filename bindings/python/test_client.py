@@ -350,7 +350,7 @@ def false_server(script, reply=b"", **limits):
         with open(path, "w", encoding="utf-8") as file:
             file.write(script)
         os.chmod(path, 0o700)
-        conversation = client.Client(path, **limits)
+        conversation = client.Client(path, **{"seconds": 20, **limits})
         try:
             yield conversation
         finally:
@@ -484,7 +484,7 @@ def test_interrupts(tests):
 
 def test_limits(tests):
     """The process is bounded in processor time and in memory."""
-    conversation = client.Client(PROGRAM, cpu_seconds=1)
+    conversation = client.Client(PROGRAM, 30, cpu_seconds=1)
     conversation.order("begin", 2**60, 100, 16, 100)
     conversation.order("load", LOOPS)
     conversation.order("link", 0)
