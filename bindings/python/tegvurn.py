@@ -11,13 +11,13 @@
 This file is all that Python needs besides the library `libtegvurn`, which it finds by an argument, by the variable TEGVURN_LIBRARY, or
 among the libraries of the system.
 
-Types are the texts "i32", "i64", "funcref" and "externref". Values are numbers, and None for a null reference; integers that come out have
-no sign, those that go in may have one. Where a type has to be said, a value is `Value("i64", 7)`.
+Types are the texts "i32", "i64", "funcref" and "externref". Values are numbers, and None for a null reference. Integers that come out have
+no sign; those that go in may have one. `Value("i64", 7)` is a value with its type.
 
 A host function gets the memory of the instance that calls it, a `Memory`, and its arguments. `memory.read(at, count)` and
 `memory.write(at, data)` copy bytes, and raise IndexError for bytes outside of the memory. Once the host function has returned, they raise
-ValueError. A host function returns its results in a list, or raises `HostTrap(code)`. Any other exception is raised again by the call of the
-embedding that ran the host function. Until then, that call runs no other host function: each one traps at once.
+ValueError. A host function returns its results in a list, or raises `HostTrap(code)`. Any other exception is raised again by the call of
+the embedding that ran the host function. Until then, that call runs no other host function: each one traps at once.
 
 An embedding belongs to the thread that made it. A call from another thread, or from one of its own host functions, raises `Busy`. An
 embedding that is dropped is freed, on whichever thread that happens. It cannot be copied or pickled.
@@ -272,7 +272,7 @@ class _Report(ctypes.Structure):
 
 
 _AT, _U64, _SIZE = ctypes.c_void_p, ctypes.c_uint64, ctypes.c_size_t
-# The types of what each function of the library takes, and of what it gives if that is no status.
+# The types of what each function of the library takes, and of what it returns if that is not a status.
 _FUNCTIONS = {
     "new": [ctypes.POINTER(_Config), ctypes.POINTER(_Host), _SIZE, ctypes.POINTER(_AT), ctypes.POINTER(_End)],
     "free": [_AT],
@@ -449,7 +449,8 @@ class Embedding(_Unique):
         """Makes an embedding. The host functions are a type and a function for each module and name, in a dictionary or as its items."""
         if self._at:
             raise TypeError("the embedding is made already")
-        # `_raised` has the exception of a host function of the running call. Callbacks refer to it alone, so they do not keep the embedding.
+        # `_raised` has the exception of a host function of the running call. Callbacks refer to it, and not to the embedding, so that
+        # dropping the embedding frees it.
         self._lock, self._raised, self._functions, self._kept = threading.Lock(), [], {}, []
         self._library = _load_library(library)
         self._library.free_dropped()
@@ -484,13 +485,13 @@ class Embedding(_Unique):
             self._lock.release()
 
     def load(self, module):
-        """Loads a module from its bytes, and gives its number."""
+        """Loads a module from its bytes; returns its number."""
         number, module = ctypes.c_uint64(), _bytes_of(module)
         self._do("load", module, len(module), ctypes.byref(number))
         return number.value
 
     def link(self, module):
-        """Links a module of a number, runs its start function, and gives the number of the instance."""
+        """Links the module of a number and runs its start function; returns the number of the instance."""
         number = ctypes.c_uint64()
         self._do("link", _bounded(module, 64), ctypes.byref(number))
         return number.value
@@ -500,7 +501,7 @@ class Embedding(_Unique):
         self._do("register", _bounded(instance, 64), _encode_text(name))
 
     def call(self, instance, name, *args):
-        """Calls an exported function, and gives its results in a list."""
+        """Calls an exported function; returns its results in a list."""
         text, type_ = self._function(instance, name)
         given = (_Value * len(args))()
         for value, arg, wanted in itertools.zip_longest(given, args, type_.parameters[: len(args)]):
@@ -527,7 +528,7 @@ class Embedding(_Unique):
         self._do("set_fuel", _bounded(fuel, 64))
 
     def exports(self, instance):
-        """The type of each export of an instance by its name, in the order of the module; none where there is no such instance."""
+        """Returns the types of the exports of an instance by their names, in the order of the module. An unknown instance has none."""
         found, count = ctypes.POINTER(_Export)(), ctypes.c_size_t()
         self._do("exports", _bounded(instance, 64), ctypes.byref(found), ctypes.byref(count))
         try:
@@ -536,7 +537,7 @@ class Embedding(_Unique):
             self._library.exports_free(found)
 
     def script(self, json, files=()):
-        """Runs a command file of wast2json, given as a text or as bytes, with the bytes of its files by their names; gives the report."""
+        """Runs a command file of wast2json, a text or bytes, with the bytes of its files by their names; returns the report."""
         json, report = json.encode() if isinstance(json, str) else _bytes_of(json), _Report()
         given = [(_encode_text(name), _bytes_of(data)) for name, data in dict(files).items()]
         file_array = (_File * len(given))(*(_File(name, _address(data), len(data)) for name, data in given))
@@ -565,7 +566,7 @@ class Embedding(_Unique):
             self._lock.release()
 
     def _function(self, instance, name):
-        """The name of an exported function for the library, and its type; one of nothing where there is no such function."""
+        """Returns the name of an exported function for the library, and its type. An unknown function has an empty type."""
         if (instance, name) not in self._functions:
             types = {export: type_ for export, type_ in self.exports(instance).items() if isinstance(type_, FunctionType)}
             self._functions.update({(instance, export): (_encode_text(export), type_) for export, type_ in types.items()})

@@ -184,7 +184,8 @@ def test_answers(tests):
     went_on = [("call", 0, 0), ("values", ("i32", 5)), ("done",)]
     for fields in WRONG_ANSWERS:
         check(tests, f"a wrong answer: {str(fields)[:60]}", COUNTING + message(*fields) + again, COUNTED + [WRONG] + went_on, 0)
-    check(tests, "a result", COUNTING + message(RESULTS, ("i32", 2**32 - 1)) + again, COUNTED + [("values", ("i32", 2**32 - 1))] + went_on, 0)
+    given = COUNTED + [("values", ("i32", 2**32 - 1))] + went_on
+    check(tests, "a result", COUNTING + message(RESULTS, ("i32", 2**32 - 1)) + again, given, 0)
     check(tests, "a trap", COUNTING + message(TRAPPED, 2**32 - 2) + again, COUNTED + [("trap", 9, 2**32 - 2)] + went_on, 0)
     check(tests, "the input ends in place of an answer", COUNTING, COUNTED + [WRONG], 1)
     check(tests, "the input ends inside of an answer", COUNTING + message(RESULTS, ("i32", 5))[:-1], COUNTED + [WRONG], 1)
@@ -311,7 +312,8 @@ def test_first_exception(tests):
 
 # Orders that are refused before anything is sent.
 WRONG_ORDERS = [
-    (ValueError, "call", 0, "add", ("i32", 2**40)), (ValueError, "call", 0, "add", ("i32", -1)), (ValueError, "call", 0, "add", ("i64", 2**64)),
+    (ValueError, "call", 0, "add", ("i32", 2**40)), (ValueError, "call", 0, "add", ("i32", -1)),
+    (ValueError, "call", 0, "add", ("i64", 2**64)),
     (TypeError, "call", 0, "add", ("i32", 1.0)), (TypeError, "call", 0, "add", ("i32", True)), (TypeError, "call", 0, "add", ("i32", None)),
     (ValueError, "call", 0, "add", ("f64", 1)), (ValueError, "call", 0, "add", ("externref", 2**32)),
     (ValueError, "call", 0, "add", ("funcref", -1)), (TypeError, "call", 0, "add", 1), (TypeError, "call", 0, None), (TypeError, "call", 0),
@@ -358,40 +360,42 @@ def false_server(script, reply=b"", **limits):
 
 
 NUMBER, VALUES, TRAP, EXHAUSTED, REFUSED, EXPORTS, REPORT, CALL, LENT = 1, 2, 3, 4, 5, 6, 7, 10, 11
-FIRST = (0, b"\0asm")  # the fields of orders, which the servers do not read
-# An order by its name and fields, and the message that is no reply to it.
-BROKEN_REPLIES = [
-    ("fuel_left", (), (12,)), ("fuel_left", (), (2**32, 5)), ("fuel_left", (), (0,)), ("fuel_left", (), (LENT, 5)), ("fuel_left", (), (NUMBER,)),
-    ("fuel_left", (), (NUMBER, bytes(7))), ("fuel_left", (), (NUMBER, bytes(9))), ("fuel_left", (), (NUMBER, 0, 0)),
-    ("fuel_left", (), (VALUES, ("i32", 0))), ("fuel_left", (), (CALL, 0, 0)), ("fuel_left", (), (8, 0)), ("fuel_left", (), (9, b"a")),
-    ("set_fuel", (1,), (0, 0)), ("set_fuel", (1,), (NUMBER, 0)), ("link", (0,), (VALUES,)), ("load", (b"",), (TRAP, 1, 0)),
-    ("call", (0, "f"), (VALUES, 127, 2**40)), ("call", (0, "f"), (VALUES, 127, 2**32)), ("call", (0, "f"), (VALUES, 125, 0)),
-    ("call", (0, "f"), (VALUES, 2**32 + 127, 0)), ("call", (0, "f"), (VALUES, 111, 2**32 + 1)), ("call", (0, "f"), (VALUES, 112, 2**64 - 1)),
-    ("call", (0, "f"), (VALUES, 127)), ("call", (0, "f"), (VALUES, 127, 1, b"a")), ("call", (0, "f"), (NUMBER, 0)),
-    ("get_global", (0, "g"), (VALUES,)), ("get_global", (0, "g"), (VALUES, ("i32", 0), ("i32", 0))),
-    ("call", (0, "f"), (TRAP, 0, 0)), ("call", (0, "f"), (TRAP, 10, 0)), ("call", (0, "f"), (TRAP, 9, 2**32)), ("call", (0, "f"), (TRAP, 1, 1)),
-    ("call", (0, "f"), (TRAP, 1)), ("call", (0, "f"), (TRAP, 1, 0, 0)), ("call", (0, "f"), (EXHAUSTED, 0)), ("call", (0, "f"), (EXHAUSTED, 4)),
-    ("call", (0, "f"), (EXHAUSTED,)), ("link", (0,), (REFUSED, 0, 0, 0)), ("link", (0,), (REFUSED, 19, 0, 0)), ("link", (0,), (REFUSED, 5, 6, 0)),
-    ("link", (0,), (REFUSED, 5, 0, 1)), ("link", (0,), (REFUSED, 5, 0)), ("link", (0,), (REFUSED, 5, 0, 0, b"\xff")),
-    ("exports", (0,), (EXPORTS, 0)), ("exports", (0,), (EXPORTS, "f", 4)), ("exports", (0,), (EXPORTS, 2, b"f")),
-    ("exports", (0,), (EXPORTS, 1, b"\xff", 0, [], [])), ("exports", (0,), (EXPORTS, "f", 0, [])), ("exports", (0,), (EXPORTS, "f", 0, 1, 125, [])),
-    ("exports", (0,), (EXPORTS, "f", 0, 2**61, [])), ("exports", (0,), (EXPORTS, "t", 1, 112, 2, 1, 1)),
-    ("exports", (0,), (EXPORTS, "t", 1, 112, 2, 0, 3)), ("exports", (0,), (EXPORTS, "t", 1, 112, 2, 2, 3)),
-    ("exports", (0,), (EXPORTS, "m", 2, 2**16 + 1, 0, 0)), ("exports", (0,), (EXPORTS, "g", 3, 127, 2)), ("exports", (0,), (EXPORTS, "g", 3, 125, 0)),
-    ("exports", (0,), (EXPORTS, "g", 3, 127, 0, b"a")), ("exports", (0,), (NUMBER, 0)),
-    ("script", (b"",), (REPORT, 1, 0)), ("script", (b"",), (REPORT, 1, 1, 0)), ("script", (b"",), (REPORT, 1, 1, 0, 2**32)),
-    ("script", (b"",), (REPORT, 1, 0, 0, 5)), ("script", (b"",), (REPORT, 1, 2**61, 0)), ("call", (0, "f"), (CALL, 0)),
-    ("call", (0, "f"), (CALL, 0, 0)), ("call", (0, "f"), (LENT,)), ("call", (0, "f"), (LENT, b"abc")),
-]  # fmt: skip
+# Messages that are no replies to an order, by its name and fields.
+BROKEN_REPLIES = {
+    ("fuel_left",): [
+        (12,), (2**32, 5), (0,), (LENT, 5), (NUMBER,), (NUMBER, bytes(7)), (NUMBER, bytes(9)), (NUMBER, 0, 0), (VALUES, ("i32", 0)),
+        (CALL, 0, 0), (8, 0), (9, b"a"),
+    ],
+    ("set_fuel", 1): [(0, 0), (NUMBER, 0)],
+    ("load", b""): [(TRAP, 1, 0)],
+    ("link", 0): [
+        (VALUES,), (REFUSED, 0, 0, 0), (REFUSED, 19, 0, 0), (REFUSED, 5, 6, 0), (REFUSED, 5, 0, 1), (REFUSED, 5, 0),
+        (REFUSED, 5, 0, 0, b"\xff"),
+    ],
+    ("call", 0, "f"): [
+        (VALUES, 127, 2**40), (VALUES, 127, 2**32), (VALUES, 125, 0), (VALUES, 2**32 + 127, 0), (VALUES, 111, 2**32 + 1),
+        (VALUES, 112, 2**64 - 1), (VALUES, 127), (VALUES, 127, 1, b"a"), (NUMBER, 0), (TRAP, 0, 0), (TRAP, 10, 0), (TRAP, 9, 2**32),
+        (TRAP, 1, 1), (TRAP, 1), (TRAP, 1, 0, 0), (EXHAUSTED, 0), (EXHAUSTED, 4), (EXHAUSTED,), (CALL, 0), (CALL, 0, 0), (LENT,),
+        (LENT, b"abc"),
+    ],
+    ("get_global", 0, "g"): [(VALUES,), (VALUES, ("i32", 0), ("i32", 0))],
+    ("exports", 0): [
+        (EXPORTS, 0), (EXPORTS, "f", 4), (EXPORTS, 2, b"f"), (EXPORTS, 1, b"\xff", 0, [], []), (EXPORTS, "f", 0, []),
+        (EXPORTS, "f", 0, 1, 125, []), (EXPORTS, "f", 0, 2**61, []), (EXPORTS, "t", 1, 112, 2, 1, 1), (EXPORTS, "t", 1, 112, 2, 0, 3),
+        (EXPORTS, "t", 1, 112, 2, 2, 3), (EXPORTS, "m", 2, 2**16 + 1, 0, 0), (EXPORTS, "g", 3, 127, 2), (EXPORTS, "g", 3, 125, 0),
+        (EXPORTS, "g", 3, 127, 0, b"a"), (NUMBER, 0),
+    ],
+    ("script", b""): [(REPORT, 1, 0), (REPORT, 1, 1, 0), (REPORT, 1, 1, 0, 2**32), (REPORT, 1, 0, 0, 5), (REPORT, 1, 2**61, 0)],
+}  # fmt: skip
 
 
 def test_broken_replies(tests):
     """A reply that breaks the protocol, or that is cut, raises ProtocolError, and ends the process."""
-    for name, fields, reply in BROKEN_REPLIES:
+    for order_fields, reply in [(fields, reply) for fields, replies in BROKEN_REPLIES.items() for reply in replies]:
         with false_server(WRITES, message(*reply)) as conversation:
-            found = raised_by(conversation.order, name, *fields)
+            found = raised_by(conversation.order, *order_fields)
             ended = conversation.process.poll() is not None
-            tests.equal((type(found), ended), (client.ProtocolError, True), f"{str(reply)[:60]} for the order `{name}`")
+            tests.equal((type(found), ended), (client.ProtocolError, True), f"{str(reply)[:60]} for the order {order_fields}")
     whole = message(NUMBER, 7)
     for size in (0, 1, 15, 16, 17, 23):
         with false_server(CUTS, whole[:size]) as conversation:

@@ -14,6 +14,7 @@ import re
 import subprocess
 import sys
 import threading
+import time
 import weakref
 
 HERE = os.path.dirname(os.path.abspath(__file__))
@@ -354,6 +355,37 @@ def test_kept_views(tests):
         kept.clear()
 
 
+# (module (import "env" "count" (func $count (result i32))) (memory 1) (func (export "run") (result i32)
+#   i32.const 1 memory.grow drop call $count drop i32.const 1 memory.grow))
+GROWS = bytes.fromhex(
+    "0061736d010000000105016000017f020d0103656e7605636f756e74000003020100"
+    "05030100010707010372756e00010a10010e00410140001a10001a410140000b"
+)
+
+
+def test_memory_in_use(tests):
+    """A host function returns only when no other thread copies any more."""
+    ended = []
+
+    def log(memory, *_):
+        holds = threading.Event()
+
+        def copy_slowly():
+            with memory._lock:  # as a copy holds it
+                holds.set()
+                time.sleep(0.2)
+                ended.append("the copy")
+
+        threading.Thread(target=copy_slowly).start()
+        holds.wait()
+        return []
+
+    with with_log(log) as embedding:
+        embedding.call(0, "log", 8, 5)
+        ended.append("the call")
+    tests.equal(ended, ["the copy", "the call"], "a copy of another thread when a host function returns")
+
+
 def test_memory_of_threads(tests):
     """Another thread reads and writes memory over the end of host functions, while the module moves it. None of them is lost."""
     kept, ends = queue.SimpleQueue(), []
@@ -370,14 +402,11 @@ def test_memory_of_threads(tests):
             except ValueError as error:
                 ends.append(str(error))
 
-    # (module (import "env" "count" (func $count (result i32))) (memory 1) (func (export "run") (result i32)
-    #   i32.const 1 memory.grow drop call $count drop i32.const 1 memory.grow))
-    grows = "0061736d010000000105016000017f020d0103656e7605636f756e7400000302010005030100010707010372756e00010a10010e00410140001a10001a410140000b"
     threads = [threading.Thread(target=use, daemon=True) for _ in range(2)]
     for thread in threads:
         thread.start()
     with tegvurn.Embedding(fuel=10**9, hosts={("env", "count"): (NUMBER, count)}) as embedding:
-        embedding.load(bytes.fromhex(grows))
+        embedding.load(GROWS)
         for _ in range(100):
             embedding.call(embedding.link(0), "run")
     for _ in threads:

@@ -21,6 +21,7 @@ COMPARED = {"i32": range(0x46, 0x50), "i64": range(0x51, 0x5B)}
 LOADS = {"i32": [(0x28, 2), (0x2C, 0), (0x2D, 0), (0x2E, 1), (0x2F, 1)], "i64": [(0x29, 3), (0x30, 0), (0x33, 1), (0x34, 2), (0x35, 2)]}
 STORES = {"i32": [(0x36, 2), (0x3A, 0), (0x3B, 1)], "i64": [(0x37, 3), (0x3C, 0), (0x3D, 1), (0x3E, 2)]}
 NUMBERS = [0, 1, -1, 2, 7, 8, 100, 255, 4_096, 65_535, 65_536, 2**31 - 1, -(2**31)]
+BYTES = [0, 1, 2, 4, 0x0B, 0x10, 0x6F, 0x70, 0x7F, 0x80, 0xFF]
 NAMES = ["a", "b", "run", "memory", "table", "", "é", "long" * 20]
 
 
@@ -199,7 +200,8 @@ class Maker:
         tables = self.indices(self.tables, lambda table: table[0] == "funcref")
         code = self.expressions(parameters, depth - 1)
         if tables and self.rng.random() < 0.3:
-            return code + self.small(depth) + (b"\x13" if tail else b"\x11") + self.type_index(parameters, results) + number(self.rng.choice(tables))
+            opcode = b"\x13" if tail else b"\x11"
+            return code + self.small(depth) + opcode + self.type_index(parameters, results) + number(self.rng.choice(tables))
         functions = self.indices(self.functions, lambda function: function == (parameters, results))
         return code + (b"\x12" if tail else b"\x10") + number(self.rng.choice(functions))
 
@@ -327,7 +329,8 @@ class Maker:
         things = [(kind, index) for kind, count in enumerate(counts) for index in range(count)]
         names = [*NAMES, *(f"{kind}{index}" for kind, index in things)]
         self.rng.shuffle(names)
-        return [sized(name.encode()) + bytes([kind]) + number(index) for name, (kind, index) in zip(names, things) if self.rng.random() < 0.9]
+        named = [(name, *thing) for name, thing in zip(names, things) if self.rng.random() < 0.9]
+        return [sized(name.encode()) + bytes([kind]) + number(index) for name, kind, index in named]
 
     def module(self):
         """Returns the module."""
@@ -358,7 +361,7 @@ def changed(rng, data):
     data = bytearray(data)
     for _ in range(rng.choice([1, 1, 2, 4])):
         at = rng.randrange(len(data) + 1)
-        some = bytes(rng.choice([0, 1, 2, 4, 0x0B, 0x10, 0x6F, 0x70, 0x7F, 0x80, 0xFF, rng.randrange(256)]) for _ in range(rng.choice([1, 1, 2, 5])))
+        some = bytes(rng.choice([*BYTES, rng.randrange(256)]) for _ in range(rng.choice([1, 1, 2, 5])))
         start, end = rng.choice([(at, at + len(some)), (at, at), (at, at + 1)])
         data[start:end] = some if rng.random() < 0.8 else b""
     return bytes(data[: rng.randrange(len(data) + 1)] if rng.random() < 0.05 else data)
