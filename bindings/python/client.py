@@ -260,7 +260,10 @@ class Unique:
 
 
 class Memory(Unique):
-    """The memory of the instance that calls a host function. After the host function has returned, every use raises ValueError."""
+    """The memory of the instance that calls a host function, for the thread that runs it.
+
+    After the host function has returned, every use raises ValueError.
+    """
 
     def __init__(self, client, size):
         self.client, self.size = client, size
@@ -296,21 +299,17 @@ class Memory(Unique):
 
 
 class Client(Unique):
-    """A process of the server. `seconds` bounds each order with its host functions; the other two bound the process in all."""
+    """A process of the server, and a conversation with it."""
 
     def __init__(self, program, seconds=None, cpu_seconds=None, memory_bytes=None):
+        """Starts the process. Each order with its host functions has `seconds`; the process has the other two in all."""
         self.hosts, self.types = [], []  # the host functions, and the types of their parameters
         self.seconds, self.raised, self.fault, self.turn = seconds, None, None, threading.Lock()
+        bounds = [(resource.RLIMIT_CPU, cpu_seconds), (resource.RLIMIT_AS, memory_bytes)]
+        bounds = [(limit, check_number(most, 63)) for limit, most in bounds if most is not None]
         self.process = subprocess.Popen([program], bufsize=0, stdin=subprocess.PIPE, stdout=subprocess.PIPE)
-        with self.whole():
-            self.bound(resource.RLIMIT_CPU, cpu_seconds)
-            self.bound(resource.RLIMIT_AS, memory_bytes)
-
-    def bound(self, limit, most):
-        """Sets a limit of the process, which waits for its first order."""
-        if most is not None:
-            most = check_number(most, 63)
-            with contextlib.suppress(ProcessLookupError):  # it has ended: the first order says so
+        with self.whole(), contextlib.suppress(ProcessLookupError):  # if it has ended already, the first order says so
+            for limit, most in bounds:
                 resource.prlimit(self.process.pid, limit, (most, most))
 
     def __enter__(self):
@@ -320,13 +319,16 @@ class Client(Unique):
         self.close()
 
     def close(self):
-        """Ends the process; returns its status. A running order does not come to its end."""
+        """Ends the process; returns its status. An order that another thread runs raises ProtocolError."""
         try:
             if self.fault is None and not self.turn.locked():
                 self.order("end")
                 self.process.wait(self.seconds)
         finally:
             self.kill("it was closed")
+            if not self.turn.locked():
+                self.process.stdin.close()
+                self.process.stdout.close()
         return self.process.returncode
 
     def kill(self, fault):
@@ -334,8 +336,6 @@ class Client(Unique):
         self.fault = self.fault or fault
         self.process.kill()
         self.process.wait()
-        self.process.stdin.close()
-        self.process.stdout.close()
 
     @contextlib.contextmanager
     def whole(self):
@@ -422,8 +422,9 @@ class Client(Unique):
             with self.whole(), self.time_limit(name):
                 self.send(NUMBERS[name], data)
                 reply = self.receive_reply(name)
-            if self.raised is not None:
-                raise self.raised
+            raised, self.raised = self.raised, None
+            if raised is not None:
+                raise raised
             return reply
         finally:
             self.turn.release()
@@ -442,12 +443,13 @@ class Client(Unique):
         """Runs a host function. If one has raised an exception already, the others trap at once."""
         if number >= len(self.types) or [name for name, _ in args] != self.types[number]:
             raise ProtocolError(f"expected a call of one of {len(self.types)} host functions by its type, found {(number, *args)}")
+        trap = (TRAPPED, encode_number(2**32 - 1))
         try:
-            self.send(*((TRAPPED, encode_number(2**32 - 1)) if self.raised is not None else self.run_host(number, size, args)))
+            self.send(*(trap if self.raised is not None else self.run_host(number, size, args)))
         except Exception as error:
             self.check_fault()
             self.raised = error
-            self.send(TRAPPED, encode_number(2**32 - 1))
+            self.send(*trap)
 
     def run_host(self, number, size, args):
         """Returns the kind and the fields of the answer of a host function."""

@@ -14,6 +14,7 @@ import struct
 import subprocess
 import sys
 import tempfile
+import threading
 import time
 
 sys.dont_write_bytecode = True
@@ -357,6 +358,7 @@ def false_server(script, reply=b"", **limits):
             yield conversation
         finally:
             conversation.kill("the test has ended")
+            conversation.close()
 
 
 NUMBER, VALUES, TRAP, EXHAUSTED, REFUSED, EXPORTS, REPORT, CALL, LENT = 1, 2, 3, 4, 5, 6, 7, 10, 11
@@ -445,13 +447,6 @@ def check_ended(tests, conversation, error, name):
     tests.equal(conversation.close() is not None, True, f"the end after {name}")
 
 
-def spinning(functions=(), **limits):
-    """Returns a client whose call of `spin` does not come to its end soon."""
-    conversation = begun(functions, "recursion", **limits)
-    conversation.order("set_fuel", 2**60)
-    return conversation
-
-
 def test_time_limits(tests):
     """An order that takes too long raises TimeoutError, and ends the process."""
     with false_server(WAITS, seconds=0.2) as conversation:
@@ -468,6 +463,15 @@ def test_time_limits(tests):
         tests.equal(conversation.order("fuel_left")[0], "number", "an order within its time")
 
 
+def looping(**limits):
+    """Returns a client whose call of `loop` does not come to its end."""
+    conversation = client.Client(PROGRAM, **limits)
+    conversation.order("begin", 2**60, 100, 16, 100)
+    conversation.order("load", LOOPS)
+    conversation.order("link", 0)
+    return conversation
+
+
 def interrupt(*_):
     """Is what an interrupt does."""
     raise KeyboardInterrupt
@@ -479,19 +483,17 @@ def test_interrupts(tests):
     found = raised_by(conversation.order, "call", 0, "log", ("i32", 0), ("i32", 0))
     check_ended(tests, conversation, (found, KeyboardInterrupt), "an interrupt in a host function")
     before = signal.signal(signal.SIGALRM, interrupt)
-    with false_server(WAITS) as conversation:
+    with looping() as conversation:
         signal.setitimer(signal.ITIMER_REAL, 0.2)
-        check_ended(tests, conversation, (raised_by(conversation.order, "fuel_left"), KeyboardInterrupt), "an interrupt of an order")
+        found = raised_by(conversation.order, "call", 0, "loop")
+        check_ended(tests, conversation, (found, KeyboardInterrupt), "an interrupt of an order")
         signal.setitimer(signal.ITIMER_REAL, 0)
     signal.signal(signal.SIGALRM, before)
 
 
 def test_limits(tests):
     """The process is bounded in processor time and in memory."""
-    conversation = client.Client(PROGRAM, 30, cpu_seconds=1)
-    conversation.order("begin", 2**60, 100, 16, 100)
-    conversation.order("load", LOOPS)
-    conversation.order("link", 0)
+    conversation = looping(seconds=30, cpu_seconds=1)
     found = raised_by(conversation.order, "call", 0, "loop")
     check_ended(tests, conversation, (found, client.ProtocolError), "a call that takes more processor time")
     tests.equal("-9" in str(found), True, f"the status in the text of {found}")
@@ -513,6 +515,11 @@ def test_end(tests):
     with contextlib.suppress(KeyError), client.Client(PROGRAM) as conversation:
         raise KeyError
     tests.equal(conversation.process.poll(), 0, "the status after a block that an exception has left")
+    conversation = looping()
+    closing = threading.Timer(0.2, conversation.close)
+    closing.start()
+    check_ended(tests, conversation, (raised_by(conversation.order, "call", 0, "loop"), client.ProtocolError), "an end by another thread")
+    closing.join()
     conversation = begun({"log": lambda *_: conversation.close()})
     found = raised_by(conversation.order, "call", 0, "log", ("i32", 0), ("i32", 0))
     check_ended(tests, conversation, (found, client.ProtocolError), "a host function that ends the process")
