@@ -476,13 +476,11 @@ class Embedding(_Unique):
     def close(self):
         """Frees the embedding; a closed one stays as it is."""
         self._library.free_dropped()
-        self._claim()
-        try:
+        self._check_idle()
+        with self._lock:
             if self._at and self._library.free(self._at) != _DONE:
                 raise _PLAIN_ERRORS[_BUSY]()
             self._at = None
-        finally:
-            self._lock.release()
 
     def load(self, module):
         """Loads a module from its bytes; returns its number."""
@@ -543,16 +541,16 @@ class Embedding(_Unique):
         file_array = (_File * len(given))(*(_File(name, _address(data), len(data)) for name, data in given))
         return self._do("script", json, len(json), file_array, len(given), ctypes.byref(report), read=lambda: _read_report(report))
 
-    def _claim(self):
-        """Begins to use the embedding, as nothing else does."""
-        if not self._lock.acquire(blocking=False):
+    def _check_idle(self):
+        """Raises `Busy` if a call of the embedding runs. One that begins right after it, on another thread, is waited for instead."""
+        if self._lock.locked():
             raise _PLAIN_ERRORS[_BUSY]()
 
     def _do(self, name, *args, read=lambda: None):
         """Calls a function of the library; returns what `read` reads afterwards. Raises what came of the call, if it was not done."""
         self._library.free_dropped()
-        self._claim()
-        try:
+        self._check_idle()
+        with self._lock:
             if not self._at:
                 raise ValueError("the embedding is closed")
             self._raised.clear()
@@ -562,8 +560,6 @@ class Embedding(_Unique):
             if status != _DONE:
                 raise _error(status, self._library.last(self._at))
             return read()
-        finally:
-            self._lock.release()
 
     def _function(self, instance, name):
         """Returns the name of an exported function for the library, and its type. An unknown function has an empty type."""

@@ -10,7 +10,9 @@ import gc
 import os
 import pickle
 import queue
+import random
 import re
+import signal
 import subprocess
 import sys
 import threading
@@ -236,6 +238,33 @@ def test_trap_codes(tests):
             tests.equal(type(raised_by(embedding.call, 0, "count")), error, f"a trap with the code {code!r}")
         codes.append(2**32 - 2)
         tests.equal(show_error(raised_by(embedding.call, 0, "count")), "trap 9 4294967294", "a trap after these")
+
+
+class Interrupt(BaseException):
+    """What the handler of a signal raises."""
+
+
+def interrupt(*_):
+    """The handler of a signal."""
+    raise Interrupt
+
+
+def test_interrupts(tests):
+    """An interrupt at any time leaves the embedding as it was."""
+    if sys.version_info < (3, 10):
+        print("skipped: interrupts (before Python 3.10 one can leave a `with` block without its end)")
+        return
+    before, rng, count = signal.signal(signal.SIGALRM, interrupt), random.Random(1), 0
+    with tegvurn.Embedding(fuel=7) as embedding:
+        for _ in range(2_000):
+            try:
+                signal.setitimer(signal.ITIMER_REAL, rng.uniform(5e-6, 6e-5))
+                while True:
+                    embedding.fuel  # noqa: B018
+            except Interrupt:
+                count += embedding.fuel == 7
+        tests.equal(count, 2_000, "calls after interrupts")
+    signal.signal(signal.SIGALRM, before)
 
 
 def test_results(tests):
