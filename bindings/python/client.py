@@ -415,9 +415,9 @@ class Client(Unique):
     def exchange(self, name, data):
         """Sends an order whose fields are encoded; returns the reply."""
         self.check_fault()
-        if not self.turn.acquire(blocking=False):
+        if self.turn.locked():
             raise RuntimeError("the client is busy with an order")
-        try:
+        with self.turn:
             self.raised = None
             with self.whole(), self.time_limit(name):
                 self.send(NUMBERS[name], data)
@@ -426,8 +426,6 @@ class Client(Unique):
             if raised is not None:
                 raise raised
             return reply
-        finally:
-            self.turn.release()
 
     def receive_reply(self, name):
         """Answers host functions, and returns the reply to the order of this name."""
