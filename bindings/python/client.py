@@ -1,81 +1,460 @@
 """A client of docs/PROTOCOL.md: it runs `wasmserve` as a process, and answers host functions with Python functions.
 
-A field is a number, a text, types, a value or bytes: 7, "add", ["i32", "i32"], ("i32", 3) or ("funcref", None), b"name". A reply is its
-name and what its fields say: ("values", ("i32", 3)), ("trap", 9, 7), ("refused", 1, 1, 8, "malformed module at byte 8").
+    def log(memory, start, length):
+        print(memory.read(start[1], length[1]))
+        return []
+
+    with Client("wasmserve", seconds=10, cpu_seconds=60, memory_bytes=2**30) as client:
+        client.define("host", "log", ["i32", "i32"], [], log)
+        client.order("begin", 1_000_000, 100, 16, 100)
+        client.order("load", module)  # ("number", 0)
+        client.order("link", 0)  # ("number", 0)
+        client.order("call", 0, "add", ("i32", 1), ("i32", 2))  # ("values", ("i32", 3))
+
+A value is its type and a number without a sign, or None for a null reference. A reply is its name and its fields: ("trap", 9, 7),
+("refused", 1, 1, 8, "malformed module at byte 8"), ("exports", ("add", ("func", ["i32", "i32"], ["i32"]))).
+
+Fields that cannot be sent raise TypeError or ValueError, and nothing is sent. A reply that breaks the protocol raises `ProtocolError`, and
+an order that takes too long TimeoutError. After either of them, and after an interrupt, the process is killed: the next reply could belong
+to the order before it. Every later order raises `ProtocolError`.
 """
+import contextlib
+import operator
+import resource
 import struct
 import subprocess
+import threading
 
 TYPES = {"i32": 127, "i64": 126, "funcref": 112, "externref": 111}
 NAMES = {number: name for name, number in TYPES.items()}
-ORDERS = "end load link register call get_global set_fuel fuel_left exports file script define begin".split()
+# The orders by their numbers: each with its fields, and the replies if it is not refused.
+ORDERS = {
+    "end": ("", "done"),
+    "load": ("bytes", "number"),
+    "link": ("number", "number trap exhausted"),
+    "register": ("number name", "done"),
+    "call": ("number text values", "values trap exhausted"),
+    "get_global": ("number name", "values"),
+    "set_fuel": ("number", "done"),
+    "fuel_left": ("", "number"),
+    "exports": ("number", "exports"),
+    "file": ("text bytes", "done"),
+    "script": ("bytes", "report"),
+    "define": ("text text types types", "done"),
+    "begin": ("number number number number", "done"),
+}
+NUMBERS = {name: number for number, name in enumerate(ORDERS)}
+RUN_HOSTS = ("link", "call", "script")  # the orders that may run host functions
 REPLIES = "done number values trap exhausted refused exports report not_spelt not_now call lent".split()
 RESULTS, TRAPPED, READ, PUT = range(20, 24)  # the kinds of answers to `call`
+HOST_TRAP, BAD_SETUP = 9, 18  # a number of a trap, and one of a refusal
+MOST = 2**32  # No message has more bytes: it is the largest memory.
+PIECE = 2**20  # bytes that are read at once
+
+
+class ProtocolError(Exception):
+    """The process does not keep to the protocol, or has ended."""
 
 
 class Trap(Exception):
-    """A host function raises it with a code of its own."""
+    """A host function raises it to trap with a code of its own, from 0 to 4,294,967,295."""
+
+    def __init__(self, code):
+        self.code = check_number(code, 32)
+        super().__init__(f"a host function traps with {code}")
 
 
-def spell(field):
-    if isinstance(field, int):
-        return struct.pack("<Q", field)
-    if isinstance(field, str):
-        return spell(len(field.encode())) + field.encode()
-    if isinstance(field, list):
-        return spell(len(field)) + b"".join(spell(TYPES[name]) for name in field)
-    if isinstance(field, tuple):
-        return spell(TYPES[field[0]]) + spell(field[1] if field[0][0] == "i" else 0 if field[1] is None else field[1] + 1)
-    return field
+# What is sent.
 
 
-def read_fields(name, fields):
-    """What the fields of a reply say. (Those of `exports` stay bytes.)"""
-    if name == "values":
-        pairs = [(NAMES[kind], number) for kind, number in struct.iter_unpack("<QQ", fields)]
-        return [(name, number if name[0] == "i" else number - 1 if number else None) for name, number in pairs]
-    if name == "refused":
-        return [*read_fields("trap", fields[:24]), fields[24:].decode()]
-    return [fields] if name == "exports" else [number for number, in struct.iter_unpack("<Q", fields)]
+def check_number(number, bits=64):
+    """Returns an integer that fits into this many bits."""
+    if isinstance(number, bool):
+        raise TypeError(f"expected an integer, found {number}")
+    number = operator.index(number)
+    if not 0 <= number < 2**bits:
+        raise ValueError(f"expected an integer from 0 to {2**bits - 1}, found {number}")
+    return number
 
 
-class Client:
-    def __init__(self, program):
-        self.process = subprocess.Popen([program], stdin=subprocess.PIPE, stdout=subprocess.PIPE)
-        self.hosts = []  # functions of the client and the arguments, in the order of their definitions
+def encode_number(number, bits=64):
+    return struct.pack("<Q", check_number(number, bits))
 
-    def send(self, kind, *fields):
-        spelt = b"".join(spell(field) for field in fields)
-        self.process.stdin.write(spell(len(spelt)) + spell(kind) + spelt)
-        self.process.stdin.flush()
+
+def encode_name(name):
+    if not isinstance(name, str):
+        raise TypeError(f"expected a str, found {name!r}")
+    return name.encode()
+
+
+def encode_text(text):
+    data = encode_name(text)
+    return encode_number(len(data)) + data
+
+
+def encode_type(name):
+    if name not in TYPES:
+        raise ValueError(f"expected one of the types {', '.join(TYPES)}, found {name!r}")
+    return encode_number(TYPES[name])
+
+
+def encode_types(names):
+    return encode_number(len(names)) + b"".join(map(encode_type, names))
+
+
+def encode_value(value):
+    name, number = value
+    if name in ("funcref", "externref"):
+        return encode_type(name) + encode_number(0 if number is None else check_number(number, 32) + 1)
+    return encode_type(name) + encode_number(number, 32 if name == "i32" else 64)
+
+
+def encode_bytes(data):
+    return bytes(memoryview(data))  # not of a number or a text
+
+
+ENCODERS = {
+    "number": encode_number,
+    "name": encode_name,
+    "text": encode_text,
+    "types": encode_types,
+    "value": encode_value,
+    "bytes": encode_bytes,
+}
+
+
+def encode_fields(kinds, fields):
+    """Encodes fields of these kinds. The last kind may be `values`, which is any number of them."""
+    if kinds[-1:] == ["values"]:
+        kinds = kinds[:-1] + ["value"] * (len(fields) - len(kinds) + 1)
+    if len(fields) != len(kinds):
+        raise TypeError(f"expected {len(kinds)} fields, found {len(fields)}")
+    return b"".join(ENCODERS[kind](field) for kind, field in zip(kinds, fields))
+
+
+# What is received.
+
+
+class Fields:
+    """The fields of a reply, which are read one after the other."""
+
+    def __init__(self, reply, data):
+        self.reply, self.data, self.at = reply, data, 0
+
+    def left(self):
+        """Returns how many bytes are not read yet."""
+        return len(self.data) - self.at
+
+    def expect(self, is_so, expected, found):
+        """Raises ProtocolError if something is not so."""
+        if not is_so:
+            raise ProtocolError(f"the reply `{self.reply}`, at byte {self.at}: expected {expected}, found {found}")
+
+    def take(self, count):
+        """Reads bytes."""
+        self.expect(count <= self.left(), f"{count} bytes", f"the last {self.left()}")
+        self.at += count
+        return self.data[self.at - count : self.at]
+
+    def number(self, what, least=0, most=2**64 - 1):
+        """Reads a number within these bounds."""
+        number = struct.unpack("<Q", self.take(8))[0]
+        self.expect(least <= number <= most, f"{what} from {least} to {most}", number)
+        return number
+
+    def text(self, count):
+        """Reads that many bytes of UTF-8."""
+        data = self.take(count)
+        try:
+            return data.decode()
+        except UnicodeDecodeError:
+            raise ProtocolError(f"the reply `{self.reply}`, before byte {self.at}: expected UTF-8, found {data[:40]}") from None
+
+    def type(self):
+        """Reads a type."""
+        number = self.number("a type")
+        self.expect(number in NAMES, f"a type of {sorted(NAMES)}", number)
+        return NAMES[number]
+
+    def types(self):
+        """Reads a list of types."""
+        return [self.type() for _ in range(self.number("a count of types", most=self.left() // 8))]
+
+    def values(self):
+        """Reads all values that are left."""
+        while self.left():
+            name = self.type()
+            if name in ("funcref", "externref"):
+                number = self.number("a reference", most=2**32)
+                yield name, number - 1 if number else None
+            else:
+                yield name, self.number(name, most=2 ** int(name[1:]) - 1)
+
+    def limits(self, most):
+        """Reads the limits of a table or a memory."""
+        minimum, has_maximum = self.number("a minimum", most=most), self.number("0 or 1", most=1)
+        maximum = self.number("a maximum", minimum if has_maximum else 0, most if has_maximum else 0)
+        return minimum, maximum if has_maximum else None
+
+
+def read_trap(fields):
+    number = fields.number("a trap", 1, HOST_TRAP)
+    return number, fields.number("a code", most=2**32 - 1 if number == HOST_TRAP else 0)
+
+
+def read_refused(fields):
+    number, place = fields.number("a refusal", 1, BAD_SETUP), fields.number("a kind of place", most=5)
+    return number, place, fields.number("a place", most=2**64 - 1 if place else 0), fields.text(fields.left())
+
+
+def read_exports(fields):
+    """Reads all exports: each is its name and its type."""
+    while fields.left():
+        name, kind = fields.text(fields.number("a size")), fields.number("a kind of export", most=3)
+        if kind == 0:
+            yield name, ("func", fields.types(), fields.types())
+        elif kind == 1:
+            yield name, ("table", fields.type(), *fields.limits(2**32 - 1))
+        elif kind == 2:
+            yield name, ("memory", *fields.limits(2**16))
+        else:
+            yield name, ("global", fields.type(), ("const", "var")[fields.number("0 or 1", most=1)])
+
+
+def read_report(fields):
+    counts = [fields.number("a count of commands") for _ in range(3)]
+    fields.expect(counts[1] * 8 == fields.left(), f"{counts[1]} lines", f"{fields.left()} bytes")
+    return [*counts, *(fields.number("a line", most=2**32 - 1) for _ in range(counts[1]))]
+
+
+def read_call(fields):
+    return [fields.number("a host function"), fields.number("a count of lent bytes", most=MOST), *fields.values()]
+
+
+READERS = {
+    "number": lambda fields: [fields.number("a number")],
+    "values": Fields.values,
+    "trap": read_trap,
+    "exhausted": lambda fields: [fields.number("an exhaustion", 1, 3)],
+    "refused": read_refused,
+    "exports": read_exports,
+    "report": read_report,
+    "call": read_call,
+    "lent": lambda fields: [fields.take(fields.left())],
+}
+
+
+def read_reply(name, data):
+    """Returns a reply, each field of which is read and checked."""
+    fields = Fields(name, data)
+    reply = (name, *READERS.get(name, lambda _: [])(fields))
+    fields.expect(not fields.left(), "the end", f"{fields.left()} bytes more")
+    return reply
+
+
+class Unique:
+    """An object that owns something, so it cannot be copied or pickled."""
+
+    def __reduce_ex__(self, _):
+        raise TypeError(f"a {type(self).__name__} cannot be copied or pickled")
+
+
+class Memory(Unique):
+    """The memory of the instance that calls a host function, for the thread that runs it.
+
+    After the host function has returned, every use raises ValueError.
+    """
+
+    def __init__(self, client, size):
+        self.client, self.size = client, size
+
+    def __len__(self):
+        return self.size
+
+    def check(self, at, count):
+        """Raises IndexError if these bytes are not all lent: the server would end the call."""
+        if self.client is None:
+            raise ValueError("the host function has returned, so its memory can no longer be used")
+        if at < 0 or count < 0 or at + count > self.size:
+            raise IndexError(f"expected bytes from 0 to {self.size}, found {count} bytes at {at}")
+
+    def read(self, at, count):
+        """Returns `count` bytes from `at` on."""
+        self.check(at, count)
+        fields = encode_number(at) + encode_number(count)
+        with self.client.whole():
+            self.client.send(READ, fields)
+            name, data = self.client.receive()
+            if name != "lent" or len(data) != count:
+                raise ProtocolError(f"expected {count} lent bytes, found `{name}` with {len(data)} bytes")
+            return data
+
+    def write(self, at, data):
+        """Writes bytes from `at` on."""
+        data = encode_bytes(data)
+        self.check(at, len(data))
+        fields = encode_number(at) + data
+        with self.client.whole():
+            self.client.send(PUT, fields)
+
+
+class Client(Unique):
+    """A process of the server, and a conversation with it."""
+
+    def __init__(self, program, seconds=None, cpu_seconds=None, memory_bytes=None):
+        """Starts the process. Each order with its host functions has `seconds`; the process has the other two in all."""
+        self.hosts, self.types = [], []  # the host functions, and the types of their parameters
+        self.seconds, self.raised, self.fault, self.turn = seconds, None, None, threading.Lock()
+        bounds = [(resource.RLIMIT_CPU, cpu_seconds), (resource.RLIMIT_AS, memory_bytes)]
+        bounds = [(limit, check_number(most, 63)) for limit, most in bounds if most is not None]
+        self.process = subprocess.Popen([program], bufsize=0, stdin=subprocess.PIPE, stdout=subprocess.PIPE)
+        with self.whole(), contextlib.suppress(ProcessLookupError):  # if it has ended already, the first order says so
+            for limit, most in bounds:
+                resource.prlimit(self.process.pid, limit, (most, most))
+
+    def __enter__(self):
+        return self
+
+    def __exit__(self, *_):
+        self.close()
+
+    def close(self):
+        """Ends the process; returns its status. An order that another thread runs raises ProtocolError."""
+        try:
+            if self.fault is None and not self.turn.locked():
+                self.order("end")
+                self.process.wait(self.seconds)
+        finally:
+            self.kill("it was closed")
+            if not self.turn.locked():
+                self.process.stdin.close()
+                self.process.stdout.close()
+        return self.process.returncode
+
+    def kill(self, fault):
+        """Ends the process at once. Later orders raise ProtocolError with this fault, or with an earlier one."""
+        self.fault = self.fault or fault
+        self.process.kill()
+        self.process.wait()
+
+    @contextlib.contextmanager
+    def whole(self):
+        """Kills the process if what is done with it does not come to its end."""
+        try:
+            yield
+        except BaseException as error:
+            self.kill(repr(error))
+            raise
+
+    @contextlib.contextmanager
+    def time_limit(self, name):
+        """Kills the process if an order takes too long."""
+        if self.seconds is None:
+            yield
+            return
+        expired = threading.Event()
+        timer = threading.Timer(self.seconds, lambda: (expired.set(), self.process.kill()))
+        timer.daemon = True
+        timer.start()
+        try:
+            yield
+        finally:
+            timer.cancel()
+            timer.join()
+            if expired.is_set():
+                raise TimeoutError(f"expected the reply to `{name}` within {self.seconds} s") from None
+
+    def send(self, kind, data):
+        """Writes a message. If the process has ended, reading its reply says so."""
+        self.check_fault()
+        left = memoryview(encode_number(len(data)) + encode_number(kind) + data)
+        with contextlib.suppress(BrokenPipeError):
+            while left:
+                left = left[self.process.stdin.write(left) :]
 
     def receive(self):
-        size, kind = struct.unpack("<QQ", self.process.stdout.read(16))
-        return REPLIES[kind], self.process.stdout.read(size)
+        """Reads a message; returns its name and its fields."""
+        self.check_fault()
+        size, kind = struct.unpack("<QQ", self.read_bytes(16))
+        if kind >= len(REPLIES) or size > MOST:
+            raise ProtocolError(f"expected a kind below {len(REPLIES)} and at most {MOST} bytes, found the kind {kind} and {size} bytes")
+        return REPLIES[kind], self.read_bytes(size)
+
+    def read_bytes(self, count):
+        """Reads that many bytes."""
+        parts, left = [], count
+        while left:
+            parts.append(self.process.stdout.read(min(left, PIECE)))
+            if not parts[-1]:
+                self.process.kill()
+                raise ProtocolError(f"expected {count} bytes, found {count - left}: the process has ended with {self.process.wait()}")
+            left -= len(parts[-1])
+        return b"".join(parts)
+
+    def check_fault(self):
+        """Raises ProtocolError if the process was killed."""
+        if self.fault is not None:
+            raise ProtocolError(f"the process has ended: {self.fault}")
+
+    def define(self, module, name, parameters, results, function):
+        """Defines a host function, which gets the memory and the arguments, and returns a list of values; returns the reply."""
+        reply = self.order("define", module, name, parameters, results)
+        if reply[0] == "done":
+            self.hosts.append(function)
+        return reply
 
     def order(self, name, *fields):
-        """Sends an order, answers host functions, and gives the reply."""
-        self.send(ORDERS.index(name), *fields)
-        while (reply := self.receive())[0] == "call":
-            self.answer(reply[1])
-        return (reply[0], *read_fields(*reply))
+        """Has an order done; returns the reply. Raises what a host function raises meanwhile, the first exception if there are several."""
+        reply = self.exchange(name, encode_fields(ORDERS[name][0].split(), fields))
+        if name == "define" and reply[0] == "done":
+            self.types.append(list(fields[2]))
+        if name == "begin" and reply[0] == "refused" and reply[1] != BAD_SETUP:  # the server has dropped them
+            self.hosts, self.types = [], []
+        return reply
 
-    def answer(self, fields):
-        number, self.lent = struct.unpack("<QQ", fields[:16])
+    def exchange(self, name, data):
+        """Sends an order whose fields are encoded; returns the reply."""
+        self.check_fault()
+        if self.turn.locked():
+            raise RuntimeError("the client is busy with an order")
+        with self.turn:
+            self.raised = None
+            with self.whole(), self.time_limit(name):
+                self.send(NUMBERS[name], data)
+                reply = self.receive_reply(name)
+            raised, self.raised = self.raised, None
+            if raised is not None:
+                raise raised
+            return reply
+
+    def receive_reply(self, name):
+        """Answers host functions, and returns the reply to the order of this name."""
+        replies = [*ORDERS[name][1].split(), "refused", "not_spelt", "not_now"]
+        while (message := self.receive())[0] == "call" and name in RUN_HOSTS:
+            self.answer(*read_reply(*message)[1:])
+        reply = read_reply(*message)
+        if reply[0] not in replies or name == "get_global" and reply[0] == "values" and len(reply) != 2:
+            raise ProtocolError(f"expected {', '.join(replies)} for the order `{name}`, found {str(reply)[:80]}")
+        return reply
+
+    def answer(self, number, size, *args):
+        """Runs a host function. If one has raised an exception already, the others trap at once."""
+        if number >= len(self.types) or [name for name, _ in args] != self.types[number]:
+            raise ProtocolError(f"expected a call of one of {len(self.types)} host functions by its type, found {(number, *args)}")
+        trap = (TRAPPED, encode_number(2**32 - 1))
         try:
-            self.send(RESULTS, *self.hosts[number](self, *read_fields("values", fields[16:])))
+            self.send(*(trap if self.raised is not None else self.run_host(number, size, args)))
         except Exception as error:
-            self.send(TRAPPED, error.args[0] if isinstance(error, Trap) else 2**32 - 1)
+            self.check_fault()
+            self.raised = error
+            self.send(*trap)
 
-    def send_within(self, kind, start, count, *fields):
-        """Reads or puts lent bytes. Where they are not all lent, the server would end the call at once, so it is not asked."""
-        if start + count > self.lent:
-            raise IndexError("bytes that are not lent")
-        self.send(kind, start, *fields)
-
-    def read(self, start, count):
-        self.send_within(READ, start, count, count)
-        return self.receive()[1]
-
-    def put(self, start, data):
-        self.send_within(PUT, start, len(data), data)
+    def run_host(self, number, size, args):
+        """Returns the kind and the fields of the answer of a host function."""
+        memory = Memory(self, size)
+        try:
+            return RESULTS, b"".join(map(encode_value, self.hosts[number](memory, *args)))
+        except Trap as trap:
+            return TRAPPED, encode_number(trap.code, 32)
+        finally:
+            memory.client = None

@@ -1,7 +1,7 @@
 #!/usr/bin/env python3
 """A plug-in host: it calls the exports of a plug-in, each within a fuel, with two host functions of its own. `python3 example.py [PLUGIN]`
 
-It is crates/plugin_host in Python, and runs the plug-in of that crate, whose text stands beside it.
+It is crates/plugin_host in Python, and runs the plug-in of that crate, whose text is next to it.
 """
 import os
 import sys
@@ -23,9 +23,10 @@ class Host:
         return [self.calls]
 
     def write(self, memory, start, length):
-        if start + length > len(memory):
-            raise tegvurn.HostTrap(1)
-        self.text += memory[start : start + length]
+        try:
+            self.text += memory.read(start, length)
+        except IndexError:
+            raise tegvurn.HostTrap(1) from None
         return []
 
     def functions(self):

@@ -1,6 +1,5 @@
 """Embeddings that `wasmserve` serves over pipes, for the rows: each of them is a process."""
 import os
-import struct
 
 import client
 import rows
@@ -13,19 +12,12 @@ def program():
     return os.environ.get("WASMSERVE", BUILT)
 
 
-class Lent:
-    """What a host function of a row is lent."""
-
-    def __init__(self, conversation):
-        self.size, self.read, self.put = conversation.lent, conversation.read, conversation.put
-
-
 def answer_with(function):
     """The host function of a row as one of the client."""
 
-    def answer(conversation, *args):
+    def answer(memory, *args):
         try:
-            return function(Lent(conversation), *(number for _, number in args))
+            return function(memory, *(number for _, number in args))
         except rows.HostTrap as trap:
             raise client.Trap(*trap.args) from None
 
@@ -34,8 +26,7 @@ def answer_with(function):
 
 def define(conversation, host):
     """Defines a host function of a row."""
-    conversation.hosts.append(answer_with(host.function))
-    return conversation.order("define", host.module, host.name, host.parameters, host.results)
+    return conversation.define(host.module, host.name, host.parameters, host.results, answer_with(host.function))
 
 
 def show_reply(name, *fields):
@@ -43,44 +34,10 @@ def show_reply(name, *fields):
     if name == "values":
         return rows.show_values(fields)
     if name == "exports":
-        return rows.show_list(show_exports(fields[0]))
+        return rows.show_list(f"{export}:{rows.show_type(*type_)}" for export, type_ in fields)
     if name == "number":
         return str(fields[0])
     return " ".join(map(str, (name, *(fields[:3] if name == "refused" else fields))))
-
-
-def show_exports(data):
-    """The exports that the fields of a reply spell, as rows have them."""
-    names = {number: name for name, number in client.TYPES.items()}
-    at = 0
-
-    def number():
-        nonlocal at
-        at += 8
-        return struct.unpack_from("<Q", data, at - 8)[0]
-
-    def text():
-        nonlocal at
-        size = number()
-        at += size
-        return data[at - size : at].decode()
-
-    def types():
-        return [names[number()] for _ in range(number())]
-
-    def limits():
-        least, has_most, most = number(), number(), number()
-        return least, most if has_most else None
-
-    def parts(kind):
-        if kind == 0:
-            return ("func", types(), types())
-        if kind == 3:
-            return ("global", names[number()], "var" if number() else "const")
-        return ("table", names[number()], *limits()) if kind == 1 else ("memory", *limits())
-
-    while at < len(data):
-        yield f"{text()}:{rows.show_type(*parts(number()))}"
 
 
 class Embedding:
@@ -100,13 +57,13 @@ class Embedding:
         return self.order("link", module)
 
     def register(self, instance, name):
-        return self.order("register", instance, name.encode())
+        return self.order("register", instance, name)
 
     def call(self, instance, name, args):
         return self.order("call", instance, name, *args)
 
     def get(self, instance, name):
-        return self.order("get_global", instance, name.encode())
+        return self.order("get_global", instance, name)
 
     def fuel(self, fuel):
         return self.order("set_fuel", fuel)
@@ -124,16 +81,13 @@ class Embedding:
 
     def close(self):
         """Ends the process."""
-        if end(self.conversation) != (("done",), 0):
+        if end(self.conversation):
             raise ChildProcessError("the process did not end as it was told")
 
 
 def end(conversation):
-    """The reply to the order to end, and the status of the process."""
-    reply = conversation.order("end")
-    conversation.process.stdin.close()
-    conversation.process.stdout.close()
-    return reply, conversation.process.wait()
+    """Has the process end; returns its status."""
+    return conversation.close()
 
 
 def begin(conversation, setup, hosts):

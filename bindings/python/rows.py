@@ -6,7 +6,7 @@ ROWS = os.path.join(os.path.dirname(os.path.abspath(__file__)), "../rows.txt")
 
 # A row: the line it stands in, the words of its command, and its answer.
 Row = collections.namedtuple("Row", "line words answer")
-# A host function: it gets what is lent (size, read, put) and the numbers of its arguments, and gives values.
+# A host function: it gets the memory (len, read, write) and the numbers of its arguments, and returns values.
 Host = collections.namedtuple("Host", "module name parameters results function")
 
 
@@ -37,16 +37,17 @@ class StandardHosts:
         self.calls += 1
         return [("i32", self.calls)]
 
-    def log(self, lent, start, length):
-        if start + length > lent.size:
-            raise HostTrap(7)
-        self.logged += lent.read(start, length)
+    def log(self, memory, start, length):
+        try:
+            self.logged += memory.read(start, length)
+        except IndexError:
+            raise HostTrap(7) from None
         return []
 
-    def fill(self, lent, start, length, byte):
-        if start + length > lent.size:
+    def fill(self, memory, start, length, byte):
+        if start + length > len(memory):
             raise HostTrap(8)
-        lent.put(start, bytes([byte]) * length)
+        memory.write(start, bytes([byte]) * length)
         return []
 
     def fail(self, _, code):

@@ -4,11 +4,18 @@
 The program may be named by the variable WASMSERVE, too; without a name it is the one that the gate has built. It prints how many tests
 passed and failed, and fails where one does.
 """
+import contextlib
+import copy
 import os
+import pickle
 import resource
+import signal
 import struct
 import subprocess
 import sys
+import tempfile
+import threading
+import time
 
 sys.dont_write_bytecode = True
 
@@ -19,20 +26,27 @@ import rows  # noqa: E402
 PROGRAM = sys.argv[1] if len(sys.argv) > 1 else pipes.program()
 MODULES = rows.read_rows()[0]
 SETUP = (1_000_000, 100, 16, 100)
-NUMBERS = {name: number for number, name in enumerate(client.ORDERS)}
 WRONG = ("trap", 9, 2**32 - 1)
 GIBIBYTE = 2**30
 
 
+def encode(field):
+    """Returns the bytes of a number, a text, types, a value, or bytes as they are."""
+    for type_, kind in ((int, "number"), (str, "text"), (list, "types"), (tuple, "value")):
+        if isinstance(field, type_):
+            return client.ENCODERS[kind](field)
+    return field
+
+
 def message(kind, *fields):
     """The bytes of a message."""
-    spelt = b"".join(client.spell(field) for field in fields)
-    return client.spell(len(spelt)) + client.spell(kind) + spelt
+    data = b"".join(map(encode, fields))
+    return encode(len(data)) + encode(kind) + data
 
 
 def order(name, *fields):
     """The bytes of an order."""
-    return message(NUMBERS[name], *fields)
+    return message(client.NUMBERS[name], *fields)
 
 
 END, LEFT = order("end"), order("fuel_left")
@@ -44,13 +58,9 @@ BEGUN, ANSWERED = DEFINED + BEGIN, [("done",)] * 9
 LEFT_AT_FIRST = ("number", SETUP[0])
 
 
-def read_reply(name, fields):
-    """A reply, or a request for a host function."""
-    if name == "call":
-        return (name, *struct.unpack("<QQ", fields[:16]), *client.read_fields("values", fields[16:]))
-    if name == "lent":
-        return name, fields
-    return (name, *client.read_fields(name, fields)[: 3 if name == "refused" else None])
+def read_reply(name, data):
+    """A reply, or a request for a host function, without the text of a refusal."""
+    return client.read_reply(name, data)[: 4 if name == "refused" else None]
 
 
 def read_replies(data):
@@ -91,9 +101,9 @@ def test_ends(tests):
         check(tests, f"{size} bytes of a message", BEGUN + LEFT[:size], ANSWERED, 2)
     for size in (16, 17, len(BEGIN) - 1):
         check(tests, f"{size} bytes of a message with fields", BEGIN[:size], [], 2)
-    check(tests, "a huge length", client.spell(2**62) + client.spell(1) + b"abc", [], 2)
-    check(tests, "the greatest length", client.spell(2**64 - 1) + client.spell(1) + b"abc", [], 2)
-    check(tests, "a huge length behind the beginning", BEGUN + client.spell(2**62) + client.spell(1) + b"abc", ANSWERED, 2)
+    check(tests, "a huge length", encode(2**62) + encode(1) + b"abc", [], 2)
+    check(tests, "the greatest length", encode(2**64 - 1) + encode(1) + b"abc", [], 2)
+    check(tests, "a huge length behind the beginning", BEGUN + encode(2**62) + encode(1) + b"abc", ANSWERED, 2)
 
 
 def test_times(tests):
@@ -175,7 +185,8 @@ def test_answers(tests):
     went_on = [("call", 0, 0), ("values", ("i32", 5)), ("done",)]
     for fields in WRONG_ANSWERS:
         check(tests, f"a wrong answer: {str(fields)[:60]}", COUNTING + message(*fields) + again, COUNTED + [WRONG] + went_on, 0)
-    check(tests, "a result", COUNTING + message(RESULTS, ("i32", 2**32 - 1)) + again, COUNTED + [("values", ("i32", 2**32 - 1))] + went_on, 0)
+    given = COUNTED + [("values", ("i32", 2**32 - 1))] + went_on
+    check(tests, "a result", COUNTING + message(RESULTS, ("i32", 2**32 - 1)) + again, given, 0)
     check(tests, "a trap", COUNTING + message(TRAPPED, 2**32 - 2) + again, COUNTED + [("trap", 9, 2**32 - 2)] + went_on, 0)
     check(tests, "the input ends in place of an answer", COUNTING, COUNTED + [WRONG], 1)
     check(tests, "the input ends inside of an answer", COUNTING + message(RESULTS, ("i32", 5))[:-1], COUNTED + [WRONG], 1)
@@ -198,25 +209,320 @@ def test_lent_bytes(tests):
     check(tests, "bytes stay behind a trap", LOGGING + put_and_trap + look, LOGGED + [("trap", 9, 1)] + seen, 0)
 
 
-def test_hosts(tests):
-    """Host functions of the client that go wrong trap; the conversation goes on."""
-    conversation, done = client.Client(PROGRAM), []
-    wrong = [lambda: conversation.read(65_536, 1), lambda: conversation.put(65_535, b"ab"), lambda: 1 // 0, lambda: None, lambda: ["i32"]]
+def raised_by(function, *args):
+    """Returns what a function raises."""
+    try:
+        return f"returned {function(*args)}"
+    except BaseException as error:
+        return error
 
-    def log(_, *__):
-        return wrong[len(done)]()
 
+def begun(functions=(), module="lends", **limits):
+    """Returns a client of an embedding with the instance of a module, some of whose host functions are these."""
+    conversation = client.Client(PROGRAM, **limits)
     for host in rows.StandardHosts().all():
         pipes.define(conversation, host)
-    conversation.hosts[3] = log
+    for name, function in dict(functions).items():
+        conversation.hosts[[host.name for host in rows.StandardHosts().all()].index(name)] = function
     conversation.order("begin", *SETUP)
-    conversation.order("load", MODULES["lends"])
+    conversation.order("load", MODULES[module])
     conversation.order("link", 0)
-    for number in range(len(wrong)):
-        tests.equal(conversation.order("call", 0, "log", ("i32", 0), ("i32", 0)), WRONG, f"host function {number} that goes wrong")
-        tests.equal(conversation.order("call", 0, "byte", ("i32", 65_535)), ("values", ("i32", 0)), f"a call behind host function {number}")
-        done.append(number)
-    tests.equal(pipes.end(conversation), (("done",), 0), "the end behind host functions that went wrong")
+    return conversation
+
+
+class Falsy(Exception):
+    """An exception that is false."""
+
+    def __bool__(self):
+        return False
+
+
+# What `log` does, and the type of what a call of it raises.
+WRONG_HOSTS = [
+    ("reads a byte after the memory", lambda memory: memory.read(65_536, 1), IndexError),
+    ("reads a byte before the memory", lambda memory: memory.read(-1, 1), IndexError),
+    ("reads a negative count", lambda memory: memory.read(5, -1), IndexError),
+    ("reads at no integer", lambda memory: memory.read(1.5, 1), TypeError),
+    ("writes over the end of the memory", lambda memory: memory.write(65_535, b"ab"), IndexError),
+    ("writes a text", lambda memory: memory.write(65_535, "a"), TypeError),
+    ("divides by zero", lambda _: 1 // 0, ZeroDivisionError),
+    ("raises a false exception", lambda _: next(iter_falsy()), Falsy),
+    ("returns nothing", lambda _: None, TypeError),
+    ("returns a name", lambda _: ["i32"], ValueError),
+    ("returns an i32 of 2^32", lambda _: [("i32", 2**32)], ValueError),
+    ("returns a negative i64", lambda _: [("i64", -1)], ValueError),
+    ("returns a reference of 2^32", lambda _: [("externref", 2**32)], ValueError),
+    ("returns a float", lambda _: [("i32", 1.0)], TypeError),
+    ("returns an f64", lambda _: [("f64", 1)], ValueError),
+    ("returns no i32", lambda _: [("i32", None)], TypeError),
+    ("traps with a text", lambda _: client.Trap("x"), TypeError),
+    ("traps with a float", lambda _: client.Trap(1.0), TypeError),
+    ("traps with True", lambda _: client.Trap(True), TypeError),
+    ("traps with -1", lambda _: client.Trap(-1), ValueError),
+    ("traps with 2^32", lambda _: client.Trap(2**32), ValueError),
+    ("copies the memory", lambda memory: copy.copy(memory), TypeError),
+]
+
+
+def iter_falsy():
+    """Raises an exception that is false."""
+    raise Falsy
+    yield
+
+
+def test_hosts(tests):
+    """What host functions of the client raise passes out of the order after its reply; the conversation goes on."""
+    uses, kept = [], []
+
+    def log(memory, *_):
+        kept.append(memory)
+        return uses[-1](memory)
+
+    with begun({"log": log}) as conversation:
+        for name, use, error in WRONG_HOSTS:
+            uses.append(use)
+            call = ("call", 0, "log", ("i32", 0), ("i32", 0))
+            tests.equal(type(raised_by(conversation.order, *call)), error, f"a host function that {name}")
+            seen = conversation.order("call", 0, "byte", ("i32", 65_535))
+            tests.equal(seen, ("values", ("i32", 0)), f"a call after a host function that {name}")
+        uses.append(lambda _: [("i64", 1)])
+        tests.equal(conversation.order(*call), WRONG, "a host function that returns another type")
+        for use in (lambda memory: memory.read(0, 1), lambda memory: memory.write(0, b"a")):
+            tests.equal(type(raised_by(use, kept[-1])), ValueError, "the memory after its host function")
+        uses.append(lambda _: conversation.order("fuel_left"))
+        tests.equal(type(raised_by(conversation.order, *call)), RuntimeError, "an order of a host function")
+        tests.equal(conversation.order("call", 0, "byte", ("i32", 65_535)), ("values", ("i32", 0)), "a call after these")
+
+
+def test_first_exception(tests):
+    """After a host function has raised an exception, the same order runs no other one, and raises the first exception."""
+    raised = []
+
+    def count(_):
+        raised.append(Falsy(len(raised)))
+        raise raised[-1]
+
+    action = '{"type":"action","line":2,"action":{"type":"invoke","field":"count","args":[]}}'
+    script = '{"commands":[{"type":"module","line":1,"filename":"a"},' + ",".join([action] * 3) + "]}"
+    with begun({"count": count}, "hosts") as conversation:
+        conversation.order("file", "a", MODULES["hosts"])
+        error = raised_by(conversation.order, "script", script.encode())
+        tests.equal((error is raised[0], len(raised)), (True, 1), "three calls of a host function that raises, in a script")
+        tests.equal(raised_by(conversation.order, "call", 0, "count") is raised[1], True, "the exception of the next call")
+
+
+# Orders that are refused before anything is sent.
+WRONG_ORDERS = [
+    (ValueError, "call", 0, "add", ("i32", 2**40)), (ValueError, "call", 0, "add", ("i32", -1)),
+    (ValueError, "call", 0, "add", ("i64", 2**64)),
+    (TypeError, "call", 0, "add", ("i32", 1.0)), (TypeError, "call", 0, "add", ("i32", True)), (TypeError, "call", 0, "add", ("i32", None)),
+    (ValueError, "call", 0, "add", ("f64", 1)), (ValueError, "call", 0, "add", ("externref", 2**32)),
+    (ValueError, "call", 0, "add", ("funcref", -1)), (TypeError, "call", 0, "add", 1), (TypeError, "call", 0, None), (TypeError, "call", 0),
+    (TypeError, "call", 0, b"add"), (ValueError, "call", 0, "\udc80"), (ValueError, "call", -1, "add"), (ValueError, "call", 2**64, "add"),
+    (TypeError, "call", None, "add"), (TypeError, "load", "text"), (TypeError, "load", 5), (TypeError, "load", None), (TypeError, "load"),
+    (TypeError, "link"), (TypeError, "link", 0, 0), (TypeError, "link", "0"), (TypeError, "link", 0.0), (TypeError, "link", True),
+    (TypeError, "register", 0, b"name"), (ValueError, "register", 0, "\udc80"), (TypeError, "get_global", 0, None),
+    (ValueError, "set_fuel", -1), (ValueError, "set_fuel", 2**64), (TypeError, "fuel_left", 0), (TypeError, "file", "a", "text"),
+    (TypeError, "script", "{}"), (ValueError, "define", "m", "n", ["f64"], []), (TypeError, "define", "m", "n", None, []),
+    (KeyError, "nosuch"),
+]  # fmt: skip
+
+
+def test_wrong_orders(tests):
+    """Fields that cannot be sent are refused before anything is sent."""
+    with begun() as conversation:
+        for error, *fields in WRONG_ORDERS:
+            found = raised_by(conversation.order, *fields)
+            tests.equal(isinstance(found, error), True, f"the order {fields}, which raises {found!r}")
+        for use in (copy.copy, copy.deepcopy, pickle.dumps):
+            tests.equal(type(raised_by(use, conversation)), TypeError, f"{use.__name__} of a client")
+        tests.equal(conversation.order("fuel_left")[0], "number", "an order after these")
+
+
+# A server that writes the bytes next to it and waits, one that writes them and ends, and one that only waits.
+WRITES, CUTS, WAITS = '#!/bin/sh\ncat "$0.reply"\nexec sleep 60\n', '#!/bin/sh\ncat "$0.reply"\n', "#!/bin/sh\nexec sleep 60\n"
+
+
+@contextlib.contextmanager
+def false_server(script, reply=b"", **limits):
+    """A client of a server that is this script."""
+    with tempfile.TemporaryDirectory() as folder:
+        path = os.path.join(folder, "server")
+        with open(path + ".reply", "wb") as file:
+            file.write(reply)
+        with open(path, "w", encoding="utf-8") as file:
+            file.write(script)
+        os.chmod(path, 0o700)
+        conversation = client.Client(path, **{"seconds": 20, **limits})
+        try:
+            yield conversation
+        finally:
+            conversation.kill("the test has ended")
+            conversation.close()
+
+
+NUMBER, VALUES, TRAP, EXHAUSTED, REFUSED, EXPORTS, REPORT, CALL, LENT = 1, 2, 3, 4, 5, 6, 7, 10, 11
+# Messages that are no replies to an order, by its name and fields.
+BROKEN_REPLIES = {
+    ("fuel_left",): [
+        (12,), (2**32, 5), (0,), (LENT, 5), (NUMBER,), (NUMBER, bytes(7)), (NUMBER, bytes(9)), (NUMBER, 0, 0), (VALUES, ("i32", 0)),
+        (CALL, 0, 0), (8, 0), (9, b"a"),
+    ],
+    ("set_fuel", 1): [(0, 0), (NUMBER, 0)],
+    ("load", b""): [(TRAP, 1, 0)],
+    ("link", 0): [
+        (VALUES,), (REFUSED, 0, 0, 0), (REFUSED, 19, 0, 0), (REFUSED, 5, 6, 0), (REFUSED, 5, 0, 1), (REFUSED, 5, 0),
+        (REFUSED, 5, 0, 0, b"\xff"),
+    ],
+    ("call", 0, "f"): [
+        (VALUES, 127, 2**40), (VALUES, 127, 2**32), (VALUES, 125, 0), (VALUES, 2**32 + 127, 0), (VALUES, 111, 2**32 + 1),
+        (VALUES, 112, 2**64 - 1), (VALUES, 127), (VALUES, 127, 1, b"a"), (NUMBER, 0), (TRAP, 0, 0), (TRAP, 10, 0), (TRAP, 9, 2**32),
+        (TRAP, 1, 1), (TRAP, 1), (TRAP, 1, 0, 0), (EXHAUSTED, 0), (EXHAUSTED, 4), (EXHAUSTED,), (CALL, 0), (CALL, 0, 0), (LENT,),
+        (LENT, b"abc"),
+    ],
+    ("get_global", 0, "g"): [(VALUES,), (VALUES, ("i32", 0), ("i32", 0))],
+    ("exports", 0): [
+        (EXPORTS, 0), (EXPORTS, "f", 4), (EXPORTS, 2, b"f"), (EXPORTS, 1, b"\xff", 0, [], []), (EXPORTS, "f", 0, []),
+        (EXPORTS, "f", 0, 1, 125, []), (EXPORTS, "f", 0, 2**61, []), (EXPORTS, "t", 1, 112, 2, 1, 1), (EXPORTS, "t", 1, 112, 2, 0, 3),
+        (EXPORTS, "t", 1, 112, 2, 2, 3), (EXPORTS, "m", 2, 2**16 + 1, 0, 0), (EXPORTS, "g", 3, 127, 2), (EXPORTS, "g", 3, 125, 0),
+        (EXPORTS, "g", 3, 127, 0, b"a"), (NUMBER, 0),
+    ],
+    ("script", b""): [(REPORT, 1, 0), (REPORT, 1, 1, 0), (REPORT, 1, 1, 0, 2**32), (REPORT, 1, 0, 0, 5), (REPORT, 1, 2**61, 0)],
+}  # fmt: skip
+
+
+def test_broken_replies(tests):
+    """A reply that breaks the protocol, or that is cut, raises ProtocolError, and ends the process."""
+    for order_fields, reply in [(fields, reply) for fields, replies in BROKEN_REPLIES.items() for reply in replies]:
+        with false_server(WRITES, message(*reply)) as conversation:
+            found = raised_by(conversation.order, *order_fields)
+            ended = conversation.process.poll() is not None
+            tests.equal((type(found), ended), (client.ProtocolError, True), f"{str(reply)[:60]} for the order {order_fields}")
+    whole = message(NUMBER, 7)
+    for size in (0, 1, 15, 16, 17, 23):
+        with false_server(CUTS, whole[:size]) as conversation:
+            found = raised_by(conversation.order, "fuel_left")
+            tests.equal(type(found), client.ProtocolError, f"a reply that is cut after {size} bytes")
+            tests.equal("expected" in str(found) and "found" in str(found), True, f"the text of {found}")
+            tests.equal(type(raised_by(conversation.order, "fuel_left")), client.ProtocolError, "an order after it")
+    with false_server(CUTS, encode(2**62) + encode(NUMBER) + b"abc") as conversation:
+        tests.equal(type(raised_by(conversation.order, "fuel_left")), client.ProtocolError, "a reply of 2^62 bytes")
+    with false_server(WRITES, whole) as conversation:
+        tests.equal(conversation.order("fuel_left"), ("number", 7), "a right reply")
+
+
+# The `define` of one host function without parameters is done; then a message that asks for a host function wrongly.
+BROKEN_CALLS = [(CALL, 1, 0), (CALL, 0, 0, ("i64", 0)), (CALL, 0, 0), (CALL, 0, 2**32 + 1, ("i32", 0)), (CALL, 0, 0, ("i32", 0), 127)]
+ASKED = (CALL, 0, 8, ("i32", 0))
+BROKEN_LENT = [(LENT, b"abc"), (LENT, b"abcde"), (NUMBER, b"abcd"), (VALUES, b"abcd"), (TRAP, 9, 7)]
+
+
+def test_broken_calls(tests):
+    """A request for a host function that breaks the protocol, or lent bytes that do, raise ProtocolError."""
+
+    def host(memory, _):
+        try:
+            memory.read(0, 4)
+        except client.ProtocolError:
+            pass
+        return []
+
+    cases = [(f"the request {call}", call) for call in BROKEN_CALLS]
+    cases += [(f"{lent} for lent bytes", ASKED, lent, (VALUES,)) for lent in BROKEN_LENT]
+    for name, *messages in cases:
+        with false_server(WRITES, message(0) + b"".join(message(*fields) for fields in messages)) as conversation:
+            conversation.define("m", "n", ["i32"], [], host)
+            found = raised_by(conversation.order, "call", 0, "f")
+            tests.equal((type(found), conversation.process.poll() is not None), (client.ProtocolError, True), name)
+    with false_server(WRITES, message(0) + message(*ASKED) + message(LENT, b"abcd") + message(VALUES)) as conversation:
+        conversation.define("m", "n", ["i32"], [], host)
+        tests.equal(conversation.order("call", 0, "f"), ("values",), "four lent bytes")
+
+
+def check_ended(tests, conversation, error, name):
+    """A test: an order raises this error, the process has ended, and every later order raises ProtocolError."""
+    tests.equal(type(error[0]), error[1], name)
+    tests.equal(conversation.process.poll() is not None, True, f"the process after {name}")
+    tests.equal(type(raised_by(conversation.order, "fuel_left")), client.ProtocolError, f"an order after {name}")
+    tests.equal(conversation.close() is not None, True, f"the end after {name}")
+
+
+def test_time_limits(tests):
+    """An order that takes too long raises TimeoutError, and ends the process."""
+    with false_server(WAITS, seconds=0.2) as conversation:
+        check_ended(tests, conversation, (raised_by(conversation.order, "fuel_left"), TimeoutError), "an order that is not replied to")
+    with false_server(WRITES, message(NUMBER, 7)[:20], seconds=0.2) as conversation:
+        check_ended(tests, conversation, (raised_by(conversation.order, "fuel_left"), TimeoutError), "a reply that stops")
+    with false_server(WAITS, seconds=0.2) as conversation:
+        found = raised_by(conversation.order, "load", bytes(10_000_000))
+        check_ended(tests, conversation, (found, TimeoutError), "an order that is not read")
+    conversation = begun({"log": lambda *_: time.sleep(0.4) or []}, seconds=0.2)
+    found = raised_by(conversation.order, "call", 0, "log", ("i32", 0), ("i32", 0))
+    check_ended(tests, conversation, (found, TimeoutError), "a host function that takes too long")
+    with begun(seconds=60) as conversation:
+        tests.equal(conversation.order("fuel_left")[0], "number", "an order within its time")
+
+
+def looping(**limits):
+    """Returns a client whose call of `loop` does not come to its end."""
+    conversation = client.Client(PROGRAM, **limits)
+    conversation.order("begin", 2**60, 100, 16, 100)
+    conversation.order("load", LOOPS)
+    conversation.order("link", 0)
+    return conversation
+
+
+def interrupt(*_):
+    """Is what an interrupt does."""
+    raise KeyboardInterrupt
+
+
+def test_interrupts(tests):
+    """An interrupt ends the process, and passes out of the order."""
+    conversation = begun({"log": interrupt})
+    found = raised_by(conversation.order, "call", 0, "log", ("i32", 0), ("i32", 0))
+    check_ended(tests, conversation, (found, KeyboardInterrupt), "an interrupt in a host function")
+    before = signal.signal(signal.SIGALRM, interrupt)
+    with looping() as conversation:
+        signal.setitimer(signal.ITIMER_REAL, 0.2)
+        found = raised_by(conversation.order, "call", 0, "loop")
+        check_ended(tests, conversation, (found, KeyboardInterrupt), "an interrupt of an order")
+        signal.setitimer(signal.ITIMER_REAL, 0)
+    signal.signal(signal.SIGALRM, before)
+
+
+def test_limits(tests):
+    """The process is bounded in processor time and in memory."""
+    conversation = looping(seconds=30, cpu_seconds=1)
+    found = raised_by(conversation.order, "call", 0, "loop")
+    check_ended(tests, conversation, (found, client.ProtocolError), "a call that takes more processor time")
+    tests.equal("-9" in str(found), True, f"the status in the text of {found}")
+    with client.Client(PROGRAM, memory_bytes=64 * 2**20) as conversation:
+        conversation.order("begin", 2**40, 100, 65_536, 100)
+        conversation.order("load", GROWS)
+        conversation.order("link", 0)
+        found = conversation.order("call", 0, "grow", ("i32", 2_000))
+        tests.equal(found, ("exhausted", 3), "a memory that grows over the bound of the process")
+    tests.equal(isinstance(raised_by(client.Client, PROGRAM, None, -2), ValueError), True, "a bound that is none")
+
+
+def test_end(tests):
+    """A client ends its process, also where an exception leaves its block."""
+    with client.Client(PROGRAM) as conversation:
+        pass
+    tests.equal((conversation.process.poll(), conversation.close()), (0, 0), "the status after a block")
+    tests.equal(type(raised_by(conversation.order, "fuel_left")), client.ProtocolError, "an order after the end")
+    with contextlib.suppress(KeyError), client.Client(PROGRAM) as conversation:
+        raise KeyError
+    tests.equal(conversation.process.poll(), 0, "the status after a block that an exception has left")
+    conversation = looping()
+    closing = threading.Timer(0.2, conversation.close)
+    closing.start()
+    check_ended(tests, conversation, (raised_by(conversation.order, "call", 0, "loop"), client.ProtocolError), "an end by another thread")
+    closing.join()
+    conversation = begun({"log": lambda *_: conversation.close()})
+    found = raised_by(conversation.order, "call", 0, "log", ("i32", 0), ("i32", 0))
+    check_ended(tests, conversation, (found, client.ProtocolError), "a host function that ends the process")
 
 
 def test_scripts(tests):
@@ -240,13 +546,17 @@ def test_texts(tests):
     tests.equal(conversation.order("link", 0), unknown, "the text of an unknown module")
     tests.equal(conversation.order("load", MODULES["missing"]), ("number", 0), "a module with an import")
     tests.equal(conversation.order("link", 0), ("refused", 6, 2, 0, "import 0 is unknown"), "the text of an unknown import")
-    tests.equal(pipes.end(conversation), (("done",), 0), "the end")
+    tests.equal(pipes.end(conversation), 0, "the end")
 
 
 # (module (memory 65536))
 GREATEST_MEMORY = bytes.fromhex("0061736d0100000005050100808004")
 # (module (memory 1) (func (export "grow") (param i32) (result i32) local.get 0 memory.grow))
 GROWS = bytes.fromhex("0061736d0100000001060160017f017f0302010005030100010708010467726f7700000a08010600200040000b")
+
+
+# (module (func (export "loop") (loop br 0)))
+LOOPS = bytes.fromhex("0061736d0100000001040160000003020100070801046c6f6f7000000a0901070003400c000b0b")
 
 
 def test_memory(tests):
@@ -310,7 +620,7 @@ def dying_client(data, size):
 
 def size_of(replies):
     """How many bytes these replies have."""
-    return sum(16 + len(b"".join(client.spell(field) for field in fields)) for _, *fields in replies)
+    return sum(16 + len(b"".join(encode(field) for field in fields)) for _, *fields in replies)
 
 
 def test_broken_outputs(tests):

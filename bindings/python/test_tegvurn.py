@@ -4,11 +4,20 @@
 The library may be named by the variable TEGVURN_LIBRARY, too; without a name it is the one in bindings/c/build. It prints how many tests
 passed and failed, and fails where one does.
 """
+import copy
+import ctypes
+import gc
 import os
+import pickle
+import queue
+import random
 import re
+import signal
 import subprocess
 import sys
 import threading
+import time
+import weakref
 
 HERE = os.path.dirname(os.path.abspath(__file__))
 LIBRARY = sys.argv[1] if len(sys.argv) > 1 else os.environ.get("TEGVURN_LIBRARY", os.path.join(HERE, "../c/build/libtegvurn.so"))
@@ -26,19 +35,6 @@ COUNT = '{"type":"action","line":2,"action":{"type":"invoke","field":"count","ar
 SCRIPT = '{"commands":[{"type":"module","line":1,"filename":"a"},' + COUNT + "]}"
 
 
-class Lent:
-    """What a host function of a row is lent."""
-
-    def __init__(self, memory):
-        self.memory, self.size = memory, len(memory)
-
-    def read(self, start, count):
-        return bytes(self.memory[start : start + count])
-
-    def put(self, start, data):
-        self.memory[start : start + len(data)] = data
-
-
 def give(value, wanted):
     """A value of a row as a result: with its type, where that is not the declared one."""
     return value[1] if value[0] == wanted else tegvurn.Value(*value)
@@ -49,7 +45,7 @@ def answer_with(host):
 
     def answer(memory, *args):
         try:
-            values = host.function(Lent(memory), *args)
+            values = host.function(memory, *args)
         except rows.HostTrap as trap:
             raise tegvurn.HostTrap(*trap.args) from None
         return [give(value, wanted) for value, wanted in zip(values, host.results)]
@@ -163,6 +159,27 @@ def test_rows(tests):
     rows.Rows(begin).run(tests)
 
 
+class Falsy(Exception):
+    """An exception that is false."""
+
+    def __bool__(self):
+        return False
+
+
+class Empty(Exception):
+    """An exception that is empty."""
+
+    def __len__(self):
+        return 0
+
+
+class Unmade(tegvurn.HostTrap):
+    """A trap without a code."""
+
+    def __init__(self):
+        pass
+
+
 def test_exceptions(tests):
     """What a host function raises comes back, and the embedding goes on."""
     thrown = []
@@ -173,17 +190,81 @@ def test_exceptions(tests):
         return [5]
 
     with with_count(count) as embedding:
-        for error in (KeyError("a key"), KeyboardInterrupt(), SystemExit(3), MemoryError(), tegvurn.Error("another's")):
+        errors = [KeyError("a key"), KeyboardInterrupt(), SystemExit(3), MemoryError(), tegvurn.Error("another's"), Falsy(), Empty()]
+        for error in errors:
             thrown.append(error)
             tests.equal(raised_by(embedding.call, 0, "count") is error, True, f"{error!r} comes back")
-            tests.equal(embedding.call(0, "count"), [5], f"a call behind {error!r}")
+            tests.equal(embedding.call(0, "count"), [5], f"a call after {error!r}")
+        thrown.append(Unmade())
+        tests.equal(type(raised_by(embedding.call, 0, "count")), AttributeError, "a trap without a code")
         thrown.append(tegvurn.HostTrap(7))
         trap = raised_by(embedding.call, 0, "count")
         found = (type(trap), trap.number, trap.name, trap.code, str(trap))
         tests.equal(found, (tegvurn.Trap, 9, "Host", 7, "host trap"), "a trap of a host function")
         thrown.append(KeyError("in a script"))
         tests.equal(str(raised_by(embedding.script, SCRIPT, {"a": MODULES["hosts"]})), "'in a script'", "an exception in a script")
-        tests.equal(embedding.script(SCRIPT, {"a": MODULES["hosts"]}), tegvurn.Report(2, 0, 0, []), "a script behind it")
+        tests.equal(embedding.script(SCRIPT, {"a": MODULES["hosts"]}), tegvurn.Report(2, 0, 0, []), "a script after it")
+
+
+def test_first_exception(tests):
+    """After a host function has raised an exception, the same call runs no other one, and raises the first exception."""
+    raised = []
+
+    def count(_):
+        raised.append(Falsy(len(raised)))
+        raise raised[-1]
+
+    thrice = SCRIPT.replace(COUNT, ",".join([COUNT] * 3))
+    with with_count(count) as embedding:
+        error = raised_by(embedding.script, thrice, {"a": MODULES["hosts"]})
+        tests.equal((error is raised[0], len(raised)), (True, 1), "three calls of a host function that raises, in a script")
+        tests.equal(raised_by(embedding.call, 0, "count") is raised[1], True, "the exception of the next call")
+
+
+# Codes of traps, and the exception when a HostTrap is made with one.
+WRONG_CODES = [("x", TypeError), (1.0, TypeError), (None, TypeError), (True, TypeError), (-1, ValueError), (2**32, ValueError)]
+
+
+def test_trap_codes(tests):
+    """A trap with a wrong code is refused where it is made."""
+    codes = []
+
+    def count(_):
+        raise tegvurn.HostTrap(codes.pop())
+
+    with with_count(count) as embedding:
+        for code, error in WRONG_CODES:
+            codes.append(code)
+            tests.equal(type(raised_by(embedding.call, 0, "count")), error, f"a trap with the code {code!r}")
+        codes.append(2**32 - 2)
+        tests.equal(show_error(raised_by(embedding.call, 0, "count")), "trap 9 4294967294", "a trap after these")
+
+
+class Interrupt(BaseException):
+    """What the handler of a signal raises."""
+
+
+def interrupt(*_):
+    """The handler of a signal."""
+    raise Interrupt
+
+
+def test_interrupts(tests):
+    """An interrupt at any time leaves the embedding as it was."""
+    if sys.version_info < (3, 10):
+        print("skipped: interrupts (before Python 3.10 one can leave a `with` block without its end)")
+        return
+    before, rng, count = signal.signal(signal.SIGALRM, interrupt), random.Random(1), 0
+    with tegvurn.Embedding(fuel=7) as embedding:
+        for _ in range(2_000):
+            try:
+                signal.setitimer(signal.ITIMER_REAL, rng.uniform(5e-6, 6e-5))
+                while True:
+                    embedding.fuel  # noqa: B018
+            except Interrupt:
+                count += embedding.fuel == 7
+        tests.equal(count, 2_000, "calls after interrupts")
+    signal.signal(signal.SIGALRM, before)
 
 
 def test_results(tests):
@@ -221,23 +302,147 @@ def test_busy(tests):
         tests.equal(embedding.load(MODULES["sum"]), 1, "a call from its own thread")
 
 
-def test_memory(tests):
-    """The lent memory is released when the host function returns."""
-    kept = []
+def with_log(log):
+    """An embedding with the instance of `lends`, where `log` is this function."""
+    hosts = {("env", "log"): ((["i32", "i32"], []), log), ("env", "fill"): ((["i32"] * 3, []), lambda *_: [])}
+    embedding = tegvurn.Embedding(fuel=1_000, hosts=hosts)
+    embedding.link(embedding.load(MODULES["lends"]))
+    return embedding
 
-    def log(memory, start, length):
-        kept.append(memory)
-        kept.append((memory.readonly, len(memory), bytes(memory[start : start + length])))
+
+# Uses of a memory of 65,536 bytes with `hello` at 8, and what each of them returns or raises while the host function runs.
+MEMORY_USES = [
+    ("its length", lambda memory: (len(memory), memory.size), (65_536, 65_536)),
+    ("bytes in it", lambda memory: memory.read(8, 5), b"hello"),
+    ("no bytes at its end", lambda memory: memory.read(65_536, 0), b""),
+    ("all of its bytes", lambda memory: len(memory.read(0, 65_536)), 65_536),
+    ("a byte at its end", lambda memory: memory.read(65_536, 1), IndexError),
+    ("no bytes after its end", lambda memory: memory.read(65_537, 0), IndexError),
+    ("more bytes than it has", lambda memory: memory.read(0, 65_537), IndexError),
+    ("2^64 bytes", lambda memory: memory.read(1, 2**64), IndexError),
+    ("bytes before it", lambda memory: memory.read(-1, 1), IndexError),
+    ("a negative count", lambda memory: memory.read(5, -1), IndexError),
+    ("a place that is no integer", lambda memory: memory.read(1.0, 1), TypeError),
+    ("a count that is none", lambda memory: memory.read(1, None), TypeError),
+    ("written bytes", lambda memory: (memory.write(65_534, b"ab"), memory.read(65_533, 3)), (None, b"\0ab")),
+    ("written bytes of an array", lambda memory: (memory.write(0, bytearray(b"cd")), memory.read(0, 3)), (None, b"cd\0")),
+    ("no written bytes at its end", lambda memory: memory.write(65_536, b""), None),
+    ("written bytes that reach over its end", lambda memory: memory.write(65_535, b"ab"), IndexError),
+    ("written bytes before it", lambda memory: memory.write(-2, b"ab"), IndexError),
+    ("a written text", lambda memory: memory.write(0, "ab"), TypeError),
+    ("a written number", lambda memory: memory.write(0, 5), TypeError),
+    ("a copy", copy.copy, TypeError),
+    ("a deep copy", copy.deepcopy, TypeError),
+    ("a pickle", pickle.dumps, TypeError),
+    ("an unsafe view", lambda memory: bytes(memory.unsafe_view()[8:13]), b"hello"),
+    ("a released unsafe view", lambda memory: memory.unsafe_view().release() or memory.read(8, 5), b"hello"),
+    ("a byte written by an unsafe view", lambda memory: (memory.unsafe_view().__setitem__(9, 7), memory.read(9, 1)), (None, b"\7")),
+]
+
+
+def used(use, memory):
+    """Returns what a use of a memory returns, or the type of what it raises."""
+    try:
+        return use(memory)
+    except Exception as error:
+        return type(error)
+
+
+def test_memory(tests):
+    """A host function reads and writes memory; after it has returned, every use is refused."""
+    kept, found = [], []
+
+    def log(memory, *_):
+        kept[:] = [memory, memory.unsafe_view()]
+        found[:] = [used(use, memory) for _, use, _ in MEMORY_USES]
         return []
 
-    hosts = {("env", "log"): ((["i32", "i32"], []), log), ("env", "fill"): ((["i32"] * 3, []), lambda *_: [])}
-    with tegvurn.Embedding(fuel=1_000, hosts=hosts) as embedding:
-        embedding.link(embedding.load(MODULES["lends"]))
+    with with_log(log) as embedding:
         embedding.call(0, "log", 8, 5)
-        tests.equal(kept[1], (False, 65_536, b"hello"), "what is lent")
-        tests.equal(type(raised_by(lambda: kept[0][0])), ValueError, "memory that was lent")
+        for (name, use, wanted), result in zip(MEMORY_USES, found):
+            tests.equal(result, wanted, f"{name}, in the host function")
+            tests.equal(used(use, kept[0]), wanted if wanted is TypeError else ValueError, f"{name}, after the host function")
+        tests.equal(used(lambda view: view[0], kept[1]), ValueError, "an unsafe view after the host function")
         embedding.call(0, "log_outside", 0, 0)
-        tests.equal(kept[3], (False, 0, b""), "what is lent from outside")
+        tests.equal(found[0], (0, 0), "the length of the memory of a call from outside")
+    tests.equal(used(lambda memory: memory.read(0, 1), kept[0]), ValueError, "a memory whose embedding is closed")
+
+
+def test_kept_views(tests):
+    """What still uses an unsafe view when the host function returns is an error; the other views are released."""
+    kept = []
+
+    def log(memory, *_):
+        kept.extend([memory.unsafe_view(), memory.unsafe_view(), memory.unsafe_view()])
+        kept.append(pickle.PickleBuffer(kept[1]))
+        return []
+
+    with with_log(log) as embedding:
+        tests.equal(type(raised_by(embedding.call, 0, "log", 8, 5)), BufferError, "an object that uses an unsafe view for too long")
+        found = [used(lambda view: view[0], view) for view in kept[::2]]
+        tests.equal(found, [ValueError] * 2, "the other views")
+        kept.clear()
+
+
+# (module (import "env" "count" (func $count (result i32))) (memory 1) (func (export "run") (result i32)
+#   i32.const 1 memory.grow drop call $count drop i32.const 1 memory.grow))
+GROWS = bytes.fromhex(
+    "0061736d010000000105016000017f020d0103656e7605636f756e74000003020100"
+    "05030100010707010372756e00010a10010e00410140001a10001a410140000b"
+)
+
+
+def test_memory_in_use(tests):
+    """A host function returns only when no other thread copies any more."""
+    ended = []
+
+    def log(memory, *_):
+        holds = threading.Event()
+
+        def copy_slowly():
+            with memory._lock:  # as a copy holds it
+                holds.set()
+                time.sleep(0.2)
+                ended.append("the copy")
+
+        threading.Thread(target=copy_slowly).start()
+        holds.wait()
+        return []
+
+    with with_log(log) as embedding:
+        embedding.call(0, "log", 8, 5)
+        ended.append("the call")
+    tests.equal(ended, ["the copy", "the call"], "a copy of another thread when a host function returns")
+
+
+def test_memory_of_threads(tests):
+    """Another thread reads and writes memory over the end of host functions, while the module moves it. None of them is lost."""
+    kept, ends = queue.SimpleQueue(), []
+
+    def count(memory):
+        kept.put(memory)
+        return [len(ends)]
+
+    def use():
+        while (memory := kept.get()) is not None:
+            try:
+                while True:
+                    memory.write(100, memory.read(100, 60_000))
+            except ValueError as error:
+                ends.append(str(error))
+
+    threads = [threading.Thread(target=use, daemon=True) for _ in range(2)]
+    for thread in threads:
+        thread.start()
+    with tegvurn.Embedding(fuel=10**9, hosts={("env", "count"): (NUMBER, count)}) as embedding:
+        embedding.load(GROWS)
+        for _ in range(100):
+            embedding.call(embedding.link(0), "run")
+    for _ in threads:
+        kept.put(None)
+    for thread in threads:
+        thread.join()
+    tests.equal((len(ends), len(set(ends))), (100, 1), "uses of memory by other threads")
 
 
 def test_errors(tests):
@@ -266,12 +471,192 @@ def test_errors(tests):
     tests.equal(type(raised_by(tegvurn.HostTrap, 2**32)), ValueError, "a code of 2^32")
 
 
+# Wrong uses of an embedding that has the instance of `traps`, and the exception of each.
+WRONG_USES = [
+    ("a call without a name", lambda embedding: embedding.call(0, None), TypeError),
+    ("a call by a name of bytes", lambda embedding: embedding.call(0, b"div_s", 1, 1), TypeError),
+    ("a call by a name with a surrogate", lambda embedding: embedding.call(0, "\udc80"), UnicodeEncodeError),
+    ("a call of a negative instance", lambda embedding: embedding.call(-1, "div_s", 1, 1), ValueError),
+    ("a call of an instance of 2^64", lambda embedding: embedding.call(2**64, "div_s", 1, 1), ValueError),
+    ("a call of no instance", lambda embedding: embedding.call(None, "div_s", 1, 1), TypeError),
+    ("a call with a float", lambda embedding: embedding.call(0, "div_s", 1.0, 1), TypeError),
+    ("a call with a text", lambda embedding: embedding.call(0, "div_s", "1", 1), TypeError),
+    ("a call with a float value", lambda embedding: embedding.call(0, "div_s", tegvurn.Value("f64", 1), 1), ValueError),
+    ("a call with a value of no type", lambda embedding: embedding.call(0, "div_s", tegvurn.Value(None, 1), 1), ValueError),
+    ("a text as a module", lambda embedding: embedding.load("text"), TypeError),
+    ("a number as a module", lambda embedding: embedding.load(5), TypeError),
+    ("nothing as a module", lambda embedding: embedding.load(None), TypeError),
+    ("a link of a negative module", lambda embedding: embedding.link(-1), ValueError),
+    ("a link of a float", lambda embedding: embedding.link(0.0), TypeError),
+    ("a name of bytes for an instance", lambda embedding: embedding.register(0, b"name"), TypeError),
+    ("a global without a name", lambda embedding: embedding.get_global(0, None), TypeError),
+    ("the exports of a negative instance", lambda embedding: embedding.exports(-1), ValueError),
+    ("a fuel that is no integer", lambda embedding: setattr(embedding, "fuel", 1.0), TypeError),
+    ("a number as a script", lambda embedding: embedding.script(5), TypeError),
+    ("a script with a file that is no bytes", lambda embedding: embedding.script("{}", {"a": "text"}), TypeError),
+    ("a script with a file whose name is no text", lambda embedding: embedding.script("{}", {1: b""}), TypeError),
+    ("a host function of a type f64", lambda _: tegvurn.Embedding(1, hosts={("m", "n"): (([], ["f64"]), len)}), ValueError),
+    ("a host function without a name", lambda _: tegvurn.Embedding(1, hosts={("m", None): (([], []), len)}), TypeError),
+    ("an embedding without fuel", lambda _: tegvurn.Embedding(None), TypeError),
+    ("an embedding with negative pages", lambda _: tegvurn.Embedding(1, pages=-1), ValueError),
+    ("an embedding that is made again", lambda embedding: embedding.__init__(1), TypeError),
+    ("a copy", copy.copy, TypeError),
+    ("a deep copy", copy.deepcopy, TypeError),
+    ("a pickle", pickle.dumps, TypeError),
+]
+
+
+def test_wrong_uses(tests):
+    """Wrong uses raise TypeError or ValueError, and change nothing."""
+    embedding = tegvurn.Embedding(fuel=10)
+    embedding.link(embedding.load(MODULES["traps"]))
+    embedding.fuel = 10
+    for name, use, error in WRONG_USES:
+        tests.equal(type(raised_by(use, embedding)), error, name)
+    tests.equal((embedding.fuel, embedding.call(0, "div_s", 6, 2)), (10, [3]), "the embedding after these")
+    tests.equal(str(raised_by(tegvurn._read_types, [124], 1)), str(raised_by(tegvurn._name_of, 124)), "an unknown type of the library")
+    embedding.close()
+    embedding.close()
+    tests.equal(type(raised_by(embedding.load, b"")), ValueError, "the embedding after its end")
+
+
+def test_ends(tests):
+    """How a call ended is read in every form that the library may write."""
+    ends = [
+        (tegvurn._BAD_POINTER, None, (tegvurn.Error, 8, "BadPointer", "a pointer is null")),
+        (tegvurn._BUSY, None, (tegvurn.Busy, 6, "Busy", "the embedding is busy")),
+        (99, None, (tegvurn.Error, 0, "", "the call was not done")),
+        (tegvurn._REFUSED, tegvurn._End(number=3, place=99, text=b"\xff"), (tegvurn.Refused, 3, "", "\ufffd")),
+        (tegvurn._OVER, tegvurn._End(name=b"Over"), (tegvurn.Error, 0, "Over", "")),
+    ]
+    for status, end, wanted in ends:
+        error = tegvurn._error(status, end and ctypes.pointer(end))
+        tests.equal((type(error), error.number, error.name, str(error)), wanted, f"an end of status {status}")
+
+
+def count_mappings():
+    """Returns how many mappings this process has."""
+    with open("/proc/self/maps", encoding="utf-8") as file:
+        return len(file.readlines())
+
+
+def on_thread(function):
+    """Runs a function on a thread of its own."""
+    thread = threading.Thread(target=function)
+    thread.start()
+    thread.join()
+
+
+def drop(embeddings):
+    """Drops embeddings, also those that are in cycles."""
+    embeddings.clear()
+    gc.collect()
+
+
+def make_simply():
+    """Returns an embedding that is freed as soon as it is dropped."""
+    return with_count(lambda _: [1])
+
+
+def make_cycle():
+    """Returns an embedding that only the garbage collector frees."""
+    embedding = with_count(lambda _: [embedding.fuel])
+    return embedding
+
+
+MAKERS = [(make_simply, "embeddings"), (make_cycle, "embeddings in cycles")]
+MANY = 50
+
+
+def test_drops(tests):
+    """Embeddings that are dropped are freed by the next call of their thread at the latest."""
+    made = []
+    make_simply().close()
+    before = count_mappings()
+    for make, name in MAKERS:
+        made.extend(make() for _ in range(MANY))
+        drop(made)
+        tests.equal(count_mappings() - before < MANY, True, f"{name} that are dropped")
+        made.extend(make() for _ in range(MANY))
+        on_thread(lambda: drop(made))
+        tegvurn.Embedding(fuel=1).close()
+        tests.equal(count_mappings() - before < MANY, True, f"{name} that another thread drops, after a call")
+
+
+def test_busy_drops(tests):
+    """An embedding that is busy when it is dropped keeps its callbacks, and is freed by a later call of any embedding."""
+    embedding, other = with_count(lambda _: [1]), tegvurn.Embedding(fuel=7)
+    library, callback, busy = embedding._library, weakref.ref(embedding._kept[0][2]), [True, True]
+    free, before = library.free, count_mappings()
+    library.free = lambda at: tegvurn._BUSY if busy and busy.pop() else free(at)
+    del embedding
+    tests.equal((len(library.dropped), callback() is None), (1, False), "a busy embedding that is dropped")
+    tests.equal((other.fuel, len(library.dropped), callback() is None), (7, 1, False), "a call while it is busy")
+    tests.equal((other.fuel, len(library.dropped), callback() is None), (7, 0, True), "a call when it is no longer busy")
+    tests.equal(count_mappings() < before, True, "its memory")
+    library.free = free
+    other.close()
+
+
+# A program that ends with embeddings that are idle, in cycles, of threads that have ended, of a thread that runs on, and half made.
+AT_EXIT = """
+import threading, tegvurn
+def make():
+    embedding = tegvurn.Embedding(1_000, hosts={("env", "f"): (([], []), lambda _: embedding.fuel)})
+    return embedding
+kept, made = [make(), tegvurn.Embedding(1)], threading.Event()
+kept[0].itself = kept
+def thread():
+    kept.append(make())
+    mine = make()
+    made.set()
+    threading.Event().wait()
+threading.Thread(target=thread, daemon=True).start()
+made.wait()
+ended = threading.Thread(target=lambda: kept.append(make()))
+ended.start()
+ended.join()
+class Last:
+    def __del__(self):
+        kept[1].fuel
+last = Last()
+try:
+    tegvurn.Embedding()
+except TypeError:
+    tegvurn.Embedding.__new__(tegvurn.Embedding)
+"""
+
+
+def test_exit(tests):
+    """The end of the program frees what is left, and says nothing."""
+    ran = subprocess.run([sys.executable, "-B", "-c", AT_EXIT], capture_output=True, text=True, timeout=60, cwd=HERE)
+    tests.equal((ran.stdout, ran.stderr, ran.returncode), ("", "", 0), "a program that ends with embeddings")
+
+
+def test_drops_by_other_threads(tests):
+    """Embeddings that another thread drops are freed at once, also when their own thread has ended."""
+    made = []
+    before = count_mappings()
+    for make, name in MAKERS:
+        made.extend(make() for _ in range(MANY))
+        on_thread(lambda: drop(made))
+        tests.equal(count_mappings() - before < MANY, True, f"{name} that another thread drops")
+        on_thread(lambda: made.extend(make() for _ in range(MANY)))  # noqa: B023
+        drop(made)
+        tests.equal(count_mappings() - before < MANY, True, f"{name} whose thread has ended")
+
+
+# Functions that the header may declare and that this module does not need: it never leaves a callback.
+NOT_USED = {"abandon"}
+
+
 def test_header(tests):
     """The functions and the structures are those of the header."""
     with open(os.path.join(HERE, "../c/tegvurn.h"), encoding="utf-8") as file:
         header = re.sub(r"/\*.*?\*/", "", file.read(), flags=re.DOTALL)
     declared = {name: args.count(",") + 1 for name, args in re.findall(r"TEGVURN_API [^()]*?tegvurn_(\w+)\(([^)]*)\)", header)}
-    tests.equal({name: len(types) for name, types in tegvurn._FUNCTIONS.items()}, declared, "the functions of the header")
+    used = {name: count for name, count in declared.items() if name not in NOT_USED}
+    tests.equal({name: len(types) for name, types in tegvurn._FUNCTIONS.items()}, used, "the functions of the header")
     for name in ("Text", "End", "Config", "HostCall", "Host", "Export", "File", "Report"):
         in_c = re.sub("(?<=.)([A-Z])", r"_\1", name).lower()
         fields = re.search(rf"typedef struct tegvurn_{in_c} {{(.*?)}} tegvurn_{in_c};", header, re.DOTALL)[1]
