@@ -7,7 +7,7 @@ use crate::seen::{REFUSED, Seen, seen_in};
 use crate::texts::{OBJECTS, WHOLE};
 use crate::verdicts::{Answer, Verdict};
 use core_types::ExternType;
-use embed::{Command, Config, Embedding, HostDef, InstanceNumber, NewFault};
+use embed::{Command, Config, Embedding, HostDef, InstanceNumber, NewFault, Refusal};
 use std::alloc::{AllocError, Global};
 use testing::assemble;
 
@@ -135,6 +135,28 @@ impl Attempt for Exports {
         match self.at.exports(InstanceNumber(0)) {
             Ok(found) => Answer::with_memory(are_both(&found)),
             Err(_) => Answer::Wanting,
+        }
+    }
+}
+
+/// An export of an instance is asked for by its name.
+#[derive(Drop)]
+pub struct NamedExport {
+    at: Embedding,
+}
+
+/// An export of an instance is asked for by its name.
+pub fn prepare_named_export(alloc: Global) -> Option<NamedExport> {
+    let at = embedding_with(alloc, OBJECTS)?;
+    Some(NamedExport { at })
+}
+
+impl Attempt for NamedExport {
+    fn attempt(&mut self) -> Answer {
+        match self.at.export_named(InstanceNumber(0), "g") {
+            Ok(found) => Answer::with_memory(found.types.len() == 1 && found.exports.len() == 1),
+            Err(Refusal::OutOfMemory) => Answer::Wanting,
+            Err(_) => Answer::Wrong,
         }
     }
 }

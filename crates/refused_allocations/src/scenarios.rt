@@ -5,7 +5,7 @@ use crate::calls::{Calling, Rounds};
 use crate::conversations::{prepare_all, prepare_growth, prepare_link, prepare_start};
 use crate::embeddings::{
     judge_created, prepare_export_type, prepare_exports, prepare_global, prepare_load,
-    prepare_register,
+    prepare_named_export, prepare_register,
 };
 use crate::hosts::{Parts, judge_push};
 use crate::linking::{Defining, Describing, Instantiating, Registering};
@@ -44,6 +44,7 @@ pub enum Scenario {
     ApplyAll,
     ExportType,
     Exports,
+    NamedExport,
     HostParts,
     ReadScript,
     RunScript,
@@ -51,7 +52,7 @@ pub enum Scenario {
 }
 
 /// All scenarios.
-pub static SCENARIOS: [Scenario; 29] = [
+pub static SCENARIOS: [Scenario; 30] = [
     Scenario::Decode,
     Scenario::Validate,
     Scenario::Flatten,
@@ -77,6 +78,7 @@ pub static SCENARIOS: [Scenario; 29] = [
     Scenario::ApplyAll,
     Scenario::ExportType,
     Scenario::Exports,
+    Scenario::NamedExport,
     Scenario::HostParts,
     Scenario::ReadScript,
     Scenario::RunScript,
@@ -112,6 +114,7 @@ impl Scenario {
             Scenario::ApplyAll => "apply-all",
             Scenario::ExportType => "export-type",
             Scenario::Exports => "exports",
+            Scenario::NamedExport => "named-export",
             Scenario::HostParts => "host-parts",
             Scenario::ReadScript => "read-script",
             Scenario::RunScript => "run-script",
@@ -163,6 +166,9 @@ pub fn run_scenario(alloc: Global, scenario: Scenario, before: usize) -> Verdict
         Scenario::ApplyAll => hold(prepare_all(alloc), alloc, before),
         Scenario::ExportType => judge(prepare_export_type(alloc), alloc, before, "export_type"),
         Scenario::Exports => judge(prepare_exports(alloc), alloc, before, "exports"),
+        Scenario::NamedExport => {
+            judge(prepare_named_export(alloc), alloc, before, "export_named")
+        }
         Scenario::HostParts => judge(Parts::prepare(alloc), alloc, before, "host parts"),
         Scenario::ReadScript => judge(Reading::prepare(alloc), alloc, before, "read_script"),
         Scenario::RunScript => judge(Running::prepare(alloc), alloc, before, "run_script"),
