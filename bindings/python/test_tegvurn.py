@@ -285,7 +285,8 @@ def test_busy(tests):
     found, begun = [], []
 
     def count(_):
-        for function in (lambda: begun[0].call(0, "count"), lambda: begun[0].load(b""), lambda: begun[0].fuel, begun[0].close):
+        uses = [lambda: begun[0].call(0, "count"), lambda: begun[0].find_export(0, "count"), lambda: begun[0].fuel, begun[0].close]
+        for function in uses:
             found.append(type(raised_by(function)))
         with tegvurn.Embedding(fuel=9) as other:
             found.append(other.fuel)
@@ -491,6 +492,10 @@ WRONG_USES = [
     ("a name of bytes for an instance", lambda embedding: embedding.register(0, b"name"), TypeError),
     ("a global without a name", lambda embedding: embedding.get_global(0, None), TypeError),
     ("the exports of a negative instance", lambda embedding: embedding.exports(-1), ValueError),
+    ("an export of a negative instance", lambda embedding: embedding.find_export(-1, "div_s"), ValueError),
+    ("an export of no instance", lambda embedding: embedding.find_export(None, "div_s"), TypeError),
+    ("an export without a name", lambda embedding: embedding.find_export(0, None), TypeError),
+    ("an export by a name with a surrogate", lambda embedding: embedding.find_export(0, "\udc80"), UnicodeEncodeError),
     ("a fuel that is no integer", lambda embedding: setattr(embedding, "fuel", 1.0), TypeError),
     ("a number as a script", lambda embedding: embedding.script(5), TypeError),
     ("a script with a file that is no bytes", lambda embedding: embedding.script("{}", {"a": "text"}), TypeError),
