@@ -12,7 +12,8 @@
         client.order("call", 0, "add", ("i32", 1), ("i32", 2))  # ("values", ("i32", 3))
 
 A value is its type and a number without a sign, or None for a null reference. A reply is its name and its fields: ("trap", 9, 7),
-("refused", 1, 1, 8, "malformed module at byte 8"), ("exports", ("add", ("func", ["i32", "i32"], ["i32"]))).
+("refused", 1, 1, 8, "malformed module at byte 8"), ("exports", ("add", ("func", ["i32", "i32"], ["i32"]))). Exports of functions that
+are declared at one place share one type, so a change of its lists changes it for all of them.
 
 Fields that cannot be sent raise TypeError or ValueError, and nothing is sent. A reply that breaks the protocol raises `ProtocolError`, and
 an order that takes too long TimeoutError. After either of them, and after an interrupt, the process is killed: the next reply could belong
@@ -42,12 +43,15 @@ ORDERS = {
     "script": ("bytes", "report"),
     "define": ("text text types types", "done"),
     "begin": ("number number number number", "done"),
+    "export": ("number name", "exports"),
 }
 NUMBERS = {name: number for number, name in enumerate(ORDERS)}
 RUN_HOSTS = ("link", "call", "script")  # the orders that may run host functions
 REPLIES = "done number values trap exhausted refused exports report not_spelt not_now call lent".split()
 RESULTS, TRAPPED, READ, PUT = range(20, 24)  # the kinds of answers to `call`
 HOST_TRAP, BAD_SETUP = 9, 18  # a number of a trap, and one of a refusal
+UNKNOWN_EXPORT = ("refused", 9, 0, 0, "nothing is exported under the name")
+SMALLEST_TYPE = 24  # bytes of a type of an export
 MOST = 2**32  # No message has more bytes: it is the largest memory.
 PIECE = 2**20  # bytes that are read at once
 
@@ -207,18 +211,28 @@ def read_refused(fields):
     return number, place, fields.number("a place", most=2**64 - 1 if place else 0), fields.text(fields.left())
 
 
+def read_export_type(fields):
+    """Reads the type of an export."""
+    kind = fields.number("a kind of export", most=3)
+    if kind == 0:
+        return "func", fields.types(), fields.types()
+    if kind == 1:
+        return ("table", fields.type(), *fields.limits(2**32 - 1))
+    if kind == 2:
+        return ("memory", *fields.limits(2**16))
+    return "global", fields.type(), ("const", "var")[fields.number("0 or 1", most=1)]
+
+
 def read_exports(fields):
-    """Reads all exports: each is its name and its type."""
+    """Reads all exports: each is its name and its type. Exports whose types have one number share one type."""
+    types = [read_export_type(fields) for _ in range(fields.number("a count of types", most=fields.left() // SMALLEST_TYPE))]
+    used = set()
     while fields.left():
-        name, kind = fields.text(fields.number("a size")), fields.number("a kind of export", most=3)
-        if kind == 0:
-            yield name, ("func", fields.types(), fields.types())
-        elif kind == 1:
-            yield name, ("table", fields.type(), *fields.limits(2**32 - 1))
-        elif kind == 2:
-            yield name, ("memory", *fields.limits(2**16))
-        else:
-            yield name, ("global", fields.type(), ("const", "var")[fields.number("0 or 1", most=1)])
+        name, number = fields.text(fields.number("a size")), fields.number("the number of a type")
+        fields.expect(number < len(types), f"the number of one of {len(types)} types", number)
+        used.add(number)
+        yield name, types[number]
+    fields.expect(len(used) == len(types), f"exports of {len(types)} types", f"exports of {len(used)}")
 
 
 def read_report(fields):
@@ -421,21 +435,26 @@ class Client(Unique):
             self.raised = None
             with self.whole(), self.time_limit(name):
                 self.send(NUMBERS[name], data)
-                reply = self.receive_reply(name)
+                reply = self.receive_reply(name, data)
             raised, self.raised = self.raised, None
             if raised is not None:
                 raise raised
             return reply
 
-    def receive_reply(self, name):
-        """Answers host functions, and returns the reply to the order of this name."""
+    def receive_reply(self, name, data):
+        """Answers host functions, and returns the reply to the order of this name and these fields."""
         replies = [*ORDERS[name][1].split(), "refused", "not_spelt", "not_now"]
         while (message := self.receive())[0] == "call" and name in RUN_HOSTS:
             self.answer(*read_reply(*message)[1:])
         reply = read_reply(*message)
-        if reply[0] not in replies or name == "get_global" and reply[0] == "values" and len(reply) != 2:
-            raise ProtocolError(f"expected {', '.join(replies)} for the order `{name}`, found {str(reply)[:80]}")
-        return reply
+        is_expected = reply[0] in replies
+        if name == "get_global" and reply[0] == "values":
+            is_expected = len(reply) == 2
+        if name == "export" and reply[0] == "exports":
+            is_expected = [export.encode() for export, _ in reply[1:]] in ([], [data[8:]])
+        if not is_expected:
+            raise ProtocolError(f"expected {', '.join(replies)} for the order `{name}`, found {str(reply[:4])[:80]}")
+        return UNKNOWN_EXPORT if name == "export" and reply == ("exports",) else reply
 
     def answer(self, number, size, *args):
         """Runs a host function. If one has raised an exception already, the others trap at once."""

@@ -72,7 +72,13 @@ class Embedding:
         return self.order("fuel_left")
 
     def exports(self, instance):
-        return self.order("exports", instance)
+        """Returns the exports as rows have them. If one is another when it is asked for by its name, returns that one."""
+        listed = self.conversation.order("exports", instance)
+        for name, type_ in listed[1:] if listed[0] == "exports" else ():
+            found = self.conversation.order("export", instance, name)
+            if found != ("exports", (name, type_)):
+                return show_reply(*found)
+        return show_reply(*listed)
 
     def script(self, json, files):
         for name, module in files:

@@ -1,6 +1,8 @@
-"""The rows of bindings/rows.txt, which says what they mean, for the tests: reading them, their host functions, and comparing answers."""
+"""What the tests share: the rows of bindings/rows.txt, which says what they mean, their host functions, and a module of many exports."""
 import collections
+import itertools
 import os
+import string
 
 ROWS = os.path.join(os.path.dirname(os.path.abspath(__file__)), "../rows.txt")
 
@@ -25,6 +27,43 @@ def read_rows():
             elif words and words[0] == "module":
                 modules[words[1]] = bytes.fromhex(words[2])
     return modules, rows
+
+
+DIGITS = string.digits + string.ascii_letters
+# The names of the exports of the module of many exports, and how many parameters and how many results their function has.
+MANY_NAMES = ["".join(digits) for digits in itertools.islice(itertools.product(DIGITS, repeat=3), 29_300)]
+MANY_TYPES = 1_000
+
+
+def encode_leb(number):
+    """Returns the unsigned LEB128 encoding of a number in four bytes."""
+    return bytes([number >> 7 * k & 0x7F | (0x80 if k < 3 else 0) for k in range(4)])
+
+
+def section(number, items):
+    """Returns a section of a module."""
+    content = encode_leb(len(items)) + b"".join(items)
+    return bytes([number]) + encode_leb(len(content)) + content
+
+
+def many_exports():
+    """Returns a module of 178 kB. If exports did not share types, their list would take 59 million types.
+
+    (module
+      (type $f (func (param i32 ..) (result i32 ..)))
+      (func $f (type $f) unreachable)
+      (export "000" (func $f)) (export "001" (func $f)) ..)
+    """
+    types = encode_leb(MANY_TYPES) + b"\x7f" * MANY_TYPES
+    exports = [b"\3" + name.encode() + b"\0\0" for name in MANY_NAMES]
+    sections = [section(1, [b"\x60" + types + types]), section(3, [b"\0"]), section(7, exports), section(10, [b"\3\0\0\x0b"])]
+    return b"\0asm\1\0\0\0" + b"".join(sections)
+
+
+def most_memory(process):
+    """Returns the most memory that a process ever had, in KiB."""
+    with open(f"/proc/{process}/status", encoding="utf-8") as file:
+        return next(int(line.split()[1]) for line in file if line.startswith("VmHWM:"))
 
 
 class StandardHosts:

@@ -45,6 +45,8 @@ _PLACES = [None, "byte", "import", "section", "function", "command"]
 _DONE, _REFUSED, _TRAP, _EXHAUSTED, _NOT_SPELT, _NO_ROOM, _BUSY, _OVER, _BAD_POINTER = range(9)
 # The code of the trap when a host function raises an exception.
 _RAISED = 2**32 - 1
+# How many functions' types an embedding keeps. With 1,000 parameters and 1,000 results each, they take 17 MB.
+_MOST_KEPT = 1_024
 
 
 def _bounded(number, bits):
@@ -246,9 +248,9 @@ class _Export(ctypes.Structure):
     _fields_ = [
         ("name", _Text),
         ("kind", ctypes.c_uint),
-        ("params", ctypes.POINTER(ctypes.c_uint)),
+        ("params", ctypes.c_void_p),
         ("param_count", ctypes.c_size_t),
-        ("results", ctypes.POINTER(ctypes.c_uint)),
+        ("results", ctypes.c_void_p),
         ("result_count", ctypes.c_size_t),
         ("type", ctypes.c_uint),
         ("is_mutable", ctypes.c_bool),
@@ -285,6 +287,7 @@ _FUNCTIONS = {
     "set_fuel": [_AT, _U64],
     "fuel_left": [_AT, ctypes.POINTER(_U64)],
     "exports": [_AT, _U64, ctypes.POINTER(ctypes.POINTER(_Export)), ctypes.POINTER(_SIZE)],
+    "find_export": [_AT, _U64, _Text, ctypes.POINTER(ctypes.POINTER(_Export))],
     "exports_free": [ctypes.POINTER(_Export)],
     "script": [_AT, ctypes.c_char_p, _SIZE, ctypes.POINTER(_File), _SIZE, ctypes.POINTER(_Report)],
 }
@@ -375,9 +378,9 @@ def _name_of(number):
     return _NAMES[number]
 
 
-def _read_types(numbers, count):
+def _read_types(address, count):
     """Returns the types that the library has written."""
-    return [_name_of(numbers[k]) for k in range(count)]
+    return [_name_of(number) for number in (ctypes.c_uint * count).from_address(address)] if count else []
 
 
 def _write_value(value, number, type_):
@@ -406,13 +409,28 @@ def _read_value(value):
 
 
 def _read_export(export):
-    """The type of an export."""
+    """Returns the type of an export."""
     limits = (export.minimum, export.maximum if export.has_maximum else None)
     if export.kind == 0:
         return FunctionType(_read_types(export.params, export.param_count), _read_types(export.results, export.result_count))
     if export.kind == 1:
         return TableType(_name_of(export.type), *limits)
     return MemoryType(*limits) if export.kind == 2 else GlobalType(_name_of(export.type), export.is_mutable)
+
+
+def _read_exports(exports, count):
+    """Returns the name and the type of each export. Functions that share their arrays in the library share one type."""
+    types = {}
+    for k in range(count):
+        export = exports[k]
+        if export.kind == 0:
+            arrays = export.params, export.param_count, export.results, export.result_count
+            if arrays not in types:
+                types[arrays] = _read_export(export)
+            type_ = types[arrays]
+        else:
+            type_ = _read_export(export)
+        yield _read_text(export.name), type_
 
 
 # The exceptions for calls whose end the library does not write.
@@ -451,7 +469,7 @@ class Embedding(_Unique):
             raise TypeError("the embedding is made already")
         # `_raised` has the exception of a host function of the running call. Callbacks refer to it, and not to the embedding, so that
         # dropping the embedding frees it.
-        self._lock, self._raised, self._functions, self._kept = threading.Lock(), [], {}, []
+        self._lock, self._raised, self._functions, self._kept = threading.Lock(), [], collections.OrderedDict(), []
         self._library = _load_library(library)
         self._library.free_dropped()
         pairs = list(hosts.items() if isinstance(hosts, dict) else hosts)
@@ -526,11 +544,23 @@ class Embedding(_Unique):
         self._do("set_fuel", _bounded(fuel, 64))
 
     def exports(self, instance):
-        """Returns the types of the exports of an instance by their names, in the order of the module. An unknown instance has none."""
+        """Returns the types of the exports of an instance by their names, in the order of the module. An unknown instance has none.
+
+        Functions that are declared at one place share one type, so a change of its lists changes it for all of them.
+        """
         found, count = ctypes.POINTER(_Export)(), ctypes.c_size_t()
         self._do("exports", _bounded(instance, 64), ctypes.byref(found), ctypes.byref(count))
         try:
-            return {_read_text(found[k].name): _read_export(found[k]) for k in range(count.value)}
+            return dict(_read_exports(found, count.value))
+        finally:
+            self._library.exports_free(found)
+
+    def find_export(self, instance, name):
+        """Returns the type of one export, however many there are. Raises `Refused` if the instance or the export is unknown."""
+        found = ctypes.POINTER(_Export)()
+        self._do("find_export", _bounded(instance, 64), _encode_text(name), ctypes.byref(found))
+        try:
+            return _read_export(found[0])
         finally:
             self._library.exports_free(found)
 
@@ -562,11 +592,19 @@ class Embedding(_Unique):
             return read()
 
     def _function(self, instance, name):
-        """Returns the name of an exported function for the library, and its type. An unknown function has an empty type."""
-        if (instance, name) not in self._functions:
-            types = {export: type_ for export, type_ in self.exports(instance).items() if isinstance(type_, FunctionType)}
-            self._functions.update({(instance, export): (_encode_text(export), type_) for export, type_ in types.items()})
-        return self._functions.get((instance, name)) or (_encode_text(name), FunctionType([], []))
+        """Returns the name of an exported function for the library, and its type. Other exports have an empty type.
+
+        The functions that were found last are kept: a module may export very many names.
+        """
+        function = self._functions.get((instance, name))
+        if function is None:
+            type_ = self.find_export(instance, name)
+            if not isinstance(type_, FunctionType):
+                return _encode_text(name), FunctionType([], [])
+            if len(self._functions) >= _MOST_KEPT:
+                self._functions.popitem(last=False)
+            function = self._functions[instance, name] = _encode_text(name), type_
+        return function
 
     def _host(self, module, name, type_, function):
         """A host function for the library. What it points to is kept as long as the embedding."""

@@ -109,7 +109,7 @@ def test_ends(tests):
 def test_times(tests):
     """Orders at another time than theirs."""
     late = [order("load", b""), order("link", 0), order("register", 0, b"m"), order("call", 0, "f"), order("get_global", 0, b"g")]
-    late += [order("set_fuel", 1), LEFT, order("exports", 0), order("file", "a", b""), order("script", b"{}")]
+    late += [order("set_fuel", 1), LEFT, order("exports", 0), order("export", 0, b"f"), order("file", "a", b""), order("script", b"{}")]
     not_now = [("not_now",)] * len(late)
     check(tests, "orders before `begin`", b"".join(late) + BEGUN + LEFT + END, not_now + ANSWERED + [LEFT_AT_FIRST, ("done",)], 0)
     early = [BEGIN, DEFINE_COUNT, order("begin", 1, 0, 1, 1)]
@@ -134,7 +134,7 @@ def test_setups(tests):
 
 # Fields that spell no order of the kind.
 UNSPELT = [
-    (13,), (2**32,), (2**64 - 1,), (0, 0), (0, b"a"),
+    (14,), (14, 0, b"a"), (2**32,), (2**64 - 1,), (0, 0), (0, b"a"),
     (2,), (2, bytes(7)), (2, bytes(9)), (2, 0, 0),
     (3,), (3, bytes(7)), (3, 0, b"\xff"), (3, 0, b"\xc0\x80"), (3, 0, b"\xed\xa0\x80"), (3, 0, b"\xf4\x90\x80\x80"), (3, 0, b"a\xe2\x82"),
     (4,), (4, 0), (4, 0, bytes(7)), (4, 0, 1), (4, 0, 2, b"f"), (4, 0, 2**64 - 1, b"f"), (4, 0, 2**61, b"f"), (4, 0, 1, b"\xff"),
@@ -146,6 +146,7 @@ UNSPELT = [
     (11, "m", "n", 2**64 - 1, 127), (11, "m", "n", [], [], b"a"), (11, "m", "n", [], [], 127), (11, 1, b"\xff", "n", [], []),
     (11, "m", 1, b"\xff", [], []),
     (12,), (12, 1, 1, 1), (12, 1, 1, 1, 1, 1), (12, bytes(31)),
+    (13,), (13, bytes(7)), (13, 0, b"\xff"), (13, 0, b"\xc0\x80"), (13, 0, b"a\xe2\x82"),
 ]
 
 
@@ -311,6 +312,52 @@ def test_first_exception(tests):
         tests.equal(raised_by(conversation.order, "call", 0, "count") is raised[1], True, "the exception of the next call")
 
 
+# The exports of `kinds`; and instances and names of exports that are not there, with the refusal.
+KINDS = [
+    ("function", ("func", ["i32"], ["i64"])), ("grow", ("func", [], [])), ("table", ("table", "funcref", 3, 9)),
+    ("memory", ("memory", 1, 5)), ("global", ("global", "i64", "var")),
+]  # fmt: skip
+NOT_FOUND = [(1, "function", 8), (2**64 - 1, "function", 8), (0, "functions", 9), (0, "", 9), (0, "function\0", 9), (0, "größe", 9)]
+
+
+def test_exports(tests):
+    """One export is found as it is listed, and functions that are declared at one place share one type."""
+    with begun(module="kinds") as conversation:
+        tests.equal(conversation.order("exports", 0), ("exports", *KINDS), "the exports of each kind")
+        for name, type_ in KINDS:
+            tests.equal(conversation.order("export", 0, name), ("exports", (name, type_)), f"the export `{name}`")
+        for instance, name, number in NOT_FOUND:
+            found = conversation.order("export", instance, name)[:4]
+            tests.equal(found, ("refused", number, 0, 0), f"the export {name!r} of the instance {instance}")
+        tests.equal(conversation.order("export", 0, "nosuch"), client.UNKNOWN_EXPORT, "the text of an unknown export")
+        conversation.order("call", 0, "grow")
+        tests.equal(conversation.order("export", 0, "memory"), ("exports", ("memory", ("memory", 3, 5))), "a memory after it has grown")
+    with begun(module="shared_types") as conversation:
+        types = dict(conversation.order("exports", 0)[1:])
+        for names in (("one", "two", "one_again"), ("add", "sum"), ("three", "three_again")):
+            tests.equal(len({id(types[name]) for name in names}), 1, f"the types of {names}")
+        tests.equal((types["one"] == types["four"], types["one"] is types["four"]), (True, False), "equal types of two places")
+
+
+MOST_SERVED, MOST_SECONDS = 19_500, 1.5  # KiB of the server, and seconds of the client
+
+
+def test_many_exports(tests):
+    """Many exports of one function take little memory and time, also when all are listed: they share one type."""
+    start, name = time.process_time(), rows.MANY_NAMES[-1]
+    with client.Client(PROGRAM) as conversation:
+        conversation.order("begin", *SETUP)
+        conversation.order("load", rows.many_exports())
+        conversation.order("link", 0)
+        _, found = conversation.order("export", 0, name)
+        _, *exports = conversation.order("exports", 0)
+        taken = rows.most_memory(conversation.process.pid), time.process_time() - start
+    tests.equal((taken[0] < MOST_SERVED, taken[1] < MOST_SECONDS), (True, True), f"what many exports take: {taken}")
+    tests.equal([export for export, _ in exports], rows.MANY_NAMES, "the names of many exports")
+    types = {id(type_) for _, type_ in exports}
+    tests.equal((len(types), exports[-1] == found, len(found[1][1])), (1, True, rows.MANY_TYPES), "the type of many exports")
+
+
 # Orders that are refused before anything is sent.
 WRONG_ORDERS = [
     (ValueError, "call", 0, "add", ("i32", 2**40)), (ValueError, "call", 0, "add", ("i32", -1)),
@@ -322,6 +369,8 @@ WRONG_ORDERS = [
     (TypeError, "call", None, "add"), (TypeError, "load", "text"), (TypeError, "load", 5), (TypeError, "load", None), (TypeError, "load"),
     (TypeError, "link"), (TypeError, "link", 0, 0), (TypeError, "link", "0"), (TypeError, "link", 0.0), (TypeError, "link", True),
     (TypeError, "register", 0, b"name"), (ValueError, "register", 0, "\udc80"), (TypeError, "get_global", 0, None),
+    (TypeError, "export", 0), (TypeError, "export", 0, b"f"), (TypeError, "export", None, "f"), (ValueError, "export", -1, "f"),
+    (ValueError, "export", 0, "\udc80"),
     (ValueError, "set_fuel", -1), (ValueError, "set_fuel", 2**64), (TypeError, "fuel_left", 0), (TypeError, "file", "a", "text"),
     (TypeError, "script", "{}"), (ValueError, "define", "m", "n", ["f64"], []), (TypeError, "define", "m", "n", None, []),
     (KeyError, "nosuch"),
@@ -362,6 +411,7 @@ def false_server(script, reply=b"", **limits):
 
 
 NUMBER, VALUES, TRAP, EXHAUSTED, REFUSED, EXPORTS, REPORT, CALL, LENT = 1, 2, 3, 4, 5, 6, 7, 10, 11
+NOTHING = (0, [], [])  # the type of a function
 # Messages that are no replies to an order, by its name and fields.
 BROKEN_REPLIES = {
     ("fuel_left",): [
@@ -382,10 +432,21 @@ BROKEN_REPLIES = {
     ],
     ("get_global", 0, "g"): [(VALUES,), (VALUES, ("i32", 0), ("i32", 0))],
     ("exports", 0): [
-        (EXPORTS, 0), (EXPORTS, "f", 4), (EXPORTS, 2, b"f"), (EXPORTS, 1, b"\xff", 0, [], []), (EXPORTS, "f", 0, []),
-        (EXPORTS, "f", 0, 1, 125, []), (EXPORTS, "f", 0, 2**61, []), (EXPORTS, "t", 1, 112, 2, 1, 1), (EXPORTS, "t", 1, 112, 2, 0, 3),
-        (EXPORTS, "t", 1, 112, 2, 2, 3), (EXPORTS, "m", 2, 2**16 + 1, 0, 0), (EXPORTS, "g", 3, 127, 2), (EXPORTS, "g", 3, 125, 0),
-        (EXPORTS, "g", 3, 127, 0, b"a"), (NUMBER, 0),
+        (EXPORTS,), (EXPORTS, bytes(7)), (EXPORTS, 1), (EXPORTS, 2**61), (EXPORTS, 2**64 - 1), (EXPORTS, 1, 4, bytes(16)),
+        (EXPORTS, 1, 0, []), (EXPORTS, 1, 0, [], bytes(7)), (EXPORTS, 1, *NOTHING), (EXPORTS, 2, *NOTHING), (EXPORTS, 0, "f", 0),
+        (EXPORTS, 2, *NOTHING, *NOTHING, "f", 0), (EXPORTS, 2, *NOTHING, *NOTHING, "f", 1), (EXPORTS, 1, *NOTHING, "f", 1),
+        (EXPORTS, 1, *NOTHING, "f", 2**32), (EXPORTS, 1, *NOTHING, "f", 2**64 - 1), (EXPORTS, 1, *NOTHING, "f"),
+        (EXPORTS, 1, *NOTHING, "f", bytes(7)), (EXPORTS, 1, *NOTHING, "f", 0, b"a"), (EXPORTS, 1, *NOTHING, "f", 0, "g"),
+        (EXPORTS, 1, *NOTHING, 2, b"f"), (EXPORTS, 1, *NOTHING, 9, b"f", 0), (EXPORTS, 1, *NOTHING, 2**64 - 1, b"f", 0),
+        (EXPORTS, 1, *NOTHING, 1, b"\xff", 0), (EXPORTS, 1, 0, 1, 125, [], "f", 0), (EXPORTS, 1, 0, 2**61, [], "f", 0),
+        (EXPORTS, 1, 0, [], 2**64 - 1, "f", 0), (EXPORTS, 1, 1, 112, 2, 1, 1, "t", 0), (EXPORTS, 1, 1, 112, 2, 0, 3, "t", 0),
+        (EXPORTS, 1, 1, 112, 2, 2, 3, "t", 0), (EXPORTS, 1, 1, 112, 2**32, 0, 0, "t", 0), (EXPORTS, 1, 2, 2**16 + 1, 0, 0, "m", 0),
+        (EXPORTS, 1, 3, 127, 2, "g", 0), (EXPORTS, 1, 3, 125, 0, "g", 0), (NUMBER, 0),
+    ],
+    ("export", 0, "f"): [
+        (EXPORTS,), (EXPORTS, 1, *NOTHING), (EXPORTS, 1, *NOTHING, "g", 0), (EXPORTS, 1, *NOTHING, "", 0),
+        (EXPORTS, 1, *NOTHING, "f", 0, "g", 0), (EXPORTS, 1, *NOTHING, "f", 0, "f", 0), (EXPORTS, 2, *NOTHING, *NOTHING, "f", 0),
+        (VALUES,), (0,), (REFUSED, 9, 0, 1),
     ],
     ("script", b""): [(REPORT, 1, 0), (REPORT, 1, 1, 0), (REPORT, 1, 1, 0, 2**32), (REPORT, 1, 0, 0, 5), (REPORT, 1, 2**61, 0)],
 }  # fmt: skip
@@ -409,6 +470,27 @@ def test_broken_replies(tests):
         tests.equal(type(raised_by(conversation.order, "fuel_left")), client.ProtocolError, "a reply of 2^62 bytes")
     with false_server(WRITES, whole) as conversation:
         tests.equal(conversation.order("fuel_left"), ("number", 7), "a right reply")
+
+
+# Right replies to `export` of `f` and to `exports`, and what the client makes of them.
+TABLE, GLOBAL = (1, 111, 2, 1, 2), (3, 126, 1)
+TABLE_READ, GLOBAL_READ = ("table", "externref", 2, 2), ("global", "i64", "var")
+RIGHT_EXPORTS = [
+    (("export", 0, "f"), (EXPORTS, 1, *NOTHING, "f", 0), ("exports", ("f", ("func", [], [])))),
+    (("export", 0, "f"), (EXPORTS, 1, *GLOBAL, "f", 0), ("exports", ("f", GLOBAL_READ))),
+    (("export", 0, "f"), (EXPORTS, 0), client.UNKNOWN_EXPORT),
+    (("export", 0, "f"), (REFUSED, 8, 0, 0, b"unknown"), ("refused", 8, 0, 0, "unknown")),
+    (("exports", 0), (EXPORTS, 0), ("exports",)),
+    (("exports", 0), (EXPORTS, 1, *TABLE, "", 0, "t", 0), ("exports", ("", TABLE_READ), ("t", TABLE_READ))),
+    (("exports", 0), (EXPORTS, 2, *TABLE, *GLOBAL, "g", 1, "t", 0), ("exports", ("g", GLOBAL_READ), ("t", TABLE_READ))),
+]
+
+
+def test_right_exports(tests):
+    """Right replies to the orders for exports."""
+    for order_fields, reply, wanted in RIGHT_EXPORTS:
+        with false_server(WRITES, message(*reply)) as conversation:
+            tests.equal(conversation.order(*order_fields), wanted, f"{str(reply)[:60]} for the order {order_fields}")
 
 
 # The `define` of one host function without parameters is done; then a message that asks for a host function wrongly.

@@ -285,7 +285,8 @@ def test_busy(tests):
     found, begun = [], []
 
     def count(_):
-        for function in (lambda: begun[0].call(0, "count"), lambda: begun[0].load(b""), lambda: begun[0].fuel, begun[0].close):
+        uses = [lambda: begun[0].call(0, "count"), lambda: begun[0].find_export(0, "count"), lambda: begun[0].fuel, begun[0].close]
+        for function in uses:
             found.append(type(raised_by(function)))
         with tegvurn.Embedding(fuel=9) as other:
             found.append(other.fuel)
@@ -491,6 +492,10 @@ WRONG_USES = [
     ("a name of bytes for an instance", lambda embedding: embedding.register(0, b"name"), TypeError),
     ("a global without a name", lambda embedding: embedding.get_global(0, None), TypeError),
     ("the exports of a negative instance", lambda embedding: embedding.exports(-1), ValueError),
+    ("an export of a negative instance", lambda embedding: embedding.find_export(-1, "div_s"), ValueError),
+    ("an export of no instance", lambda embedding: embedding.find_export(None, "div_s"), TypeError),
+    ("an export without a name", lambda embedding: embedding.find_export(0, None), TypeError),
+    ("an export by a name with a surrogate", lambda embedding: embedding.find_export(0, "\udc80"), UnicodeEncodeError),
     ("a fuel that is no integer", lambda embedding: setattr(embedding, "fuel", 1.0), TypeError),
     ("a number as a script", lambda embedding: embedding.script(5), TypeError),
     ("a script with a file that is no bytes", lambda embedding: embedding.script("{}", {"a": "text"}), TypeError),
@@ -514,10 +519,115 @@ def test_wrong_uses(tests):
     for name, use, error in WRONG_USES:
         tests.equal(type(raised_by(use, embedding)), error, name)
     tests.equal((embedding.fuel, embedding.call(0, "div_s", 6, 2)), (10, [3]), "the embedding after these")
-    tests.equal(str(raised_by(tegvurn._read_types, [124], 1)), str(raised_by(tegvurn._name_of, 124)), "an unknown type of the library")
+    unknown = ctypes.c_uint(124)
+    found = raised_by(tegvurn._read_types, ctypes.addressof(unknown), 1)
+    tests.equal(str(found), str(raised_by(tegvurn._name_of, 124)), "an unknown type of the library")
     embedding.close()
     embedding.close()
     tests.equal(type(raised_by(embedding.load, b"")), ValueError, "the embedding after its end")
+
+
+# The exports of `kinds`.
+KINDS = {
+    "function": tegvurn.FunctionType(["i32"], ["i64"]),
+    "grow": tegvurn.FunctionType([], []),
+    "table": tegvurn.TableType("funcref", 3, 9),
+    "memory": tegvurn.MemoryType(1, 5),
+    "global": tegvurn.GlobalType("i64", True),
+}
+# An instance and the name of an export that are not there, and how finding it is refused.
+NOT_FOUND = [(1, "function", 8), (2**64 - 1, "function", 8), (0, "functions", 9), (0, "", 9), (0, "function\0", 9), (0, "größe", 9)]
+
+
+def linked(name):
+    """Returns an embedding with the instance of a module."""
+    pairs = [((host.module, host.name), ((host.parameters, host.results), answer_with(host))) for host in rows.StandardHosts().all()]
+    embedding = tegvurn.Embedding(10_000, hosts=pairs)
+    embedding.link(embedding.load(MODULES[name]))
+    return embedding
+
+
+def test_find_export(tests):
+    """One export is found by its name as it is listed."""
+    with linked("kinds") as embedding:
+        tests.equal(list(embedding.exports(0).items()), list(KINDS.items()), "the exports of each kind")
+        for name, type_ in KINDS.items():
+            found = embedding.find_export(0, name)
+            tests.equal((type(found), found), (type(type_), type_), f"the export `{name}`")
+        for instance, name, number in NOT_FOUND:
+            error = raised_by(embedding.find_export, instance, name)
+            tests.equal(show_error(error), f"refused {number} 0 0", f"the export {name!r} of the instance {instance}")
+            error = raised_by(embedding.call, instance, name, None)
+            tests.equal(show_error(error), f"refused {number} 0 0", f"a call of the export {name!r} of the instance {instance}")
+        tests.equal(str(error), "nothing is exported under the name", "the text of an unknown export")
+        embedding.call(0, "grow")
+        tests.equal(embedding.find_export(0, "memory"), tegvurn.MemoryType(3, 5), "a memory after it has grown")
+
+
+def test_shared_types(tests):
+    """Functions that are declared at one place share one type."""
+    with linked("shared_types") as embedding:
+        exports = embedding.exports(0)
+        for names in (("one", "two", "one_again"), ("add", "sum"), ("three", "three_again")):
+            tests.equal(len({id(exports[name]) for name in names}), 1, f"the types of {names}")
+        equal = [exports["one"] == exports[name] for name in ("four", "add", "three", "memory")]
+        tests.equal(equal, [True, False, False, False], "the types of other exports")
+
+
+def test_called_functions(tests):
+    """A call finds its function alone, and the functions that were called last are kept."""
+    with linked("kinds") as embedding:
+        listing, library = embedding._library.exports, embedding._library
+        library.exports = None
+        tests.equal([embedding.call(0, "function", 1) for _ in range(2)], [[1], [1]], "calls without a list of exports")
+        library.exports = listing
+        for name in ("table", "nosuch"):
+            raised_by(embedding.call, 0, name)
+        tests.equal(list(embedding._functions), [(0, "function")], "the functions that are kept")
+    with tegvurn.Embedding(fuel=10_000) as embedding:
+        embedding.link(embedding.load(rows.many_exports()))
+        names = rows.MANY_NAMES[: tegvurn._MOST_KEPT + 10]
+        errors = [raised_by(embedding.call, 0, name) for name in names]
+        tests.equal({show_error(error) for error in errors}, {"refused 11 0 0"}, "calls of many functions")
+        tests.equal([name for _, name in embedding._functions], names[10:], "the functions that are kept of many")
+        tests.equal(show_error(raised_by(embedding.call, 0, names[0], *[0] * rows.MANY_TYPES)), "trap 1 0", "a call of another")
+
+
+# Loads and links a module of many exports, finds the one that an argument names, calls it, and lists them all. Prints the KiB of memory up
+# to the call and up to the end, the seconds of processor time, and what was found.
+LISTS = """
+import sys, time, tegvurn
+
+def memory(name):
+    with open("/proc/self/status") as file:
+        return next(int(line.split()[1]) for line in file if line.startswith(name))
+
+module, name, calls = sys.stdin.buffer.read(), sys.argv[1], []
+before, start = memory("VmRSS"), time.process_time()
+with tegvurn.Embedding(fuel=10_000) as embedding:
+    instance = embedding.link(embedding.load(module))
+    found = embedding.find_export(instance, name)
+    try:
+        embedding.call(instance, name, *[0] * len(found.parameters))
+    except tegvurn.Trap as trap:
+        calls.append(memory("VmHWM") - before)
+    exports = embedding.exports(instance)
+    print(*calls, memory("VmHWM") - before, time.process_time() - start)
+    types = {id(type_) for type_ in exports.values()}
+    print(len(exports), list(exports).index(name), len(types), exports[name] == found, len(found.parameters), len(found.results))
+"""
+# KiB up to the call and up to the end, and seconds. In the end, the names and their dictionary alone take 2,400 KiB.
+MOST_CALLED, MOST_LISTED, MOST_SECONDS = 5_000, 19_500, 1.5
+
+
+def test_many_exports(tests):
+    """Many exports of one function take little memory and time, also when all are listed: they share one type."""
+    words = [sys.executable, "-B", "-c", LISTS, rows.MANY_NAMES[-1]]
+    ran = subprocess.run(words, input=rows.many_exports(), capture_output=True, timeout=60, cwd=HERE)
+    lines = ran.stdout.decode().split("\n")
+    called, listed, seconds = map(float, lines[0].split())
+    tests.equal((called < MOST_CALLED, listed < MOST_LISTED, seconds < MOST_SECONDS), (True,) * 3, f"what many exports take: {lines[0]}")
+    tests.equal(lines[1:], ["29300 29299 1 True 1000 1000", ""], "many exports")
 
 
 def test_ends(tests):
