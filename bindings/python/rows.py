@@ -46,18 +46,23 @@ def section(number, items):
     return bytes([number]) + encode_leb(len(content)) + content
 
 
-def many_exports():
-    """Returns a module of 178 kB. If exports did not share types, their list would take 59 million types.
+def exports_of_one_function(names, type_count=0):
+    """Returns a module that exports one function under these names of less than 128 bytes.
 
     (module
       (type $f (func (param i32 ..) (result i32 ..)))
       (func $f (type $f) unreachable)
       (export "000" (func $f)) (export "001" (func $f)) ..)
     """
-    types = encode_leb(MANY_TYPES) + b"\x7f" * MANY_TYPES
-    exports = [b"\3" + name.encode() + b"\0\0" for name in MANY_NAMES]
+    types = encode_leb(type_count) + b"\x7f" * type_count
+    exports = [bytes([len(name)]) + name + b"\0\0" for name in names]
     sections = [section(1, [b"\x60" + types + types]), section(3, [b"\0"]), section(7, exports), section(10, [b"\3\0\0\x0b"])]
     return b"\0asm\1\0\0\0" + b"".join(sections)
+
+
+def many_exports():
+    """Returns a module of 178 kB. If exports did not share types, their list would take 59 million types."""
+    return exports_of_one_function([name.encode() for name in MANY_NAMES], MANY_TYPES)
 
 
 def most_memory(process):

@@ -630,6 +630,36 @@ def test_many_exports(tests):
     tests.equal(lines[1:], ["29300 29299 1 True 1000 1000", ""], "many exports")
 
 
+# Each row: which names 120,000 exports have, of 32 bytes each. The first is what the others are compared with. With the prefix of the second,
+# a hash that folds 16 bytes at a time from a fixed seed is 0, whatever follows.
+NAMES = {
+    "names at random": lambda k: b"%032x" % (k * 0x9E3779B97F4A7C15 % 2**64),
+    "names that collide": lambda k: b"uraablssepsjefdus'&g\"S/ %08d" % k,
+    "names in order": lambda k: b"%032d" % k,
+    "names in reverse": lambda k: b"%032d" % (120_000 - k),
+    "names in turn": lambda k: b"%032d" % (k if k % 2 else 120_000 - k),
+}
+
+
+def load_seconds(embedding, module):
+    """Returns the processor time of loading a module, the best of three."""
+    seconds = []
+    for _ in range(3):
+        start = time.process_time()
+        embedding.load(module)
+        seconds.append(time.process_time() - start)
+    return min(seconds)
+
+
+def test_export_names(tests):
+    with tegvurn.Embedding(fuel=0) as embedding:
+        seconds = {
+            name: load_seconds(embedding, rows.exports_of_one_function([make(k) for k in range(120_000)])) for name, make in NAMES.items()
+        }
+    for name, taken in seconds.items():
+        tests.equal(taken <= 3 * seconds["names at random"] + 0.1, True, f"{name}: {seconds}")
+
+
 def test_ends(tests):
     """How a call ended is read in every form that the library may write."""
     ends = [
