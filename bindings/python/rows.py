@@ -60,6 +60,12 @@ def exports_of_one_function(names, type_count=0):
     return b"\0asm\1\0\0\0" + b"".join(sections)
 
 
+def imports_of_functions(module, names):
+    """Returns a module that imports functions without parameters and results from another one, whose name and names have less than 128 bytes."""
+    imports = [bytes([len(module)]) + module + bytes([len(name)]) + name + b"\0\0" for name in names]
+    return b"\0asm\1\0\0\0" + section(1, [b"\x60\0\0"]) + section(2, imports)
+
+
 def many_exports():
     """Returns a module of 178 kB. If exports did not share types, their list would take 59 million types."""
     return exports_of_one_function([name.encode() for name in MANY_NAMES], MANY_TYPES)

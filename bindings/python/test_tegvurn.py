@@ -660,6 +660,19 @@ def test_export_names(tests):
         tests.equal(taken <= 3 * seconds["names at random"] + 0.1, True, f"{name}: {seconds}")
 
 
+def test_many_imports(tests):
+    """A module of 200 kB imports from one of 600 kB. If each import went through all exports, the link would take seconds."""
+    names = [b"%07d" % k for k in range(60_000)]
+    with tegvurn.Embedding(fuel=0) as embedding:
+        exporting = embedding.link(embedding.load(rows.exports_of_one_function(names)))
+        embedding.register(exporting, "a")
+        importing = embedding.load(rows.imports_of_functions(b"a", names[:-17_000:-1]))
+        start = time.process_time()
+        embedding.link(importing)
+        seconds = time.process_time() - start
+    tests.equal(seconds < 0.3, True, f"many imports: {seconds}")
+
+
 def test_ends(tests):
     """How a call ended is read in every form that the library may write."""
     ends = [
