@@ -39,7 +39,7 @@ module _ {I : Type 0} {F : I → Type 0} (members : (i : I) → Ghosts (F i)) wh
   ListsExports old instance (Refused cause) = Unit {0}
   ListsExports old instance answer = ⊥
 
-  -- The export of a name is given, or it is refused as the embedding machine refuses what is asked of it, or there is no memory for it.
+  -- The export of a name is given, or refused as a command that asks for it would be.
   abbrev pub GivesExport : Embedding (HostObject I F) → (instance : ℕ) → (name : List ℕ) → Answer
       → Type 0
   GivesExport old instance name (Exports found) = AreExports found (named_export old instance name)

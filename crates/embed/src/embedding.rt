@@ -215,7 +215,8 @@ impl Embedding {
     ///
     /// Fails if an allocation failed.
     pub fn exports(&self, instance: InstanceNumber) -> Result<Exports, AllocError>
-        ensures { IfOk result (λ found. AreExports found (exports_at (embedding_of self.now) instance.0)) }
+        ensures { IfOk result (λ found. AreExports found
+            (exports_at (embedding_of self.now) instance.0)) }
     {
         let mut listing = Listing::new(self.alloc);
         let Some(address) = self.instance(instance.0) else {

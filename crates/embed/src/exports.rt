@@ -14,8 +14,8 @@ pub struct ExportType {
     pub ty: usize,
 }
 
-/// What an instance exports, in the order of its module. Functions that are declared at one place share one type in the list, so the
-/// list takes no more than the modules that declare them, however many exports there are.
+/// What an instance exports, in the order of its module. Functions that one instance declares by one index of its types share one type
+/// in the list, and so do exports of one host function. So a long type is not listed anew for each export.
 #[derive(Drop)]
 pub struct Exports {
     /// The types; that of a table or a memory has the present size as minimum.
@@ -30,7 +30,7 @@ pub(crate) enum Declaration {
     InHost(u32),
 }
 
-/// The list of exports while it grows, with where the types of functions are in it.
+/// A list of exports while it grows, with the indices of the types of functions.
 #[derive(Drop)]
 pub(crate) struct Listing {
     alloc: Global,
@@ -79,14 +79,16 @@ impl Listing {
         }
     }
 
-    // The index of a type in the list, which it is added to unless it is known.
+    // The index of a type in the list. The type is added unless it is known.
     fn index_of(
         &mut self,
         declaration: Option<Declaration>,
         ty: ExternType,
     ) -> Result<usize, AllocError>
-        ensures there { IfOk result (λ index. slice_get self.new.found.types.items index ≡ Some ty) }
-        ensures kept { OnOk result (KeepsTypes self.old.found.types.items self.new.found.types.items) }
+        ensures there { IfOk result
+            (λ index. slice_get self.new.found.types.items index ≡ Some ty) }
+        ensures kept { OnOk result
+            (KeepsTypes self.old.found.types.items self.new.found.types.items) }
         ensures exports { self.new.found.exports.items ≡ self.old.found.exports.items }
     {
         let Some(declaration) = declaration else {
