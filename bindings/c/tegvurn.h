@@ -280,8 +280,8 @@ typedef struct tegvurn_export {
 } tegvurn_export;
 
 /* Gives what an instance exports: nothing if there is no such instance. The caller frees *exports, with all that its members point to, by
-   `tegvurn_exports_free`. The memory that the list takes grows with the modules that declare what is exported: functions that are declared
-   at one place share one type. */
+   `tegvurn_exports_free`. The memory that the list takes grows with the modules of the instances that declare what is exported: functions
+   that one instance declares by one index of its types share one type. */
 TEGVURN_API tegvurn_status tegvurn_exports(tegvurn *embedding, uint64_t instance, tegvurn_export **exports, size_t *count);
 
 /* Gives one export, however many there are. The caller frees *found, with all that its members point to, by `tegvurn_exports_free`. The call
