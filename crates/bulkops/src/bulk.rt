@@ -2,6 +2,7 @@ ghost use Rattle.std.specs.Prelude.{◌≡◌, ◌+◌, nat_le};
 ghost use Rattle.meaning.specs.execution.Memories.{copy_bytes as copy_of, fill_bytes as fill_of};
 ghost use Rattle.bulkops.specs.Accesses.{Wrote};
 
+use copying::copy_within;
 use core_types::Trap;
 
 /// Whether that many bytes from an offset on lie within so many.
@@ -33,8 +34,7 @@ pub fn copy_bytes(bytes: &mut [u8], target: u32, from: u32, count: u32) -> Resul
     if !is_within(bytes.len(), target, count) {
         return Err(Trap::MemoryBounds);
     }
-    let start = from as usize;
-    bytes.copy_within(start..start + count as usize, target as usize);
+    copy_within(bytes, target as usize, from as usize, count as usize);
     Ok(())
 }
 

@@ -7,6 +7,8 @@ mod accesses;
 #[cfg(test)]
 mod collections;
 #[cfg(test)]
+mod copies;
+#[cfg(test)]
 mod flattening;
 #[cfg(test)]
 mod host_calls;

@@ -97,8 +97,8 @@ fn shows(state: &State, address: u32, entries: &[Val]) -> bool {
     }
 }
 
-// Whether a value is of the type of a table's entries.
-fn is_entry(state: &State, address: u32, value: Val) -> bool
+/// Whether a value is of the type of a table's entries.
+pub fn is_entry(state: &State, address: u32, value: Val) -> bool
     requires { address < length state.now.contents.tables }
     ensures { IsTrue result
         → type_of value ≡ reference_type (table_of state.now address).ty.element }

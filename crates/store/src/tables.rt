@@ -5,6 +5,7 @@ ghost use Rattle.meaning.specs.execution.Values.{null_of};
 ghost use Rattle.store.specs.State.{no_table};
 ghost use Rattle.store.specs.Tables.{HasEntries, with_entries};
 
+use copying::copy_within;
 use core_types::{Limits, RefType, TableType, Val};
 use std::alloc::{AllocError, Global};
 use std::marker::Model;
@@ -102,9 +103,12 @@ impl Table {
         ensures { self.new ≡ with_entries self.old
             (overwrite self.old.entries target (items_at self.old.entries from count)) }
     {
-        let start = from as usize;
-        self.entries
-            .copy_within(start..start + count as usize, target as usize);
+        copy_within(
+            self.entries.as_mut_slice(),
+            target as usize,
+            from as usize,
+            count as usize,
+        );
     }
 
     // Copies that many values from others.
