@@ -3,14 +3,16 @@ use Rattle.std.specs.Prelude.{◌≡◌, ◌⊎◌, ℕ, List, [], ◌∷◌, �
 use Rattle.std.specs.declared.alloc.Global.{Global as Allocator}
 use Rattle.embed.specs.Exports.{AreExports, IsRefusedExport, named_export}
 use Rattle.embed.specs.Replies.{reply_of}
+use Rattle.embed.specs.declared.refusals.Refusal.TheVariants.{OutOfMemory}
 use Rattle.hostfunc.specs.Boxes.{HostStep}
 use Rattle.hostfunc.specs.declared.host_function.HostFn.{Ghosts}
 use Rattle.hostfunc.specs.declared.host_object.HostObject.{HostObject}
 use Rattle.meaning.specs.embedding.Commands as machine
-use Rattle.meaning.specs.embedding.Machine.{Applies, Embedding, exports_at}
+use Rattle.meaning.specs.embedding.Machine.{Embedding, exports_at}
 use Rattle.meaning.specs.execution.Runs.{WithValues}
 use Rattle.meaning.specs.scripts.Commands.{ScriptCommand, files_in}
 use Rattle.orders.specs.Orders as order
+use Rattle.soundness.specs.Headline.{AppliesWell}
 use Rattle.scripts.specs.Faults.{ReadsScript}
 use Rattle.scripts.specs.Runs.{Runs, files_view}
 use Rattle.answers.specs.declared.answer.Answer.{Answer}
@@ -33,10 +35,16 @@ IsReply (Global value) reply' = reply' ≡ machine.Ended (WithValues (value ∷ 
 IsReply answer reply' = ⊥
 
 module _ {I : Type 0} {F : I → Type 0} (members : (i : I) → Ghosts (F i)) where
+  -- A file is kept, or there is no memory for it.
+  abbrev pub IsKept : Answer → Type 0
+  IsKept Done = Unit {0}
+  IsKept (Refused cause) = cause ≡ Command OutOfMemory
+  IsKept answer = ⊥
+
   -- What an instance exports is listed, or there is no memory for the list.
   abbrev pub ListsExports : Embedding (HostObject I F) → (instance : ℕ) → Answer → Type 0
   ListsExports old instance (Exports found) = AreExports found (exports_at old instance)
-  ListsExports old instance (Refused cause) = Unit {0}
+  ListsExports old instance (Refused cause) = cause ≡ Command OutOfMemory
   ListsExports old instance answer = ⊥
 
   -- The export of a name is given, or refused as a command that asks for it would be.
@@ -60,19 +68,19 @@ module _ {I : Type 0} {F : I → Type 0} (members : (i : I) → Ghosts (F i)) wh
       × Runs members script (files_in (files_view files)) old (Err fault) new)
   RunsText files text old answer new = ⊥
 
-  -- A command is applied once, as the embedding machine does; other orders but scripts change nothing, and those that come too late
-  -- are answered so.
+  -- A command is applied once, as the embedding machine does, and goes well. Other orders except scripts change nothing, and those
+  -- that come too late are answered so.
   abbrev pub Obeys : List (String Allocator × Vec ℕ Allocator) → Embedding (HostObject I F)
       → order.Order → Answer → Embedding (HostObject I F) → Type 0
   Obeys files old (order.Apply command) answer new = (reply : machine.Reply)
-      × IsReply answer reply × Applies (HostStep members) old command reply new
+      × IsReply answer reply × AppliesWell (HostStep members) old command reply new
   Obeys files old order.FuelLeft answer new = (answer ≡ FuelLeft old.state.fuel) × (new ≡ old)
   Obeys files old (order.Exports instance) answer new =
       ListsExports old instance answer × (new ≡ old)
   Obeys files old (order.NamedExport instance name) answer new =
       GivesExport old instance name answer × (new ≡ old)
   Obeys files old (order.RunScript text) answer new = RunsText files text old answer new
-  Obeys files old (order.Keep name bytes) answer new = new ≡ old
+  Obeys files old (order.Keep name bytes) answer new = IsKept answer × (new ≡ old)
   Obeys files old order.End answer new = (answer ≡ Done) × (new ≡ old)
   Obeys files old (order.Define first second signature) answer new =
       (answer ≡ NotNow) × (new ≡ old)

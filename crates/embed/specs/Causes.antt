@@ -1,13 +1,15 @@
 -- Why commands are refused, by what the layers below answer.
-use Rattle.std.specs.Prelude.{◌≡◌, List, ℕ, Some, None, slice_get}
+use Rattle.std.specs.Prelude.{◌≡◌, List, ℕ, Some, None, slice_get, take}
 use Rattle.core_types.specs.declared.module.Import.{Import}
 use Rattle.core_types.specs.declared.module.Module.{Module}
-use Rattle.meaning.specs.embedding.Machine.{IsDecoded, resolve_imports}
+use Rattle.core_types.specs.declared.outcome.Extern.{Extern}
+use Rattle.meaning.specs.embedding.Machine.{Embedding, IsDecoded, resolve_imports}
 use Rattle.meaning.specs.embedding.Names.{NamesContents, resolve_name}
 use Rattle.meaning.specs.execution.Store.{Store}
 use Rattle.meaning.specs.validation.Modules.{IsValid}
 use Rattle.binary.specs.declared.errors.DecodeError.{DecodeError}
 use Rattle.binary.specs.declared.errors.DecodeError.TheVariants as decode
+use Rattle.instantiate.specs.Links.{IsMismatch}
 use Rattle.instantiate.specs.declared.link_end.LinkRefusal.{LinkRefusal}
 use Rattle.instantiate.specs.declared.link_end.LinkRefusal.TheVariants as link
 use Rattle.linker.specs.declared.refusals.NameRefusal.{NameRefusal}
@@ -49,11 +51,30 @@ pub data RefusesBytes (bytes : List ℕ) (refusal : Refusal) : Type 0 where
       → refusal ≡ Invalid place → RefusesBytes bytes refusal
   no_memory : refusal ≡ OutOfMemory → RefusesBytes bytes refusal
 
--- Why there is nothing to link imports to: the names of one stand for nothing, or there was no memory.
+-- The names of the import of this index stand for nothing, and those of each import before it for something.
+pub record IsUnknownImport (store : Store) (names : NamesContents) (imports : List Import)
+    (index : ℕ) : Type 0 where
+  pub wanted : Import
+  pub wanted_is : slice_get imports index ≡ Some wanted
+  pub unknown : resolve_name store names wanted.module_name wanted.name ≡ None
+  pub found : List Extern
+  pub before : resolve_imports store names (take index imports) ≡ Some found
+
+-- Why there is nothing to link imports to: one is unknown, or memory ran out.
 pub data IsUnresolved (store : Store) (names : NamesContents) (imports : List Import)
     (refusal : Refusal) : Type 0 where
-  missing : (index : ℕ) (wanted : Import) → slice_get imports index ≡ Some wanted
-      → resolve_name store names wanted.module_name wanted.name ≡ None
+  missing : (index : ℕ) → IsUnknownImport store names imports index
       → resolve_imports store names imports ≡ None → refusal ≡ UnknownImport index
       → IsUnresolved store names imports refusal
   no_memory : refusal ≡ OutOfMemory → IsUnresolved store names imports refusal
+
+-- If the link of a module is refused for an import, that import is the first one at fault.
+abbrev pub IsFirstAtFault : {H : Type 0} → Embedding H → (number : ℕ) → Refusal → Type 0
+IsFirstAtFault at number (UnknownImport index) =
+    (m : Module) × (slice_get at.modules number ≡ Some m)
+    × IsUnknownImport at.state.store at.names m.imports index
+IsFirstAtFault at number (IncompatibleImport index) =
+    (m : Module) × (slice_get at.modules number ≡ Some m) × (given : List Extern)
+    × (resolve_imports at.state.store at.names m.imports ≡ Some given)
+    × IsMismatch at.state.store m given index
+IsFirstAtFault at number refusal = Unit {0}

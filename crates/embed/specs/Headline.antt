@@ -1,11 +1,11 @@
 -- The headline, of embeddings with these definitions of host functions.
-use Rattle.std.specs.Prelude.{List, Ok, map}
+use Rattle.std.specs.Prelude.{◌≡◌, List, Ok, map}
 use Rattle.std.specs.List.{All}
 use Rattle.meaning.specs.embedding.Commands.{Command, Reply}
 use Rattle.meaning.specs.embedding.Creation.{Creates}
 use Rattle.meaning.specs.embedding.Machine.{AppliesAll, Embedding, Setup}
 use Rattle.soundness.specs.Embedding.{LoadsBytes}
-use Rattle.soundness.specs.Headline.{AllAreAsSaid}
+use Rattle.soundness.specs.Headline.{AllAreAsSaid, states_of}
 use Rattle.hostfunc.specs.Boxes.{HostStep, OwnHostStep, type_of_host}
 use Rattle.hostfunc.specs.declared.host_function.HostFn.{Ghosts}
 use Rattle.hostfunc.specs.declared.host_object.HostObject.{HostObject}
@@ -14,13 +14,14 @@ use Rattle.embed.specs.declared.host_definitions.HostDef.{HostDef}
 
 module _ {I : Type 0} {F : I → Type 0} (members : (i : I) → Ghosts (F i)) where
   -- Whatever list of commands is applied to a fresh embedding, its run is one in which host functions answer by the relations of their
-  -- objects alone, and each call in it is as the headline says.
+  -- objects alone, through the same embeddings, and each call and each link in it is as the headline says.
   abbrev pub IsAsTheHeadlineSays : List (HostDef I F) → Type 0
   IsAsTheHeadlineSays definitions =
       (setup : Setup) (fresh last : Embedding (HostObject I F)) (commands : List Command)
       (replies : List Reply)
       → Creates type_of_host setup (map (definition_of members) definitions) (Ok fresh)
       → All LoadsBytes commands
-      → AppliesAll (HostStep members) fresh commands replies last
+      → (given : AppliesAll (HostStep members) fresh commands replies last)
       → (run : AppliesAll (OwnHostStep members) fresh commands replies last)
+      × (states_of (OwnHostStep members) run ≡ states_of (HostStep members) given)
       × AllAreAsSaid (OwnHostStep members) run

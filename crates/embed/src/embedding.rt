@@ -2,12 +2,13 @@
 
 mod operations;
 
-ghost use Rattle.std.specs.Prelude.{◌≡◌, ◌++◌, ◌∷◌, [], ◌<◌, ◌^◌, OnOk, IfErr, IfOk, List, ℕ, filter_map, length, map, option_and_then, slice_get, Some};
+ghost use Rattle.std.specs.Prelude.{◌≡◌, ◌++◌, ◌∷◌, [], ◌<◌, ◌^◌, OnOk, IfErr, IfOk, List, ℕ, filter_map, length, map, option_and_then, slice_get, Ok, Some};
 ghost use Rattle.std.proofs.Props.{props};
 ghost use Rattle.meaning.specs.embedding.Creation.{Creates};
 ghost use Rattle.meaning.specs.embedding.Machine.{as_function, as_global, export_at, export_type as type_at, exports_at, named_type};
 ghost use Rattle.meaning.specs.embedding.Names.{extern_of};
 ghost use Rattle.meaning.specs.execution.Store.{extern_type as type_of, instance_of};
+ghost use Rattle.core_types.specs.declared.outcome.Extern.TheVariants.{Func as FuncValue};
 ghost use Rattle.core_types.specs.declared.types.ExternType.{ExternType as Type_of};
 ghost use Rattle.embed.specs.Exports.{AreExports, IsRefusedExport, named_export};
 ghost use Rattle.soundness.specs.Embedding.{IsSound};
@@ -141,14 +142,20 @@ impl Embedding {
         }
     }
 
-    /// The type of what an instance exports under a name, that of a table or a memory with the present size as minimum; none where there
-    /// is no such instance or no such export. Fails where there is no memory for the types of a function.
+    /// Returns the type of what an instance exports under a name, that of a table or a memory with the present size as minimum; none if
+    /// there is no such instance or no such export.
+    ///
+    /// # Errors
+    ///
+    /// Fails only for a function, if memory for its types runs out.
     pub fn export_type(
         &self,
         instance: InstanceNumber,
         name: &str,
     ) -> Result<Option<ExternType>, AllocError>
-        ensures { IfOk result (λ ty. ty ≡ type_at (embedding_of self.now) instance.0 name.now) }
+        ensures ty { IfOk result (λ ty. ty ≡ type_at (embedding_of self.now) instance.0 name.now) }
+        ensures function { IfErr result (λ _. (address : ℕ)
+            × (export_at (embedding_of self.now) instance.0 name.now ≡ Ok (FuncValue address))) }
     {
         let Ok(found) = self.export(instance.0, name) else {
             return Ok(None);

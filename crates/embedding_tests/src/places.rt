@@ -31,7 +31,7 @@ const FLOAT_SUM: [u8; 25] = [
 const ONE: &str = "(func (result i32) i32.const 1) (export \"f\" (func 0))";
 
 #[rattlefmt::skip]
-static ROWS: [Row; 7] = [
+static ROWS: [Row; 10] = [
     Row { name: "a malformed byte", steps: &[LoadBytes(&NO_TYPE, Refused(Refusal::Malformed(11)))] },
     Row { name: "an unsupported type", steps: &[LoadBytes(&FLOAT_PARAMETER, Refused(Refusal::Unsupported(13)))] },
     Row { name: "an unsupported instruction", steps: &[LoadBytes(&FLOAT_SUM, Refused(Refusal::Unsupported(23)))] },
@@ -50,6 +50,21 @@ static ROWS: [Row; 7] = [
         Load(ONE, Number(0)), Link(0, Number(0)), Register(0, "m", Done),
         Load("(import \"m\" \"f\" (func (result i32))) (import \"m\" \"f\" (func (result i64)))", Number(1)),
         Link(1, Refused(Refusal::IncompatibleImport(1))),
+    ] },
+    Row { name: "two unknown imports", steps: &[
+        Load(ONE, Number(0)), Link(0, Number(0)), Register(0, "m", Done),
+        Load("(import \"m\" \"f\" (func (result i32))) (import \"m\" \"missing\" (func)) (import \"n\" \"f\" (func))", Number(1)),
+        Link(1, Refused(Refusal::UnknownImport(1))),
+    ] },
+    Row { name: "two imports of other types", steps: &[
+        Load(ONE, Number(0)), Link(0, Number(0)), Register(0, "m", Done),
+        Load("(import \"m\" \"f\" (func (result i32))) (import \"m\" \"f\" (func (result i64))) (import \"m\" \"f\" (global i32))", Number(1)),
+        Link(1, Refused(Refusal::IncompatibleImport(1))),
+    ] },
+    Row { name: "an import of another type before an unknown one", steps: &[
+        Load(ONE, Number(0)), Link(0, Number(0)), Register(0, "m", Done),
+        Load("(import \"m\" \"f\" (func (result i64))) (import \"m\" \"missing\" (func))", Number(1)),
+        Link(1, Refused(Refusal::UnknownImport(1))),
     ] },
 ];
 

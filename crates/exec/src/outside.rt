@@ -10,7 +10,7 @@ ghost use Rattle.soundness.specs.Embedding.{results_of};
 ghost use Rattle.soundness.specs.Runs.{EndsWell};
 ghost use Rattle.soundness.specs.Stores.{Extends, StoreIsValid};
 ghost use Rattle.fuel.specs.Metering.{Charges};
-ghost use Rattle.hostfunc.specs.Boxes.{HaveHosts, HostStep, IsHost};
+ghost use Rattle.hostfunc.specs.Boxes.{HaveHosts, HostStep, IfHostsKeep, IsHost, OwnHostStep};
 ghost use Rattle.hostfunc.specs.Tables.{hosts_in};
 ghost use Rattle.store.specs.Contents.{host_function, store_of, store_with};
 ghost use Rattle.exec.specs.Endings.{RunsCall, ending_of, run_state};
@@ -200,7 +200,8 @@ fn call_from_outside(
 /// The caller owes a function at the address, arguments of its parameter types (`accepts` is the test of both), for each host function
 /// of the store an object of its type, and a meter without an open frame; at the end no frame is open. A refused step charges
 /// nothing. In a valid store no call goes wrong: results have the function's result types. It ends for want of memory only where a
-/// frame is opened, a table or a memory grows, or a host function is called (Execution, Modules, Invocation).
+/// frame is opened, a table or a memory grows, or a host function is called. If each host function declares the type that it was
+/// taken in with, each answers by the relation of its object alone, and still declares that type (Execution, Modules, Invocation).
 pub fn invoke(
     alloc: Global,
     store: &mut Store,
@@ -215,6 +216,10 @@ pub fn invoke(
     ensures run { RunsCall (HostStep ⟦<dyn HostFn as HostFn>⟧) meter.old.bound
         (run_state (store_of store.old) (hosts_in hosts.old) meter.old.left) address args.now result
         (run_state (store_of store.new) (hosts_in hosts.new) meter.new.left) }
+    ensures own { IfHostsKeep ⟦<dyn HostFn as HostFn>⟧ (hosts_in hosts.old) (hosts_in hosts.new)
+        (RunsCall (OwnHostStep ⟦<dyn HostFn as HostFn>⟧) meter.old.bound
+        (run_state (store_of store.old) (hosts_in hosts.old) meter.old.left) address args.now result
+        (run_state (store_of store.new) (hosts_in hosts.new) meter.new.left)) }
     ensures ends { EndsWell (store_of store.new)
         (results_of (slice_get (store_of store.old).functions address)) (ending_of result) }
     ensures extends { Extends (store_of store.old) (store_of store.new) }

@@ -1,6 +1,7 @@
 -- Host functions in boxes: I names the kinds of objects, and F has the type of each.
 use Rattle.std.specs.Prelude.{◌≡◌, ℕ, List, Option}
 use Rattle.std.specs.Global.{Global}
+use Rattle.std.specs.List.{All}
 use Rattle.std.specs.declared.dyn_box.DynBox.{DynBox}
 use Rattle.core_types.specs.declared.outcome.Val.{Val}
 use Rattle.core_types.specs.declared.types.FuncType.{FuncType}
@@ -32,6 +33,10 @@ module _ {I : Type 0} {F : I → Type 0} (members : (i : I) → Ghosts (F i)) wh
   -- Its object declares the type that it was taken in with.
   abbrev pub KeepsItsType : HostObject I F → Type 0
   KeepsItsType h = declared_type h.object ≡ h.ty
+
+  -- If each host function declares the type that it was taken in with, this holds, and each still does.
+  abbrev pub IfHostsKeep : (old new : List (HostObject I F)) → Type 0 → Type 0
+  IfHostsKeep old new P = All KeepsItsType old → P × All KeepsItsType new
 
   -- The relation of its object alone: the one then is of the same kind.
   abbrev pub OwnAnswers : HostObject I F → List Val → List ℕ → Answer → List ℕ → HostObject I F

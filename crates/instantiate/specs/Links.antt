@@ -15,7 +15,7 @@ use Rattle.instantiate.specs.declared.link_end.LinkEnd.TheVariants.{Refused, End
 use Rattle.instantiate.specs.declared.link_end.LinkRefusal.{LinkRefusal}
 use Rattle.instantiate.specs.declared.link_end.LinkRefusal.TheVariants.{Limit, UnknownImport, IncompatibleImport, OutOfMemory}
 
--- The import of this index is given something else than it asks for.
+-- The import of this index is the first that is given something else than it asks for.
 pub record IsMismatch (store : Store) (m : Module) (externs : List Extern) (index : ℕ) : Type 0
   where
     pub wanted : Import
@@ -23,8 +23,10 @@ pub record IsMismatch (store : Store) (m : Module) (externs : List Extern) (inde
     pub wanted_is : slice_get m.imports index ≡ Some wanted
     pub given_is : slice_get externs index ≡ Some given
     pub differs : IsGiven store given (import_type m wanted.desc) → ⊥
+    pub before : AreGiven store m (take index m.imports) externs
 
--- Why a link is refused: of imports for which there is nothing the first is told. Memory may run out whatever the module asks for.
+-- Why a link is refused: the first import for which there is nothing, or that does not match, is told. Memory may run out whatever
+-- the module asks for.
 abbrev pub IsCause : LinkRefusal → Store → Module → List Extern → Type 0
 IsCause (UnknownImport index) store m externs =
     (length externs < length m.imports) × (index ≡ length externs)

@@ -5,7 +5,7 @@ ghost use Rattle.meaning.specs.execution.Runs.{NoHosts};
 ghost use Rattle.soundness.specs.Links.{IsLinkable, TasksAreGood};
 ghost use Rattle.soundness.specs.Stores.{Extends};
 ghost use Rattle.fuel.specs.Metering.{Charges};
-ghost use Rattle.hostfunc.specs.Boxes.{HaveHosts, HostStep};
+ghost use Rattle.hostfunc.specs.Boxes.{HaveHosts, HostStep, IfHostsKeep, OwnHostStep};
 ghost use Rattle.hostfunc.specs.Tables.{hosts_in};
 ghost use Rattle.exec.specs.Endings.{run_state};
 ghost use Rattle.store.specs.Contents.{store_of};
@@ -196,7 +196,8 @@ fn link(
 /// for which there is nothing; then with `IncompatibleImport` and the index of the first import that does not match, then with `Limit` where a table or a memory would be larger than the
 /// embedding allows, or an address larger than 32 bits; with `OutOfMemory` where there is no memory. A trap or an exhaustion ends
 /// the link where it stands, and what was done stays, a valid instance among it. The caller owes for each host function of the store
-/// an object of its type, and a meter without an open frame; at the end no frame is open.
+/// an object of its type, and a meter without an open frame; at the end no frame is open. If each host function declares the type
+/// that it was taken in with, each answers by the relation of its object alone, and still declares that type.
 pub fn instantiate(
     alloc: Global,
     store: &mut Store,
@@ -211,6 +212,11 @@ pub fn instantiate(
         loaded.now.value.source externs.now
         (run_state (store_of store.old) (hosts_in hosts.old) meter.old.left)
         (run_state (store_of store.new) (hosts_in hosts.new) meter.new.left) }
+    ensures own { IfHostsKeep ⟦<dyn HostFn as HostFn>⟧ (hosts_in hosts.old) (hosts_in hosts.new)
+        (Links (OwnHostStep ⟦<dyn HostFn as HostFn>⟧) result meter.old.bound
+        loaded.now.value.source externs.now
+        (run_state (store_of store.old) (hosts_in hosts.old) meter.old.left)
+        (run_state (store_of store.new) (hosts_in hosts.new) meter.new.left)) }
     ensures extends { Extends (store_of store.old) (store_of store.new) }
     ensures instance_stays { LeavesInstance result loaded.now.value.source externs.now
         (store_of store.old) (store_of store.new) }

@@ -1,5 +1,5 @@
 -- Orders to a server of an embedding, and how messages spell them, which are this project's own.
-use Rattle.std.specs.Prelude.{ℕ, List, [], ◌++◌, ◌<◌, ◌^◌, length, IsUtf8, All}
+use Rattle.std.specs.Prelude.{◌≡◌, ◌⊎◌, ℕ, List, [], ◌++◌, ◌<◌, ◌^◌, length, IsUtf8, All}
 use Rattle.core_types.specs.declared.types.FuncType.{FuncType}
 use Rattle.meaning.specs.embedding.Commands.{Command, Load, Link, Register, Call, GetGlobal, SetFuel}
 use Rattle.meaning.specs.embedding.Machine.{Setup}
@@ -61,6 +61,10 @@ fields_of (Begin setup) =
     number_bytes setup.fuel ++ (number_bytes setup.depth
     ++ (number_bytes setup.pages ++ number_bytes setup.entries))
 fields_of (NamedExport instance name) = number_bytes instance ++ name
+
+-- A call has values, and a definition has types. All other orders are read in place.
+abbrev pub HasLists : (kind : ℕ) → Type 0
+HasLists kind = (kind ≡ 4) ⊎ (kind ≡ 11)
 
 -- A name is in UTF-8, and its length is a number of 64 bits.
 abbrev pub IsName : List ℕ → Type 0

@@ -1,5 +1,5 @@
 ghost use Rattle.std.specs.Prelude.{◌≡◌, ◌≢◌, ℕ, List, Err, IfOk};
-ghost use Rattle.orders.specs.Orders.{Fits, Order as AnyOrder, fields_of, kind_of};
+ghost use Rattle.orders.specs.Orders.{Fits, HasLists, Order as AnyOrder, fields_of, kind_of};
 ghost use Rattle.orders.specs.Readings.{order_of};
 
 use crate::fields::{read_call, read_definition, read_number, read_number_and_name, read_setup};
@@ -7,13 +7,18 @@ use crate::order::Order;
 use messages::{ReadFault, split_text};
 use std::alloc::Global;
 
-/// The order that the kind and the fields of a message spell. Fails where they spell none, and where there is no memory for arguments
-/// or types.
+/// Reads the order that the kind and the fields of a message spell.
+///
+/// # Errors
+///
+/// Fails with `NotSpelt` if they spell none, and with `OutOfMemory` only for a call or a definition, if memory for its arguments or types
+/// runs out.
 pub fn read_order(alloc: Global, kind: u64, fields: &[u8]) -> Result<Order<'_>, ReadFault>
     ensures kind { IfOk result (λ order. kind_of (order_of order) ≡ kind) }
     ensures fields { IfOk result (λ order. fields_of (order_of order) ≡ fields.now) }
     ensures not_spelt { result ≡ Err ReadFault.NotSpelt → (order : AnyOrder) → Fits order →
         kind_of order ≡ kind → fields_of order ≢ fields.now }
+    ensures memory { result ≡ Err ReadFault.OutOfMemory → HasLists kind }
 {
     match kind {
         0 if fields.is_empty() => Ok(Order::End),

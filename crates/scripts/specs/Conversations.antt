@@ -6,7 +6,7 @@ use Rattle.meaning.specs.embedding.Machine.{Embedding}
 use Rattle.meaning.specs.execution.Runs.{Answer}
 use Rattle.meaning.specs.execution.Store.{Store}
 use Rattle.meaning.specs.scripts.Dialogues.{Dialogue, Asks, IsForMemory}
-use Rattle.soundness.specs.Embedding.{AppliesWell}
+use Rattle.soundness.specs.Headline.{AppliesWell}
 use Rattle.embed.specs.Replies.{reply_of}
 use Rattle.embed.specs.declared.commands.Reply.{Reply as GivenReply}
 use Rattle.scripts.specs.declared.faults.ScriptFault.{ScriptFault}

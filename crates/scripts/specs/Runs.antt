@@ -16,7 +16,7 @@ use Rattle.meaning.specs.scripts.Dialogues.{Begins, Dialogue, Holds}
 use Rattle.meaning.specs.scripts.Dialogues as meaning
 use Rattle.meaning.specs.scripts.Runner as runner
 use Rattle.meaning.specs.scripts.Runner.{dialogue, start}
-use Rattle.soundness.specs.Embedding.{RunsWell}
+use Rattle.soundness.specs.Headline.{RunsWell}
 use Rattle.scripts.specs.Conversations as part
 use Rattle.scripts.specs.declared.faults.ScriptFault.{ScriptFault}
 use Rattle.scripts.specs.declared.faults.ScriptFault.TheVariants.{NotJson, BadCommand, MissingFile, OutOfMemory}

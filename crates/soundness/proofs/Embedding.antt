@@ -15,17 +15,18 @@ use Rattle.core_types.specs.declared.types.FuncType.{FuncType}
 use Rattle.core_types.specs.declared.types.ValType.{ValType}
 use Rattle.meaning.proofs.lemmas.Lists.{map_all-length}
 use Rattle.meaning.specs.embedding.Commands.{Command, Load, Link, Register, Call, GetGlobal, SetFuel, Refusal, Reply, Done, Refused}
-use Rattle.meaning.specs.embedding.Machine.{Applies, AppliesAll, Calls, CallsAt, Embedding, Gets, GetsAt, Links, LinksAt, Loads, Registers, RegistersAt, as_function, as_global, export_at, export_from, export_in}
+use Rattle.meaning.specs.embedding.Machine.{Applies, AppliesAll, Calls, CallsAt, Embedding, Gets, GetsAt, Links, LinksAt, Loads, Registers, RegistersAt, as_function, as_global, export_at, export_from, export_in, resolve_imports}
 use Rattle.meaning.specs.embedding.Machine as machine
-use Rattle.meaning.specs.embedding.Names.{export_of, extern_of, resolve_name}
+use Rattle.meaning.specs.embedding.Names.{NamesContents, export_of, extern_of, resolve_name}
 use Rattle.meaning.specs.execution.Configurations.{Invoking, no_frame}
 use Rattle.meaning.specs.execution.Hosts.{IsHostStep}
-use Rattle.meaning.specs.execution.Modules.{Instantiation, IsAllowed, map_all}
+use Rattle.meaning.specs.execution.Modules.{Instantiation, IsAllowed}
 use Rattle.meaning.specs.execution.Runs.{Answer, Ending, State, WithValues}
 use Rattle.meaning.specs.execution.Storage.{AreBytes}
 use Rattle.meaning.specs.execution.Store.{ModuleInstance, Store, instance_of}
 use Rattle.meaning.specs.structure.Bodies.{Body, body_of, writing}
-use Rattle.soundness.specs.Embedding.{AllGoWell, AppliesWell, CommandsGoWell, GoesWell, IsSound, LinksSoundModule, LoadsBytes, RepliesWell, RunsWell, asked_types, function_results, global_value}
+use Rattle.soundness.specs.Embedding.{AllGoWell, CommandsGoWell, GoesWell, IsSound, LinksSoundModule, LoadsBytes, RepliesWell, asked_types, function_results, global_value}
+use Rattle.soundness.specs.Headline.{AllAreAsSaid, AppliesWell, IsAsSaid, RunsWell}
 use Rattle.soundness.specs.Hosts.{AreReady}
 use Rattle.soundness.specs.Links.{IsLinkable, IsSoundModule}
 use Rattle.soundness.specs.Places.{outermost}
@@ -80,6 +81,11 @@ global-there store valid name (Some instance) address is = go (export_of (instan
         subst (λ (b : ℕ). b < length store.globals) one (exported-there store (instance_of store (Some instance)) (instance-valid store valid (Some instance)) name a there)
 
 -- ---- commands
+
+-- A sound module that is allowed may be linked with what the names of its imports stand for.
+pub links-linkable : (store : Store) (names : NamesContents) (m : Module) → IsSoundModule m → (given : List Extern) → resolve_imports store names m.imports ≡ Some given → IsAllowed store m given → IsLinkable store m given
+links-linkable store names m sound given resolved allowed =
+    record { sound = sound; within = allowed.within; count = map_all-length (λ (i : Import). resolve_name store names i.module_name i.name) m.imports given resolved; fits = allowed.given }
 
 module _ {H : Type 0} (host_type : H → FuncType) where
   -- What a command leaves, where these types were asked for.
@@ -166,11 +172,11 @@ module _ {H : Type 0} (host_type : H → FuncType) (Answers : H → List Val →
         rw there (leaves f.ty.results ended (ap (λ (e : Embedding H). e.state) new_is) (subst (RepliesWell state.store f.ty.results) (sym reply_is) ended.ends))
 
     link-ends : ((b : Body) → body_of (writing b) ≡ b) → (m : Module) → IsSoundModule m → (externs : List Extern) (ending : Ending) (state : State H)
-        → map_all (λ (i : Import). resolve_name old.state.store old.names i.module_name i.name) m.imports ≡ Some externs → IsAllowed old.state.store m externs
+        → resolve_imports old.state.store old.names m.imports ≡ Some externs → IsAllowed old.state.store m externs
         → Instantiation (IsHostStep host_type Answers) old.setup.depth m externs old.state ending state
         → EndsTyped (IsHostStep host_type Answers) (AreReady host_type) [] old.state ending state
     link-ends read m sound_module externs ending state resolved allowed run =
-        let linkable : IsLinkable old.state.store m externs = record { sound = sound_module; within = allowed.within; count = map_all-length (λ (i : Import). resolve_name old.state.store old.names i.module_name i.name) m.imports externs resolved; fits = allowed.given } in
+        let linkable = links-linkable old.state.store old.names m sound_module externs resolved allowed in
         (links-never-go-wrong read (IsHostStep host_type Answers) (AreReady host_type) (ready-still host_type) (ready-linked host_type) (hosts-answer-well host_type Answers) old.setup.depth m externs old.state state
         ending sound.valid sound.ready linkable run).0
 
@@ -219,15 +225,15 @@ one-of at (SetFuel fuel) all = tt
 
 module _ {H : Type 0} (HostStep : List H → ℕ → Option ℕ → List Val → Store → Answer → Store → List H → Type 0) where
   pub none-well : (at : Embedding H) → RunsWell HostStep at [] [] at
-  none-well at = (machine.none, tt)
+  none-well at = (machine.none, tt, tt)
 
   -- A command before others.
   pub one-before-well : {old between last : Embedding H} {command : Command} {reply : Reply} {commands : List Command} {replies : List Reply} → AppliesWell HostStep old command reply between
       → RunsWell HostStep between commands replies last → RunsWell HostStep old (command ∷ commands) (reply ∷ replies) last
-  one-before-well (step, well) (run, others) = (machine.then_on step run, (well, others))
+  one-before-well (step, well, said) (run, others, others_said) = (machine.then_on step run, (well, others), (said, others_said))
 
   -- A command behind others.
-  module _ {between last : Embedding H} (command : Command) (reply : Reply) (step : Applies HostStep between command reply last) where
+  module _ {between : Embedding H} (last : Embedding H) (command : Command) (reply : Reply) (step : Applies HostStep between command reply last) where
     one-more : {old : Embedding H} {commands : List Command} {replies : List Reply} → AppliesAll HostStep old commands replies between
         → AppliesAll HostStep old (commands ++ command ∷ []) (replies ++ reply ∷ []) last
     one-more machine.none = machine.then_on step machine.none
@@ -239,9 +245,16 @@ module _ {H : Type 0} (HostStep : List H → ℕ → Option ℕ → List Val →
     all-well machine.none well before = (well, tt)
     all-well (machine.then_on first rest) well before = (before.0, all-well rest well before.1)
 
+    all-said : {old : Embedding H} {commands : List Command} {replies : List Reply} (run : AppliesAll HostStep old commands replies between) → IsAsSaid HostStep between command reply last → AllAreAsSaid HostStep run
+        → AllAreAsSaid HostStep (one-more run)
+    unfolding one-more
+    all-said machine.none said before = (said, tt)
+    all-said (machine.then_on first rest) said before = (before.0, all-said rest said before.1)
+
   pub one-more-well : {old between last : Embedding H} {command : Command} {reply : Reply} {commands : List Command} {replies : List Reply} → RunsWell HostStep old commands replies between
       → AppliesWell HostStep between command reply last → RunsWell HostStep old (commands ++ command ∷ []) (replies ++ reply ∷ []) last
-  one-more-well {command = command} {reply = reply} (run, before) (step, well) = (one-more command reply step run, all-well command reply step run well before)
+  one-more-well {last = last} {command = command} {reply = reply} (run, before, said_before) (step, well, said) =
+      (one-more last command reply step run, all-well last command reply step run well before, all-said last command reply step run said said_before)
 
 -- ---- runs of commands
 

@@ -11,7 +11,7 @@ use Rattle.meaning.specs.execution.Configurations.{Configuration, Frame}
 use Rattle.meaning.specs.execution.Modules.{Instantiation, RunTasks, Task, all_done, done, ended}
 use Rattle.meaning.specs.execution.Runs.{Answer, Ending, IsEnd, IsStep, Run, State, goes, grows, opens, calls, values_left, trapped, host_trapped, no_fuel, no_depth, no_memory, end, step}
 use Rattle.meaning.specs.execution.Store.{ModuleInstance, Store}
-use Rattle.soundness.specs.Costs.{cost_of_end, cost_of_run, cost_of_step}
+use Rattle.soundness.specs.Costs.{cost_of_end, cost_of_link, cost_of_run, cost_of_step, cost_of_tasks}
 use Rattle.soundness.specs.Embedding.{Spends}
 
 module _ {H : Type 0} (HostStep : List H → ℕ → Option ℕ → List Val → Store → Answer → Store → List H → Type 0) where
@@ -45,16 +45,21 @@ module _ {H : Type 0} (HostStep : List H → ℕ → Option ℕ → List Val →
     pub run-spends : {old last : State H} {c : Configuration} {ending : Ending} → Run HostStep bound outside old c ending last → last.fuel ≤ old.fuel
     run-spends run = let all = run-costs run in omega (arith, all)
 
-  tasks-spend : (bound n : ℕ) (i : ModuleInstance) {old last : State H} {tasks : List Task} {ending : Ending} → RunTasks HostStep bound n i old tasks ending last → last.fuel ≤ old.fuel
-  tasks-spend bound n i all_done = omega arith
-  tasks-spend bound n i {old} {last} (done {between = between} {a = a} is run rest) =
-      let one : between.fuel ≤ old.fuel = run-spends bound a.frame run in
-      let others : last.fuel ≤ between.fuel = tasks-spend bound n i rest in
+  -- ---- links
+
+  tasks-cost : (bound n : ℕ) (i : ModuleInstance) {old last : State H} {tasks : List Task} {ending : Ending} (run : RunTasks HostStep bound n i old tasks ending last) → cost_of_tasks HostStep bound run + last.fuel ≡ old.fuel
+  tasks-cost bound n i all_done = omega arith
+  tasks-cost bound n i {old} {last} (done {between = between} {a = a} is run rest) =
+      let one = run-costs bound a.frame run in
+      let others = tasks-cost bound n i rest in
       omega (arith, one, others)
-  tasks-spend bound n i (ended {a = a} is run none) = run-spends bound a.frame run
+  tasks-cost bound n i (ended {a = a} is run none) = run-costs bound a.frame run
+
+  pub link-costs : (bound : ℕ) (m : Module) (given : List Extern) {old new : State H} {ending : Ending} (link : Instantiation HostStep bound m given old ending new) → cost_of_link HostStep bound link + new.fuel ≡ old.fuel
+  link-costs bound m given link = tasks-cost bound _ _ link.ran
 
   pub link-spends : (bound : ℕ) (m : Module) (given : List Extern) {old new : State H} {ending : Ending} → Instantiation HostStep bound m given old ending new → new.fuel ≤ old.fuel
-  link-spends bound m given link = tasks-spend bound _ _ link.ran
+  link-spends bound m given link = let all = link-costs bound m given link in omega (arith, all)
 
   -- ---- commands
 

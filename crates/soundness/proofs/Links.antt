@@ -36,7 +36,7 @@ use Rattle.soundness.specs.Places.{Place, RunsOn, context_at, instance_context, 
 use Rattle.soundness.specs.Progress.{TasksGetStuck, later, not_there, stuck}
 use Rattle.soundness.specs.Runs.{EndsTyped, EndsWell, HostsAnswerWell, NoConditions}
 use Rattle.soundness.specs.Stores.{Extends, GlobalIsValid, InstanceIsValid, StoreIsValid}
-use Rattle.soundness.proofs.Allocation.{constant-there, extends, function-given, functions-are, globals-are, module-carried, store-valid}
+use Rattle.soundness.proofs.Allocation.{allocation-keeps-valid, constant-there, extends, function-given, functions-are, globals-are, module-carried, store-valid}
 use Rattle.soundness.proofs.Appends.{append-at, append-first}
 use Rattle.soundness.proofs.Constants.{constant-found}
 use Rattle.soundness.proofs.Effects.{Extends-same}
@@ -169,12 +169,13 @@ module _ (old : Store) (m : Module) (given : List Extern) (linkable : IsLinkable
 no-value : {A : Type 0} {a : A} → None ≡ Some a → ⊥
 no-value is = absurd cc
 
-ends-anyway : (store : Store) (results : List ValType) (ending : Ending) → HasNoValues ending → EndsWell store results ending → EndsWell store [] ending
-ends-anyway store results (WithValues values) none ends = absurd none
-ends-anyway store results (WithTrap trap) none ends = tt
-ends-anyway store results OutOfFuel none ends = tt
-ends-anyway store results OutOfDepth none ends = tt
-ends-anyway store results OutOfMemory none ends = tt
+-- An ending without values ends well whatever the results.
+pub ends-anyway : (store : Store) (results : List ValType) (ending : Ending) → HasNoValues ending → EndsWell store results ending
+ends-anyway store results (WithValues values) none = absurd none
+ends-anyway store results (WithTrap trap) none = tt
+ends-anyway store results OutOfFuel none = tt
+ends-anyway store results OutOfDepth none = tt
+ends-anyway store results OutOfMemory none = tt
 
 module _ {H : Type 0} (HostStep : List H → ℕ → Option ℕ → List Val → Store → Answer → Store → List H → Type 0) (HaveHosts : Store → List H → Type 0)
     (kept : (old new : Store) (hosts : List H) → new.functions ≡ old.functions → HaveHosts old hosts → HaveHosts new hosts)
@@ -200,7 +201,7 @@ module _ {H : Type 0} (HostStep : List H → ℕ → Option ℕ → List Val →
         let same : found ≡ a = cc in
         let typed = subst (λ (z : Activity). RunsTyped old.store z) same runs in
         let ran = activity-typed a old last ending valid there typed run in
-        record { extends = ran.extends; valid = ran.valid; there = ran.there; ends = ends-anyway last.store typed.results ending none ran.ends }
+        record { extends = ran.extends; valid = ran.valid; there = ran.there; ends = ends-anyway last.store [] ending none }
 
     tasks-go-on : (tasks : List Task) → All P tasks → {old : State H} → StoreIsValid old.store → HaveHosts old.store old.hosts → Extends start old.store → TasksGetStuck HostStep bound n i old tasks → ⊥
     tasks-go-on [] all valid there more getting = elim getting [ ]
@@ -270,21 +271,40 @@ instance-stays old now new m given added more valid =
     let there = found ∙ ap Some (sym same) in
     record { there = there; valid = All-at (InstanceIsValid new) new.instances (length old.instances) i there valid.instances }
 
--- A link never goes wrong where host functions answer by their types, and a link leaves their conditions.
-pub links-never-go-wrong : ((b : Body) → body_of (writing b) ≡ b)
-    → {H : Type 0} (HostStep : List H → ℕ → Option ℕ → List Val → Store → Answer → Store → List H → Type 0) (HaveHosts : Store → List H → Type 0)
-    → ((old new : Store) (hosts : List H) → new.functions ≡ old.functions → HaveHosts old hosts → HaveHosts new hosts)
-    → ((old : Store) (m : Module) (i : ModuleInstance) (made : ObjectLists) (hosts : List H) → HaveHosts old hosts → HaveHosts (with_module old i m made) hosts)
-    → HostsAnswerWell HostStep HaveHosts → LinksNeverGoWrong HostStep HaveHosts
-links-never-go-wrong read HostStep HaveHosts kept linked well bound m given old new ending valid there linkable link =
-    let made = link.objects in
-    let made_is = link.allocated in
-    let (gs, es, globals_made, elements_made, same) = objects-made m (map_all (new_global old.store (new_instance old.store m given)) m.globals) (map_all (new_elements old.store (new_instance old.store m given)) m.elements) made made_is in
-    let now = with_module old.store (new_instance old.store m given) m made in
-    let now_valid : StoreIsValid now = rw same (store-valid old.store m given linkable gs es globals_made elements_made valid read) in
-    let grown : Extends old.store now = rw same (extends old.store m given linkable gs es) in
-    let good = tasks-good read old.store m given made valid linkable made_is in
-    let ran = tasks-end HostStep HaveHosts kept well bound now (length old.store.instances) (new_instance old.store m given) (tasks_of m) good now_valid (linked old.store m (new_instance old.store m given) made old.hosts there) (Extends-same now) link.ran in (
-      record { extends = Extends-through old.store now new.store grown ran.extends; valid = ran.valid; there = ran.there; ends = ran.ends },
-      instance-stays old.store now new.store m given refl ran.extends ran.valid,
-    )
+module _ (read : (b : Body) → body_of (writing b) ≡ b)
+    {H : Type 0} (HostStep : List H → ℕ → Option ℕ → List Val → Store → Answer → Store → List H → Type 0) (HaveHosts : Store → List H → Type 0)
+    (kept : (old new : Store) (hosts : List H) → new.functions ≡ old.functions → HaveHosts old hosts → HaveHosts new hosts)
+    (linked : (old : Store) (m : Module) (i : ModuleInstance) (made : ObjectLists) (hosts : List H) → HaveHosts old hosts → HaveHosts (with_module old i m made) hosts)
+    (well : HostsAnswerWell HostStep HaveHosts) where
+  module _ (bound : ℕ) (m : Module) (given : List Extern) (old : State H) (made : ObjectLists) (valid : StoreIsValid old.store) (there : HaveHosts old.store old.hosts) (linkable : IsLinkable old.store m given)
+      (made_is : new_objects old.store (new_instance old.store m given) m ≡ Some made) where
+    abbrev now : Store
+    now = with_module old.store (new_instance old.store m given) m made
+
+    now-extends : Extends old.store now
+    now-extends = (allocation-keeps-valid read old.store m given made valid linkable made_is).0
+
+    now-valid : StoreIsValid now
+    now-valid = (allocation-keeps-valid read old.store m given made valid linkable made_is).1
+
+    links-end : (ending : Ending) (last : State H) → RunTasks HostStep bound (length old.store.instances) (new_instance old.store m given) (record old { store = now }) (tasks_of m) ending last
+        → EndsTyped HostStep HaveHosts [] (record old { store = now }) ending last
+    links-end ending last run =
+        tasks-end HostStep HaveHosts kept well bound now (length old.store.instances) (new_instance old.store m given) (tasks_of m) (tasks-good read old.store m given made valid linkable made_is)
+        now-valid (linked old.store m (new_instance old.store m given) made old.hosts there) (Extends-same now) run
+
+    -- No task of a link gets stuck.
+    pub links-never-stuck : TasksGetStuck HostStep bound (length old.store.instances) (new_instance old.store m given) (record old { store = now }) (tasks_of m) → ⊥
+    links-never-stuck =
+        tasks-never-stuck HostStep HaveHosts kept well bound now (length old.store.instances) (new_instance old.store m given) (tasks_of m) (tasks-good read old.store m given made valid linkable made_is)
+        now-valid (linked old.store m (new_instance old.store m given) made old.hosts there) (Extends-same now)
+
+  -- A link never goes wrong where host functions answer by their types, and a link leaves their conditions.
+  pub links-never-go-wrong : LinksNeverGoWrong HostStep HaveHosts
+  links-never-go-wrong bound m given old new ending valid there linkable link =
+      let ran = links-end bound m given old link.objects valid there linkable link.allocated ending new link.ran in
+      let grown = now-extends bound m given old link.objects valid there linkable link.allocated in
+      let start = now bound m given old link.objects valid there linkable link.allocated in (
+        record { extends = Extends-through old.store start new.store grown ran.extends; valid = ran.valid; there = ran.there; ends = ran.ends },
+        instance-stays old.store start new.store m given refl ran.extends ran.valid,
+      )

@@ -1,6 +1,6 @@
 -- Where host functions answer by a narrower relation, as long as each keeps a condition of its own, a run of commands is a run over
 -- the narrower one.
-use Rattle.std.proofs.Common.{◌≡◌, ℕ, List, subst, sym, slice_get}
+use Rattle.std.proofs.Common.{◌≡◌, ℕ, List, ◌∷◌, ap, refl, subst, sym, slice_get}
 use Rattle.std.specs.List.{All}
 use Rattle.std.specs.Prelude.{Option, Some, None, Result, Ok, Err}
 use Rattle.core_types.specs.declared.module.Module.{Module}
@@ -15,6 +15,7 @@ use Rattle.meaning.specs.execution.Hosts.{IsHostCall, IsHostStep}
 use Rattle.meaning.specs.execution.Modules.{Instantiation, RunTasks, Task, all_done, done, ended}
 use Rattle.meaning.specs.execution.Runs.{Answer, Ending, IsEnd, IsStep, Run, State, goes, grows, opens, calls, values_left, trapped, host_trapped, no_fuel, no_depth, no_memory, end, step}
 use Rattle.meaning.specs.execution.Store.{ModuleInstance, Store}
+use Rattle.soundness.specs.Headline.{states_of}
 use Rattle.soundness.proofs.Values.{All-at}
 use Rattle.soundness.proofs.Writes.{All-set}
 
@@ -73,7 +74,7 @@ module _ {H : Type 0} (host_type : H → FuncType) (Answers Own : H → List Val
     end-of-own kept (no_depth is enough deep ending_is last_is) = (no_depth is enough deep ending_is last_is, stays-kept kept last_is)
     end-of-own kept (no_memory asks within enough ending_is last_is) = (no_memory asks within enough ending_is last_is, stays-kept kept last_is)
 
-    calls-of-own : {old last : State H} {first : Configuration} {ending : Ending} → All Keeps old.hosts → Run Wide bound outside old first ending last → Run Narrow bound outside old first ending last × All Keeps last.hosts
+    pub calls-of-own : {old last : State H} {first : Configuration} {ending : Ending} → All Keeps old.hosts → Run Wide bound outside old first ending last → Run Narrow bound outside old first ending last × All Keeps last.hosts
     calls-of-own kept (end is) = let (own, keeps) = end-of-own kept is in (end own, keeps)
     calls-of-own kept (step first rest) =
         let (own, keeps) = step-of-own kept first in
@@ -92,7 +93,7 @@ module _ {H : Type 0} (host_type : H → FuncType) (Answers Own : H → List Val
   tasks-of-own bound n i kept (ended {a = a} is run none) =
       let (own, keeps) = calls-of-own bound a.frame kept run in (ended is own none, keeps)
 
-  link-of-own : (bound : ℕ) (m : Module) (given : List Extern) (old new : State H) (ending : Ending) → All Keeps old.hosts → Instantiation Wide bound m given old ending new
+  pub link-of-own : (bound : ℕ) (m : Module) (given : List Extern) (old new : State H) (ending : Ending) → All Keeps old.hosts → Instantiation Wide bound m given old ending new
       → Instantiation Narrow bound m given old ending new × All Keeps new.hosts
   link-of-own bound m given old new ending kept link =
       let (own, keeps) = tasks-of-own bound _ _ kept link.ran in (record { objects = link.objects; allocated = link.allocated; ran = own }, keeps)
@@ -143,7 +144,7 @@ module _ {H : Type 0} (host_type : H → FuncType) (Answers Own : H → List Val
         (machine.called takes own reply_is new_is, subst (λ (e : Embedding H). All Keeps e.state.hosts) (sym new_is) keeps)
     call-command-of-own arguments (Ok address) (machine.bad_arguments none refuses) = (machine.bad_arguments none refuses, refused refuses)
 
-    command-of-own : (command : Command) → Applies Wide old command reply new → Applies Narrow old command reply new × All Keeps new.state.hosts
+    pub command-of-own : (command : Command) → Applies Wide old command reply new → Applies Narrow old command reply new × All Keeps new.state.hosts
     command-of-own (Load bytes) applies = (applies, loads-keeps bytes applies)
     command-of-own (Link number) applies = links-of-own (slice_get old.modules number) applies
     command-of-own (Register number name) applies = (applies, registers-keeps name (slice_get old.instances number) applies)
@@ -151,7 +152,11 @@ module _ {H : Type 0} (host_type : H → FuncType) (Answers Own : H → List Val
     command-of-own (GetGlobal number name) applies = (applies, gets-keeps (as_global (export_at old number name)) applies)
     command-of-own (SetFuel fuel) applies = (applies, subst (λ (e : Embedding H). All Keeps e.state.hosts) (sym applies.1) kept)
 
-  pub run-of-own : {old last : Embedding H} {commands : List Command} {replies : List Reply} → All Keeps old.state.hosts → AppliesAll Wide old commands replies last → AppliesAll Narrow old commands replies last
-  run-of-own kept machine.none = machine.none
+  -- The run that is narrower leads to the same embeddings.
+  pub run-of-own : {old last : Embedding H} {commands : List Command} {replies : List Reply} → All Keeps old.state.hosts → (run : AppliesAll Wide old commands replies last)
+      → (own : AppliesAll Narrow old commands replies last) × (states_of Narrow own ≡ states_of Wide run) × All Keeps last.state.hosts
+  run-of-own kept machine.none = (machine.none, refl, kept)
   run-of-own {old} kept (machine.then_on {between = between} {command = command} {reply = reply} first rest) =
-      let (own, keeps) = command-of-own old between reply kept command first in machine.then_on own (run-of-own keeps rest)
+      let (own, keeps) = command-of-own old between reply kept command first in
+      let (others, same, kept_then) = run-of-own keeps rest in
+      (machine.then_on own others, ap (λ (states : List (Embedding H)). between ∷ states) same, kept_then)

@@ -8,7 +8,7 @@ use Rattle.core_types.specs.declared.types.ValType.{ValType}
 use Rattle.meaning.specs.embedding.Commands.{Command, Load, Link, Register, Call, GetGlobal, SetFuel}
 use Rattle.meaning.specs.embedding.Commands.{Refusal, Reply, Loaded, Linked, Done, Ended, Refused}
 use Rattle.meaning.specs.embedding.Creation.{Creates, HostDefinition}
-use Rattle.meaning.specs.embedding.Machine.{Applies, AppliesAll, Embedding, Setup, as_function, as_global, export_at, none, then_on}
+use Rattle.meaning.specs.embedding.Machine.{AppliesAll, Embedding, Setup, as_function, as_global, export_at, none, then_on}
 use Rattle.meaning.specs.execution.Hosts.{IsHostStep}
 use Rattle.meaning.specs.execution.Runs.{Answer}
 use Rattle.meaning.specs.execution.Storage.{AreBytes}
@@ -90,22 +90,12 @@ module _ {H : Type 0} where
 
 module _ {H : Type 0} (HostStep : List H → ℕ → Option ℕ → List Val → Store → Answer → Store
     → List H → Type 0) where
-  -- A command is applied, and goes well.
-  abbrev pub AppliesWell : Embedding H → Command → Reply → Embedding H → Type 0
-  AppliesWell old command reply new =
-      Applies HostStep old command reply new × GoesWell old command reply new
-
   -- Each command of a run goes well.
   abbrev pub AllGoWell : {old last : Embedding H} {commands : List Command} {replies : List Reply}
       → AppliesAll HostStep old commands replies last → Type 0
   AllGoWell none = Unit {0}
   AllGoWell (then_on {old = at} {between = next} {command = command} {reply = reply} step rest) =
       GoesWell at command reply next × AllGoWell rest
-
-  -- A run of commands, each of which goes well.
-  abbrev pub RunsWell : Embedding H → List Command → List Reply → Embedding H → Type 0
-  RunsWell old commands replies last =
-      (run : AppliesAll HostStep old commands replies last) × AllGoWell run
 
 module _ {H : Type 0} (host_type : H → FuncType) where
   -- An embedding is sound: its store is valid, and its host functions are ready.

@@ -1,4 +1,5 @@
-ghost use Rattle.std.specs.Prelude.{◌≡◌, ◌↔◌, IsSome, IsTrue, IfOk, Some};
+ghost use Rattle.std.specs.Prelude.{◌≡◌, ◌↔◌, ℕ, IsSome, IsTrue, IfErr, IfOk, Some};
+ghost use Rattle.core_types.specs.declared.outcome.Extern.TheVariants.{Func as FuncValue};
 ghost use Rattle.meaning.specs.execution.Store.{extern_type as type_of};
 ghost use Rattle.store.specs.Contents.{store_of};
 
@@ -19,11 +20,16 @@ impl Store {
         }
     }
 
-    /// The type of an external value, that of a table or a memory with the present size as minimum (Execution, Modules, External
-    /// Typing). The value is in the store. Fails where there is no memory for the types of a function.
+    /// Returns the type of an external value, that of a table or a memory with the present size as minimum (Execution, Modules,
+    /// External Typing). The value must be in the store.
+    ///
+    /// # Errors
+    ///
+    /// Fails only for a function, if memory for its types runs out.
     pub fn extern_type(&self, alloc: Global, value: Extern) -> Result<ExternType, AllocError>
         requires { IsSome (type_of (store_of self.now) value) }
-        ensures { IfOk result (λ ty. type_of (store_of self.now) value ≡ Some ty) }
+        ensures ty { IfOk result (λ ty. type_of (store_of self.now) value ≡ Some ty) }
+        ensures function { IfErr result (λ _. (address : ℕ) × (value ≡ FuncValue address)) }
     {
         match value {
             Extern::Func(address) => match self.code().function(address) {

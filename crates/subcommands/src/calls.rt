@@ -7,8 +7,8 @@ use crate::faults::Fault;
 use crate::spectest::SPECTEST;
 use command_line::CallOrder;
 use embed::{
-    Config, Embedding, ExternType, FuncType, HostDef, InstanceNumber, LinkOutcome, Outcome,
-    Refusal, Val,
+    Command, Config, Embedding, ExternType, FuncType, HostDef, InstanceNumber, LinkOutcome,
+    Outcome, Refusal, Reply, Val,
 };
 use std::alloc::Global;
 
@@ -33,15 +33,32 @@ pub fn new_embedding<'a>(
     }
 }
 
-// Loads, links and registers the stored module as `spectest`, in an embedding to which no command was given. That spends no fuel.
-fn add_spectest<'a>(embedding: &mut Embedding) -> Result<(), Fault<'a>> {
-    let stored = embedding.load(SPECTEST)?;
-    match embedding.link(stored)? {
-        LinkOutcome::Linked(instance) => Ok(embedding.register(instance, "spectest")?),
-        LinkOutcome::Trap(_) | LinkOutcome::Exhausted(_) => {
-            Err(Fault::Refused(Refusal::UnknownInstance))
-        }
+// The commands that load, link and register the stored module as `spectest`, in an embedding to which no command was given.
+fn spectest_commands<'a>(alloc: Global) -> Result<Vec<Command>, Fault<'a>> {
+    let bytes = Vec::from_slice(alloc, SPECTEST)?;
+    let name = String::from_str(alloc, "spectest")?;
+    let commands = vec![in alloc; Command::Load(bytes), Command::Link(0), Command::Register(0, name)]?;
+    Ok(commands)
+}
+
+// Why a command was not carried out, by its reply.
+fn check_reply<'a>(reply: &Reply) -> Result<(), Fault<'a>> {
+    match reply {
+        Reply::Refused(refusal) => Err(Fault::Refused(*refusal)),
+        Reply::Trap(_) | Reply::Exhausted(_) => Err(Fault::Refused(Refusal::UnknownInstance)),
+        Reply::Loaded(_) | Reply::Linked(_) | Reply::Done | Reply::Values(_) => Ok(()),
     }
+}
+
+// Loads, links and registers the stored module as `spectest`, in an embedding to which no command was given. That spends no fuel.
+fn add_spectest<'a>(alloc: Global, embedding: &mut Embedding) -> Result<(), Fault<'a>> {
+    let commands = spectest_commands(alloc)?;
+    let mut replies = Vec::new(alloc);
+    embedding.apply_all(commands.as_slice(), &mut replies)?;
+    for reply in replies.iter() {
+        check_reply(reply)?;
+    }
+    Ok(())
 }
 
 /// A new embedding, in which the stored module is registered as `spectest`.
@@ -54,7 +71,7 @@ pub fn embedding_with_spectest<'a>(
     requires { length hosts.items < 2 ^ 32 }
 {
     let mut embedding = new_embedding(alloc, fuel, depth, hosts)?;
-    add_spectest(&mut embedding)?;
+    add_spectest(alloc, &mut embedding)?;
     Ok(embedding)
 }
 

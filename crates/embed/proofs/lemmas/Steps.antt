@@ -25,7 +25,7 @@ use Rattle.exec.specs.declared.outcome.Outcome.{Outcome}
 use Rattle.instantiate.specs.Links.{IsCause, IsEnded, IsLinked, IsMismatch, IsRefused, given_to}
 use Rattle.instantiate.specs.declared.link_end.LinkRefusal.{LinkRefusal}
 use Rattle.instantiate.specs.declared.link_end.LinkRefusal.TheVariants as reason
-use Rattle.embed.specs.Causes.{RefusesBytes, link_refusal}
+use Rattle.embed.specs.Causes.{IsFirstAtFault, IsUnresolved, RefusesBytes, link_refusal}
 use Rattle.embed.specs.Causes as cause
 use Rattle.store.specs.Loaded.{LoadedContents}
 use Rattle.embed.specs.Contents.{modules_in}
@@ -116,3 +116,17 @@ module _ {H : Type 0} (HostStep : List H → ℕ → Option ℕ → List Val →
 
 pub module-of : {Z : Type 0} (shared : List (Rc LoadedContents Z)) (number : ℕ) (r : Rc LoadedContents Z) → slice_get shared number ≡ Some r → slice_get (modules_in shared) number ≡ Some r.value.source
 module-of shared number r there = slice_get-map (λ (s : Rc LoadedContents _). s.value.source) shared number ∙ ap (option_map (λ (s : Rc LoadedContents _). s.value.source)) there
+
+-- ---- the first import at fault
+
+module _ {H : Type 0} (old : Embedding H) (number : ℕ) (m : Module) (there : slice_get old.modules number ≡ Some m) where
+  pub unresolved-at-fault : (refusal : Refusal) → IsUnresolved old.state.store old.names m.imports refusal → IsFirstAtFault old number refusal
+  unresolved-at-fault refusal (cause.missing index unknown none is) = rw is (m, there, unknown)
+  unresolved-at-fault refusal (cause.no_memory is) = rw is tt
+
+  pub mismatched-at-fault : (given : List Extern) → resolve_imports old.state.store old.names m.imports ≡ Some given → (why : LinkRefusal) → IsCause why old.state.store m given → IsFirstAtFault old number (link_refusal why)
+  mismatched-at-fault given resolved (reason.UnknownImport index) why =
+      absurd (let same = map_all-length (λ (i : Import). resolve_name old.state.store old.names i.module_name i.name) m.imports given resolved in omega (arith, same, why.0))
+  mismatched-at-fault given resolved (reason.IncompatibleImport index) why = (m, there, given, resolved, why.1)
+  mismatched-at-fault given resolved reason.Limit why = tt
+  mismatched-at-fault given resolved reason.OutOfMemory why = tt

@@ -1,13 +1,16 @@
 //! The operations of an embedding, each as a method and as a command (Appendix, Embedding).
 
-ghost use Rattle.std.specs.Prelude.{◌≡◌, ◌++◌, ◌∷◌, [], ◌+◌, ◌<◌, ◌≤◌, List, OnOk, OnErr, MatchOption, map, slice_get, vec_len, vec_capacity, length, Some, None};
+ghost use Rattle.std.specs.Prelude.{◌≡◌, ◌++◌, ◌∷◌, [], ◌+◌, ◌<◌, ◌≤◌, IfErr, List, OnOk, OnErr, MatchOption, map, slice_get, vec_len, vec_capacity, length, Some, None};
 ghost use Rattle.embed.specs.Contents.{embedding_of};
 ghost use Rattle.embed.specs.Replies.{call_reply, command_of, global_reply, link_reply, load_reply, register_reply, reply_of, values_reply};
 ghost use Rattle.embed.specs.declared.commands.Reply.{Reply as Answer};
 ghost use Rattle.meaning.specs.embedding.Commands.{Call as CallCommand, Done as DoneReply, GetGlobal as GetGlobalCommand, Link as LinkCommand, Load as LoadCommand, Register as RegisterCommand, SetFuel as SetFuelCommand};
 ghost use Rattle.meaning.specs.embedding.Machine.{Applies, CallsAt, GetsAt, LinksAt, Loads, RegistersAt, SetsFuel, as_function, as_global, export_at};
-ghost use Rattle.soundness.specs.Embedding.{GoesWell, IsSound, LinksSoundModule, RunsWell};
-ghost use Rattle.hostfunc.specs.Boxes.{HostStep, type_of_host};
+ghost use Rattle.embed.specs.Causes.{IsFirstAtFault};
+ghost use Rattle.embed.specs.declared.refusals.Refusal.TheVariants.{OutOfMemory as NoMemory};
+ghost use Rattle.soundness.specs.Embedding.{GoesWell, IsSound, LinksSoundModule};
+ghost use Rattle.soundness.specs.Headline.{AppliesWell, IsAsSaid, RunsWell};
+ghost use Rattle.hostfunc.specs.Boxes.{HostStep, IfHostsKeep, OwnHostStep, type_of_host};
 
 use crate::commands::{Command, Reply};
 use crate::embedding::Embedding;
@@ -64,9 +67,11 @@ impl Embedding {
 
     // Links the module of a number.
     fn link_module(&mut self, number: u64) -> Result<LinkOutcome, Refusal>
-        ensures { LinksAt (HostStep ⟦<dyn HostFn as HostFn>⟧) (embedding_of self.old)
+        ensures links { LinksAt (HostStep ⟦<dyn HostFn as HostFn>⟧) (embedding_of self.old)
             (slice_get (embedding_of self.old).modules number)
             (link_reply result) (embedding_of self.new) }
+        ensures first_at_fault { IfErr result
+            (λ refusal. IsFirstAtFault (embedding_of self.old) number refusal) }
     {
         let Some(loaded) = module_at(&self.modules, number) else {
             return Err(Refusal::UnknownModule);
@@ -127,9 +132,10 @@ impl Embedding {
 
     // Reads the global that the instance of a number exports under a name.
     fn read_global(&self, number: u64, name: &str) -> Result<Val, Refusal>
-        ensures { GetsAt (embedding_of self.now)
+        ensures gets { GetsAt (embedding_of self.now)
             (as_global (export_at (embedding_of self.now) number name.now)) (global_reply result)
             (embedding_of self.now) }
+        ensures needs_no_memory { IfErr result (λ refusal. refusal ≡ NoMemory → ⊥) }
     {
         let address = self.exported_global(number, name)?;
         let Some(variable) = self.store.state().global(address) else {
@@ -171,18 +177,29 @@ impl Embedding {
         self.load_bytes(bytes)
     }
 
-    /// Links a module with what the names of its imports stand for: answers the number of the new instance, or the trap or the exhaustion
-    /// in which a segment or the start function ended; then there is no number, and what was done stays.
+    /// Links a module with what the names of its imports stand for, and returns the number of the new instance, or the trap or the
+    /// exhaustion in which a segment or the start function ended. Then there is no number, and what was done stays.
     ///
-    /// Refused with `UnknownModule`; with `UnknownImport` where an import's names stand for nothing; then with `IncompatibleImport` where
-    /// what they stand for does not match; then with `Limit` where a table, a memory or the store would be larger than it may be; and
-    /// with `OutOfMemory`. A refused call changes nothing (Execution, Modules, Instantiation).
+    /// # Errors
+    ///
+    /// Refused with `UnknownModule`; with `UnknownImport` if an import's names stand for nothing; then with `IncompatibleImport` if what
+    /// they stand for does not match; then with `Limit` if a table, a memory or the store would be larger than it may be; and with
+    /// `OutOfMemory`. The index of an import is that of the first one at fault. A refused call changes nothing (Execution, Modules,
+    /// Instantiation).
     pub fn link(&mut self, number: ModuleNumber) -> Result<LinkOutcome, Refusal>
         requires nothing { Unit {0} }
         ensures applied { Applies (HostStep ⟦<dyn HostFn as HostFn>⟧) (embedding_of self.old)
             (LinkCommand number.0) (link_reply result) (embedding_of self.new) }
         ensures goes_well { GoesWell (embedding_of self.old) (LinkCommand number.0)
             (link_reply result) (embedding_of self.new) }
+        ensures as_said { IsAsSaid (HostStep ⟦<dyn HostFn as HostFn>⟧) (embedding_of self.old)
+            (LinkCommand number.0) (link_reply result) (embedding_of self.new) }
+        ensures own { IfHostsKeep ⟦<dyn HostFn as HostFn>⟧ (embedding_of self.old).state.hosts
+            (embedding_of self.new).state.hosts (AppliesWell
+            (OwnHostStep ⟦<dyn HostFn as HostFn>⟧) (embedding_of self.old)
+            (LinkCommand number.0) (link_reply result) (embedding_of self.new)) }
+        ensures first_at_fault { IfErr result
+            (λ refusal. IsFirstAtFault (embedding_of self.old) number.0 refusal) }
         ensures sound { IsSound type_of_host (embedding_of self.new) }
     {
         writing_is_read();
@@ -226,6 +243,14 @@ impl Embedding {
             (embedding_of self.new) }
         ensures goes_well { GoesWell (embedding_of self.old) (CallCommand instance.0 name.now
             args.now) (call_reply result) (embedding_of self.new) }
+        ensures as_said { IsAsSaid (HostStep ⟦<dyn HostFn as HostFn>⟧) (embedding_of self.old)
+            (CallCommand instance.0 name.now args.now) (call_reply result)
+            (embedding_of self.new) }
+        ensures own { IfHostsKeep ⟦<dyn HostFn as HostFn>⟧ (embedding_of self.old).state.hosts
+            (embedding_of self.new).state.hosts (AppliesWell
+            (OwnHostStep ⟦<dyn HostFn as HostFn>⟧) (embedding_of self.old)
+            (CallCommand instance.0 name.now args.now) (call_reply result)
+            (embedding_of self.new)) }
         ensures sound { IsSound type_of_host (embedding_of self.new) }
     {
         writing_is_read();
@@ -233,9 +258,12 @@ impl Embedding {
         self.call_function(instance.0, name, args)
     }
 
-    /// The value of the global that an instance exports under a name.
+    /// Returns the value of the global that an instance exports under a name.
     ///
-    /// Refused with `UnknownInstance`, `UnknownExport` and `WrongKind` where the export is no global (Appendix, Embedding, Globals).
+    /// # Errors
+    ///
+    /// Refused with `UnknownInstance`, `UnknownExport`, and `WrongKind` if the export is no global; never with `OutOfMemory` (Appendix,
+    /// Embedding, Globals).
     pub fn get_global(&self, instance: InstanceNumber, name: &str) -> Result<Val, Refusal>
         requires nothing { Unit {0} }
         ensures applied { Applies (HostStep ⟦<dyn HostFn as HostFn>⟧) (embedding_of self.now)
@@ -243,6 +271,7 @@ impl Embedding {
             (embedding_of self.now) }
         ensures goes_well { GoesWell (embedding_of self.now) (GetGlobalCommand instance.0 name.now)
             (global_reply result) (embedding_of self.now) }
+        ensures needs_no_memory { IfErr result (λ refusal. refusal ≡ NoMemory → ⊥) }
     {
         writing_is_read();
         self.show_sound();
@@ -275,9 +304,45 @@ impl Embedding {
         Ok(values)
     }
 
-    /// Applies a command, as the method does that bears its name. A refused one changes nothing, and of a link or a call that ends in a trap
-    /// or an exhaustion what was done stays. It goes well: values have the types of the function or the global, the store is valid and
-    /// extends the one before, and no command but `SetFuel` leaves more fuel than there was.
+    // The module that a command links, if there is one, may be linked.
+    fn show_linkable(&self, command: &Command)
+        ensures { LinksSoundModule (embedding_of self.now) (command_of command.now) }
+    {
+        if let Command::Link(number) = command {
+            self.show_linked_module(*number);
+        }
+    }
+
+    // Applies a command, as the method does that bears its name.
+    fn apply_command(&mut self, command: &Command) -> Reply
+        ensures { Applies (HostStep ⟦<dyn HostFn as HostFn>⟧) (embedding_of self.old)
+            (command_of command.now) (reply_of result) (embedding_of self.new) }
+    {
+        match command {
+            Command::Load(bytes) => Reply::from(self.load_bytes(bytes.as_slice())),
+            Command::Link(number) => Reply::from(self.link_module(*number)),
+            Command::Register(number, name) => {
+                Reply::from(self.give_name(*number, name.as_str()))
+            }
+            Command::Call(number, name, args) => {
+                Reply::from(self.call_function(*number, name.as_str(), args.as_slice()))
+            }
+            Command::GetGlobal(number, name) => {
+                Reply::from(self.values_of_global(*number, name.as_str()))
+            }
+            Command::SetFuel(fuel) => {
+                self.replace_fuel(*fuel);
+                Reply::Done
+            }
+        }
+    }
+
+    /// Applies a command, as the method of its name does.
+    ///
+    /// A refused command changes nothing. If a link or a call ends in a trap or an exhaustion, what was done stays. The command goes
+    /// well: values have the types of the function or the global, the store is valid and extends the one before, and no command but
+    /// `SetFuel` leaves more fuel than there was. A call of an exported function with arguments of its types, and a link, are as the
+    /// headline says. Unlike `get_global`, `GetGlobal` is refused with `OutOfMemory` if memory for the list in its reply runs out.
     pub fn apply(&mut self, command: &Command) -> Reply
         requires nothing { Unit {0} }
         ensures applied { Applies (HostStep ⟦<dyn HostFn as HostFn>⟧) (embedding_of self.old)
@@ -285,32 +350,29 @@ impl Embedding {
             (reply_of result) (embedding_of self.new) }
         ensures goes_well { GoesWell (embedding_of self.old) (command_of command.now)
             (reply_of result) (embedding_of self.new) }
+        ensures as_said { IsAsSaid (HostStep ⟦<dyn HostFn as HostFn>⟧) (embedding_of self.old)
+            (command_of command.now) (reply_of result) (embedding_of self.new) }
+        ensures own { IfHostsKeep ⟦<dyn HostFn as HostFn>⟧ (embedding_of self.old).state.hosts
+            (embedding_of self.new).state.hosts (AppliesWell
+            (OwnHostStep ⟦<dyn HostFn as HostFn>⟧) (embedding_of self.old)
+            (command_of command.now) (reply_of result) (embedding_of self.new)) }
         ensures sound { IsSound type_of_host (embedding_of self.new) }
     {
         writing_is_read();
         self.show_sound();
-        match command {
-            Command::Load(bytes) => Reply::from(self.load(bytes.as_slice())),
-            Command::Link(number) => Reply::from(self.link(ModuleNumber(*number))),
-            Command::Register(number, name) => {
-                Reply::from(self.register(InstanceNumber(*number), name.as_str()))
-            }
-            Command::Call(number, name, args) => {
-                Reply::from(self.call(InstanceNumber(*number), name.as_str(), args.as_slice()))
-            }
-            Command::GetGlobal(number, name) => {
-                Reply::from(self.values_of_global(*number, name.as_str()))
-            }
-            Command::SetFuel(fuel) => {
-                self.set_fuel(*fuel);
-                Reply::Done
-            }
-        }
+        self.show_linkable(command);
+        self.apply_command(command)
     }
 
-    /// Applies all commands, in order, and appends one reply a command. They and what is left are a run of the embedding machine, each
-    /// command of which goes well, from a sound embedding to a sound one. There is room for all replies before the first command is
-    /// applied; where there is none, nothing has changed.
+    /// Applies all commands, in order, and appends one reply for each.
+    ///
+    /// They and what is left are a run of the embedding machine, each command of which goes well and is as the headline says, from a
+    /// sound embedding to a sound one. If each host function declares the type that it was taken in with, as those of a fresh embedding
+    /// do, it is one in which each answers by the relation of its object alone.
+    ///
+    /// # Errors
+    ///
+    /// Fails if memory for the replies runs out. All of it is reserved before the first command is applied, so then nothing has changed.
     pub fn apply_all(
         &mut self,
         commands: &[Command],
@@ -320,7 +382,11 @@ impl Embedding {
         ensures applied { OnOk result ((answers : List Answer) × (replies.new.items ≡
             replies.old.items ++ answers) ×
             RunsWell (HostStep ⟦<dyn HostFn as HostFn>⟧) (embedding_of self.old)
-            (map command_of commands.now) (map reply_of answers) (embedding_of self.new)) }
+            (map command_of commands.now) (map reply_of answers) (embedding_of self.new) ×
+            IfHostsKeep ⟦<dyn HostFn as HostFn>⟧ (embedding_of self.old).state.hosts
+            (embedding_of self.new).state.hosts
+            (RunsWell (OwnHostStep ⟦<dyn HostFn as HostFn>⟧) (embedding_of self.old)
+            (map command_of commands.now) (map reply_of answers) (embedding_of self.new))) }
         ensures from_sound { IsSound type_of_host (embedding_of self.old) }
         ensures sound { IsSound type_of_host (embedding_of self.new) }
         ensures unchanged { OnErr result

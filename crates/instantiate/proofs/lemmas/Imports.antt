@@ -1,10 +1,13 @@
 -- What is given for an import.
-use Rattle.std.proofs.Common.{◌≡◌, ◌↔◌, Bool, IsTrue, subst}
+use Rattle.std.proofs.Common.{◌≡◌, ◌↔◌, ℕ, zero, suc, List, [], ◌∷◌, Bool, IsTrue, slice_get, subst, sym, take}
+use Rattle.std.proofs.lemmas.Option.{same_Some}
 use Rattle.std.specs.Prelude.{Option, Some, None}
+use Rattle.core_types.specs.declared.module.Import.{Import}
+use Rattle.core_types.specs.declared.module.Module.{Module}
 use Rattle.core_types.specs.declared.outcome.Extern.{Extern}
 use Rattle.core_types.specs.declared.types.ExternType.{ExternType}
 use Rattle.meaning.specs.validation.Matching.{Matches}
-use Rattle.meaning.specs.execution.Modules.{IsGiven}
+use Rattle.meaning.specs.execution.Modules.{AreGiven, IsGiven, import_type}
 use Rattle.meaning.specs.execution.Store.{Store, extern_type}
 
 module _ (store : Store) (e : Extern) (wanted : Option ExternType) where
@@ -21,3 +24,14 @@ module _ (store : Store) (e : Extern) (wanted : Option ExternType) where
   -- The import asks for nothing.
   pub not_given-unasked : wanted ≡ None → IsGiven store e wanted → ⊥
   not_given-unasked unasked w = absurd cc
+
+-- One import more is given what it asks for.
+pub given-next : (store : Store) (m : Module) (imports : List Import) (externs : List Extern) (k : ℕ) (i : Import) (e : Extern) → slice_get imports k ≡ Some i → slice_get externs k ≡ Some e → IsGiven store e (import_type m i.desc)
+    → AreGiven store m (take k imports) externs → AreGiven store m (take (suc k) imports) externs
+given-next store m [] externs k i e there given is before = absurd cc
+given-next store m (j ∷ imports) [] k i e there given is before = absurd cc
+given-next store m (j ∷ imports) (f ∷ externs) zero i e there given is before =
+    let same : i ≡ j = sym (same_Some j i there) in
+    let one : e ≡ f = sym (same_Some f e given) in
+    (subst (λ (x : Extern). IsGiven store x (import_type m j.desc)) one (subst (λ (w : Import). IsGiven store e (import_type m w.desc)) same is), tt)
+given-next store m (j ∷ imports) (f ∷ externs) (suc k) i e there given is before = (before.0, given-next store m imports externs k i e there given is before.1)

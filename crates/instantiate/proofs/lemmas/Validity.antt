@@ -19,10 +19,11 @@ use Rattle.exec.specs.Endings.{ending_of}
 use Rattle.soundness.proofs.Fuel.{link-spends}
 use Rattle.soundness.proofs.Hosts.{ready-linked, ready-still}
 use Rattle.soundness.proofs.Links.{links-never-go-wrong, tasks-end-alone, tasks-never-stuck, tasks-never-stuck-alone}
-use Rattle.hostfunc.specs.Boxes.{HaveHosts, HostStep, type_of_host}
+use Rattle.hostfunc.specs.Boxes.{HaveHosts, HostStep, IfHostsKeep, KeepsItsType, OwnHostStep, type_of_host}
 use Rattle.hostfunc.specs.declared.host_function.HostFn.{Ghosts}
 use Rattle.hostfunc.specs.declared.host_object.HostObject.{HostObject}
 use Rattle.hostfunc.proofs.Fitting.{boxes-answer-well}
+use Rattle.hostfunc.proofs.Own.{own-link}
 use Rattle.instantiate.specs.Links.{LeavesInstance, Links, given_to}
 use Rattle.instantiate.specs.declared.link_end.LinkEnd.{LinkEnd}
 use Rattle.instantiate.specs.declared.link_end.LinkEnd.TheVariants.{Ended, Refused}
@@ -96,3 +97,17 @@ module _ (read : (b : Body) → body_of (writing b) ≡ b) {I : Type 0} {F : I �
         instance_stays = tt;
         spends = omega (arith, same);
       }
+
+-- ---- host functions that keep their types
+
+module _ {I : Type 0} {F : I → Type 0} (members : (i : I) → Ghosts (F i)) where
+  pub links-own : (r : Result ℕ LinkEnd) (bound : ℕ) (m : Module) (externs : List Extern) (old new : State (HostObject I F)) → Links (HostStep members) r bound m externs old new
+      → IfHostsKeep members old.hosts new.hosts (Links (OwnHostStep members) r bound m externs old new)
+  links-own (Ok number) bound m externs old new linked kept =
+      let (own, keeps) = own-link members bound m (given_to m externs) old new (WithValues []) linked.run kept in
+      (record { allowed = linked.allowed; number_is = linked.number_is; run = own }, keeps)
+  links-own (Err (Ended o)) bound m externs old new linked kept =
+      let (own, keeps) = own-link members bound m (given_to m externs) old new (ending_of o) linked.run kept in
+      (record { allowed = linked.allowed; no_values = linked.no_values; run = own }, keeps)
+  links-own (Err (Refused refusal)) bound m externs old new linked kept =
+      (linked, subst (λ (s : State (HostObject I F)). All (KeepsItsType members) s.hosts) (sym linked.unchanged) kept)

@@ -11,7 +11,7 @@ use Rattle.meaning.specs.scripts.Commands.{Files, Skipped, Task, Tried}
 use Rattle.meaning.specs.scripts.Dialogues.{Dialogue, Asks, IsForMemory, Over, Report}
 use Rattle.meaning.specs.scripts.Dialogues as dialogue
 use Rattle.meaning.specs.scripts.Runner.{Progress, after_skipped, after_tried, ask, linking, turn}
-use Rattle.soundness.specs.Embedding.{AppliesWell}
+use Rattle.soundness.specs.Headline.{AppliesWell}
 use Rattle.soundness.proofs.Embedding.{none-well, one-before-well}
 use Rattle.embed.specs.Replies.{reply_of}
 use Rattle.embed.specs.declared.commands.Reply.{Reply as GivenReply}

@@ -1,6 +1,7 @@
 use Rattle.std.proofs.Common.{◌∙◌}
 use Rattle.meaning.specs.execution.Configurations.{no_frame}
 use Rattle.soundness.proofs.Fuel.{run-spends}
+use Rattle.hostfunc.proofs.Own.{own-call}
 use Rattle.hostfunc.specs.Boxes.{HostStep}
 use Rattle.exec.proofs.Typing.{call-ends}
 use Rattle.exec.proofs.outside.invoke.Goals as goal
@@ -22,6 +23,7 @@ returns g c =
     let ended = call-ends (λ vtable. (g.dyn-1.0.entry vtable).1) _ _ _ _ _ _ _ c.args.address c.args.args.now _ c.store.invariant (rw (← c.store.view_is) at c.requires.hosts) (rw (← c.store.view_is) at c.requires.arguments) run in
     rw (← c.store.view_is) (record {
       run = run;
+      own = own-call (λ vtable. (g.dyn-1.0.entry vtable).1) c.args.meter.now.bound no_frame run;
       ends = ended.ends;
       extends = ended.extends;
       hosts = ended.there;

@@ -7,4 +7,4 @@ returns-in-None g c = rw c.in-None.is (λ next. nothing)
 
 pub returns-in-Some : goal.returns-in-Some
 returns-in-Some g c =
-    rw c.in-Some.is (taken _ c.from.result c.take_reply.result (rw c.from.ensures (c.register.ensures.applied, c.register.ensures.goes_well)) c.take_reply.ensures)
+    rw c.in-Some.is (taken _ c.from.result c.take_reply.result (rw c.from.ensures (c.register.ensures.applied, c.register.ensures.goes_well, tt)) c.take_reply.ensures)

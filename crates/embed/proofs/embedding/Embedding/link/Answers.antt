@@ -1,11 +1,10 @@
 use Rattle.meaning.specs.embedding.Commands as machine
-use Rattle.soundness.proofs.Embedding.{goes-well}
-use Rattle.hostfunc.specs.Boxes.{HostAnswers, type_of_host}
 use Rattle.embed.specs.Contents.{embedding_of}
 use Rattle.embed.specs.Replies.{link_reply}
+use Rattle.embed.proofs.lemmas.Headline.{is-done}
 use Rattle.embed.proofs.embedding.Embedding.link.Goals as goal
 
 pub returns : goal.returns
 returns g c =
-    let (well, sound) = goes-well type_of_host (HostAnswers (λ vtable. (g.dyn-1.0.entry vtable).1)) (embedding_of c.args.self.now) (embedding_of c.link_module.new.self) c.show_sound.ensures (link_reply c.link_module.result) c.writing_is_read.ensures.whole (machine.Link c.args.number.0) c.show_linked_module.ensures c.link_module.ensures in
-    record { applied = c.link_module.ensures; goes_well = well; sound = sound }
+    let done = is-done c.writing_is_read.ensures.whole (λ vtable. (g.dyn-1.0.entry vtable).1) (embedding_of c.args.self.now) (embedding_of c.link_module.new.self) c.show_sound.ensures (machine.Link c.args.number.0) c.show_linked_module.ensures (link_reply c.link_module.result) c.link_module.ensures.links in
+    record { applied = c.link_module.ensures.links; goes_well = done.goes_well; as_said = done.as_said; own = done.own; first_at_fault = c.link_module.ensures.first_at_fault; sound = done.sound }

@@ -2,12 +2,12 @@ use Rattle.exec.specs.Endings.{run_state}
 use Rattle.store.specs.Contents.{store_of}
 use Rattle.embed.specs.Contents.{embedding_of}
 use Rattle.embed.specs.Replies.{link_outcome_reply}
-use Rattle.embed.proofs.lemmas.Steps.{link-ended, link-linked, link-refused, module-of}
+use Rattle.embed.proofs.lemmas.Steps.{link-ended, link-linked, link-refused, mismatched-at-fault, module-of, unresolved-at-fault}
 use Rattle.hostfunc.specs.Tables.{hosts_in}
 use Rattle.embed.proofs.embedding.Embedding.link_module.Goals as goal
 
-pub returns-in-Ok : goal.returns-in-Ok
-returns-in-Ok g c =
+pub returns-in-Ok-clause-links : goal.returns-in-Ok-clause-links
+returns-in-Ok-clause-links g c =
     let old = embedding_of c.args.self.now in
     let there = module-of c.args.self.now.modules.items c.args.number c.in-Some.loaded.now (rw c.deref.ensures.value at c.in-Some.ensures) in
     let resolved = rw (c.as_slice-imports.ensures, c.module.ensures.same, c.as_ref.ensures) at c.in_ok-externs.ensures.found in
@@ -15,8 +15,8 @@ returns-in-Ok g c =
     rw (there, c.next_number-count.ensures, c.deref-in-Ok.ensures.value, c.append.ensures.appended, c.in_ok-try_reserve.ensures.items)
     (link-linked _ old state c.args.self.now.meter.bound c.in-Some.loaded.now.value.source c.in_ok-externs.externs.items resolved c.args.self.now.bound c.in-Ok.address (rw c.deref-2.ensures.value at c.in-Ok.ensures.linked))
 
-pub returns-in-Err-Refused : goal.returns-in-Err-Refused
-returns-in-Err-Refused g c =
+pub returns-in-Err-Refused-clause-links : goal.returns-in-Err-Refused-clause-links
+returns-in-Err-Refused-clause-links g c =
     let old = embedding_of c.args.self.now in
     let there = module-of c.args.self.now.modules.items c.args.number c.in-Some.loaded.now (rw c.deref.ensures.value at c.in-Some.ensures) in
     let resolved = rw (c.as_slice-imports.ensures, c.module.ensures.same, c.as_ref.ensures) at c.in_ok-externs.ensures.found in
@@ -25,8 +25,8 @@ returns-in-Err-Refused g c =
     rw (there, c.from.ensures, c.in-Err-Refused.refusal-is, c.in_ok-try_reserve.ensures.items)
     (link-refused _ old state c.args.self.now.meter.bound c.in-Some.loaded.now.value.source c.in_ok-externs.externs.items resolved c.in-Err-Refused.refusal refused)
 
-pub returns : goal.returns
-returns g c =
+pub returns-clause-links : goal.returns-clause-links
+returns-clause-links g c =
     let old = embedding_of c.args.self.now in
     let there = module-of c.args.self.now.modules.items c.args.number c.in-Some.loaded.now (rw c.deref.ensures.value at c.in-Some.ensures) in
     let resolved = rw (c.as_slice-imports.ensures, c.module.ensures.same, c.as_ref.ensures) at c.in_ok-externs.ensures.found in
@@ -36,3 +36,12 @@ returns g c =
 
 pub without_instance-requires : goal.without_instance-requires
 without_instance-requires g c = rw c.in-Err-Ended.outcome-is (rw c.in-Err-Ended.field-0-is at c.in-Err-Ended.ensures.linked).no_values
+
+pub returns-in-Err-Refused-clause-first_at_fault : goal.returns-in-Err-Refused-clause-first_at_fault
+returns-in-Err-Refused-clause-first_at_fault g c =
+    let old = embedding_of c.args.self.now in
+    let there = module-of c.args.self.now.modules.items c.args.number c.in-Some.loaded.now (rw c.deref.ensures.value at c.in-Some.ensures) in
+    let resolved = rw (c.as_slice-imports.ensures, c.module.ensures.same, c.as_ref.ensures) at c.in_ok-externs.ensures.found in
+    let refused = rw (c.deref-2.ensures.value, c.in-Err-Refused.field-0-is) at c.in-Err-Refused.ensures.linked in
+    rw (c.from.ensures, c.in-Err-Refused.refusal-is)
+    (mismatched-at-fault old c.args.number c.in-Some.loaded.now.value.source there c.in_ok-externs.externs.items resolved c.in-Err-Refused.refusal refused.cause)

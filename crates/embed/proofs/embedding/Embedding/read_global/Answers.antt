@@ -6,8 +6,8 @@ use Rattle.embed.specs.Contents.{embedding_of}
 use Rattle.embed.proofs.lemmas.Steps.{get-value}
 use Rattle.embed.proofs.embedding.Embedding.read_global.Goals as goal
 
-pub returns : goal.returns
-returns g c =
+pub returns-clause-gets : goal.returns-clause-gets
+returns-clause-gets g c =
     let there = rw c.state.ensures.same at (sym c.in-Some.ensures) in
     get-value (embedding_of c.args.self.now) _ c.in_ok-address.address c.in-Some.variable.now c.value.result c.in_ok-address.ensures there c.value.ensures
 
