@@ -1,0 +1,10 @@
+pub mod Hosts
+pub mod Determinism
+pub mod Fuel
+pub mod Regions
+pub mod Reach
+pub mod Isolation
+pub mod Commands
+pub mod Apart
+pub mod Engine
+pub mod Rows
