@@ -3,4 +3,5 @@ pub mod Causes
 pub mod Steps
 pub mod Definitions
 pub mod Headline
+pub mod Isolation
 pub mod ExportLists

@@ -6,3 +6,4 @@ pub mod Contents
 pub mod Exports
 pub mod Created
 pub mod Headline
+pub mod Isolation
