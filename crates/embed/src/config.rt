@@ -16,8 +16,12 @@ pub struct Config {
     depth: u32,
     pages: u32,
     entries: u32,
-    ghost in_range: { IsInRange (record { fuel = fuel; depth = depth; pages = pages;
-        entries = entries }) },
+    ghost in_range: { IsInRange (record {
+      fuel = fuel;
+      depth = depth;
+      pages = pages;
+      entries = entries;
+    }) },
 }
 
 impl Model for Config {

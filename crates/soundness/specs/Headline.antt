@@ -99,12 +99,16 @@ module _ {H : Type 0} (HostStep : List H → ℕ → Option ℕ → List Val →
         old.fuel
     pub never_goes_wrong : TasksGetStuck HostStep bound (length old.store.instances)
         (new_instance old.store m given)
-        (record old { store = with_module old.store (new_instance old.store m given) m
-        by_the_reduction.objects }) (tasks_of m) → ⊥
+        (record old {
+          store = with_module old.store (new_instance old.store m given) m
+              by_the_reduction.objects;
+        }) (tasks_of m) → ⊥
     pub ends : EndsAsSaid bound [] (λ at frame reached. TasksLeadTo (length old.store.instances)
         (new_instance old.store m given) at frame reached
-        (record old { store = with_module old.store (new_instance old.store m given) m
-        by_the_reduction.objects }) (tasks_of m)) ending last
+        (record old {
+          store = with_module old.store (new_instance old.store m given) m
+              by_the_reduction.objects;
+        }) (tasks_of m)) ending last
 
 -- The reply to a link that ended so, where the new instance would get this number.
 abbrev pub reply_to_link : (number : ℕ) → Ending → Reply

@@ -37,7 +37,11 @@ pub fn new_embedding<'a>(
 fn spectest_commands<'a>(alloc: Global) -> Result<Vec<Command>, Fault<'a>> {
     let bytes = Vec::from_slice(alloc, SPECTEST)?;
     let name = String::from_str(alloc, "spectest")?;
-    let commands = vec![in alloc; Command::Load(bytes), Command::Link(0), Command::Register(0, name)]?;
+    let commands = vec![in alloc;
+        Command::Load(bytes),
+        Command::Link(0),
+        Command::Register(0, name),
+    ]?;
     Ok(commands)
 }
 

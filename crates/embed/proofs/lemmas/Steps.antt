@@ -22,7 +22,7 @@ use Rattle.meaning.specs.soundness.Values.{TakesArguments}
 use Rattle.meaning.specs.validation.Modules.{IsValid}
 use Rattle.exec.specs.Endings.{ending_of}
 use Rattle.exec.specs.declared.outcome.Outcome.{Outcome}
-use Rattle.instantiate.specs.Links.{IsCause, IsEnded, IsLinked, IsMismatch, IsRefused, given_to}
+use Rattle.instantiate.specs.Links.{IsCause, IsEnded, IsLinked, IsRefused, given_to}
 use Rattle.instantiate.specs.declared.link_end.LinkRefusal.{LinkRefusal}
 use Rattle.instantiate.specs.declared.link_end.LinkRefusal.TheVariants as reason
 use Rattle.embed.specs.Causes.{IsFirstAtFault, IsUnresolved, RefusesBytes, link_refusal}
@@ -32,16 +32,16 @@ use Rattle.embed.specs.Contents.{modules_in}
 use Rattle.embed.specs.Replies.{refusal_of}
 use Rattle.embed.specs.declared.refusals.Refusal.{Refusal}
 
--- Where one import is given something else than it asks for, not each is given what it asks for.
-not-given : (store : Store) (m : Module) (imports : List Import) (externs : List Extern) (index : ℕ) → IsMismatch store (record m { imports = imports }) externs index → AreGiven store m imports externs → ⊥
-not-given store m [] externs index differs given = absurd (let wrong = differs.wanted_is in cc)
-not-given store m (i ∷ imports) [] index differs given = given
-not-given store m (i ∷ imports) (e ∷ externs) zero differs given =
-    let wanted : i ≡ differs.wanted = same_Some i differs.wanted differs.wanted_is in
-    let is : e ≡ differs.given = same_Some e differs.given differs.given_is in
-    differs.differs (subst (λ (x : Extern). IsGiven store x (import_type m differs.wanted.desc)) is (subst (λ (j : Import). IsGiven store e (import_type m j.desc)) wanted given.0))
-not-given store m (i ∷ imports) (e ∷ externs) (suc index) differs given =
-    not-given store m imports externs index (record { wanted = differs.wanted; given = differs.given; wanted_is = differs.wanted_is; given_is = differs.given_is; differs = differs.differs }) given.1
+-- If one import is given something else than it asks for, not each is given what it asks for.
+not-given : (store : Store) (m : Module) (imports : List Import) (externs : List Extern) (index : ℕ) (wanted : Import) (given : Extern) → slice_get imports index ≡ Some wanted → slice_get externs index ≡ Some given
+    → (IsGiven store given (import_type m wanted.desc) → ⊥) → AreGiven store m imports externs → ⊥
+not-given store m [] externs index wanted given wanted_is given_is differs all = absurd cc
+not-given store m (i ∷ imports) [] index wanted given wanted_is given_is differs all = all
+not-given store m (i ∷ imports) (e ∷ externs) zero wanted given wanted_is given_is differs all =
+    let asked : i ≡ wanted = same_Some i wanted wanted_is in
+    let is : e ≡ given = same_Some e given given_is in
+    differs (subst (λ (x : Extern). IsGiven store x (import_type m wanted.desc)) is (subst (λ (j : Import). IsGiven store e (import_type m j.desc)) asked all.0))
+not-given store m (i ∷ imports) (e ∷ externs) (suc index) wanted given wanted_is given_is differs all = not-given store m imports externs index wanted given wanted_is given_is differs all.1
 
 module _ {H : Type 0} where
   -- The embedding with these modules.
@@ -106,7 +106,7 @@ module _ {H : Type 0} (HostStep : List H → ℕ → Option ℕ → List Val →
     cause-refuses : (why : LinkRefusal) → IsCause why old.state.store m externs → Links HostStep old m (machine.Refused (refusal_of (link_refusal why))) old
     cause-refuses (reason.UnknownImport index) why =
         absurd (let same = map_all-length (λ (i : Import). resolve_name old.state.store old.names i.module_name i.name) m.imports externs resolved in omega (arith, same, why.0))
-    cause-refuses (reason.IncompatibleImport index) why = incompatible resolved (not-given old.state.store m m.imports externs index why.1) (refl, refl)
+    cause-refuses (reason.IncompatibleImport index) why = incompatible resolved (not-given old.state.store m m.imports externs index why.1.wanted why.1.given why.1.wanted_is why.1.given_is why.1.differs) (refl, refl)
     cause-refuses reason.Limit why = too_large resolved why.0 why.1 (refl, refl)
     cause-refuses reason.OutOfMemory why = of.no_memory (refl, refl)
 

@@ -19,9 +19,9 @@ loop-command-preserved g c =
     let applied = c.apply-reply.ensures in
     let more = one-more-well _ run (applied.applied, applied.goes_well, applied.as_said) in
     let more_own : IfHostsKeep (λ vtable. (g.dyn-1.0.entry vtable).1) _ _ _ = λ kept. (
-        let (run_own, keeps) = own kept in
-        let (applied_own, keeps_then) = applied.own keeps in
-        (one-more-well _ run_own applied_own, keeps_then)) in
+    let (run_own, keeps) = own kept in
+    let (applied_own, keeps_then) = applied.own keeps in
+    (one-more-well _ run_own applied_own, keeps_then)) in
     let inside : c.loop-command.command-index < length c.args.commands.now = c.loop-command-test.true in
     record {
       room = grind (arith, common_steps);

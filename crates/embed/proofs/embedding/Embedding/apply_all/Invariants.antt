@@ -12,5 +12,5 @@ invariant-loop-command g l = record {
   run : (answers : List Reply) × (l.replies.items ≡ l.fn.replies.items ++ answers)
       × RunsWell (HostStep (λ vtable. (g.dyn-1.0.entry vtable).1)) (embedding_of l.fn.self) (map command_of (take l.command-index l.commands)) (map reply_of answers) (embedding_of l.self)
       × IfHostsKeep (λ vtable. (g.dyn-1.0.entry vtable).1) (embedding_of l.fn.self).state.hosts (embedding_of l.self).state.hosts
-        (RunsWell (OwnHostStep (λ vtable. (g.dyn-1.0.entry vtable).1)) (embedding_of l.fn.self) (map command_of (take l.command-index l.commands)) (map reply_of answers) (embedding_of l.self));
+      (RunsWell (OwnHostStep (λ vtable. (g.dyn-1.0.entry vtable).1)) (embedding_of l.fn.self) (map command_of (take l.command-index l.commands)) (map reply_of answers) (embedding_of l.self));
 }
