@@ -11,6 +11,7 @@ pub mod Leaving
 pub mod Lifting
 pub mod Looping
 pub mod Memories
+pub mod MoreFuel
 pub mod Moves
 pub mod Numbers
 pub mod Opening
@@ -21,6 +22,7 @@ pub mod Replacing
 pub mod ResultCells
 pub mod Resuming
 pub mod Returning
+pub mod Spare
 pub mod Stepping
 pub mod Switching
 pub mod Transferring

@@ -255,10 +255,10 @@ module _ (bound : ℕ) where
 
   -- It lacks fuel, or traps.
   pub stops-lacking : (l : Loop) → ((g : Ghost) → RunsAt l.world l.machine g → Lacks g l.fuel (cells_in g l.machine) l.machine.place (height_in l.machine) l.fuel) → StopsAt bound l stop.NoFuel l
-  stops-lacking l lacks = record { from = λ w r. let (there, dear) = lacks-whole bound l w r (lacks w.ghost r.runs) in stops-unpaid stop.NoFuel refl l l w there dear; falls = tt }
+  stops-lacking l lacks = record { from = λ w r. let (there, dear) = lacks-whole bound l w r (lacks w.ghost r.runs) in stops-unpaid stop.NoFuel refl l l w there dear; falls = omega arith }
 
   pub stops-empty : (l : Loop) → ((g : Ghost) → RunsAt l.world l.machine g → CostsAround g (cells_in g l.machine) l.machine.place (height_in l.machine)) → l.fuel ≡ 0 → StopsAt bound l stop.NoFuel l
-  stops-empty l costs empty = record { from = λ w r. let (there, dear) = lacks-around bound l w r (costs w.ghost r.runs) empty in stops-unpaid stop.NoFuel refl l l w there dear; falls = tt }
+  stops-empty l costs empty = record { from = λ w r. let (there, dear) = lacks-around bound l w r (costs w.ghost r.runs) empty in stops-unpaid stop.NoFuel refl l l w there dear; falls = omega arith }
 
   pub stops-failing : (l : Loop) (left : ℕ) (trap : Trap) → ((g : Ghost) → RunsAt l.world l.machine g → Fails g l.fuel (cells_in g l.machine) l.machine.place (height_in l.machine) left trap)
       → StopsAt bound l (stop.Traps trap) (record l { fuel = left })

@@ -38,10 +38,11 @@ stops-from bound l l' l'' s w first last = record { there = reaches-then bound l
 
 falls-from : (l l' l'' : Loop) (s : Stop) → left_to_do l' ≤ left_to_do l → FallsAt l' s l'' → FallsAt l s l''
 falls-from l l' l'' stop.Switches first last = omega (arith, first, last)
+falls-from l l' l'' stop.NoFuel first last = omega (arith, first, last)
 falls-from l l' l'' stop.NoRoom first last = omega (arith, first, last)
 falls-from l l' l'' s first last = tt
 
-stops-then : (bound : ℕ) (l l' l'' : Loop) (s : Stop) → Ran bound l l' → StopsAt bound l' s l'' → StopsAt bound l s l''
+pub stops-then : (bound : ℕ) (l l' l'' : Loop) (s : Stop) → Ran bound l l' → StopsAt bound l' s l'' → StopsAt bound l s l''
 stops-then bound l l' l'' s ran stops = record {
   from = λ w r. let first = ran.from w r in stops-from bound l l' l'' s w first (stops.from first.new first.runs);
   falls = falls-from l l' l'' s ran.falls stops.falls;

@@ -113,5 +113,5 @@ module _ (bound : ℕ) (w : World) (cells : List ℕ) (callers : List Frame) (at
           let dear = priced there.new.ghost there.new.callers there.new.results left in
           stops-unpaid bound stop.NoFuel refl l l u there
           (subst (λ (z : Store). at.fuel < price (next z no_frame (whole there.new))) there.runs.runs.store (omega (arith, none_left, dear)));
-      falls = tt;
+      falls = omega arith;
     }

@@ -6,6 +6,7 @@ pub mod Callers
 pub mod Whole
 pub mod Looping
 pub mod Crossing
+pub mod Ahead
 pub mod Stepping
 pub mod Calling
 pub mod Callees

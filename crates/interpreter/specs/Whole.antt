@@ -181,9 +181,11 @@ StopsFrom bound l w stop.Over l' = IsOver bound l w l'
 StopsFrom bound l w stop.Switches l' = SwitchesTo bound l w l'
 StopsFrom bound l w s l' = StopsWhole bound l w s l'
 
--- Less is left to do where code of another instance is next, and no more for want of cells.
+-- Less is left to do where code of another instance is next, and no more for want of
+-- fuel or of cells.
 abbrev pub FallsAt : Loop → Stop → Loop → Type 0
 FallsAt l stop.Switches l' = left_to_do l' < left_to_do l
+FallsAt l stop.NoFuel l' = left_to_do l' ≤ left_to_do l
 FallsAt l stop.NoRoom l' = left_to_do l' ≤ left_to_do l
 FallsAt l other l' = Unit {0}
 

@@ -12,6 +12,7 @@ use crate::landing::{clear, land_results, move_down};
 use crate::machine::{CallKind, Crossing, Frame, Position, Stop, Surroundings};
 use crate::payment::pay;
 use core_types::Stack;
+use sidetable::PackedFunction;
 use store::{Callee, ModuleFunction, State};
 
 // Goes on in a frame of an instance: of that whose code runs, or of another one.
@@ -202,6 +203,36 @@ fn enter<'a>(
     }
 }
 
+// Does what `enter` does, out of the line of the loop.
+#[cold]
+#[inline(never)]
+fn enter_far<'a>(
+    around: Surroundings<'a>,
+    state: &State,
+    memory: &[u8],
+    cells: &mut [u64],
+    callers: &mut Stack<Frame>,
+    kind: CallKind,
+    found: Found<'a>,
+    from: Position,
+    at: &mut Position,
+    why: &mut Stop,
+) -> Crossing
+    requires sound { RunsSomeWhole around.bound
+        (loop_at (world_at around state.now memory.now) cells.old callers.old at.old) }
+    requires calls { Calls around.bound (world_at around state.now memory.now) cells.old
+        callers.old at.old from kind found.address found.callee }
+    requires paid { 1 ≤ at.old.fuel }
+    requires next { at.old.place + 1 < 2 ^ 32 }
+    ensures { Crosses around.entry.bound
+        (loop_at (world_at around.entry state.now memory.now) cells.old callers.old at.old)
+        result why.new cells.new callers.new at.new }
+{
+    enter(
+        around, state, memory, cells, callers, kind, found, from, at, why,
+    )
+}
+
 // Calls the function that the instance has under an index, by its address, once there is fuel for it.
 #[cold]
 #[inline(never)]
@@ -235,6 +266,15 @@ fn call_imported<'a>(
     enter(
         around, state, memory, cells, callers, kind, found, from, at, why,
     )
+}
+
+// Whether a nested call clears more than four cells. Such a call leaves the loop's line, which then keeps its values in registers.
+#[inline(always)]
+fn is_far(kind: CallKind, flat: &PackedFunction) -> bool {
+    match kind {
+        CallKind::Nested => flat.locals.wrapping_sub(flat.params) > 4,
+        CallKind::Tail => false,
+    }
 }
 
 /// Calls the function that the instance has under an index. One of its own module is found without its address.
@@ -279,6 +319,14 @@ pub fn call<'a>(
         .loaded
         .as_ref()
         .function((index as usize - imported) as u32);
+    if is_far(kind, own.flat) {
+        let mut to = *at;
+        let crossing = call_imported(
+            around, state, memory, cells, callers, kind, index, &mut to, why,
+        );
+        *at = to;
+        return crossing;
+    }
     let function = ModuleFunction {
         ty: own.ty,
         func: own.func,
@@ -289,6 +337,15 @@ pub fn call<'a>(
     enter_function(
         around, state, memory, cells, callers, kind, &function, from, at, why,
     )
+}
+
+// The same for a call of what was found.
+#[inline(always)]
+fn is_found_far(kind: CallKind, callee: Callee<'_>) -> bool {
+    match callee {
+        Callee::InModule(function) => is_far(kind, function.flat),
+        Callee::InHost(_) => false,
+    }
 }
 
 /// Calls the function to which an entry of a table refers, whose offset is the topmost operand. The type that it has to be of, and
@@ -325,6 +382,14 @@ pub fn call_indirect<'a>(
             let mut from = *at;
             from.top -= 1;
             from.operand = cells[from.top];
+            if is_found_far(kind, found.callee) {
+                let mut to = *at;
+                let crossing = enter_far(
+                    around, state, memory, cells, callers, kind, found, from, &mut to, why,
+                );
+                *at = to;
+                return crossing;
+            }
             enter(
                 around, state, memory, cells, callers, kind, found, from, at, why,
             )

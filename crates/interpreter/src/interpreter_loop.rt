@@ -15,7 +15,7 @@ use store::State;
 ///
 /// The memory of the instance, if it has one, is `memory`; another one lies at its address meanwhile.
 #[inline(never)]
-pub fn run(
+pub fn run_exactly(
     around: Surroundings<'_>,
     state: &mut State,
     memory: &mut [u8],

@@ -1,6 +1,7 @@
 //! The loop over flat code and cells, which is steps of the reduction.
 #![tactic(auto)]
 
+mod ahead;
 mod callees;
 mod frames;
 mod interpreter_loop;
@@ -12,6 +13,6 @@ mod payment;
 mod reading;
 mod transfers;
 
-pub use interpreter_loop::run;
+pub use ahead::run;
 pub use laws::{operands_fit, operations_turn};
 pub use machine::{CallKind, Frame, Position, Stop, Surroundings};

@@ -6,7 +6,7 @@ use Rattle.interpreter.specs.Whole.{Ran}
 use Rattle.interpreter.specs.declared.machine.Stop.TheVariants as stop
 use Rattle.interpreter.proofs.Lifting.{ran-first, ran-then}
 use Rattle.interpreter.proofs.Looping.{branches-op, fails-op, lacks-op, leaves-op, pays-op, ran-at, runs-there, some-there, steps-on, stops-before, stops-across}
-use Rattle.interpreter.proofs.interpreter_loop.run.Goals as goal
+use Rattle.interpreter.proofs.interpreter_loop.run_exactly.Goals as goal
 
 pub loop-x-init : goal.loop-x-init
 loop-x-init c =
