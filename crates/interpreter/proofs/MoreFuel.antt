@@ -1,11 +1,10 @@
 -- What runs with some fuel runs with more, of which as much more is left.
-use Rattle.std.proofs.Common.{◌≡◌, ℕ, ◌+◌, ◌-◌, ◌<◌, ◌≤◌, List, ap, arith, subst, sym}
-use Rattle.std.specs.Prelude.{Option, Some, None}
+use Rattle.std.proofs.Common.{◌≡◌, ℕ, ◌+◌, arith, subst}
 use Rattle.meaning.specs.execution.Configurations.{Configuration, no_frame}
 use Rattle.meaning.specs.execution.Runs.{IsStep, NoHosts, State, Steps, calls, goes, grows, none, one_more, opens}
 use Rattle.meaning.specs.execution.Store.{Store}
 use Rattle.interpreter.specs.Ahead.{StopsOrLacks, stop_with_more}
-use Rattle.interpreter.specs.Whole.{AsksNext, CallsHostNext, IsOver, Loop, OpensNext, Ran, Reaches, RunsWhole, StopsAt, StopsBy, StopsFrom, StopsWhole, SwitchesTo, Whole, left_to_do, paid_for, with_more_fuel}
+use Rattle.interpreter.specs.Whole.{AsksNext, CallsHostNext, IsOver, Loop, OpensNext, Ran, Reaches, RunsWhole, StopsAt, StopsBy, StopsWhole, SwitchesTo, Whole, paid_for, with_more_fuel}
 use Rattle.interpreter.specs.Running.{Machine}
 use Rattle.interpreter.specs.Worlds.{store_in}
 use Rattle.interpreter.specs.declared.machine.CallKind.{CallKind}

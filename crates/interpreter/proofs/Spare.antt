@@ -1,5 +1,5 @@
 -- Operations in the loop that keeps what is spare of the fuel.
-use Rattle.std.proofs.Common.{◌≡◌, ℕ, suc, ◌+◌, ◌-◌, ◌^◌, ◌<◌, ◌≤◌, List, length, refl, ap, subst, sym, ◌∙◌, arith}
+use Rattle.std.proofs.Common.{◌≡◌, ℕ, ◌+◌, ◌-◌, ◌^◌, ◌<◌, ◌≤◌, List, length, ap, subst, sym, ◌∙◌, arith}
 use Rattle.std.specs.Prelude.{Option, Some, None}
 use Rattle.core_types.specs.declared.outcome.Trap.{Trap}
 use Rattle.meaning.specs.execution.Configurations.{no_frame}
@@ -16,10 +16,10 @@ use Rattle.interpreter.specs.Calling.{Leaves}
 use Rattle.interpreter.specs.Crossing.{GoesOn}
 use Rattle.interpreter.specs.Layout.{AreMoved}
 use Rattle.interpreter.specs.Looping.{loop_at, machine_at}
-use Rattle.interpreter.specs.Running.{Pays, RunsAt, Traps}
+use Rattle.interpreter.specs.Running.{Pays, Traps}
 use Rattle.interpreter.specs.Stepping.{StepsTo, StopsBefore}
 use Rattle.interpreter.specs.Turns.{LeadsOn, Turns}
-use Rattle.interpreter.specs.Whole.{Loop, Ran, RunsSomeWhole, RunsWhole, StopsAt, StopsFrom, SwitchesTo, Whole, left_to_do, with_more_fuel}
+use Rattle.interpreter.specs.Whole.{Loop, Ran, RunsSomeWhole, RunsWhole, StopsAt, Whole, left_to_do, with_more_fuel}
 use Rattle.interpreter.specs.Worlds.{World}
 use Rattle.interpreter.specs.declared.ahead.Ahead.{Ahead}
 use Rattle.interpreter.specs.declared.machine.Frame.{Frame}

@@ -9,7 +9,7 @@ use Rattle.interpreter.specs.declared.machine.Position.{Position}
 use Rattle.interpreter.specs.declared.machine.Stop.{Stop}
 use Rattle.interpreter.specs.declared.machine.Stop.TheVariants as stop
 
--- The position, with so much fuel.
+-- The position, with this much fuel.
 abbrev pub position_with : (instance fuel : ℕ) → Ahead → Position
 position_with instance fuel at = record {
   instance = instance;
@@ -46,7 +46,7 @@ abbrev pub StopsOrLacks : (bound : ℕ) → Loop → Option Stop → Loop → Ty
 StopsOrLacks bound l (Some s) l' = StopsAt bound l s l'
 StopsOrLacks bound l None l' = Ran bound l l'
 
--- Why it stops with more fuel: not for want of fuel.
+-- Why it stops with more fuel: none if it lacked fuel.
 abbrev pub stop_with_more : Stop → Option Stop
 stop_with_more stop.NoFuel = None
 stop_with_more other = Some other

@@ -1,4 +1,4 @@
-ghost use Rattle.std.specs.Prelude.{◌≡◌, ◌+◌, ◌-◌, ◌<◌, ◌≤◌, ◌^◌, ℕ, IfSome};
+ghost use Rattle.std.specs.Prelude.{◌≡◌, ◌+◌, ◌-◌, ◌<◌, ◌≤◌, ◌^◌, IfSome};
 ghost use Rattle.interpreter.specs.Ahead.{StopsOrLacks, fuel_ahead, position_ahead, rest_ahead, stop_with_more, with_rest};
 ghost use Rattle.interpreter.specs.Looping.{loop_at, world_at};
 ghost use Rattle.interpreter.specs.Whole.{RunsSomeWhole, StopsAt};
@@ -14,8 +14,8 @@ use effects::{compute_binary, load_cell, load_i32, low, store_cell};
 use sidetable::PackedOp;
 use store::State;
 
-/// A position in code of the instance that runs. In place of the fuel it has what is spare of it, once all operations from here to the
-/// end of the list are paid for: a step to the next operation does not change that.
+/// A position in code of the instance that runs. Instead of the fuel, it has what is spare once all operations from here to the end of
+/// the list are paid for. A step to the next operation does not change that.
 #[derive(Clone, Copy)]
 pub struct Ahead {
     pub base: usize,
@@ -25,7 +25,7 @@ pub struct Ahead {
     pub spare: u64,
 }
 
-// The position with what is spare, if there is fuel for all operations from there to the end.
+// Returns the position with what is spare, if there is fuel for all operations from there to the end.
 #[inline(always)]
 fn ahead_of(at: Position, end: usize) -> Option<Ahead>
     requires before { at.place ≤ end }
@@ -45,7 +45,7 @@ fn ahead_of(at: Position, end: usize) -> Option<Ahead>
     })
 }
 
-// A position that was reached with one unit of the fuel, with all that is left.
+// Adds the rest of the fuel to a position that was reached with one unit of it.
 #[inline(always)]
 fn add_rest(at: Ahead, to: Position, end: usize) -> Position
     requires before { at.place < end }
@@ -58,8 +58,8 @@ fn add_rest(at: Ahead, to: Position, end: usize) -> Position
     left
 }
 
-// What is spare at a place that was reached with one unit of the fuel, of which `left` is left. Where more is spare than the place
-// before it, each place can be gone to. The end is there for the contract alone.
+// Returns what is spare at a place that was reached with one unit of the fuel, of which `left` is left. If more is spare than the number
+// of the place before, any place can be reached. The end is there for the contract alone.
 #[inline(always)]
 fn spare_at(at: Ahead, left: u64, place: usize, end: usize) -> u64
     requires enough { at.place < at.spare }
@@ -72,7 +72,7 @@ fn spare_at(at: Ahead, left: u64, place: usize, end: usize) -> u64
     at.spare - at.place as u64 - 1 + left + place as u64
 }
 
-// The same for the whole position.
+// Returns the whole position so.
 #[inline(always)]
 fn ahead_at(at: Ahead, to: Position, end: usize) -> Ahead
     requires enough { at.place < at.spare }
@@ -91,7 +91,7 @@ fn ahead_at(at: Ahead, to: Position, end: usize) -> Ahead
     }
 }
 
-// The position once its unit of the fuel was paid.
+// Returns the position once its unit of the fuel is paid.
 #[inline(always)]
 fn paid(at: Position) -> Position
     ensures { result ≡ record at { fuel = 0 } }
@@ -101,7 +101,7 @@ fn paid(at: Position) -> Position
     behind
 }
 
-// Why the loop stops with more fuel: not for want of fuel.
+// Returns why the loop stops with more fuel: none if it lacked fuel, since with more it goes on.
 #[inline(always)]
 fn with_more(why: Stop) -> Option<Stop>
     ensures { result ≡ stop_with_more why }
@@ -112,8 +112,8 @@ fn with_more(why: Stop) -> Option<Stop>
     }
 }
 
-// As `run`, for as long as there is fuel for all operations from the next one to the end of the list. Where it has too little, it stops
-// before an operation, and nothing more is said.
+// Does what `run` does while there is fuel for all operations from the next one to the end of the list. If there is too little, it stops
+// before an operation and returns none.
 #[inline(never)]
 fn run_ahead(
     around: Surroundings<'_>,

@@ -9,7 +9,8 @@ use crate::machine::{Position, Surroundings};
 use sidetable::{Entry, PackedOp, SideTables};
 use store::State;
 
-/// The operation where the machine is.
+/// Returns the operation where the machine is. State, memory and cells are there for the contract alone, and so is all of the position
+/// but the place.
 #[inline(always)]
 pub fn fetch<'a>(
     around: Surroundings<'a>,

@@ -1,4 +1,4 @@
-use Rattle.std.proofs.Common.{◌≡◌, ◌+◌, ◌-◌, ◌<◌, ◌≤◌, ◌%◌, ◌^◌, ℕ, ap, get_or, length, refl, subst, sym, ◌∙◌, arith}
+use Rattle.std.proofs.Common.{◌≡◌, ◌+◌, ◌-◌, ◌%◌, ◌^◌, ℕ, ap, get_or, length, refl, subst, sym, ◌∙◌, arith}
 use Rattle.std.proofs.Math.Nat.{add-mod-mod, mod-add-mod}
 use Rattle.std.specs.Prelude.{Ok, Err}
 use Rattle.interpreter.specs.Ahead.{position_ahead}
@@ -8,7 +8,7 @@ use Rattle.interpreter.specs.declared.machine.Position.{Position}
 use Rattle.interpreter.specs.declared.machine.Stop.TheVariants as stop
 use Rattle.interpreter.proofs.Lifting.{ran-first}
 use Rattle.interpreter.proofs.Looping.{ran-at, runs-there}
-use Rattle.interpreter.proofs.Spare.{before-end, branches-ahead, fails-ahead, goes-ahead, goes-left, goes-smaller, goes-within, jumps-ahead, jumps-on, lands-on, lands-smaller, leaves-ahead, lent, pays-ahead, ran-ahead, ran-here, steps-ahead, stops-ahead, stops-before-ahead, stops-left}
+use Rattle.interpreter.proofs.Spare.{before-end, branches-ahead, fails-ahead, goes-ahead, goes-left, goes-smaller, goes-within, jumps-ahead, jumps-on, lands-on, lands-smaller, leaves-ahead, lent, pays-ahead, ran-here, steps-ahead, stops-ahead, stops-before-ahead, stops-left}
 use Rattle.interpreter.proofs.ahead.run_ahead.Goals as goal
 
 pub ahead_of-requires : goal.ahead_of-requires
