@@ -146,7 +146,7 @@ module _ (bound : ℕ) (r : AtRest) (u : Whole) (rests : Rests bound r u) (state
         let (t, dear) = lacks-whole bound its_loop u rests.runs lacks in
         let dear' = subst (λ (s : Store). fuel_left r < price (next s no_frame (whole t.new))) (rests.sees.store ∙ sym same) dear in
         let now : fuel_left r ≡ fuel_left there + 0 = omega (arith, left_is, ap (λ (p : Position). p.fuel) position_is) in
-        let both = subst (λ (n : ℕ). (c : Comes bound r u there n) × StopsBy bound stop.NoFuel c.rests.world.flat.tables (store_around there) n (machine_of there) c.new) now (stayed (fuel_left r) t, dear') in
+        let both = subst (λ (n : ℕ). (c : Comes bound r u there n) × StopsBy bound stop.NoFuel c.rests.world (store_around there) n (machine_of there) c.new) now (stayed (fuel_left r) t, dear') in
         record { there = both.0; by = both.1 }
 
     -- It traps.
@@ -155,7 +155,7 @@ module _ (bound : ℕ) (r : AtRest) (u : Whole) (rests : Rests bound r u) (state
         let (t, wrong) = fails-whole bound its_loop u rests.runs left trap fails in
         let wrong' = subst (λ (s : Store). next s no_frame (whole t.new) ≡ Traps 1 trap) (rests.sees.store ∙ sym same) wrong in
         let now : left + 1 ≡ fuel_left there + 1 = ap (λ (p : Position). p.fuel + 1) (sym position_is) in
-        let both = subst (λ (n : ℕ). (c : Comes bound r u there n) × StopsBy bound (stop.Traps trap) c.rests.world.flat.tables (store_around there) n (machine_of there) c.new) now (stayed (left + 1) t, (wrong', omega arith)) in
+        let both = subst (λ (n : ℕ). (c : Comes bound r u there n) × StopsBy bound (stop.Traps trap) c.rests.world (store_around there) n (machine_of there) c.new) now (stayed (left + 1) t, (wrong', omega arith)) in
         record { there = both.0; by = both.1 }
 
     -- It asks to grow.

@@ -157,7 +157,7 @@ module _ (bound : ℕ) where
             (record {
               there = moved u (fuel_left r'' + 0) stops.there
                   (subst (λ (z : List ℕ). RunsWhole bound (loop_at stops.there.rests.world z r''.call.callers r''.call.position) stops.there.new) (sym is) stops.there.rests.runs);
-              by = stops.by;
+              by = stops.by.0;
             })
 
   -- ---- instructions that the loop leaves to others

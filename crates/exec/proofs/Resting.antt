@@ -81,7 +81,7 @@ module _ (bound : ℕ) (r r' : AtRest) (w w' : World) (start : Sees r.code (stor
       comes u other (sees.code ∙ code_is) (sees.store ∙ store_is) (fuel_left r') (goes other sees)
   runs-to s u stops = record {
     there = comes u w' code_is store_is (fuel_left r' + paid_for s) stops.there;
-    by = subst (λ (z : Store). StopsBy bound s w'.flat.tables z (fuel_left r' + paid_for s) (machine_of r') stops.there.new) store_is stops.by;
+    by = subst (λ (z : Store). StopsBy bound s w' z (fuel_left r' + paid_for s) (machine_of r') stops.there.new) store_is stops.by;
   }
 
   falls-to : (s : Stop) → FallsAt (loop_of w r) s (loop_of w' r') → FallsTo r s r'

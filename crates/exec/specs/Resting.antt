@@ -65,7 +65,7 @@ pub record Comes (bound : ℕ) (r : AtRest) (w : Whole) (r' : AtRest) (fuel : �
 pub record StopsAtRest (bound : ℕ) (r : AtRest) (w : Whole) (s : Stop) (r' : AtRest)
     : Type 0 where
   pub there : Comes bound r w r' (fuel_left r' + paid_for s)
-  pub by : StopsBy bound s there.rests.world.flat.tables (store_around r') (fuel_left r' + paid_for s)
+  pub by : StopsBy bound s there.rests.world (store_around r') (fuel_left r' + paid_for s)
       (machine_of r') there.new
 
 -- It came to where it asks for memory that is not there.

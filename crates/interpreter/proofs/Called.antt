@@ -17,7 +17,7 @@ use Rattle.sidetable.specs.SideTables.{pair_of}
 use Rattle.sidetable.specs.declared.operations.PackedOp.TheVariants as op
 use Rattle.sidetable.specs.declared.side_tables.IndexPair.{IndexPair}
 use Rattle.simulation.specs.Callees.{IsCalling, IsTailCalling, ReachesCall}
-use Rattle.simulation.specs.Runs.{Ghost}
+use Rattle.simulation.specs.Runs.{Ghost, none as no_steps}
 use Rattle.simulation.specs.Standing.{FrameCode}
 use Rattle.store.specs.Contents.{IsCalleeAt, IsLoaded, IsOwnFunction, callee_function, function_of, functions_in, host_function, signatures_of_instance}
 use Rattle.store.specs.declared.instances.Callee.{Callee}
@@ -31,7 +31,7 @@ use Rattle.interpreter.specs.Layout.{put_back}
 use Rattle.interpreter.specs.Looping.{loop_at, machine_at}
 use Rattle.interpreter.specs.Running.{Machine, RunsAt, cells_in, height_in}
 use Rattle.interpreter.specs.Turns.{CallsByName, CallsThrough, CostsOne, Fits, FitsTable, Turns, entry_through, function_address, type_of}
-use Rattle.interpreter.specs.Whole.{AsksNext, Loop, OpensNext, Reaches, RunsSomeWhole, RunsWhole, StopsAt, Whole, whole}
+use Rattle.interpreter.specs.Whole.{AsksNext, LacksCells, Loop, OpensNext, Reaches, RunsSomeWhole, RunsWhole, StopsAt, Whole, whole}
 use Rattle.interpreter.specs.Worlds.{World, store_in}
 use Rattle.interpreter.specs.declared.callees.Found.{Found}
 use Rattle.interpreter.specs.declared.machine.CallKind.{CallKind}
@@ -58,6 +58,34 @@ record CallsFrom (w : World) (cells : List ℕ) (at from : Position) (kind : Cal
   pub same : (g : Ghost) → RunsAt w (machine_at cells at) g → take height (put_back g.code.locals at.base cells from.top from.operand) ≡ take height (cells_in g (machine_at cells at))
   pub calls : (g : Ghost) → RunsAt w (machine_at cells at) g → IsCalled kind op address function g (cells_in g (machine_at cells at)) at.place (height_in (machine_at cells at)) height
 
+-- What comes to a call is at the call then.
+abbrev settled : (op : PlainOp) (address : ℕ) (function : FunctionInstance) (g : Ghost) (cells : List ℕ) (at top height : ℕ) (c : ReachesCall op address function g cells at top height) → ReachesCall op address function c.new cells at top height
+settled op address function g cells at top height c = record {
+  new = c.new;
+  same = record { code = refl; instance = refl; types = refl; results = refl };
+  store = refl;
+  steps = λ fuel. no_steps;
+  runs = c.runs;
+  rest = c.rest;
+  rest_is = c.rest_is;
+  there = c.there;
+  valid = c.valid;
+  values = c.values;
+  over = c.over;
+  top_is = c.top_is;
+  holds = c.holds;
+  below = c.below;
+  typed = c.typed;
+  enough = c.enough;
+  operands = c.operands;
+}
+
+calling-there : (op : PlainOp) (address : ℕ) (function : FunctionInstance) (g : Ghost) (cells : List ℕ) (at top height : ℕ) (c : IsCalling op address function g cells at top height) → IsCalling op address function c.reached.new cells at top height
+calling-there op address function g cells at top height c = record { reached = settled op address function g cells at top height c.reached; counted = c.counted; goes_on = c.goes_on; step = c.step }
+
+tail-calling-there : (op : PlainOp) (address : ℕ) (function : FunctionInstance) (g : Ghost) (cells : List ℕ) (at top height : ℕ) (c : IsTailCalling op address function g cells at top height) → IsTailCalling op address function c.reached.new cells at top height
+tail-calling-there op address function g cells at top height c = record { reached = settled op address function g cells at top height c.reached; results = c.results; step = c.step }
+
 module _ (bound : ℕ) (w : World) (cells : List ℕ) (callers : List Frame) (at from : Position) (op : PlainOp) (address : ℕ) where
   abbrev m : Machine
   m = machine_at cells at
@@ -67,7 +95,7 @@ module _ (bound : ℕ) (w : World) (cells : List ℕ) (callers : List Frame) (at
 
   -- ---- of a module
 
-  module _ (f : ModuleFunction) (found : IsAtAddress w.code address f) (height : ℕ) (top_is : from.top ≡ at.base + height) (in_cells : from.top < length cells)
+  module _ (f : ModuleFunction) (is : IsCalleeAt w.code address (callee.InModule f)) (found : IsAtAddress w.code address f) (height : ℕ) (top_is : from.top ≡ at.base + height) (in_cells : from.top < length cells)
       (same : (g : Ghost) → RunsAt w (machine_at cells at) g → take height (put_back g.code.locals at.base cells from.top from.operand) ≡ take height (cells_in g (machine_at cells at))) where
     abbrev function : FunctionInstance
     function = function_of f.ty.now f.instance f.func.now
@@ -148,6 +176,19 @@ module _ (bound : ℕ) (w : World) (cells : List ℕ) (callers : List Frame) (at
               enough = subst (λ (z : Next). price z ≤ at.fuel) (sym o.opens) some;
             }
 
+        lacks-cells : length cells ≤ from.top + 1 - f.flat.now.params + f.flat.now.greatest → LacksCells w.code m nested.new
+        lacks-cells past = record {
+          kind = Nested;
+          op = op;
+          address = address;
+          function = f;
+          there = is;
+          height = height;
+          calls = subst (λ (z : List ℕ). IsCalling op address function c.reached.new z m.place (height_in m) height) (as-many u r c.reached)
+              (calling-there op address function u.ghost (cells_in u.ghost m) m.place (height_in m) height c);
+          past = omega (arith, past, top_is);
+        }
+
       calls-module : RunsSomeWhole bound l → CallsModule bound w cells callers at from f
       calls-module (v, q) = record {
         room = in_cells;
@@ -155,7 +196,7 @@ module _ (bound : ℕ) (w : World) (cells : List ℕ) (callers : List Frame) (at
         declared = declared-so v q (calls v.ghost q.runs).reached;
         high = high-so v q (calls v.ghost q.runs).reached;
         no_depth = λ some full. record { from = λ u r. stops-unpaid bound stop.NoDepth refl l l u (nested u r) (opens u r some, let d = deep u r in omega (arith, d, full)); falls = tt };
-        no_room = λ some shallow. record { from = λ u r. stops-unpaid bound stop.NoRoom refl l l u (nested u r) (asks-to-open u r some shallow); falls = omega arith };
+        no_room = λ some shallow past. record { from = λ u r. stops-unpaid bound stop.NoRoom refl l l u (nested u r) (asks-to-open u r some shallow, lacks-cells u r past); falls = omega arith };
         no_memory = λ some shallow. record { from = λ u r. stops-unpaid bound stop.NoMemory refl l l u (nested u r) (asks-to-open u r some shallow); falls = tt };
         opens = λ some shallow room cells' filled size u r.
             let k = calls u.ghost r.runs in
@@ -176,22 +217,35 @@ module _ (bound : ℕ) (w : World) (cells : List ℕ) (callers : List Frame) (at
         asks-to-replace : 1 ≤ at.fuel → AsksNext bound (store_in w) at.fuel last.new
         asks-to-replace some = asks bound w cells callers at last.new last.runs op from.top from.operand address f found (arguments u r tail_call.reached) tail_call.results tail_call.step some
 
+        lacks-cells-below : length cells ≤ at.base + f.flat.now.greatest → LacksCells w.code m last.new
+        lacks-cells-below past = record {
+          kind = Tail;
+          op = op;
+          address = address;
+          function = f;
+          there = is;
+          height = height;
+          calls = subst (λ (z : List ℕ). IsTailCalling op address function tail_call.reached.new z m.place (height_in m) height) (as-many u r tail_call.reached)
+              (tail-calling-there op address function u.ghost (cells_in u.ghost m) m.place (height_in m) height tail_call);
+          past = past;
+        }
+
       replaces-module : RunsSomeWhole bound l → ReplacesModule bound w cells callers at from f
       replaces-module (v, q) = record {
         room = in_cells;
         arguments = fits-so v q (calls v.ghost q.runs).reached;
         declared = declared-so v q (calls v.ghost q.runs).reached;
         high = high-so v q (calls v.ghost q.runs).reached;
-        no_room = λ some. record { from = λ u r. stops-unpaid bound stop.NoRoom refl l l u (last u r) (asks-to-replace u r some); falls = omega arith };
+        no_room = λ some past. record { from = λ u r. stops-unpaid bound stop.NoRoom refl l l u (last u r) (asks-to-replace u r some, lacks-cells-below u r past); falls = omega arith };
         replaces = λ some room cells' moved u r.
             let k = calls u.ghost r.runs in
             let o = replaced bound w cells callers at (last u r).new (last u r).runs op from.top from.operand address f found (arguments u r k.reached) k.results k.step cells' moved room some in
             (o.0, λ other seen. reaches-then bound l l _ u (last u r) (o.1 other seen));
       }
 
-  calls-in-module : (kind : CallKind) (f : ModuleFunction) → IsAtAddress w.code address f → CallsFrom w cells at from kind op address (function_of f.ty.now f.instance f.func.now) → RunsSomeWhole bound l → CallsInModule kind bound w cells callers at from f
-  calls-in-module Nested f found k some = calls-module f found k.height k.top_is k.inside k.same k.calls some
-  calls-in-module Tail f found k some = replaces-module f found k.height k.top_is k.inside k.same k.calls some
+  calls-in-module : (kind : CallKind) (f : ModuleFunction) → IsCalleeAt w.code address (callee.InModule f) → IsAtAddress w.code address f → CallsFrom w cells at from kind op address (function_of f.ty.now f.instance f.func.now) → RunsSomeWhole bound l → CallsInModule kind bound w cells callers at from f
+  calls-in-module Nested f is found k some = calls-module f is found k.height k.top_is k.inside k.same k.calls some
+  calls-in-module Tail f is found k some = replaces-module f is found k.height k.top_is k.inside k.same k.calls some
 
   -- ---- of the host
 
@@ -215,7 +269,7 @@ module _ (bound : ℕ) (w : World) (cells : List ℕ) (callers : List Frame) (at
   -- What is found there is called.
   calls-found : (kind : CallKind) → RunsSomeWhole bound l → (found : Callee) → IsCalleeAt w.code address found → CallsFrom w cells at from kind op address (callee_function found) → Calls bound w cells callers at from kind address found
   calls-found kind some (callee.InModule f) is k =
-      calls-in-module kind f (at-address f is) k some
+      calls-in-module kind f is (at-address f is) k some
   calls-found kind some (callee.InHost f) is k = (k.inside, calls-host kind f k)
 
 -- What turns at a call, of either kind.

@@ -241,10 +241,10 @@ module _ (bound : ℕ) where
   ran-then l l' l'' first second = record { from = λ w r. let f = first.from w r in reaches-then l l' l'' w f (second.from f.new f.runs); falls = omega (arith, first.falls, second.falls) }
 
   -- It stops where nothing was paid for the next step.
-  pub stops-unpaid : (s : Stop) → paid_for s ≡ 0 → (l l' : Loop) (w : Whole) (there : Reaches bound l w l') → StopsBy bound s l'.world.flat.tables (store_in l'.world) l'.fuel l'.machine there.new → StopsWhole bound l w s l'
+  pub stops-unpaid : (s : Stop) → paid_for s ≡ 0 → (l l' : Loop) (w : Whole) (there : Reaches bound l w l') → StopsBy bound s l'.world (store_in l'.world) l'.fuel l'.machine there.new → StopsWhole bound l w s l'
   stops-unpaid s none_paid l l' w there by =
       let same : l'.fuel ≡ l'.fuel + paid_for s = omega (arith, none_paid) in
-      let both = subst (λ (n : ℕ). (t : Reaches bound l w (record l' { fuel = n })) × StopsBy bound s l'.world.flat.tables (store_in l'.world) n l'.machine t.new) same (there, by) in
+      let both = subst (λ (n : ℕ). (t : Reaches bound l w (record l' { fuel = n })) × StopsBy bound s l'.world (store_in l'.world) n l'.machine t.new) same (there, by) in
       record { there = both.0; by = both.1 }
 
   -- An operation goes on in the frame, whatever runs there.

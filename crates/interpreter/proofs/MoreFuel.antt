@@ -48,11 +48,11 @@ module _ (bound k : ℕ) where
   over-more l l' w over = record { values = over.values; steps = steps-more over.steps; results = over.results }
 
   whole-more : (l l' : Loop) (w : Whole) (s : Stop) → StopsWhole bound l w s l'
-      → ((fuel : ℕ) (w' : Whole) → StopsBy bound s l'.world.flat.tables (store_in l'.world) fuel l'.machine w' → StopsBy bound s l'.world.flat.tables (store_in l'.world) (fuel + k) l'.machine w')
+      → ((fuel : ℕ) (w' : Whole) → StopsBy bound s l'.world (store_in l'.world) fuel l'.machine w' → StopsBy bound s l'.world (store_in l'.world) (fuel + k) l'.machine w')
       → StopsWhole bound (with_more_fuel l k) w s (with_more_fuel l' k)
   whole-more l l' w s stops by-more =
       let same : l'.fuel + paid_for s + k ≡ l'.fuel + k + paid_for s = omega arith in
-      let both = subst (λ (n : ℕ). (t : Reaches bound (with_more_fuel l k) w (record l' { fuel = n })) × StopsBy bound s l'.world.flat.tables (store_in l'.world) n l'.machine t.new) same
+      let both = subst (λ (n : ℕ). (t : Reaches bound (with_more_fuel l k) w (record l' { fuel = n })) × StopsBy bound s l'.world (store_in l'.world) n l'.machine t.new) same
       (reaches-more l (with_more_fuel l' (paid_for s)) w stops.there, by-more (l'.fuel + paid_for s) stops.there.new stops.by) in
       record { there = both.0; by = both.1 }
 
@@ -81,7 +81,7 @@ module _ (bound k : ℕ) where
   }
   stops-more l l' stop.NoDepth stops = record { from = λ w r. whole-more l l' w stop.NoDepth (stops.from w (less l w r)) (λ fuel w' by. (opens-more (store_in l'.world) fuel w' by.0, by.1)); falls = tt }
   stops-more l l' stop.NoRoom stops = record {
-    from = λ w r. whole-more l l' w stop.NoRoom (stops.from w (less l w r)) (λ fuel w' by. asks-more (store_in l'.world) fuel w' by);
+    from = λ w r. whole-more l l' w stop.NoRoom (stops.from w (less l w r)) (λ fuel w' by. (asks-more (store_in l'.world) fuel w' by.0, by.1));
     falls = let falls = stops.falls in omega (arith, falls);
   }
   stops-more l l' stop.NoMemory stops = record { from = λ w r. whole-more l l' w stop.NoMemory (stops.from w (less l w r)) (λ fuel w' by. asks-more (store_in l'.world) fuel w' by); falls = tt }

@@ -68,6 +68,7 @@ pub record CallsModule (bound : ℕ) (w : World) (cells : List ℕ) (callers : L
   pub no_depth : 1 ≤ at.fuel → bound ≤ suc (length callers)
       → StopsAt bound (loop_at w cells callers at) stop.NoDepth (loop_at w cells callers at)
   pub no_room : 1 ≤ at.fuel → suc (length callers) < bound
+      → length cells ≤ from.top + 1 - f.flat.now.params + f.flat.now.greatest
       → StopsAt bound (loop_at w cells callers at) stop.NoRoom (loop_at w cells callers at)
   pub no_memory : 1 ≤ at.fuel → suc (length callers) < bound
       → StopsAt bound (loop_at w cells callers at) stop.NoMemory (loop_at w cells callers at)
@@ -109,7 +110,7 @@ pub record ReplacesModule (bound : ℕ) (w : World) (cells : List ℕ) (callers 
   pub arguments : at.base + f.flat.now.params ≤ from.top
   pub declared : f.flat.now.params ≤ f.flat.now.locals
   pub high : f.flat.now.locals ≤ f.flat.now.greatest
-  pub no_room : 1 ≤ at.fuel
+  pub no_room : 1 ≤ at.fuel → length cells ≤ at.base + f.flat.now.greatest
       → StopsAt bound (loop_at w cells callers at) stop.NoRoom (loop_at w cells callers at)
   pub replaces : 1 ≤ at.fuel
       → at.base + f.flat.now.greatest < length cells

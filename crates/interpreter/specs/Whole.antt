@@ -15,9 +15,10 @@ use Rattle.soundness.specs.Places.{outermost}
 use Rattle.soundness.specs.Stores.{StoreIsValid}
 use Rattle.sidetable.specs.Flat.{Plain}
 use Rattle.sidetable.specs.Packing.{other_op}
-use Rattle.sidetable.specs.declared.side_tables.SideTables.{SideTables}
-use Rattle.store.specs.Contents.{IsLoaded}
+use Rattle.store.specs.Contents.{Contents, IsCalleeAt, IsLoaded, callee_function}
+use Rattle.store.specs.declared.instances.Callee.TheVariants as callee
 use Rattle.store.specs.declared.instances.Instance.{Instance}
+use Rattle.store.specs.declared.instances.ModuleFunction.{ModuleFunction}
 use Rattle.simulation.specs.Piles.{cells_of}
 use Rattle.simulation.specs.Runs.{Ghost, config_of, frame_of}
 use Rattle.interpreter.specs.Callees.{IsCalled}
@@ -26,6 +27,7 @@ use Rattle.interpreter.specs.Running.{Machine, RunsAt, cells_in, height_in}
 use Rattle.interpreter.specs.Turns.{IsLeft, StandsThere}
 use Rattle.interpreter.specs.Worlds.{Sees, World, store_in}
 use Rattle.interpreter.specs.declared.machine.CallKind.{CallKind}
+use Rattle.interpreter.specs.declared.machine.CallKind.TheVariants.{Nested, Tail}
 use Rattle.interpreter.specs.declared.machine.Frame.{Frame}
 use Rattle.interpreter.specs.declared.machine.Stop.{Stop}
 use Rattle.interpreter.specs.declared.machine.Stop.TheVariants as stop
@@ -120,19 +122,39 @@ pub record CallsHostNext (fuel : ℕ) (m : Machine) (w : Whole) (kind : CallKind
   pub calls : IsCalled kind op address function w.ghost (cells_in w.ghost m) m.place (height_in m) height
   pub paid : 1 ≤ fuel
 
--- What runs next, by the reason to stop.
-abbrev pub StopsBy : (bound : ℕ) → Stop → SideTables → Store → (fuel : ℕ) → Machine → Whole → Type 0
-StopsBy bound (stop.Traps trap) tables store fuel m w =
+-- The frame of a callee begins at its arguments, which are the topmost of the frame's cells up to a height; that of a tail call
+-- where the innermost frame does.
+abbrev pub callee_base : CallKind → Machine → (height params : ℕ) → ℕ
+callee_base Nested m height params = m.base + height + 1 - params
+callee_base Tail m height params = m.base
+
+-- The next step calls a function of a module so, and its greatest height reaches past the cells.
+pub record LacksCells (code : Contents) (m : Machine) (w : Whole) : Type 0 where
+  pub kind : CallKind
+  pub op : PlainOp
+  pub address : ℕ
+  pub function : ModuleFunction
+  pub there : IsCalleeAt code address (callee.InModule function)
+  pub height : ℕ
+  pub calls : IsCalled kind op address (callee_function (callee.InModule function)) w.ghost
+      (cells_in w.ghost m) m.place (height_in m) height
+  pub past : length m.cells
+      ≤ callee_base kind m height function.flat.now.params + function.flat.now.greatest
+
+-- What runs next, by the reason to stop, as the world there has it.
+abbrev pub StopsBy : (bound : ℕ) → Stop → World → Store → (fuel : ℕ) → Machine → Whole → Type 0
+StopsBy bound (stop.Traps trap) world store fuel m w =
     (next store no_frame (whole w) ≡ Traps 1 trap) × (1 ≤ fuel)
-StopsBy bound stop.NoFuel tables store fuel m w = fuel < price (next store no_frame (whole w))
-StopsBy bound stop.NoDepth tables store fuel m w = OpensNext store fuel w × (bound ≤ depth (whole w))
-StopsBy bound stop.NoRoom tables store fuel m w = AsksNext bound store fuel w
-StopsBy bound stop.NoMemory tables store fuel m w = AsksNext bound store fuel w
-StopsBy bound (stop.CallsHost kind address behind) tables store fuel m w =
+StopsBy bound stop.NoFuel world store fuel m w = fuel < price (next store no_frame (whole w))
+StopsBy bound stop.NoDepth world store fuel m w = OpensNext store fuel w × (bound ≤ depth (whole w))
+StopsBy bound stop.NoRoom world store fuel m w =
+    AsksNext bound store fuel w × LacksCells world.code m w
+StopsBy bound stop.NoMemory world store fuel m w = AsksNext bound store fuel w
+StopsBy bound (stop.CallsHost kind address behind) world store fuel m w =
     CallsHostNext fuel m w kind address behind
-StopsBy bound (stop.LeavesOther kind n) tables store fuel m w =
-    IsLeft kind × StandsThere m w.ghost (Plain (other_op tables kind n))
-StopsBy bound other tables store fuel m w = Unit {0}
+StopsBy bound (stop.LeavesOther kind n) world store fuel m w =
+    IsLeft kind × StandsThere m w.ghost (Plain (other_op world.flat.tables kind n))
+StopsBy bound other world store fuel m w = Unit {0}
 
 -- The loop with so much more fuel.
 abbrev pub with_more_fuel : Loop → (more : ℕ) → Loop
@@ -146,7 +168,7 @@ paid_for other = 0
 -- It reached where it stops.
 pub record StopsWhole (bound : ℕ) (l : Loop) (w : Whole) (s : Stop) (l' : Loop) : Type 0 where
   pub there : Reaches bound l w (with_more_fuel l' (paid_for s))
-  pub by : StopsBy bound s l'.world.flat.tables (store_in l'.world) (l'.fuel + paid_for s) l'.machine
+  pub by : StopsBy bound s l'.world (store_in l'.world) (l'.fuel + paid_for s) l'.machine
       there.new
 
 -- The topmost cells are those of values of these types, the last one on top.

@@ -38,9 +38,9 @@ fn chosen(tables: &SideTables, number: u32, operand: u64) -> Entry
     }
 }
 
-/// Branches to an entry, where the topmost operand lies at the top, too, and was paid for.
+// Moves the values that a branch keeps, and goes on at its target.
 #[inline(always)]
-pub fn branch(cells: &mut [u64], e: Entry, at: &mut Position)
+fn land_at(cells: &mut [u64], e: Entry, at: &mut Position)
     requires low { at.old.base + e.height + e.kept ≤ at.old.top }
     requires within { at.old.top < length cells.old }
     requires there { get_or cells.old at.old.top 0 ≡ at.old.operand }
@@ -53,6 +53,40 @@ pub fn branch(cells: &mut [u64], e: Entry, at: &mut Position)
     at.operand = land(cells, at.top, to, kept, at.operand);
     at.top = to + kept;
     at.place = e.target as usize;
+}
+
+// Does what `land_at` does, out of the line of the loop.
+#[cold]
+#[inline(never)]
+fn land_far(cells: &mut [u64], e: Entry, at: &mut Position)
+    requires low { at.old.base + e.height + e.kept ≤ at.old.top }
+    requires within { at.old.top < length cells.old }
+    requires there { get_or cells.old at.old.top 0 ≡ at.old.operand }
+    ensures moved { AreMoved cells.old at.old.top
+        (at.old.base + e.height) e.kept cells.new at.new.operand }
+    ensures landed { at.new ≡ position_landed at.old e at.new.operand }
+{
+    land_at(cells, e, at);
+}
+
+/// Branches to an entry, once the branch is paid for. The topmost operand is in its cell, too. Most branches keep no value, and only those
+/// stay in the line of the loop, which then moves no register for them.
+#[inline(always)]
+pub fn branch(cells: &mut [u64], e: Entry, at: &mut Position)
+    requires low { at.old.base + e.height + e.kept ≤ at.old.top }
+    requires within { at.old.top < length cells.old }
+    requires there { get_or cells.old at.old.top 0 ≡ at.old.operand }
+    ensures moved { AreMoved cells.old at.old.top
+        (at.old.base + e.height) e.kept cells.new at.new.operand }
+    ensures landed { at.new ≡ position_landed at.old e at.new.operand }
+{
+    if e.kept == 0 {
+        land_at(cells, e, at);
+    } else {
+        let mut to = *at;
+        land_far(cells, e, &mut to);
+        *at = to;
+    }
 }
 
 /// Does an operation that does not go on with the next one, or calls, and is rarer.

@@ -11,7 +11,7 @@ pub cross-requires : goal.cross-requires
 cross-requires c = c.requires.sound.1.number
 
 pub returns-then-flat-cells : goal.returns-then-flat-cells
-returns-then-flat-cells c = c.requires.calls.no_room c.requires.paid c.requires.shallow
+returns-then-flat-cells c = c.requires.calls.no_room c.requires.paid c.requires.shallow (omega (arith, c.if-flat-cells.true, c.requires.calls.declared, c.requires.calls.arguments))
 
 pub returns-in_default : goal.returns-in_default
 returns-in_default c = rw (c.in_default.ensures.err) (c.requires.calls.no_memory c.requires.paid c.requires.shallow)

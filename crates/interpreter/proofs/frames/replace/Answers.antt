@@ -12,7 +12,7 @@ pub cross-requires : goal.cross-requires
 cross-requires c = c.requires.sound.1.number
 
 pub returns-then-flat-cells : goal.returns-then-flat-cells
-returns-then-flat-cells c = c.requires.replaces.no_room c.requires.paid
+returns-then-flat-cells c = c.requires.replaces.no_room c.requires.paid (omega (arith, c.if-flat-cells.true, c.requires.replaces.declared, c.requires.replaces.arguments))
 
 pub returns : goal.returns
 returns c =
