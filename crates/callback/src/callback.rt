@@ -1,12 +1,13 @@
 ghost use Rattle.std.specs.Prelude.{◌≡◌, IfOk, IfSome, length, map};
 ghost use Rattle.meaning.specs.execution.Values.{type_of};
 
+use crate::asking::Asking;
 use crate::ranges::range_within;
 use crate::requests::make_request;
 use core_types::{FuncType, Val};
 use hostfunc::{HostFault, HostFn, have_types};
-use io::{read_full, write_all};
-use messages::{Head, read_head, read_number, skip, split_value, write_message};
+use io::read_full;
+use messages::{Head, read_head, read_number, skip, split_value};
 use std::alloc::Global;
 
 /// The code of the trap where the answer is none: of another kind, of other types, out of range, or cut short.
@@ -21,9 +22,6 @@ const READ: u64 = 22;
 
 const PUT: u64 = 23;
 
-// The kind of the message that gives lent bytes.
-const LENT: u64 = 11;
-
 // How many bytes a number takes, and a value.
 const NUMBER: u64 = 8;
 
@@ -34,13 +32,13 @@ const VALUE: u64 = 16;
 pub struct Callback {
     alloc: Global,
     number: u32,
-    ask: i32,
+    asking: Asking,
     hear: i32,
     ty: FuncType,
 }
 
 // Writes the lent bytes that an answer asks for. Whether they are all lent, and were taken.
-fn give_lent(ask: i32, hear: i32, size: u64, memory: &[u8]) -> bool {
+fn give_lent(asking: &Asking, hear: i32, size: u64, memory: &[u8]) -> bool {
     if size != 2 * NUMBER {
         skip(hear, size);
         return false;
@@ -49,7 +47,7 @@ fn give_lent(ask: i32, hear: i32, size: u64, memory: &[u8]) -> bool {
         return false;
     };
     match range_within(first, count, memory.len()) {
-        Some((start, end)) => write_message(ask, LENT, &memory[start..end]),
+        Some((start, end)) => asking.lend(&memory[start..end]),
         None => false,
     }
 }
@@ -103,12 +101,15 @@ fn read_value(hear: i32) -> Option<Val> {
 impl Callback {
     /// The host function of a number and a type, which is asked for over one descriptor and answered over another.
     pub fn new(alloc: Global, number: u32, ask: i32, hear: i32, ty: FuncType) -> Callback
-        ensures { result.ty ≡ ty }
+        ensures number { result.number ≡ number }
+        ensures asking { result.asking ≡ record { descriptor = ask; requests = 0 } }
+        ensures hear { result.hear ≡ hear }
+        ensures ty { result.ty ≡ ty }
     {
         Callback {
             alloc,
             number,
-            ask,
+            asking: Asking::new(ask),
             hear,
             ty,
         }
@@ -149,7 +150,7 @@ impl Callback {
             let is_served = match kind {
                 RESULTS => return self.take_results(size, results).ok_or(NO_ANSWER),
                 TRAP => return Err(take_trap(self.hear, size)),
-                READ => give_lent(self.ask, self.hear, size, memory),
+                READ => give_lent(&self.asking, self.hear, size, memory),
                 PUT => put_lent(self.hear, size, memory),
                 _ => {
                     skip(self.hear, size);
@@ -169,18 +170,21 @@ impl HostFn for Callback {
 
     ghost declared = { λ callback. callback.ty };
 
-    ghost Answers = { λ callback _ bytes _ then callback'.
-        AnswersAtWill callback bytes then callback' };
+    ghost Answers = { λ callback _ bytes answer then callback'.
+        AnswersAtWill callback bytes answer then callback' };
 
     fn ty(&self) -> &FuncType {
         &self.ty
     }
 
     fn call(&mut self, args: &[Val], memory: &mut [u8]) -> Result<Vec<Val>, HostFault> {
-        // Behind the request there is no memory to ask for, so room for the results is made before it.
+        // After the request no memory can be asked for, so room for the results is made before it.
         let results = Vec::with_capacity(self.alloc, self.ty.results.len())?;
         let request = make_request(self.alloc, self.number, memory.len(), args)?;
-        if !write_all(self.ask, request.as_slice()) {
+        if self.asking.is_spent() {
+            return Err(HostFault::Trap(NO_ANSWER));
+        }
+        if !self.asking.request(request.as_slice()) {
             return Err(HostFault::Trap(NO_ANSWER));
         }
         match self.hear_answer(results, memory) {

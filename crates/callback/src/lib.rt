@@ -1,6 +1,7 @@
 //! Host functions that are answered at the other end of two descriptors.
 #![tactic(auto)]
 
+mod asking;
 mod callback;
 mod ranges;
 mod requests;

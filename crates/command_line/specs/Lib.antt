@@ -1,1 +1,4 @@
 pub mod Depths
+pub mod Numbers
+pub mod Commands
+pub mod Orders

@@ -1,7 +1,11 @@
 //! The command line.
 
-ghost use Rattle.std.specs.Prelude.{◌≡◌, IfSome, MatchOption, None, Some};
+ghost use Rattle.std.specs.Prelude.{◌≡◌, [], IfOk, IfSome, IsOkAnd, MatchOption, None, Some, codes, map, string_bytes, unwrap_or};
+ghost use Rattle.clap.specs.Words.{AddsSubcommand, all_of, first_of, found_of, rows_of, subcommand_rows_of};
+ghost use Rattle.command_line.specs.Commands.{IsArgument, IsCommand, call, check, option as option_rule, plain, program, repeated as repeated_rule, required as required_rule, script};
 ghost use Rattle.command_line.specs.Depths.{IsDepth, IsNoDepth};
+ghost use Rattle.command_line.specs.Numbers.{IsBound, IsFuel, IsNumberOf};
+ghost use Rattle.command_line.specs.Orders.{AsksFor, IsCallOrder, IsOrder, IsScriptOrder};
 
 use crate::digits::number;
 use clap::error::ErrorKind;
@@ -72,7 +76,9 @@ impl From<Error> for WordsFault {
 }
 
 // A command that knows of no help and no version.
-fn plain_command<'a>(alloc: Global, name: &'a str) -> Command<'a> {
+fn plain_command<'a>(alloc: Global, name: &'a str) -> Command<'a>
+    ensures { IsCommand (plain name.now) result }
+{
     Command::new(alloc, name)
         .disable_help_flag(true)
         .disable_version_flag(true)
@@ -80,30 +86,40 @@ fn plain_command<'a>(alloc: Global, name: &'a str) -> Command<'a> {
 }
 
 // A word that has to be there.
-fn required<'a>(alloc: Global, name: &'a str) -> Arg<'a> {
+fn required<'a>(alloc: Global, name: &'a str) -> Arg<'a>
+    ensures { IsArgument (required_rule name.now) result }
+{
     Arg::new(alloc, name).required(true).action(ArgAction::Set)
 }
 
 // Any number of words.
-fn repeated<'a>(alloc: Global, name: &'a str) -> Arg<'a> {
+fn repeated<'a>(alloc: Global, name: &'a str) -> Arg<'a>
+    ensures { IsArgument (repeated_rule name.now) result }
+{
     Arg::new(alloc, name)
         .num_args(0..)
         .action(ArgAction::Append)
 }
 
 // A word after `--` and its name, or none.
-fn option<'a>(alloc: Global, name: &'a str) -> Arg<'a> {
+fn option<'a>(alloc: Global, name: &'a str) -> Arg<'a>
+    ensures { IsArgument (option_rule name.now) result }
+{
     Arg::new(alloc, name).long(name).action(ArgAction::Set)
 }
 
-fn script_command<'a>(alloc: Global) -> Result<Command<'a>, AllocError> {
+fn script_command<'a>(alloc: Global) -> Result<Command<'a>, AllocError>
+    ensures { IfOk result (IsCommand script) }
+{
     plain_command(alloc, "script")
         .arg(required(alloc, "file"))?
         .arg(option(alloc, "fuel"))?
         .arg(option(alloc, "depth"))
 }
 
-fn call_command<'a>(alloc: Global) -> Result<Command<'a>, AllocError> {
+fn call_command<'a>(alloc: Global) -> Result<Command<'a>, AllocError>
+    ensures { IfOk result (IsCommand call) }
+{
     plain_command(alloc, "call")
         .arg(required(alloc, "file"))?
         .arg(required(alloc, "export"))?
@@ -112,7 +128,9 @@ fn call_command<'a>(alloc: Global) -> Result<Command<'a>, AllocError> {
         .arg(option(alloc, "depth"))
 }
 
-fn check_command<'a>(alloc: Global) -> Result<Command<'a>, AllocError> {
+fn check_command<'a>(alloc: Global) -> Result<Command<'a>, AllocError>
+    ensures { IfOk result (IsCommand check) }
+{
     plain_command(alloc, "check").arg(required(alloc, "file"))
 }
 
@@ -120,14 +138,19 @@ fn check_command<'a>(alloc: Global) -> Result<Command<'a>, AllocError> {
 fn with_subcommand<'a>(
     command: Command<'a>,
     made: Result<Command<'a>, AllocError>,
-) -> Result<Command<'a>, AllocError> {
+) -> Result<Command<'a>, AllocError>
+    ensures { IfOk result (λ new. IsOkAnd made.entry
+        (λ subcommand. AddsSubcommand command.entry subcommand new)) }
+{
     match made {
         Ok(subcommand) => command.subcommand(subcommand),
         Err(wanting) => Err(wanting),
     }
 }
 
-fn program_command<'a>(alloc: Global) -> Result<Command<'a>, AllocError> {
+fn program_command<'a>(alloc: Global) -> Result<Command<'a>, AllocError>
+    ensures { IfOk result (IsCommand program) }
+{
     let command = plain_command(alloc, "wasmrun")
         .subcommand_required(true)
         .no_binary_name(true);
@@ -137,7 +160,10 @@ fn program_command<'a>(alloc: Global) -> Result<Command<'a>, AllocError> {
 }
 
 // The word under a name.
-fn word_of<'a>(matches: &ArgMatches<'a>, name: &str) -> Result<&'a str, WordsFault> {
+fn word_of<'a>(matches: &ArgMatches<'a>, name: &str) -> Result<&'a str, WordsFault>
+    ensures { IfOk result (λ word. first_of name.now (rows_of (found_of matches.now))
+        ≡ Some word.now) }
+{
     match matches.get_str(name) {
         Some(word) => Ok(word),
         None => Err(WordsFault::Usage),
@@ -149,7 +175,10 @@ fn words_of<'a>(
     alloc: Global,
     matches: &ArgMatches<'a>,
     name: &str,
-) -> Result<Vec<&'a str>, WordsFault> {
+) -> Result<Vec<&'a str>, WordsFault>
+    ensures { IfOk result (λ words. unwrap_or (all_of name.now (rows_of (found_of matches.now))) []
+        ≡ map (λ word. word.now) words.items) }
+{
     match matches.get_strs(name) {
         Some(words) => Ok(Vec::from_slice(alloc, words)?),
         None => Ok(Vec::new(alloc)),
@@ -157,7 +186,9 @@ fn words_of<'a>(
 }
 
 // The number of an option, if it is there.
-fn option_of(matches: &ArgMatches<'_>, name: &str) -> Result<Option<u64>, WordsFault> {
+fn option_of(matches: &ArgMatches<'_>, name: &str) -> Result<Option<u64>, WordsFault>
+    ensures { IfOk result (IsNumberOf (first_of name.now (rows_of (found_of matches.now)))) }
+{
     match matches.get_str(name) {
         None => Ok(None),
         Some(word) => match number(word) {
@@ -181,19 +212,25 @@ fn depth_of(given: Option<u64>) -> Option<u32>
 }
 
 // The fuel that the words name, or the one of a call where they name none.
-fn fuel_in(matches: &ArgMatches<'_>) -> Result<u64, WordsFault> {
+fn fuel_in(matches: &ArgMatches<'_>) -> Result<u64, WordsFault>
+    ensures { IfOk result (IsFuel (first_of (codes "fuel") (rows_of (found_of matches.now)))) }
+{
     Ok(option_of(matches, "fuel")?.unwrap_or(DEFAULT_FUEL))
 }
 
 // The number of open frames that the words allow.
-fn depth_in(matches: &ArgMatches<'_>) -> Result<u32, WordsFault> {
+fn depth_in(matches: &ArgMatches<'_>) -> Result<u32, WordsFault>
+    ensures { IfOk result (IsBound (first_of (codes "depth") (rows_of (found_of matches.now)))) }
+{
     match depth_of(option_of(matches, "depth")?) {
         Some(depth) => Ok(depth),
         None => Err(WordsFault::Usage),
     }
 }
 
-fn script_order_of<'a>(matches: &ArgMatches<'a>) -> Result<ScriptOrder<'a>, WordsFault> {
+fn script_order_of<'a>(matches: &ArgMatches<'a>) -> Result<ScriptOrder<'a>, WordsFault>
+    ensures { IfOk result (IsScriptOrder (rows_of (found_of matches.now))) }
+{
     Ok(ScriptOrder {
         file: word_of(matches, "file")?,
         fuel: fuel_in(matches)?,
@@ -201,7 +238,9 @@ fn script_order_of<'a>(matches: &ArgMatches<'a>) -> Result<ScriptOrder<'a>, Word
     })
 }
 
-fn call_order_of<'a>(alloc: Global, matches: &ArgMatches<'a>) -> Result<CallOrder<'a>, WordsFault> {
+fn call_order_of<'a>(alloc: Global, matches: &ArgMatches<'a>) -> Result<CallOrder<'a>, WordsFault>
+    ensures { IfOk result (IsCallOrder (rows_of (found_of matches.now))) }
+{
     Ok(CallOrder {
         file: word_of(matches, "file")?,
         export: word_of(matches, "export")?,
@@ -212,7 +251,9 @@ fn call_order_of<'a>(alloc: Global, matches: &ArgMatches<'a>) -> Result<CallOrde
 }
 
 // What the words ask for that were matched with the commands.
-fn order_in<'a>(alloc: Global, matches: &ArgMatches<'a>) -> Result<Order<'a>, WordsFault> {
+fn order_in<'a>(alloc: Global, matches: &ArgMatches<'a>) -> Result<Order<'a>, WordsFault>
+    ensures { IfOk result (IsOrder (subcommand_rows_of matches.now)) }
+{
     if let Some(found) = matches.subcommand_matches("script") {
         return Ok(Order::Script(script_order_of(found)?));
     }
@@ -226,7 +267,9 @@ fn order_in<'a>(alloc: Global, matches: &ArgMatches<'a>) -> Result<Order<'a>, Wo
 }
 
 /// What the words after the program's name ask for.
-pub fn read_words<'a>(alloc: Global, words: &'a [String]) -> Result<Order<'a>, WordsFault> {
+pub fn read_words<'a>(alloc: Global, words: &'a [String]) -> Result<Order<'a>, WordsFault>
+    ensures { IfOk result (AsksFor (map string_bytes words.now)) }
+{
     let matches = program_command(alloc)?.try_get_matches_from(words)?;
     order_in(alloc, &matches)
 }

@@ -1,0 +1,3 @@
+mod Numerals
+mod Building
+mod Matching
