@@ -1,11 +1,13 @@
-ghost use Rattle.std.specs.Prelude.{◌≡◌, IfOk};
+ghost use Rattle.std.specs.Prelude.{◌≡◌, IfOk, IsSomeAnd, false};
 ghost use Rattle.meaning.specs.validation.Modules.{IsValid};
+ghost use Rattle.module_info.specs.Lines.{Tells, says_valid};
 ghost use Rattle.module_info.specs.Verdicts.{IsFound, IsFoundOf, decode_verdict, validate_verdict};
 
 use binary::{DecodeError, bytes_spell_one_module, decode};
 use core_types::Module;
 use module_text::{IndexSpaces, rule, unsupported, write_module};
 use std::alloc::Global;
+use std::fmt::Display;
 use std::io::{self, Write};
 use validator::{Place, ValidateError, validate};
 
@@ -20,57 +22,83 @@ pub enum Verdict {
     OutOfMemory,
 }
 
+// Writes why bytes are refused, in a line that does not begin with `valid`.
+fn write_refusal<W: Write, D: Display + Drop>(out: &mut W, line: D) -> io::Result<Verdict>
+    requires { IsSomeAnd (D.output line) (λ text. says_valid text ≡ false) }
+    ensures verdict { IfOk result (λ verdict. verdict ≡ Verdict.Refused) }
+    ensures told { IfOk result (Tells (W.contents out.old) (W.contents out.new)) }
+{
+    out.write_fmt(line)?;
+    Ok(Verdict::Refused)
+}
+
 // Writes why bytes are no module.
 fn write_decode_error<W: Write>(
     out: &mut W,
     bytes: &[u8],
     error: &DecodeError,
 ) -> io::Result<Verdict>
-    ensures { IfOk result (λ verdict. verdict ≡ decode_verdict error.now) }
+    ensures verdict { IfOk result (λ verdict. verdict ≡ decode_verdict error.now) }
+    ensures told { IfOk result (Tells (W.contents out.old) (W.contents out.new)) }
 {
     match error {
         DecodeError::Unsupported(offset) => {
             let rest = bytes.get(*offset..).unwrap_or(&[]);
-            writeln!(out, "{error}: {}", unsupported(rest))?;
-            Ok(Verdict::Refused)
+            let feature = unsupported(rest);
+            write_refusal(
+                out,
+                format_args_nl!("unsupported feature at byte {offset}: {feature}"),
+            )
         }
-        DecodeError::Malformed(_) | DecodeError::Limit => {
-            writeln!(out, "{error}")?;
-            Ok(Verdict::Refused)
+        DecodeError::Malformed(offset) => {
+            write_refusal(out, format_args_nl!("malformed module at byte {offset}"))
         }
+        DecodeError::Limit => write_refusal(out, format_args_nl!("module exceeds a limit")),
         DecodeError::OutOfMemory => Ok(Verdict::OutOfMemory),
     }
 }
 
 // Writes why a module is not valid.
 fn write_validate_error<W: Write>(out: &mut W, error: &ValidateError) -> io::Result<Verdict>
-    ensures { IfOk result (λ verdict. verdict ≡ validate_verdict error.now) }
+    ensures verdict { IfOk result (λ verdict. verdict ≡ validate_verdict error.now) }
+    ensures told { IfOk result (Tells (W.contents out.old) (W.contents out.new)) }
 {
     match error {
         ValidateError::Invalid(Place::Section(id)) => {
-            writeln!(out, "{error}: {}", rule(*id))?;
-            Ok(Verdict::Refused)
+            let broken = rule(*id);
+            write_refusal(
+                out,
+                format_args_nl!("invalid module: section {id}: {broken}"),
+            )
         }
-        ValidateError::Invalid(Place::Func(_)) => {
-            writeln!(out, "{error}")?;
-            Ok(Verdict::Refused)
+        ValidateError::Invalid(Place::Func(index)) => {
+            write_refusal(out, format_args_nl!("invalid module: function {index}"))
         }
         ValidateError::OutOfMemory => Ok(Verdict::OutOfMemory),
     }
 }
 
-// Writes what a valid module has, over its index spaces.
-fn write_valid<W: Write>(
-    out: &mut W,
-    len: usize,
-    module: &Module,
-    spaces: &IndexSpaces,
-) -> io::Result<()> {
-    writeln!(out, "valid, {len} bytes")?;
-    write_module(out, module, spaces)
+// The lines of what a module has; none if memory for them ran out.
+fn lines_of(alloc: Global, module: &Module) -> Option<Vec<u8>> {
+    let spaces = IndexSpaces::new(alloc, module).ok()?;
+    let mut lines = Vec::new(alloc);
+    match write_module(&mut lines, module, &spaces) {
+        Ok(()) => Some(lines),
+        Err(_) => None,
+    }
 }
 
-// Writes what a valid module has.
+// Writes that a module is valid, and these lines.
+fn write_valid<W: Write>(out: &mut W, len: usize, lines: &[u8]) -> io::Result<Verdict>
+    ensures verdict { IfOk result (λ verdict. verdict ≡ Verdict.Valid) }
+    ensures told { IfOk result (Tells (W.contents out.old) (W.contents out.new)) }
+{
+    writeln!(out, "valid, {len} bytes")?;
+    out.write_all(lines)?;
+    Ok(Verdict::Valid)
+}
+
+// Writes what a valid module has. Its lines are made before the first is written, so that nothing is written if memory runs out.
 fn describe_valid<W: Write>(
     alloc: Global,
     out: &mut W,
@@ -78,13 +106,13 @@ fn describe_valid<W: Write>(
     valid: &Module,
 ) -> io::Result<Verdict>
     requires { IsValid valid.now }
-    ensures { IfOk result (λ verdict. IsFoundOf valid.now verdict) }
+    ensures found { IfOk result (λ verdict. IsFoundOf valid.now verdict) }
+    ensures told { IfOk result (Tells (W.contents out.old) (W.contents out.new)) }
 {
-    let Ok(spaces) = IndexSpaces::new(alloc, valid) else {
-        return Ok(Verdict::OutOfMemory);
-    };
-    write_valid(out, len, valid, &spaces)?;
-    Ok(Verdict::Valid)
+    match lines_of(alloc, valid) {
+        Some(lines) => write_valid(out, len, lines.as_slice()),
+        None => Ok(Verdict::OutOfMemory),
+    }
 }
 
 // Writes what a module has, or why it is not valid.
@@ -94,7 +122,8 @@ fn describe_module<W: Write>(
     len: usize,
     decoded: Module,
 ) -> io::Result<Verdict>
-    ensures { IfOk result (λ verdict. IsFoundOf decoded verdict) }
+    ensures found { IfOk result (λ verdict. IsFoundOf decoded verdict) }
+    ensures told { IfOk result (Tells (W.contents out.old) (W.contents out.new)) }
 {
     match validate(alloc, decoded) {
         Ok(valid) => describe_valid(alloc, out, len, valid.module()),
@@ -105,10 +134,15 @@ fn describe_module<W: Write>(
 /// Writes what bytes are.
 ///
 /// Of a valid module: its imports and its exports with their types, in its order, its tables and memories, and how much there is of the
-/// rest, a line each. Of others a line that says why and where they are refused. Where there was no memory to find out, nothing. Names
-/// are written with escapes, so that each stays in its line. Fails where the writer does.
+/// rest, a line each, after a first line that begins with `valid`. Of others a line that says why and where they are refused. If memory
+/// ran out, nothing. Names are written with escapes, so that each stays in its line.
+///
+/// # Errors
+///
+/// Fails if the writer does.
 pub fn describe<W: Write>(alloc: Global, out: &mut W, bytes: &[u8]) -> io::Result<Verdict>
-    ensures { IfOk result (λ verdict. IsFound bytes.now verdict) }
+    ensures found { IfOk result (λ verdict. IsFound bytes.now verdict) }
+    ensures told { IfOk result (Tells (W.contents out.old) (W.contents out.new)) }
 {
     bytes_spell_one_module();
     match decode(alloc, bytes) {

@@ -1,0 +1,20 @@
+-- What is written of bytes.
+use Rattle.std.specs.Prelude.{◌≡◌, ℕ, List, [], Bool, true, false, Option, codes, nat_eq}
+use Rattle.std.specs.Io.KnownBytes.{Appends}
+use Rattle.std.specs.List.{starts_with}
+use Rattle.module_info.specs.declared.descriptions.Verdict.{Verdict}
+use Rattle.module_info.specs.declared.descriptions.Verdict.TheVariants.{Valid, Refused, OutOfMemory}
+
+-- A text begins with the word for a valid module.
+abbrev pub says_valid : (text : List ℕ) → Bool
+says_valid text = starts_with nat_eq text (codes "valid")
+
+-- It says `valid` of a valid module and of no other, and nothing where memory ran out.
+abbrev pub IsTextOf : (text : List ℕ) → Verdict → Type 0
+IsTextOf text Valid = says_valid text ≡ true
+IsTextOf text Refused = says_valid text ≡ false
+IsTextOf text OutOfMemory = text ≡ []
+
+-- Such a text is written. Where the contents of the writer are not known, nothing is said of it.
+abbrev pub Tells : (old new : Option (List ℕ)) → Verdict → Type 0
+Tells old new verdict = (text : List ℕ) × IsTextOf text verdict × Appends old new text
