@@ -1,2 +1,5 @@
+pub mod Outputs
+pub mod Lines
 pub mod Statuses
+pub mod Endings
 pub mod Prints

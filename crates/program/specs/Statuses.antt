@@ -1,5 +1,5 @@
 -- The exit statuses of the program.
-use Rattle.std.specs.Prelude.{◌≡◌, ◌⊎◌, ℕ, zero, suc, Result, Ok, Err}
+use Rattle.std.specs.Prelude.{ℕ, zero, suc, Ok}
 use Rattle.meaning.specs.embedding.Commands as machine
 use Rattle.meaning.specs.execution.Runs.{Ending, OutOfDepth, OutOfFuel, OutOfMemory, WithTrap, WithValues}
 use Rattle.embed.specs.Replies.{call_reply, refusal_of}
@@ -60,12 +60,3 @@ fault_status (fault.Refused why) = refusal_status (refusal_of why)
 fault_status fault.HostNameTaken = 5
 fault_status fault.HostFuncRef = 5
 fault_status fault.BadArguments = 2
-
--- The status behind lines that were to be printed: this one, or 1 where the writer failed.
-abbrev pub IsPrintedStatus : (wanted status : ℕ) → Type 0
-IsPrintedStatus wanted status = (status ≡ wanted) ⊎ (status ≡ 1)
-
--- The status of what the program came to.
-abbrev pub IsStatusOf : Result End Fault → (status : ℕ) → Type 0
-IsStatusOf (Ok done) status = IsPrintedStatus (end_status done) status
-IsStatusOf (Err why) status = status ≡ fault_status why

@@ -1,28 +1,37 @@
 //! The program over its words, its files and its writers.
 
-ghost use Rattle.std.specs.Prelude.{◌≡◌, ◌<◌, ◌^◌, Result, length};
-ghost use Rattle.program.specs.Statuses.{IsStatusOf, fault_status};
+ghost use Rattle.std.specs.Prelude.{◌≡◌, ◌<◌, ◌^◌, IfOk, Result, length, map, string_bytes};
+ghost use Rattle.std.specs.IoError.{error_kind};
+ghost use Rattle.program.specs.Endings.{IsToldBy, words_fault as fault_of_words};
+ghost use Rattle.program.specs.Lines.{fault_line};
+ghost use Rattle.program.specs.Outputs.{Prints};
+ghost use Rattle.program.specs.Statuses.{fault_status};
+ghost use Rattle.subcommands.specs.Performing.{Performs};
 ghost use Rattle.subcommands.specs.declared.faults.Fault.{Fault as AnyFault};
 ghost use Rattle.subcommands.specs.declared.orders.End.{End as AnyEnd};
 
+use crate::output::Output;
 use crate::print::{print_end, print_fault, print_report, print_valid};
 use embed::{HostDef, Refusal};
+use hostfunc::HostFn;
 use std::alloc::Global;
 use std::io::{self, Write};
 use subcommands::{End, Fault, Files, perform};
 
-/// Runs the program over the words after its name, with the host functions that modules may import (the three prints), and answers
-/// its exit status. At most 2^32 - 1 host functions may be given.
+/// Runs the program over the words after its name, with the host functions that modules may import (the three prints), and returns
+/// its exit status, which is 1 if the output has failed. At most 2^32 - 1 host functions may be given.
 pub fn run<F: Files, W: Write, E: Write>(
     alloc: Global,
     words: &[String],
     files: &mut F,
     hosts: Vec<HostDef>,
-    out: &mut W,
-    err: &mut E,
+    out: &mut Output<W>,
+    err: &mut Output<E>,
 ) -> u8
     requires { length hosts.items < 2 ^ 32 }
-    ensures { (done : Result AnyEnd AnyFault) × IsStatusOf done result }
+    ensures { (done : Result AnyEnd AnyFault) × IfOk done (Performs ⟦<dyn HostFn as HostFn>⟧
+        (F.contents files.old) hosts.items (map string_bytes words.now))
+        × IsToldBy W.contents E.contents done out.old out.new err.old err.new result }
 {
     match perform(alloc, words, files, hosts) {
         Ok(End::Ran(report)) => print_report(out, &report),
@@ -33,7 +42,9 @@ pub fn run<F: Files, W: Write, E: Write>(
 }
 
 // What it means that the words cannot be had: one that is no text is none that the program reads.
-fn words_fault(error: &io::Error) -> Fault<'static> {
+fn words_fault(error: &io::Error) -> Fault<'static>
+    ensures { result ≡ fault_of_words (error_kind error.now) }
+{
     if error.kind() == io::ErrorKind::OutOfMemory {
         Fault::Refused(Refusal::OutOfMemory)
     } else {
@@ -41,9 +52,11 @@ fn words_fault(error: &io::Error) -> Fault<'static> {
     }
 }
 
-/// Prints why the words after the program's name, or the prints, cannot be had, and answers the exit status.
-pub fn refuse_words<E: Write>(error: &io::Error, err: &mut E) -> u8
-    ensures { (why : AnyFault) × (result ≡ fault_status why) }
+/// Prints why the words after the program's name, or the prints, cannot be had, and returns the exit status.
+pub fn refuse_words<E: Write>(error: &io::Error, err: &mut Output<E>) -> u8
+    ensures lines { Prints E.contents err.old err.new
+        (fault_line (fault_of_words (error_kind error.now))) }
+    ensures status { result ≡ fault_status (fault_of_words (error_kind error.now)) }
 {
     print_fault(err, &words_fault(error))
 }

@@ -5,7 +5,7 @@ use crate::runs::words_of;
 use crate::writers::{Failing, prints_to};
 use core_types::Trap;
 use embed::{Command, Config, Embedding, Reply};
-use program::run;
+use program::{Output, run};
 use std::alloc::{AllocError, Global};
 use testing::assemble;
 
@@ -20,17 +20,17 @@ fn failing(writes: u32) -> Failing {
 // Whether a run whose output fails answers 1, and prints nothing to the other output.
 fn fails_silently(alloc: Global, words: &str, writes: u32) -> Result<bool, AllocError> {
     let words = words_of(alloc, words)?;
-    let mut err = Vec::new(alloc);
+    let mut err = Output::new(Vec::new(alloc));
     let hosts = prints_to(alloc, failing(writes))?;
     let status = run(
         alloc,
         words.as_slice(),
         &mut FewFiles { alloc },
         hosts,
-        &mut failing(writes),
+        &mut Output::new(failing(writes)),
         &mut err,
     );
-    Ok(status == 1 && err.is_empty())
+    Ok(status == 1 && err.writer().is_empty())
 }
 
 // Whether a run both of whose outputs fail answers 2.
@@ -42,8 +42,8 @@ fn faults_unheard(alloc: Global, words: &str, writes: u32) -> Result<bool, Alloc
         words.as_slice(),
         &mut FewFiles { alloc },
         hosts,
-        &mut failing(writes),
-        &mut failing(writes),
+        &mut Output::new(failing(writes)),
+        &mut Output::new(failing(writes)),
     );
     Ok(status == 2)
 }
@@ -61,7 +61,8 @@ fn agrees(alloc: Global, writes: u32) -> Result<bool, AllocError> {
 // Whether a call of a print ends so where the writers of the prints take so many calls of `write`.
 fn prints_so(alloc: Global, writes: u32, end: &str, wanted: u8) -> Result<bool, AllocError> {
     let words = words_of(alloc, "call q.wasm p 5")?;
-    let (mut out, mut err) = (Vec::new(alloc), Vec::new(alloc));
+    let mut out = Output::new(Vec::new(alloc));
+    let mut err = Output::new(Vec::new(alloc));
     let lasting = Failing {
         writes,
         flushes: true,
@@ -75,7 +76,7 @@ fn prints_so(alloc: Global, writes: u32, end: &str, wanted: u8) -> Result<bool, 
         &mut out,
         &mut err,
     );
-    Ok(status == wanted && out.as_slice() == end.as_bytes() && err.is_empty())
+    Ok(status == wanted && out.writer().as_slice() == end.as_bytes() && err.writer().is_empty())
 }
 
 // Whether a print that is written gives no results, and one that fails traps.

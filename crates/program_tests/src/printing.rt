@@ -2,7 +2,7 @@
 
 use core_types::{Exhaustion, Items, Trap, Val};
 use embed::{Outcome, Place, Refusal};
-use program::{print_end, print_fault};
+use program::{Output, print_end, print_fault};
 use std::alloc::{AllocError, Global};
 use subcommands::{CallEnd, Fault};
 
@@ -84,9 +84,9 @@ fn is_printed(alloc: Global, row: &Row) -> Result<bool, AllocError> {
         outcome: outcome_of(alloc, row.ending)?,
         fuel_left: 5,
     };
-    let mut out = Vec::new(alloc);
+    let mut out = Output::new(Vec::new(alloc));
     let status = print_end(&mut out, &end);
-    Ok(status == row.status && out.as_slice() == row.lines.as_bytes())
+    Ok(status == row.status && out.writer().as_slice() == row.lines.as_bytes())
 }
 
 #[test]
@@ -121,9 +121,9 @@ static REFUSALS: [RefusalRow; 13] = [
 ];
 
 fn is_told(alloc: Global, row: &RefusalRow) -> bool {
-    let mut err = Vec::new(alloc);
+    let mut err = Output::new(Vec::new(alloc));
     let status = print_fault(&mut err, &Fault::Refused(row.refusal));
-    status == row.status && err.as_slice() == row.line.as_bytes()
+    status == row.status && err.writer().as_slice() == row.line.as_bytes()
 }
 
 #[test]

@@ -2,7 +2,7 @@
 
 use crate::files::OneModule;
 use crate::writers::{Failing, prints_to};
-use program::run;
+use program::{Output, run};
 use std::alloc::{AllocError, Global};
 use subcommands::Files;
 
@@ -32,8 +32,8 @@ pub fn words_of(alloc: Global, text: &str) -> Result<Vec<String>, AllocError> {
 // What a run printed, and its exit status.
 #[derive(Drop)]
 struct Printed {
-    out: Vec<u8>,
-    err: Vec<u8>,
+    out: Output<Vec<u8>>,
+    err: Output<Vec<u8>>,
     status: u8,
 }
 
@@ -48,16 +48,16 @@ fn run_in_memory<F: Files>(
     words: &[String],
     files: &mut F,
 ) -> Result<Printed, AllocError> {
-    let mut out = Vec::new(alloc);
-    let mut err = Vec::new(alloc);
+    let mut out = Output::new(Vec::new(alloc));
+    let mut err = Output::new(Vec::new(alloc));
     let hosts = prints_to(alloc, UNREAD)?;
     let status = run(alloc, words, files, hosts, &mut out, &mut err);
     Ok(Printed { out, err, status })
 }
 
 fn is_printed(got: &Printed, out: &str, err: &str, status: u8) -> bool {
-    got.out.as_slice() == out.as_bytes()
-        && got.err.as_slice() == err.as_bytes()
+    got.out.writer().as_slice() == out.as_bytes()
+        && got.err.writer().as_slice() == err.as_bytes()
         && got.status == status
 }
 
@@ -82,7 +82,9 @@ pub fn begins_so<F: Files>(alloc: Global, words: &[String], files: &mut F, text:
     let Ok(got) = run_in_memory(alloc, words, files) else {
         return false;
     };
-    got.out.as_slice().starts_with(text.as_bytes()) && got.err.is_empty() && got.status == 0
+    got.out.writer().as_slice().starts_with(text.as_bytes())
+        && got.err.writer().is_empty()
+        && got.status == 0
 }
 
 /// Whether a run over these words and the module of these sections, hexadecimal numbers, ends so.

@@ -1,5 +1,8 @@
 //! The words for a function's arguments.
 
+ghost use Rattle.std.specs.Prelude.{IfOk, IfSome};
+ghost use Rattle.subcommands.specs.Arguments.{AreArguments, IsArgument};
+
 use command_line::{number, short_number};
 use core_types::{Val, ValType};
 use std::alloc::{AllocFailed, Global};
@@ -20,7 +23,9 @@ impl<T: Drop> From<AllocFailed<T>> for ArgsFault {
 }
 
 // A reference to what the host has under a number, or none.
-fn external(word: &str) -> Option<Val> {
+fn external(word: &str) -> Option<Val>
+    ensures { IfSome result (IsArgument word.now) }
+{
     if word == "null" {
         return Some(Val::ExternRef(None));
     }
@@ -28,7 +33,9 @@ fn external(word: &str) -> Option<Val> {
 }
 
 // The value of this type that a word writes.
-fn value(ty: ValType, word: &str) -> Option<Val> {
+fn value(ty: ValType, word: &str) -> Option<Val>
+    ensures { IfSome result (IsArgument word.now) }
+{
     match ty {
         ValType::I32 => Some(Val::I32(short_number(word)?)),
         ValType::I64 => Some(Val::I64(number(word)?)),
@@ -38,13 +45,15 @@ fn value(ty: ValType, word: &str) -> Option<Val> {
 }
 
 /// The values that the words write, one for each parameter.
-pub fn read_args(alloc: Global, params: &[ValType], words: &[&str]) -> Result<Vec<Val>, ArgsFault> {
+pub fn read_args(alloc: Global, params: &[ValType], words: &[&str]) -> Result<Vec<Val>, ArgsFault>
+    ensures { IfOk result (λ values. AreArguments words.now values.items) }
+{
     if params.len() != words.len() {
         return Err(ArgsFault::Unreadable);
     }
     let mut values = Vec::new(alloc);
-    for (ty, word) in params.iter().zip(words) {
-        let Some(read) = value(*ty, word) else {
+    for i in 0..words.len() {
+        let Some(read) = value(params[i], words[i]) else {
             return Err(ArgsFault::Unreadable);
         };
         values.push(read)?;

@@ -1,6 +1,12 @@
 //! A call of a function that a module exports, over an embedding.
 
-ghost use Rattle.std.specs.Prelude.{◌<◌, ◌^◌, length};
+ghost use Rattle.std.specs.Prelude.{◌≡◌, ◌<◌, ◌^◌, IfOk, OnOk, length, map};
+ghost use Rattle.std.specs.List.{All};
+ghost use Rattle.embed.specs.Contents.{embedding_of};
+ghost use Rattle.embed.specs.Replies.{command_of, reply_of};
+ghost use Rattle.exec.specs.Endings.{ending_of};
+ghost use Rattle.subcommands.specs.Arguments.{AreArguments};
+ghost use Rattle.subcommands.specs.Embeddings.{EndsCall, EndsExport, IsCarriedOut, IsFresh, IsReady, WithSpectest, spectest_commands as commands_for_spectest};
 
 use crate::args::read_args;
 use crate::faults::Fault;
@@ -10,6 +16,7 @@ use embed::{
     Command, Config, Embedding, ExternType, FuncType, HostDef, InstanceNumber, LinkOutcome,
     Outcome, Refusal, Reply, Val,
 };
+use hostfunc::HostFn;
 use std::alloc::Global;
 
 // How many pages a memory may have at most.
@@ -26,6 +33,8 @@ pub fn new_embedding<'a>(
     hosts: Vec<HostDef>,
 ) -> Result<Embedding, Fault<'a>>
     requires { length hosts.items < 2 ^ 32 }
+    ensures { IfOk result (λ at. IsFresh ⟦<dyn HostFn as HostFn>⟧ fuel depth hosts.items
+        (embedding_of at)) }
 {
     match Config::new(fuel, depth, PAGES, ENTRIES) {
         Some(config) => Ok(Embedding::new(alloc, config, hosts)?),
@@ -34,7 +43,9 @@ pub fn new_embedding<'a>(
 }
 
 // The commands that load, link and register the stored module as `spectest`, in an embedding to which no command was given.
-fn spectest_commands<'a>(alloc: Global) -> Result<Vec<Command>, Fault<'a>> {
+fn spectest_commands<'a>(alloc: Global) -> Result<Vec<Command>, Fault<'a>>
+    ensures { IfOk result (λ commands. map command_of commands.items ≡ commands_for_spectest) }
+{
     let bytes = Vec::from_slice(alloc, SPECTEST)?;
     let name = String::from_str(alloc, "spectest")?;
     let commands = vec![in alloc;
@@ -46,23 +57,38 @@ fn spectest_commands<'a>(alloc: Global) -> Result<Vec<Command>, Fault<'a>> {
 }
 
 // Why a command was not carried out, by its reply.
-fn check_reply<'a>(reply: &Reply) -> Result<(), Fault<'a>> {
+fn check_reply<'a>(reply: &Reply) -> Result<(), Fault<'a>>
+    ensures { OnOk result (IsCarriedOut (reply_of reply.now)) }
+{
     match reply {
         Reply::Refused(refusal) => Err(Fault::Refused(*refusal)),
-        Reply::Trap(_) | Reply::Exhausted(_) => Err(Fault::Refused(Refusal::UnknownInstance)),
-        Reply::Loaded(_) | Reply::Linked(_) | Reply::Done | Reply::Values(_) => Ok(()),
+        Reply::Trap(_) | Reply::Exhausted(_) | Reply::Values(_) => {
+            Err(Fault::Refused(Refusal::UnknownInstance))
+        }
+        Reply::Loaded(_) | Reply::Linked(_) | Reply::Done => Ok(()),
     }
 }
 
-// Loads, links and registers the stored module as `spectest`, in an embedding to which no command was given. That spends no fuel.
-fn add_spectest<'a>(alloc: Global, embedding: &mut Embedding) -> Result<(), Fault<'a>> {
-    let commands = spectest_commands(alloc)?;
-    let mut replies = Vec::new(alloc);
-    embedding.apply_all(commands.as_slice(), &mut replies)?;
-    for reply in replies.iter() {
+// Why one of the commands was not carried out, by their replies.
+fn check_replies<'a>(replies: &[Reply]) -> Result<(), Fault<'a>>
+    ensures { OnOk result (All (λ reply. IsCarriedOut (reply_of reply)) replies.now) }
+{
+    for reply in replies {
         check_reply(reply)?;
     }
     Ok(())
+}
+
+// Loads, links and registers the stored module as `spectest`, in an embedding to which no command was given. That spends no fuel.
+fn add_spectest<'a>(alloc: Global, embedding: &mut Embedding) -> Result<(), Fault<'a>>
+    requires nothing { Unit {0} }
+    ensures { OnOk result (WithSpectest ⟦<dyn HostFn as HostFn>⟧ (embedding_of embedding.old)
+        (embedding_of embedding.new)) }
+{
+    let commands = spectest_commands(alloc)?;
+    let mut replies = Vec::new(alloc);
+    embedding.apply_all(commands.as_slice(), &mut replies)?;
+    check_replies(replies.as_slice())
 }
 
 /// A new embedding, in which the stored module is registered as `spectest`.
@@ -73,6 +99,8 @@ pub fn embedding_with_spectest<'a>(
     hosts: Vec<HostDef>,
 ) -> Result<Embedding, Fault<'a>>
     requires { length hosts.items < 2 ^ 32 }
+    ensures { IfOk result (λ at. IsReady ⟦<dyn HostFn as HostFn>⟧ fuel depth hosts.items
+        (embedding_of at)) }
 {
     let mut embedding = new_embedding(alloc, fuel, depth, hosts)?;
     add_spectest(alloc, &mut embedding)?;
@@ -98,7 +126,9 @@ fn args_for<'a>(
     order: &CallOrder<'a>,
     embedding: &Embedding,
     instance: InstanceNumber,
-) -> Result<Vec<Val>, Fault<'a>> {
+) -> Result<Vec<Val>, Fault<'a>>
+    ensures { IfOk result (λ values. AreArguments order.now.args.items values.items) }
+{
     let ty = function_type(embedding, instance, order.export)?;
     Ok(read_args(alloc, ty.params.as_slice(), order.args.as_slice())?)
 }
@@ -109,7 +139,12 @@ fn call_export<'a>(
     order: &CallOrder<'a>,
     embedding: &mut Embedding,
     instance: InstanceNumber,
-) -> Result<Outcome, Fault<'a>> {
+) -> Result<Outcome, Fault<'a>>
+    requires nothing { Unit {0} }
+    ensures { IfOk result (λ outcome. EndsExport ⟦<dyn HostFn as HostFn>⟧
+        (embedding_of embedding.old) order.now instance.0 (ending_of outcome)
+        (embedding_of embedding.new)) }
+{
     let args = args_for(alloc, order, embedding, instance)?;
     Ok(embedding.call(instance, order.export, args.as_slice())?)
 }
@@ -121,7 +156,12 @@ pub fn call<'a>(
     order: &CallOrder<'a>,
     embedding: &mut Embedding,
     bytes: &[u8],
-) -> Result<Outcome, Fault<'a>> {
+) -> Result<Outcome, Fault<'a>>
+    requires nothing { Unit {0} }
+    ensures { IfOk result (λ outcome. EndsCall ⟦<dyn HostFn as HostFn>⟧
+        (embedding_of embedding.old) order.now bytes.now (ending_of outcome)
+        (embedding_of embedding.new)) }
+{
     let loaded = embedding.load(bytes)?;
     match embedding.link(loaded)? {
         LinkOutcome::Linked(instance) => call_export(alloc, order, embedding, instance),

@@ -1,5 +1,8 @@
 //! Where the program reads files from.
 
+ghost use Rattle.std.specs.Prelude.{◌≡◌, ℕ, List, IfOk, None, Option};
+ghost use Rattle.subcommands.specs.Files.{AreBytesOf};
+
 use std::path::PathBuf;
 use std::rt::Files as SystemFiles;
 use std::{fs, io};
@@ -17,13 +20,23 @@ pub enum ReadFault {
 const MAX_NAMED_SIZE: u64 = 67_108_864;
 
 /// Where files are read from.
+///
+/// It states what it knows of the bytes of the file at each path. Reading a file changes nothing of that.
 pub trait Files {
+    // The bytes of the file at a path, where they are known.
+    ghost contents: { Self → List ℕ → Option (List ℕ) } = { λ _ _. None };
+
     /// Returns all bytes of the file at a path.
-    fn read(&mut self, path: &str) -> Result<Vec<u8>, ReadFault>;
+    fn read(&mut self, path: &str) -> Result<Vec<u8>, ReadFault>
+        ensures read { IfOk result (λ bytes. AreBytesOf (contents self.old) path.now bytes.items) }
+        ensures kept { contents self.new ≡ contents self.old };
 
     /// Returns all bytes of a file that a script names, at a path in the script's folder or below it. Reads the file at the path, unless an
     /// implementation bounds which files these may be.
-    fn read_named(&mut self, _folder: &str, path: &str) -> Result<Vec<u8>, ReadFault> {
+    fn read_named(&mut self, _folder: &str, path: &str) -> Result<Vec<u8>, ReadFault>
+        ensures read { IfOk result (λ bytes. AreBytesOf (contents self.old) path.now bytes.items) }
+        ensures kept { contents self.new ≡ contents self.old }
+    {
         self.read(path)
     }
 }

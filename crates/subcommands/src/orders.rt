@@ -1,6 +1,13 @@
 //! What an order of the program asks for: a script, a call, or a look at a module.
 
-ghost use Rattle.std.specs.Prelude.{◌<◌, ◌^◌, length};
+ghost use Rattle.std.specs.Prelude.{◌≡◌, ◌<◌, ◌^◌, IfOk, Ok, OnOk, length, map, string_bytes};
+ghost use Rattle.embed.specs.Contents.{embedding_of};
+ghost use Rattle.exec.specs.Endings.{ending_of};
+ghost use Rattle.meaning.specs.scripts.Commands.{files_in};
+ghost use Rattle.scripts.specs.Runs.{Runs, files_view};
+ghost use Rattle.subcommands.specs.Embeddings.{EndsCall};
+ghost use Rattle.subcommands.specs.Files.{AreBytesOf};
+ghost use Rattle.subcommands.specs.Performing.{CallsBytes, IsCalled, IsChecked, IsRun, IsScriptIn, Performs, RunsFiles, SpellValidModule};
 
 use crate::calls::{call, embedding_with_spectest, new_embedding};
 use crate::faults::Fault;
@@ -8,6 +15,7 @@ use crate::inputs::{Files, ReadFault};
 use crate::script_files::read_named;
 use command_line::{CallOrder, DEFAULT_DEPTH, DEFAULT_FUEL, Order, ScriptOrder, read_words};
 use embed::{Embedding, HostDef, Outcome, Refusal};
+use hostfunc::HostFn;
 use scripts::{Report, Script, read_script, run_script};
 use std::alloc::Global;
 
@@ -30,7 +38,10 @@ pub enum End {
 }
 
 // The bytes of a file.
-fn read_file<'a, F: Files>(files: &mut F, path: &'a str) -> Result<Vec<u8>, Fault<'a>> {
+fn read_file<'a, F: Files>(files: &mut F, path: &'a str) -> Result<Vec<u8>, Fault<'a>>
+    ensures read { IfOk result (λ bytes. AreBytesOf (F.contents files.old) path.now bytes.items) }
+    ensures kept { F.contents files.new ≡ F.contents files.old }
+{
     match files.read(path) {
         Ok(bytes) => Ok(bytes),
         Err(ReadFault::Failed) => Err(Fault::CannotRead(path)),
@@ -44,7 +55,12 @@ fn run_in<'a>(
     script: &Script,
     named: &[(String, Vec<u8>)],
     embedding: &mut Embedding,
-) -> Result<Report, Fault<'a>> {
+) -> Result<Report, Fault<'a>>
+    requires nothing { Unit {0} }
+    ensures { IfOk result (λ report. Runs ⟦<dyn HostFn as HostFn>⟧ script.now
+        (files_in (files_view named.now)) (embedding_of embedding.old) (Ok report)
+        (embedding_of embedding.new)) }
+{
     Ok(run_script(alloc, script, named, embedding)?)
 }
 
@@ -57,6 +73,8 @@ fn run_over_files<'a>(
     hosts: Vec<HostDef>,
 ) -> Result<Report, Fault<'a>>
     requires { length hosts.items < 2 ^ 32 }
+    ensures { IfOk result (λ report. RunsFiles ⟦<dyn HostFn as HostFn>⟧ hosts.items order.now
+        script.now (files_view named.now) report) }
 {
     match embedding_with_spectest(alloc, order.fuel, order.depth, hosts) {
         Ok(mut embedding) => run_in(alloc, script, named, &mut embedding),
@@ -69,7 +87,10 @@ fn read_script_in_file<'a, F: Files>(
     alloc: Global,
     files: &mut F,
     path: &'a str,
-) -> Result<Script, Fault<'a>> {
+) -> Result<Script, Fault<'a>>
+    ensures read { IfOk result (λ script. IsScriptIn (F.contents files.old) path.now script) }
+    ensures kept { F.contents files.new ≡ F.contents files.old }
+{
     let bytes = read_file(files, path)?;
     Ok(read_script(alloc, bytes.as_slice())?)
 }
@@ -82,6 +103,8 @@ fn run_script_in_file<'a, F: Files>(
     hosts: Vec<HostDef>,
 ) -> Result<Report, Fault<'a>>
     requires { length hosts.items < 2 ^ 32 }
+    ensures { IfOk result (λ report. IsRun ⟦<dyn HostFn as HostFn>⟧ (F.contents files.old)
+        hosts.items order.now report) }
 {
     let script = read_script_in_file(alloc, files, order.file)?;
     let named = read_named(alloc, files, order.file, script.filenames())?;
@@ -94,7 +117,14 @@ fn call_in<'a>(
     order: &CallOrder<'a>,
     bytes: &[u8],
     embedding: &mut Embedding,
-) -> Result<CallEnd, Fault<'a>> {
+) -> Result<CallEnd, Fault<'a>>
+    requires nothing { Unit {0} }
+    ensures called { IfOk result (λ call. EndsCall ⟦<dyn HostFn as HostFn>⟧
+        (embedding_of embedding.old) order.now bytes.now (ending_of call.outcome)
+        (embedding_of embedding.new)) }
+    ensures left { IfOk result (λ call. call.fuel_left ≡
+        (embedding_of embedding.new).state.fuel) }
+{
     let outcome = call(alloc, order, embedding, bytes)?;
     Ok(CallEnd {
         outcome,
@@ -110,6 +140,8 @@ fn call_in_bytes<'a>(
     hosts: Vec<HostDef>,
 ) -> Result<CallEnd, Fault<'a>>
     requires { length hosts.items < 2 ^ 32 }
+    ensures { IfOk result (λ call. CallsBytes ⟦<dyn HostFn as HostFn>⟧ hosts.items order.now
+        bytes.now call) }
 {
     match embedding_with_spectest(alloc, order.fuel, order.depth, hosts) {
         Ok(mut embedding) => call_in(alloc, order, bytes, &mut embedding),
@@ -125,13 +157,18 @@ fn call_in_file<'a, F: Files>(
     hosts: Vec<HostDef>,
 ) -> Result<CallEnd, Fault<'a>>
     requires { length hosts.items < 2 ^ 32 }
+    ensures { IfOk result (λ call. IsCalled ⟦<dyn HostFn as HostFn>⟧ (F.contents files.old)
+        hosts.items order.now call) }
 {
     let bytes = read_file(files, order.file)?;
     call_in_bytes(alloc, order, bytes.as_slice(), hosts)
 }
 
 // Loads a module in an embedding.
-fn load_in<'a>(bytes: &[u8], embedding: &mut Embedding) -> Result<(), Fault<'a>> {
+fn load_in<'a>(bytes: &[u8], embedding: &mut Embedding) -> Result<(), Fault<'a>>
+    requires nothing { Unit {0} }
+    ensures { OnOk result (SpellValidModule bytes.now) }
+{
     embedding.load(bytes)?;
     Ok(())
 }
@@ -139,6 +176,7 @@ fn load_in<'a>(bytes: &[u8], embedding: &mut Embedding) -> Result<(), Fault<'a>>
 // Loads a module.
 fn check_bytes<'a>(alloc: Global, bytes: &[u8], hosts: Vec<HostDef>) -> Result<(), Fault<'a>>
     requires { length hosts.items < 2 ^ 32 }
+    ensures { OnOk result (SpellValidModule bytes.now) }
 {
     match new_embedding(alloc, DEFAULT_FUEL, DEFAULT_DEPTH, hosts) {
         Ok(mut embedding) => load_in(bytes, &mut embedding),
@@ -154,6 +192,7 @@ fn check_file<'a, F: Files>(
     hosts: Vec<HostDef>,
 ) -> Result<(), Fault<'a>>
     requires { length hosts.items < 2 ^ 32 }
+    ensures { OnOk result (IsChecked (F.contents files.old) path.now) }
 {
     let bytes = read_file(files, path)?;
     check_bytes(alloc, bytes.as_slice(), hosts)
@@ -168,6 +207,8 @@ pub fn perform<'a, F: Files>(
     hosts: Vec<HostDef>,
 ) -> Result<End, Fault<'a>>
     requires { length hosts.items < 2 ^ 32 }
+    ensures { IfOk result (Performs ⟦<dyn HostFn as HostFn>⟧ (F.contents files.old) hosts.items
+        (map string_bytes words.now)) }
 {
     match read_words(alloc, words)? {
         Order::Script(order) => Ok(End::Ran(run_script_in_file(alloc, &order, files, hosts)?)),

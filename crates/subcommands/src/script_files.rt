@@ -1,5 +1,10 @@
 //! The files that a script names.
 
+ghost use Rattle.std.specs.Prelude.{◌≡◌, ◌++◌, ◌∷◌, [], ℕ, List, IfOk, OnOk, string_bytes};
+ghost use Rattle.std.specs.List.{All};
+ghost use Rattle.scripts.specs.Runs.{files_view};
+ghost use Rattle.subcommands.specs.Files.{AreBytesOf, IsBeside, IsNamedFile};
+
 use crate::faults::Fault;
 use crate::inputs::{Files, ReadFault};
 use embed::Refusal;
@@ -7,7 +12,9 @@ use std::alloc::{AllocError, Global};
 use std::collections::BTreeSet;
 
 // The path of a file that the script at a path names: it lies in the same folder.
-fn path_beside(alloc: Global, path: &str, filename: &str) -> Result<String, AllocError> {
+fn path_beside(alloc: Global, path: &str, filename: &str) -> Result<String, AllocError>
+    ensures { IfOk result (λ beside. IsBeside path.now filename.now (string_bytes beside)) }
+{
     match path.rsplit_once('/') {
         Some((folder, _)) => format!(in alloc; "{folder}/{filename}"),
         None => String::from_str(alloc, filename),
@@ -34,7 +41,11 @@ fn read_beside<'a, F: Files>(
     files: &mut F,
     path: &str,
     filename: &str,
-) -> Result<Vec<u8>, Fault<'a>> {
+) -> Result<Vec<u8>, Fault<'a>>
+    ensures read { IfOk result (λ bytes. IsNamedFile (F.contents files.old) path.now
+        (filename.now, bytes.items)) }
+    ensures kept { F.contents files.new ≡ F.contents files.old }
+{
     let beside = path_beside(alloc, path, filename)?;
     if leads_out(filename) {
         return Err(Fault::CannotReadNamed(beside));
@@ -53,7 +64,12 @@ fn add_beside<'a, F: Files>(
     path: &str,
     filename: &str,
     read: &mut Vec<(String, Vec<u8>)>,
-) -> Result<(), Fault<'a>> {
+) -> Result<(), Fault<'a>>
+    ensures read { OnOk result (All (IsNamedFile (F.contents files.old) path.now)
+        (files_view read.old.items) → All (IsNamedFile (F.contents files.old) path.now)
+        (files_view read.new.items)) }
+    ensures kept { F.contents files.new ≡ F.contents files.old }
+{
     let bytes = read_beside(alloc, files, path, filename)?;
     let name = String::from_str(alloc, filename)?;
     read.push((name, bytes))?;
@@ -79,7 +95,11 @@ fn read_all<'a, F: Files>(
     files: &mut F,
     path: &str,
     names: &[&str],
-) -> Result<Vec<(String, Vec<u8>)>, Fault<'a>> {
+) -> Result<Vec<(String, Vec<u8>)>, Fault<'a>>
+    ensures read { IfOk result (λ read. All (IsNamedFile (F.contents files.old) path.now)
+        (files_view read.items)) }
+    ensures kept { F.contents files.new ≡ F.contents files.old }
+{
     let mut read = Vec::new(alloc);
     for name in names {
         add_beside(alloc, files, path, name, &mut read)?;
@@ -93,7 +113,11 @@ pub fn read_named<'a, F: Files>(
     files: &mut F,
     path: &str,
     filenames: &[String],
-) -> Result<Vec<(String, Vec<u8>)>, Fault<'a>> {
+) -> Result<Vec<(String, Vec<u8>)>, Fault<'a>>
+    ensures read { IfOk result (λ read. All (IsNamedFile (F.contents files.old) path.now)
+        (files_view read.items)) }
+    ensures kept { F.contents files.new ≡ F.contents files.old }
+{
     let names = distinct_names(alloc, filenames)?;
     read_all(alloc, files, path, names.as_slice())
 }

@@ -1,7 +1,7 @@
 //! Checks WebAssembly modules and runs their exported functions from the command line.
 #![tactic(auto)]
 
-use program::{Print, Printed, define_prints, refuse_words, run};
+use program::{Output, Print, Printed, define_prints, refuse_words, run};
 use std::alloc::AllocError;
 use std::env;
 use std::io::{self, Stdout};
@@ -27,8 +27,8 @@ fn run_with_prints(rt: &HostRuntime, words: &[String]) -> io::Result<u8> {
         words,
         &mut files,
         hosts,
-        &mut rt.stdout(),
-        &mut rt.stderr(),
+        &mut Output::new(rt.stdout()),
+        &mut Output::new(rt.stderr()),
     ))
 }
 
@@ -41,7 +41,7 @@ fn run_words(rt: &HostRuntime) -> io::Result<u8> {
 fn main(rt: HostRuntime) -> ExitCode {
     let status = match run_words(&rt) {
         Ok(status) => status,
-        Err(error) => refuse_words(&error, &mut rt.stderr()),
+        Err(error) => refuse_words(&error, &mut Output::new(rt.stderr())),
     };
     ExitCode::from(status)
 }

@@ -1,0 +1,5 @@
+mod Paths
+mod Words
+mod NamedFiles
+mod Loading
+mod Runs

@@ -1,0 +1,4 @@
+pub mod Files
+pub mod Arguments
+pub mod Embeddings
+pub mod Performing
