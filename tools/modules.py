@@ -7,7 +7,7 @@ ORDER = [TYPES, FUNCTIONS, TABLES, MEMORIES, EXPORTS, ELEMENTS, DATA_COUNT, CODE
 
 
 def number(value):
-    """The unsigned LEB128 spelling of a number."""
+    """Returns the unsigned LEB128 encoding of a number."""
     out = bytearray()
     while value >= 0x80:
         out.append(value & 0x7F | 0x80)
@@ -30,7 +30,7 @@ def vector(items):
 
 
 def sized(content):
-    """Bytes behind their number."""
+    """Returns bytes after their number."""
     return number(len(content)) + content
 
 
