@@ -17,7 +17,7 @@ pub struct Account {
     pub balance: u64,
 }
 
-/// A call that was paid for: how it ended, the fuel that was bought for it, and what it left.
+/// A call that was paid for: how it ended, the fuel that was bought for it, and the fuel that it left.
 #[derive(Drop)]
 pub struct PaidCall {
     pub outcome: Result<Outcome, Refusal>,
@@ -25,8 +25,10 @@ pub struct PaidCall {
     pub left: u64,
 }
 
-/// Buys fuel for a call, up to this limit and as much as the account has, makes the call, and gives back what it left. So the account
-/// pays for what the call spent, whether it ended with values, a trap or an exhaustion, and for nothing where it was refused.
+/// Buys fuel for a call, makes the call, and returns the fuel that is left to the account.
+///
+/// The fuel bought is the limit, or the balance if that is less. So the account pays for what the call spent, whether it ended
+/// with values, a trap or an exhaustion. It pays nothing if the call was refused.
 pub fn pay_for_call(
     account: &mut Account,
     limit: u64,

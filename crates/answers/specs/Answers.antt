@@ -1,4 +1,4 @@
--- How messages spell what a server answers, which is this project's own.
+-- How messages encode the answers of a server. The encoding is specific to this project.
 use Rattle.std.specs.Prelude.{ℕ, List, [], ◌++◌, flat_map}
 use Rattle.core_types.specs.declared.outcome.Exhaustion.{Exhaustion}
 use Rattle.core_types.specs.declared.outcome.Exhaustion.TheVariants.{Fuel, Depth, Memory}
@@ -37,7 +37,7 @@ exhaustion_number Fuel = 1
 exhaustion_number Depth = 2
 exhaustion_number Memory = 3
 
--- The kind of the message of what an embedding replied.
+-- The kind of the message for a reply of an embedding.
 abbrev pub reply_kind : Reply → ℕ
 reply_kind reply.Done = 0
 reply_kind (reply.Loaded number) = 1
@@ -58,12 +58,12 @@ kind_of (Ran report) = 7
 kind_of NotSpelt = 8
 kind_of NotNow = 9
 
--- Number, kind of place and place of a refusal.
+-- The number, the kind of place and the place of a refusal.
 abbrev pub cause_numbers : Cause → List ℕ
 cause_numbers cause = number_bytes (cause_number cause)
     ++ (number_bytes (place_of cause).kind ++ number_bytes (place_of cause).index)
 
--- They and words that say it.
+-- These numbers, and a description.
 abbrev pub cause_bytes : Cause → (words : List ℕ) → List ℕ
 cause_bytes cause words = cause_numbers cause ++ words
 
@@ -72,7 +72,7 @@ report_bytes report = number_bytes report.passed
     ++ (number_bytes report.failed ++ (number_bytes report.skipped
     ++ flat_map number_bytes report.failures.items))
 
--- The fields of the message of what an embedding replied; a refusal has words.
+-- The fields of the message for a reply of an embedding. A refusal has a description.
 abbrev pub reply_fields : Reply → (words : List ℕ) → List ℕ
 reply_fields reply.Done words = []
 reply_fields (reply.Loaded number) words = number_bytes number

@@ -1,4 +1,4 @@
--- Why an order is refused, and where, in numbers.
+-- Why an order is refused, and where, as numbers.
 use Rattle.std.specs.Prelude.{ℕ}
 use Rattle.meaning.specs.embedding.Refusals.{fault_number as creation_number, number_of}
 use Rattle.embed.specs.Definitions.{fault_in}
@@ -20,11 +20,11 @@ cause_number (Creation fault) = creation_number (fault_in fault)
 cause_number (Script fault) = script_number fault
 cause_number Setup = 18
 
--- A kind of place, and which one.
+-- The place of a kind and an index.
 abbrev pub at : (kind index : ℕ) → Where
 at kind index = record { kind = kind; index = index }
 
--- Where a command is at fault: nowhere, at a byte, an import, a section or a function.
+-- The place of the fault of a command: none, a byte, an import, a section or a function.
 abbrev pub place_of_refusal : Refusal → Where
 place_of_refusal (Malformed offset) = at 1 offset
 place_of_refusal (Unsupported offset) = at 1 offset
@@ -34,7 +34,7 @@ place_of_refusal (Invalid (place.Section id)) = at 3 id
 place_of_refusal (Invalid (place.Func index)) = at 4 index
 place_of_refusal refusal = at 0 0
 
--- Where a script is at fault: nowhere, or at a command.
+-- The place of the fault of a script: none, or a command.
 abbrev pub place_of_fault : ScriptFault → Where
 place_of_fault (BadCommand index) = at 5 index
 place_of_fault (MissingFile index) = at 5 index

@@ -1,4 +1,4 @@
--- How messages spell what an instance exports.
+-- How messages encode what an instance exports.
 use Rattle.std.specs.Prelude.{ℕ, List, ◌++◌, Option, Some, None, flat_map, length, string_bytes}
 use Rattle.core_types.specs.declared.types.ExternType.{ExternType}
 use Rattle.core_types.specs.declared.types.ExternType.TheVariants.{Func, Table, Memory, Global}
@@ -17,7 +17,7 @@ abbrev pub reference_bytes : RefType → List ℕ
 reference_bytes reference.FuncRef = type_bytes value.FuncRef
 reference_bytes reference.ExternRef = type_bytes value.ExternRef
 
--- The maximum is one and a number, or twice zero.
+-- A maximum is one and a number, or two zeros.
 abbrev pub maximum_bytes : Option ℕ → List ℕ
 maximum_bytes None = number_bytes 0 ++ number_bytes 0
 maximum_bytes (Some max) = number_bytes 1 ++ number_bytes max
@@ -37,7 +37,7 @@ extern_bytes (Memory limits) = number_bytes 2 ++ limits_bytes limits
 extern_bytes (Global t) =
     number_bytes 3 ++ (type_bytes t.value ++ number_bytes (mutability_number t.mutability))
 
--- An export is its name, and the number of its type among those that come first.
+-- An export is its name, and the index of its type in the list of types before it.
 abbrev pub export_bytes : ExportType → List ℕ
 export_bytes e = text_bytes (string_bytes e.name) ++ number_bytes e.ty
 

@@ -1,4 +1,4 @@
--- What a server answers to an order once the embedding is there, and what that leaves.
+-- The answer of a server to an order once there is an embedding, and what the order leaves.
 use Rattle.std.specs.Prelude.{◌≡◌, ◌⊎◌, ℕ, List, [], ◌∷◌, ◌++◌, Ok, Err, String, Vec}
 use Rattle.std.specs.declared.alloc.Global.{Global as Allocator}
 use Rattle.embed.specs.Exports.{AreExports, IsRefusedExport, named_export}
@@ -19,7 +19,7 @@ use Rattle.answers.specs.declared.answer.Answer.{Answer}
 use Rattle.answers.specs.declared.answer.Answer.TheVariants.{Done, Applied, Global, FuelLeft, Exports, Ran, Refused, NotNow}
 use Rattle.answers.specs.declared.causes.Cause.TheVariants.{Command, Script}
 
--- A file that is kept stands behind the others, a script takes them all, and other orders leave them.
+-- A file to keep is appended, a script takes all files, and other orders leave them.
 abbrev pub LeavesFiles : List (String Allocator × Vec ℕ Allocator) → order.Order → Answer
     → List (String Allocator × Vec ℕ Allocator) → Type 0
 LeavesFiles old (order.Keep name bytes) Done new =
@@ -28,26 +28,26 @@ LeavesFiles old (order.Keep name bytes) answer new = new ≡ old
 LeavesFiles old (order.RunScript text) answer new = new ≡ []
 LeavesFiles old order answer new = new ≡ old
 
--- The answer to a command is what the embedding machine replied; the value of a global is one that a run ended with.
+-- The answer to a command is the reply of the embedding machine. The value of a global is one that a run ended with.
 abbrev pub IsReply : Answer → machine.Reply → Type 0
 IsReply (Applied reply) reply' = reply' ≡ reply_of reply
 IsReply (Global value) reply' = reply' ≡ machine.Ended (WithValues (value ∷ []))
 IsReply answer reply' = ⊥
 
 module _ {I : Type 0} {F : I → Type 0} (members : (i : I) → Ghosts (F i)) where
-  -- A file is kept, or there is no memory for it.
+  -- A file is kept, or memory ran out.
   abbrev pub IsKept : Answer → Type 0
   IsKept Done = Unit {0}
   IsKept (Refused cause) = cause ≡ Command OutOfMemory
   IsKept answer = ⊥
 
-  -- What an instance exports is listed, or there is no memory for the list.
+  -- The exports of an instance are listed, or memory for the list ran out.
   abbrev pub ListsExports : Embedding (HostObject I F) → (instance : ℕ) → Answer → Type 0
   ListsExports old instance (Exports found) = AreExports found (exports_at old instance)
   ListsExports old instance (Refused cause) = cause ≡ Command OutOfMemory
   ListsExports old instance answer = ⊥
 
-  -- The export of a name is given, or refused as a command that asks for it would be.
+  -- The export of a name is returned, or refused as a command that asks for it would be.
   abbrev pub GivesExport : Embedding (HostObject I F) → (instance : ℕ) → (name : List ℕ) → Answer
       → Type 0
   GivesExport old instance name (Exports found) = AreExports found (named_export old instance name)
@@ -55,8 +55,8 @@ module _ {I : Type 0} {F : I → Type 0} (members : (i : I) → Ghosts (F i)) wh
       IsRefusedExport old instance name refusal
   GivesExport old instance name answer = ⊥
 
-  -- The script is that of the text, and is run with the files that were kept; or it is not read, and nothing changes; or it is
-  -- not run to its end.
+  -- The script is that of the text, and is run with the files that were kept. Or it is not read, and nothing changes. Or it is not run to
+  -- its end.
   abbrev pub RunsText : List (String Allocator × Vec ℕ Allocator) → (text : List ℕ)
       → Embedding (HostObject I F) → Answer → Embedding (HostObject I F) → Type 0
   RunsText files text old (Ran report) new = (script : List ScriptCommand)
@@ -68,8 +68,8 @@ module _ {I : Type 0} {F : I → Type 0} (members : (i : I) → Ghosts (F i)) wh
       × Runs members script (files_in (files_view files)) old (Err fault) new)
   RunsText files text old answer new = ⊥
 
-  -- A command is applied once, as the embedding machine does, and goes well. Other orders except scripts change nothing, and those
-  -- that come too late are answered so.
+  -- A command is applied once, as the embedding machine applies it, and goes well. Other orders except scripts change nothing. Orders
+  -- that come too late get the answer `NotNow`.
   abbrev pub Obeys : List (String Allocator × Vec ℕ Allocator) → Embedding (HostObject I F)
       → order.Order → Answer → Embedding (HostObject I F) → Type 0
   Obeys files old (order.Apply command) answer new = (reply : machine.Reply)

@@ -3,25 +3,25 @@ use core_types::Val;
 use embed::{Exports, Reply};
 use scripts::Report;
 
-/// What a server answers to an order.
+/// The answer of a server to an order.
 #[derive(Drop)]
 pub enum Answer {
-    /// It is done.
+    /// The order is done.
     Done,
     /// What the embedding replied to a command.
     Applied(Reply),
     /// The value of a global.
     Global(Val),
-    /// The fuel that is left.
+    /// The fuel left.
     FuelLeft(u64),
     /// What an instance exports, or one export of it.
     Exports(Exports),
-    /// What a script has come to.
+    /// The result of a script.
     Ran(Report),
     /// The order is refused.
     Refused(Cause),
-    /// The message spells no order.
+    /// The message encodes no order.
     NotSpelt,
-    /// The order has no place before `begin`, or behind it.
+    /// The order is not allowed at this time: before `begin`, or after it.
     NotNow,
 }

@@ -10,10 +10,10 @@ pub enum Cause {
     /// The embedding refuses the command.
     #[error("{0}")]
     Command(Refusal),
-    /// There is no embedding of the host functions.
+    /// No embedding was created with the host functions.
     #[error("{0}")]
     Creation(NewFault),
-    /// The script is not read, or not run to its end.
+    /// The script was not read, or not run to its end.
     #[error("{0}")]
     Script(ScriptFault),
     /// A number of the setup is out of its range.
@@ -21,14 +21,15 @@ pub enum Cause {
     Setup,
 }
 
-/// A kind of place, and which one: 0 none, 1 a byte of the module, 2 an import, 3 a section, 4 a function, 5 a command of a script.
+/// The kind and the index of a place. The kinds are: 0 none, 1 a byte of the module, 2 an import, 3 a section, 4 a function, 5 a
+/// command of a script.
 #[derive(Clone, Copy)]
 pub struct Where {
     pub kind: u64,
     pub index: u64,
 }
 
-// A kind of place, and which one.
+// Returns the place of a kind and an index.
 fn at(kind: u64, index: u64) -> Where
     ensures { result ≡ record { kind = kind; index = index } }
 {
@@ -38,7 +39,7 @@ fn at(kind: u64, index: u64) -> Where
 impl Cause {
     ghost use Rattle.answers.specs.Causes.{cause_number, place_of};
 
-    /// The number of the refusal.
+    /// Returns the number of the refusal.
     pub fn number(&self) -> u64
         ensures { result ≡ cause_number self.now }
     {
@@ -50,7 +51,7 @@ impl Cause {
         }
     }
 
-    /// Where the fault is.
+    /// Returns the place of the fault.
     pub fn place(&self) -> Where
         ensures { result ≡ place_of self.now }
     {

@@ -8,7 +8,7 @@ use embed::{ExportType, Exports};
 use messages::{push_number, push_text, push_type, push_types};
 use std::alloc::AllocError;
 
-// The number of whether a global may be set.
+// Returns the number that encodes whether a global is mutable.
 fn number_of_mutability(mutability: Mutability) -> u64
     ensures { result ≡ mutability_number mutability }
 {
@@ -18,7 +18,6 @@ fn number_of_mutability(mutability: Mutability) -> u64
     }
 }
 
-// Appends a type of references.
 fn push_reference(out: &mut Vec<u8>, ty: RefType) -> Result<(), AllocError>
     ensures { OnOk result (out.new.items ≡ out.old.items ++ reference_bytes ty) }
 {
@@ -44,7 +43,6 @@ fn push_maximum(out: &mut Vec<u8>, max: Option<u32>) -> Result<(), AllocError>
     }
 }
 
-// Appends limits.
 fn push_limits(out: &mut Vec<u8>, limits: Limits) -> Result<(), AllocError>
     ensures { OnOk result (out.new.items ≡ out.old.items ++ limits_bytes limits) }
 {
@@ -52,7 +50,6 @@ fn push_limits(out: &mut Vec<u8>, limits: Limits) -> Result<(), AllocError>
     push_maximum(out, limits.max)
 }
 
-// Appends the type of a function.
 fn push_function(out: &mut Vec<u8>, ty: &FuncType) -> Result<(), AllocError>
     ensures { OnOk result (out.new.items ≡ out.old.items ++ extern_bytes (ExternType.Func ty.now)) }
 {
@@ -61,7 +58,6 @@ fn push_function(out: &mut Vec<u8>, ty: &FuncType) -> Result<(), AllocError>
     push_types(out, ty.results.as_slice())
 }
 
-// Appends the type of a table.
 fn push_table(out: &mut Vec<u8>, ty: TableType) -> Result<(), AllocError>
     ensures { OnOk result (out.new.items ≡ out.old.items ++ extern_bytes (ExternType.Table ty)) }
 {
@@ -70,7 +66,6 @@ fn push_table(out: &mut Vec<u8>, ty: TableType) -> Result<(), AllocError>
     push_limits(out, ty.limits)
 }
 
-// Appends the type of a memory.
 fn push_memory(out: &mut Vec<u8>, limits: Limits) -> Result<(), AllocError>
     ensures { OnOk result (out.new.items
         ≡ out.old.items ++ extern_bytes (ExternType.Memory limits)) }
@@ -79,7 +74,6 @@ fn push_memory(out: &mut Vec<u8>, limits: Limits) -> Result<(), AllocError>
     push_limits(out, limits)
 }
 
-// Appends the type of a global.
 fn push_global(out: &mut Vec<u8>, ty: GlobalType) -> Result<(), AllocError>
     ensures { OnOk result (out.new.items ≡ out.old.items ++ extern_bytes (ExternType.Global ty)) }
 {
@@ -100,7 +94,6 @@ fn push_extern(out: &mut Vec<u8>, ty: &ExternType) -> Result<(), AllocError>
     }
 }
 
-// Appends types.
 fn push_externs(out: &mut Vec<u8>, types: &[ExternType]) -> Result<(), AllocError>
     ensures { OnOk result (out.new.items ≡ out.old.items ++ flat_map extern_bytes types.now) }
 {
@@ -118,7 +111,6 @@ fn push_export(out: &mut Vec<u8>, export: &ExportType) -> Result<(), AllocError>
     push_number(out, export.ty as u64)
 }
 
-// Appends exports.
 fn push_all(out: &mut Vec<u8>, exports: &[ExportType]) -> Result<(), AllocError>
     ensures { OnOk result (out.new.items ≡ out.old.items ++ flat_map export_bytes exports.now) }
 {

@@ -1,4 +1,4 @@
-//! What a server answers to an order: what obeying it comes to, and how messages spell that.
+//! The answers of a server to orders: how the server obeys an order, and how messages encode the answer.
 #![tactic(auto)]
 
 mod answer;

@@ -12,14 +12,14 @@ use orders::Order;
 use scripts::{Report, ScriptFault, read_script, run_script};
 use std::alloc::{AllocError, Global};
 
-// The answer that there is no memory, and that nothing has changed.
+// Returns the answer that memory ran out and nothing has changed.
 fn no_memory() -> Answer
     ensures { result ≡ Answer.Refused (Cause.Command Refusal.OutOfMemory) }
 {
     Answer::Refused(Cause::Command(Refusal::OutOfMemory))
 }
 
-// Keeps a file behind the others.
+// Appends a file to those that are kept.
 fn keep_file(
     alloc: Global,
     name: &str,
@@ -56,7 +56,7 @@ fn run_text(
     }
 }
 
-/// Does what an order asks for, and answers it. Files are those that were kept; a script takes them all.
+/// Obeys an order, and returns the answer. `files` are those that were kept. A script takes them all.
 pub fn obey(
     alloc: Global,
     embedding: &mut Embedding,

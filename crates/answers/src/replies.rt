@@ -12,7 +12,6 @@ use messages::{push_message, push_number, push_value, push_values};
 use scripts::Report;
 use std::alloc::{AllocError, Global};
 
-// The number of a trap.
 fn number_of_trap(trap: Trap) -> u64
     ensures { result ≡ trap_number trap }
 {
@@ -29,7 +28,7 @@ fn number_of_trap(trap: Trap) -> u64
     }
 }
 
-// The code of a host function's trap, or 0.
+// Returns the code of a host function's trap, or 0.
 fn code_of_trap(trap: Trap) -> u64
     ensures { result ≡ trap_code trap }
 {
@@ -39,7 +38,6 @@ fn code_of_trap(trap: Trap) -> u64
     }
 }
 
-// The number of what ran out.
 fn number_of_exhaustion(what: Exhaustion) -> u64
     ensures { result ≡ exhaustion_number what }
 {
@@ -50,7 +48,6 @@ fn number_of_exhaustion(what: Exhaustion) -> u64
     }
 }
 
-// Appends a trap.
 fn push_trap(out: &mut Vec<u8>, trap: Trap) -> Result<(), AllocError>
     ensures { OnOk result (out.new.items ≡ out.old.items
         ++ (number_bytes (trap_number trap) ++ number_bytes (trap_code trap))) }
@@ -59,7 +56,6 @@ fn push_trap(out: &mut Vec<u8>, trap: Trap) -> Result<(), AllocError>
     push_number(out, code_of_trap(trap))
 }
 
-// Appends the numbers of a cause.
 fn push_cause_numbers(out: &mut Vec<u8>, cause: &Cause) -> Result<(), AllocError>
     ensures { OnOk result (out.new.items ≡ out.old.items ++ cause_numbers cause.now) }
 {
@@ -69,7 +65,7 @@ fn push_cause_numbers(out: &mut Vec<u8>, cause: &Cause) -> Result<(), AllocError
     push_number(out, place.index)
 }
 
-// Appends a cause: its numbers, and words, if there is memory for them.
+// Appends a cause: its numbers, and a description if memory is available for it.
 fn push_cause(alloc: Global, out: &mut Vec<u8>, cause: &Cause) -> Result<(), AllocError>
     ensures { OnOk result ((words : List ℕ) × (out.new.items ≡ out.old.items
         ++ cause_bytes cause.now words)) }
@@ -81,7 +77,6 @@ fn push_cause(alloc: Global, out: &mut Vec<u8>, cause: &Cause) -> Result<(), All
     }
 }
 
-// Appends a report.
 fn push_report(out: &mut Vec<u8>, report: &Report) -> Result<(), AllocError>
     ensures { OnOk result (out.new.items ≡ out.old.items ++ report_bytes report.now) }
 {
@@ -101,7 +96,7 @@ fn push_lines(out: &mut Vec<u8>, lines: &[u64]) -> Result<(), AllocError>
     Ok(())
 }
 
-// Appends what an embedding replied.
+// Appends the reply of an embedding.
 fn push_reply(alloc: Global, out: &mut Vec<u8>, reply: &Reply) -> Result<(), AllocError>
     ensures { OnOk result ((words : List ℕ) × (out.new.items ≡ out.old.items
         ++ reply_fields reply.now words)) }
@@ -124,7 +119,6 @@ fn push_refusal(alloc: Global, out: &mut Vec<u8>, refusal: Refusal) -> Result<()
     push_cause(alloc, out, &Cause::Command(refusal))
 }
 
-// Appends the fields of an answer.
 fn push_fields(alloc: Global, out: &mut Vec<u8>, answer: &Answer) -> Result<(), AllocError>
     ensures { OnOk result ((words : List ℕ) × (out.new.items ≡ out.old.items
         ++ fields_of answer.now words)) }
@@ -140,7 +134,7 @@ fn push_fields(alloc: Global, out: &mut Vec<u8>, answer: &Answer) -> Result<(), 
     }
 }
 
-// The kind of the message of what an embedding replied.
+// Returns the kind of the message for a reply of an embedding.
 fn kind_of_reply(reply: &Reply) -> u64
     ensures { result ≡ reply_kind reply.now }
 {
@@ -154,7 +148,7 @@ fn kind_of_reply(reply: &Reply) -> u64
     }
 }
 
-// The kind of the message of an answer.
+// Returns the kind of the message for an answer.
 fn kind_of_answer(answer: &Answer) -> u64
     ensures { result ≡ kind_of answer.now }
 {
@@ -171,8 +165,8 @@ fn kind_of_answer(answer: &Answer) -> u64
     }
 }
 
-/// Appends the message of an answer, whose fields are put together in the place of what `fields` had. A refusal says in words what it
-/// says in numbers, if there is memory for words.
+/// Appends the message of an answer. Its fields are built in `fields`, and replace what was there. A refusal has its numbers,
+/// followed by a description if memory is available for it.
 pub fn push_answer(
     alloc: Global,
     fields: &mut Vec<u8>,

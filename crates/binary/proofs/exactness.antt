@@ -1,4 +1,4 @@
--- The reading functions are sound and complete: what they read is spelled so, and what is spelled so is read.
+-- The reading functions are sound and complete: what they read has this encoding, and what has this encoding is read.
 pub mod Readers
 pub mod Choices
 pub mod Integers

@@ -1,5 +1,5 @@
 -- Reading instructions.
-use Rattle.std.specs.Prelude.{All, Bool, List, None, Option, Some, [], false, if◌then◌else◌, length, nat_le, nat_lt, slice_get, ℕ, ◌+◌, ◌-◌, ◌==◌, ◌∷◌, ◌≡◌}
+use Rattle.std.specs.Prelude.{All, Bool, List, None, Option, Some, [], false, if◌then◌else◌, map, nat_le, replicate, slice_get, ℕ, ◌++◌, ◌-◌, ◌∷◌, ◌≡◌}
 use Rattle.core_types.specs.declared.op.BranchTable.{BranchTable}
 use Rattle.core_types.specs.declared.op.ControlOp.{ControlOp}
 use Rattle.core_types.specs.declared.op.ControlOp.TheVariants.{Br, BrIf, Call, CallIndirect, Nop, Return, ReturnCall, ReturnCallIndirect, Unreachable}
@@ -77,7 +77,7 @@ table_at code bytes =
     (case_at 0x25 (mapped_at table.Get index_at)
     (case_at 0x26 (mapped_at table.Set index_at) no_case)) code bytes
 
--- The table instructions behind the byte FC, by number.
+-- The table instructions after the byte FC, by number.
 unfoldable pub prefixed_table_at : Cases TableOp
 prefixed_table_at number bytes =
     (case_at 12 (mapped_at (λ x. table.Init x.0 x.1) two_indices_at)
@@ -115,7 +115,7 @@ memory_at code bytes =
     (case_at 0x3F (of_memory memory.Size)
     (case_at 0x40 (of_memory memory.Grow) no_case)))) code bytes
 
--- The memory instructions behind the byte FC, by number.
+-- The memory instructions after the byte FC, by number.
 unfoldable pub prefixed_memory_at : Cases MemoryOp
 prefixed_memory_at number bytes =
     (case_at 8 (mapped_at (λ x. memory.Init x.0) (pair_at index_at (expected_at (0x00 ∷ []))))
@@ -128,61 +128,40 @@ prefixed_at number bytes =
     (up_to 11 (mapped_case Memory prefixed_memory_at) (mapped_case Table prefixed_table_at)) number
     bytes
 
--- What a row has at an index.
-abbrev pub from_row : {X V : Type 0} → (X → V) → List X → ℕ → Option V
-from_row into row index = slice_get row index >>= λ x. Some (into x)
+-- A row of numeric instructions, one for each operator of a list.
+abbrev pub numeric_row : {X : Type 0} → (X → NumericOp) → List X → List (Option NumericOp)
+numeric_row into row = map (λ x. Some (into x)) row
 
--- The opcodes of a row from the first on, before the other cases.
-abbrev pub row_at : {X V : Type 0} → ℕ → List X → (X → V) → (ℕ → Option V) → ℕ → Option V
-row_at first row into others code =
-    if nat_lt code first then others code
-    else (if nat_lt code (first + length row) then from_row into row (code - first)
-    else others code)
+-- The numeric instructions without an immediate by opcode, from 45 on. Where there is none, there is an instruction on
+-- floating-point numbers.
+unfoldable pub numerics : List (Option NumericOp)
+numerics =
+    Some (Eqz W32) ∷ []
+    ++ numeric_row (Compare W32) comparisons
+    ++ Some (Eqz W64) ∷ []
+    ++ numeric_row (Compare W64) comparisons
+    ++ replicate 12 None
+    ++ numeric_row (Unary W32) bit_counts
+    ++ numeric_row (Binary W32) binary_ops
+    ++ numeric_row (Unary W64) bit_counts
+    ++ numeric_row (Binary W64) binary_ops
+    ++ replicate 28 None
+    ++ Some (Convert I32WrapI64) ∷ []
+    ++ replicate 4 None
+    ++ Some (Convert I64ExtendI32S) ∷ Some (Convert I64ExtendI32U) ∷ []
+    ++ replicate 18 None
+    ++ numeric_row (Unary W32) sign_extensions
+    ++ numeric_row (Unary W64) sign_extensions
+    ++ Some (Convert I64Extend32S) ∷ []
 
-abbrev pub one_at : {V : Type 0} → ℕ → V → (ℕ → Option V) → ℕ → Option V
-one_at expected v others code = if code == expected then Some v else others code
-
--- A numeric instruction by its opcode.
-abbrev pub single_case : ℕ → Option NumericOp
-single_case =
-    one_at 0x45 (Eqz W32)
-    (one_at 0x50 (Eqz W64)
-    (one_at 0xA7 (Convert I32WrapI64)
-    (one_at 0xAC (Convert I64ExtendI32S)
-    (one_at 0xAD (Convert I64ExtendI32U)
-    (one_at 0xC4 (Convert I64Extend32S) (λ other. None))))))
-
-abbrev pub cases_from_C2 : ℕ → Option NumericOp
-cases_from_C2 = row_at 0xC2 sign_extensions (Unary W64) single_case
-
-abbrev pub cases_from_C0 : ℕ → Option NumericOp
-cases_from_C0 = row_at 0xC0 sign_extensions (Unary W32) cases_from_C2
-
-abbrev pub cases_from_7C : ℕ → Option NumericOp
-cases_from_7C = row_at 0x7C binary_ops (Binary W64) cases_from_C0
-
-abbrev pub cases_from_79 : ℕ → Option NumericOp
-cases_from_79 = row_at 0x79 bit_counts (Unary W64) cases_from_7C
-
-abbrev pub cases_from_6A : ℕ → Option NumericOp
-cases_from_6A = row_at 0x6A binary_ops (Binary W32) cases_from_79
-
-abbrev pub cases_from_67 : ℕ → Option NumericOp
-cases_from_67 = row_at 0x67 bit_counts (Unary W32) cases_from_6A
-
-abbrev pub cases_from_51 : ℕ → Option NumericOp
-cases_from_51 = row_at 0x51 comparisons (Compare W64) cases_from_67
-
-abbrev pub numeric_case : ℕ → Option NumericOp
-numeric_case = row_at 0x46 comparisons (Compare W32) cases_from_51
-
+-- The numeric instruction without an immediate of an opcode, if there is one.
 unfoldable pub numeric_of : ℕ → Option NumericOp
-numeric_of code = numeric_case code
+numeric_of code = in_row 0x45 numerics code
 
 abbrev pub numeric_at : Cases NumericOp
 numeric_at code bytes = numeric_of code >>= λ op. Some (op, bytes)
 
--- An instruction of a group whose opcodes are next to each other, behind its opcode.
+-- An instruction of a group with consecutive opcodes, after its opcode.
 unfoldable pub group_at : Cases PlainOp
 group_at code bytes =
     (up_to 0x13 (mapped_case Control control_at)
@@ -193,7 +172,7 @@ group_at code bytes =
     (up_to 0xC4 (mapped_case Numeric numeric_at)
     (mapped_case Reference reference_at))))))) code bytes
 
--- An instruction without a body, behind its opcode.
+-- An instruction without a body, after its opcode.
 unfoldable pub plain_at : Cases PlainOp
 plain_at code bytes =
     (case_at 0x0E (mapped_at BrTable branch_table_at)
@@ -202,7 +181,7 @@ plain_at code bytes =
     (case_at 0x42 (mapped_at I64Const (stored_at 64))
     (case_at 0xFC (chosen_at (unsigned_at 32) prefixed_at) group_at))))) code bytes
 
--- A flat operation behind its opcode.
+-- A flat operation, after its opcode.
 unfoldable pub operation_at : Cases Op
 operation_at code bytes =
     (case_at 0x02 (mapped_at Block block_type_at)
@@ -219,11 +198,11 @@ op_at bytes = chosen_at byte_at operation_at bytes
 abbrev pub NameNoData : List Op → Type 0
 NameNoData ops = All (λ op. names_data op ≡ false) ops
 
--- What is noted of operations: where it is false, none of them names a data segment.
+-- What is noted of operations. If it is false, none of them names a data segment.
 abbrev pub NotesData : Bool → List Op → Type 0
 NotesData noted ops = noted ≡ false → NameNoData ops
 
--- What is noted before stays noted; and where nothing is noted then, no operation more names a data segment.
+-- What is noted before stays noted. If nothing is noted after, no further operation names a data segment.
 abbrev pub NotesMore : (others : List Op) → (before : Bool) → (ops : List Op) → (now : Bool)
     → Type 0
 NotesMore others before ops now =

@@ -21,11 +21,11 @@ use Rattle.binary.specs.declared.modules.Definitions.{Definitions}
 abbrev pub header : List ℕ
 header = 0x00 ∷ 0x61 ∷ 0x73 ∷ 0x6D ∷ 0x01 ∷ 0x00 ∷ 0x00 ∷ 0x00 ∷ []
 
--- One part, and what follows it, which may depend on it.
+-- One part, and the part after it, which may depend on it.
 abbrev pub then_at : {A B : Type 0} → Reading A → (A → Reading B) → Reading (A × B)
 then_at read next bytes = read bytes >>= λ a. next a.0 a.1 >>= λ b. Some ((a.0, b.0), b.1)
 
--- What the start, element, data count, code and data sections hold, put into a record.
+-- The contents of the start, element, data count, code and data sections, as a record.
 abbrev pub contents_of : Option ℕ ×
     (List ElementSegment × (Option ℕ × (List Function × (List DataSegment × Unit {0})))) → Contents
 contents_of w =
@@ -37,7 +37,7 @@ contents_of w =
       datas = w.1.1.1.1.0;
     }
 
--- The sections from the start section on, where the functions have types of these indices.
+-- The sections from the start section on, for functions whose types have these indices.
 unfoldable pub contents_at : List ℕ → Reading Contents
 contents_at indices bytes =
     mapped_at contents_of
@@ -47,7 +47,7 @@ contents_at indices bytes =
     then_at (code_section_at indices) (λ funcs.
     then_at (vector_section_at 11 data_at) (λ datas. end_at)))))) bytes
 
--- What the table, memory, global and export sections hold, and those behind them, put into a record.
+-- The contents of the table, memory, global and export sections, and of those after them, as a record.
 abbrev pub definitions_of : List TableType ×
     (List Limits × (List Global × (List Export × Contents))) → Definitions
 definitions_of w =
@@ -59,7 +59,7 @@ definitions_of w =
       contents = w.1.1.1.1;
     }
 
--- The sections from the table section on, where the functions have types of these indices.
+-- The sections from the table section on, for functions whose types have these indices.
 unfoldable pub definitions_at : List ℕ → Reading Definitions
 definitions_at indices bytes =
     mapped_at definitions_of
@@ -68,7 +68,7 @@ definitions_at indices bytes =
     then_at (vector_section_at 6 global_at) (λ globals.
     then_at (vector_section_at 7 export_at) (λ exports. contents_at indices))))) bytes
 
--- What all sections hold, in their order: types, imports, type indices of functions, and the others.
+-- The contents of all sections, in their order: types, imports, type indices of functions, and the others.
 abbrev pub Sections : Type 0
 Sections = List FuncType × (List Import × (List ℕ × Definitions))
 

@@ -1,4 +1,4 @@
--- Reading sections and what they hold.
+-- Reading sections and their contents.
 use Rattle.std.specs.Prelude.{All, Bool, List, None, Option, Some, [], drop, false, if◌then◌else◌, length, nat_lt, replicate, suc, zero, ℕ, ◌++◌, ◌+◌, ◌==◌, ◌^◌, ◌∷◌, ◌≡◌}
 use Rattle.core_types.specs.declared.module.DataMode.TheVariants as data_mode
 use Rattle.core_types.specs.declared.module.DataSegment.{DataSegment}
@@ -31,7 +31,7 @@ local_group_at bytes = do
   ty ← val_type_at count.1
   Some ((count.0, ty.0), ty.1)
 
--- A number of groups of locals, behind the locals that were read before.
+-- A number of groups of locals, after the locals that were read before.
 unfoldable pub groups_at : ℕ → List ValType → Reading (List ValType)
 groups_at zero locals bytes = Some (locals, bytes)
 groups_at (suc count) locals bytes = do
@@ -55,14 +55,14 @@ function_content_at ty bytes = do
 unfoldable pub code_at : ℕ → Reading Function
 code_at ty bytes = sized_at (function_content_at ty) bytes
 
--- The functions whose types have these indices, behind those that were read before.
+-- The functions whose types have these indices, after those that were read before.
 unfoldable pub codes_at : List ℕ → List Function → Reading (List Function)
 codes_at [] funcs bytes = Some (funcs, bytes)
 codes_at (ty ∷ types) funcs bytes = do
   f ← code_at ty bytes
   codes_at types (funcs ++ f.0 ∷ []) f.1
 
--- A count, which is that of the indices, and as many functions.
+-- A count, which is that of the indices, and that many functions.
 unfoldable pub functions_at : List ℕ → Reading (List Function)
 functions_at types bytes = do
   count ← unsigned_at 32 bytes
@@ -120,7 +120,7 @@ references_at bytes = pair_at ref_type_at (vector_at expression_at) bytes
 unfoldable pub target_at : Reading (ℕ × List Op)
 target_at bytes = pair_at index_at expression_at bytes
 
--- An element segment of function indices, behind the number of its form.
+-- An element segment of function indices, after the number of its form.
 unfoldable pub functions_form_at : Cases ElementSegment
 functions_form_at form bytes =
     (case_at 0
@@ -135,7 +135,7 @@ functions_form_at form bytes =
     (mapped_at (λ x. element FuncRef (Functions x) Declarative) kind_functions_at)
     no_case)))) form bytes
 
--- An element segment of expressions, behind the number of its form.
+-- An element segment of expressions, after the number of its form.
 unfoldable pub expressions_form_at : Cases ElementSegment
 expressions_form_at form bytes =
     (case_at 4
@@ -150,14 +150,14 @@ expressions_form_at form bytes =
     (mapped_at (λ x. element x.0 (Expressions x.1) Declarative) references_at)
     no_case)))) form bytes
 
--- An element segment behind the number of its form.
+-- An element segment, after the number of its form.
 unfoldable pub element_form_at : Cases ElementSegment
 element_form_at form bytes = (up_to 3 functions_form_at expressions_form_at) form bytes
 
 unfoldable pub element_at : Reading ElementSegment
 element_at bytes = chosen_at (unsigned_at 32) element_form_at bytes
 
--- A data segment behind the number of its form.
+-- A data segment, after the number of its form.
 unfoldable pub data_form_at : Cases DataSegment
 data_form_at form bytes =
     (case_at 0
@@ -173,14 +173,14 @@ data_at bytes = chosen_at (unsigned_at 32) data_form_at bytes
 
 -- ---- sections
 
--- The content of a custom section behind its size: a name, and anything.
+-- The content of a custom section, after its size: a name, and anything.
 unfoldable pub custom_at : Reading (Unit {0})
 custom_at bytes = do
   part ← part_at bytes
   name ← name_at part.0
   Some (tt, part.1)
 
--- Custom sections, in a number of steps at most.
+-- Custom sections, in a limited number of steps.
 unfoldable pub customs_at : ℕ → Reading (Unit {0})
 customs_at zero bytes = Some (tt, bytes)
 customs_at (suc steps) bytes =
@@ -188,26 +188,26 @@ customs_at (suc steps) bytes =
     then (custom_at (drop 1 bytes) >>= λ custom. customs_at steps custom.1)
     else Some (tt, bytes)
 
--- What lies behind custom sections: each takes a byte at least.
+-- What follows custom sections. Each of them takes at least one byte.
 unfoldable pub after_customs : Reading (Unit {0})
 after_customs bytes = customs_at (length bytes) bytes
 
--- A section with this id behind custom sections, or the value of its absence.
+-- A section with this id after custom sections, or the value of its absence.
 unfoldable pub section_at : {V : Type 0} → ℕ → Reading V → Option V → Reading V
 section_at id read absent bytes = do
   customs ← after_customs bytes
   if begins_with id customs.1 then sized_at read (drop 1 customs.1)
       else (absent >>= λ v. Some (v, customs.1))
 
--- A section with a vector. Where it is absent, the vector is empty.
+-- A section with a vector. If it is absent, the vector is empty.
 abbrev pub vector_section_at : {V : Type 0} → ℕ → Reading V → Reading (List V)
 vector_section_at id read bytes = section_at id (vector_at read) (Some []) bytes
 
--- A section with one value. Where it is absent, there is none.
+-- A section with one value. If it is absent, there is no value.
 abbrev pub value_section_at : {V : Type 0} → ℕ → Reading V → Reading (Option V)
 value_section_at id read bytes = section_at id (mapped_at Some read) (Some None) bytes
 
--- The code section, which may be absent where there are no indices.
+-- The code section, which may be absent if there are no indices.
 abbrev pub code_section_at : List ℕ → Reading (List Function)
 code_section_at types bytes =
     section_at 10 (functions_at types) (if length types == 0 then Some [] else None) bytes
@@ -218,6 +218,6 @@ end_at bytes = do
   customs ← after_customs bytes
   if length customs.1 == 0 then Some (tt, customs.1) else None
 
--- What is noted of functions: where it is false, none of their code names a data segment.
+-- What is noted of functions. If it is false, none of their code names a data segment.
 abbrev pub NotesDataOfAll : Bool → List Function → Type 0
 NotesDataOfAll noted funcs = noted ≡ false → All (λ (f : Function). NameNoData f.body) funcs

@@ -74,7 +74,7 @@ global_type parts = record { value = parts.0; mutability = parts.1 }
 unfoldable pub global_type_at : Reading GlobalType
 global_type_at bytes = mapped_at global_type (pair_at val_type_at mutability_at) bytes
 
--- A signed number that is not negative.
+-- A nonnegative signed number.
 abbrev pub index_of : ℤ × List ℕ → Option (BlockType × List ℕ)
 index_of (pos n, rest) = Some (block.Index n, rest)
 index_of (negsuc n, rest) = None

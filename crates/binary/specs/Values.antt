@@ -12,7 +12,7 @@ abbrev pub begins_with : ℕ → List ℕ → Bool
 begins_with expected [] = false
 begins_with expected (byte ∷ bytes) = byte == expected
 
--- Whether the first byte spells a negative number.
+-- Whether the first byte encodes a negative number.
 abbrev pub begins_negative : List ℕ → Bool
 begins_negative [] = false
 begins_negative (byte ∷ bytes) = if nat_le 0x40 byte then nat_lt byte 0x80 else false
@@ -51,14 +51,14 @@ part_at bytes = do
   size ← unsigned_at 32 bytes
   if nat_lt (length size.1) size.0 then None else Some (take size.0 size.1, drop size.0 size.1)
 
--- A number of values in turn, behind those that were read before.
+-- A number of values in turn, after those that were read before.
 unfoldable pub each_at : {V : Type 0} → Reading V → ℕ → List V → Reading (List V)
 each_at read zero values bytes = Some (values, bytes)
 each_at read (suc count) values bytes = do
   value ← read bytes
   each_at read count (values ++ value.0 ∷ []) value.1
 
--- A count, and as many values.
+-- A count, and that many values.
 unfoldable pub vector_at : {V : Type 0} → Reading V → Reading (List V)
 vector_at read bytes = do
   count ← unsigned_at 32 bytes

@@ -6,16 +6,16 @@ use thiserror::Error;
 /// Why bytes were not decoded. A number is the offset in the whole input at which reading failed.
 #[derive(Debug, Drop, Error)]
 pub enum DecodeError {
-    /// The bytes spell no module.
+    /// The bytes encode no module.
     #[error("malformed module at byte {0}")]
     Malformed(usize),
-    /// The bytes go on with a part of the format that is not read.
+    /// The bytes continue with an unsupported part of the format.
     #[error("unsupported feature at byte {0}")]
     Unsupported(usize),
     /// The module exceeds one of the decoder's limits.
     #[error("module exceeds a limit")]
     Limit,
-    /// There is no memory left for the module.
+    /// An allocation for the module failed.
     #[error("out of memory")]
     OutOfMemory,
 }
@@ -24,7 +24,7 @@ impl DecodeError {
     ghost use Rattle.std.specs.Prelude.{◌≡◌};
     ghost use Rattle.binary.specs.Errors.{decode_number};
 
-    /// The number of the refusal: 1, 2 or 3, and 13 for out of memory.
+    /// Returns the number of the refusal: 1, 2 or 3, and 13 for out of memory.
     pub fn number(&self) -> u8
         ensures { result ≡ decode_number self.now }
     {

@@ -1,4 +1,4 @@
-//! Expressions: instructions down to the end of the outermost body (Binary Format, Expressions).
+//! Expressions: instructions up to the end of the outermost body (Binary Format, Expressions).
 
 ghost use Rattle.std.specs.Prelude.{◌≡◌, ◌≤◌, IfOk, List, OnOk, [], false, length, ℕ};
 ghost use Rattle.core_types.specs.declared.op.Op.TheVariants.{Block, Else, End, If, Loop};
@@ -22,24 +22,24 @@ use std::alloc::{AllocError, Global};
 // A body that the decoder has begun and not ended.
 #[derive(Clone, Copy)]
 pub enum OpenBody {
-    // a body that goes down to an end
+    // a body that ends at an end
     InBlock,
-    // the first body of an if, which may go down to an else
+    // the first body of an if, which may end at an else
     InIf,
 }
 
-// What an operation does to an expression.
+// The effect of an operation on an expression.
 #[derive(Clone, Copy)]
 pub enum Flow {
-    // it goes on
+    // the expression continues
     Continues,
-    // it ends
+    // the expression ends
     Ended,
-    // no open body goes down to such a mark
+    // no open body can end at this mark
     Misplaced,
 }
 
-// A block begins, behind its opcode.
+// Pushes the beginning of a block, whose opcode was read.
 fn push_block(
     reader: &mut Reader<'_>,
     bodies: &mut Stack<OpenBody>,
@@ -55,7 +55,7 @@ fn push_block(
     Ok(Flow::Continues)
 }
 
-// A loop begins, behind its opcode.
+// Pushes the beginning of a loop, whose opcode was read.
 fn push_loop(
     reader: &mut Reader<'_>,
     bodies: &mut Stack<OpenBody>,
@@ -71,7 +71,7 @@ fn push_loop(
     Ok(Flow::Continues)
 }
 
-// An if begins, behind its opcode.
+// Pushes the beginning of an if, whose opcode was read.
 fn push_if(
     reader: &mut Reader<'_>,
     bodies: &mut Stack<OpenBody>,
@@ -87,7 +87,7 @@ fn push_if(
     Ok(Flow::Continues)
 }
 
-// The first body of an if ends and the second begins.
+// Pushes an else: the first body of an if ends, and the second begins.
 fn push_else(bodies: &mut Stack<OpenBody>, ops: &mut Expression) -> Result<Flow, DecodeError>
     ensures reads { (rest : List ℕ) → ReadsNext result bodies.old bodies.new ops.old
         ops.new rest (bare_at Else rest) }
@@ -107,7 +107,7 @@ fn push_else(bodies: &mut Stack<OpenBody>, ops: &mut Expression) -> Result<Flow,
     }
 }
 
-// A body ends, or the expression where no body is open.
+// Pushes an end: a body ends, or the expression ends if no body is open.
 #[inline(always)]
 fn push_end(bodies: &mut Stack<OpenBody>, ops: &mut Expression) -> Result<Flow, DecodeError>
     ensures reads { (rest : List ℕ) → ReadsNext result bodies.old bodies.new ops.old
@@ -123,7 +123,7 @@ fn push_end(bodies: &mut Stack<OpenBody>, ops: &mut Expression) -> Result<Flow, 
     }
 }
 
-// An operation, behind its opcode, which is at the offset. Notes where it names a data segment.
+// Reads the rest of an operation, whose opcode was read at the offset. Notes if it names a data segment.
 #[tactic(auto, unfolding(crate::specs::Instructions::operation_at))]
 #[inline(never)]
 fn read_other(
@@ -152,7 +152,7 @@ fn read_other(
     }
 }
 
-// An operation, behind its opcode, as `read_other` reads it. The end of a body is so frequent that it is apart.
+// Reads the rest of an operation, as `read_other` does. The end of a body is so frequent that it has its own case.
 #[tactic(auto, unfolding(crate::specs::Instructions::operation_at))]
 #[inline(always)]
 fn read_next(
@@ -175,7 +175,8 @@ fn read_next(
     }
 }
 
-// An operation that is frequent, behind its opcode, which is at the offset; answers whether it is. None of them is a mark.
+// Reads the rest of an operation, whose opcode was read at the offset, if it is a frequent one. Returns whether it is. Frequent
+// operations are never marks.
 #[tactic(auto, unfolding(crate::specs::Instructions::operation_at, crate::specs::Instructions::plain_at, crate::specs::Instructions::group_at))]
 #[inline(always)]
 fn read_frequent(
@@ -204,7 +205,7 @@ fn read_frequent(
     Ok(true)
 }
 
-// Reads the frequent operations that lie in a row, up to another one or to the end of the bytes. The reader is in hand meanwhile.
+// Reads consecutive frequent operations, up to another one or to the end of the bytes. Meanwhile the reader is a local variable.
 #[inline(always)]
 fn read_row(reader: &mut Reader<'_>, ops: &mut Expression) -> Result<(), DecodeError>
     ensures reads { ReadsRow result ops.old ops.new reader.old reader.new }
@@ -225,8 +226,8 @@ fn read_row(reader: &mut Reader<'_>, ops: &mut Expression) -> Result<(), DecodeE
     Ok(())
 }
 
-// Operations down to the end of the outermost body, put on an expression that has none, with the room of a stack. Notes where one of
-// them names a data segment.
+// Reads operations up to the end of the outermost body into an empty expression. Reuses the room of a stack. Notes if an
+// operation names a data segment.
 fn read_operations(
     alloc: Global,
     reader: &mut Reader<'_>,
@@ -256,7 +257,6 @@ fn read_operations(
     }
 }
 
-// An expression.
 pub fn read_expression(alloc: Global, reader: &mut Reader<'_>) -> Result<Expression, DecodeError>
     ensures { Gives result reader.new (expression_at reader.old) }
 {
@@ -271,8 +271,8 @@ pub fn read_expression(alloc: Global, reader: &mut Reader<'_>) -> Result<Express
     )
 }
 
-// An expression that takes most of the bytes that are left, read with the room of a stack. An operation takes two of them or more,
-// mostly. Notes where one of them may name a data segment.
+// Reads an expression that takes most of the bytes left. Most operations take two bytes or more. Reuses the room of a stack.
+// Notes if an operation may name a data segment.
 pub fn read_body(
     alloc: Global,
     reader: &mut Reader<'_>,

@@ -5,6 +5,7 @@ pub mod memory;
 pub mod numeric;
 pub mod parametric;
 pub mod reference;
+pub mod rows;
 pub mod table;
 pub mod variable;
 
@@ -31,35 +32,35 @@ use crate::values::read_vector;
 use core_types::{Boxed, Expression, LentOp, MemoryOp, Op, PlainOp, ValType, plain_op};
 use std::alloc::Global;
 
-// A branch by number, behind its opcode.
+// Reads the rest of a branch by number, whose opcode was read.
 fn read_br_table(alloc: Global, reader: &mut Reader<'_>) -> Result<PlainOp, DecodeError>
     ensures { Gives result reader.new (mapped_at BrTable branch_table_at reader.old) }
 {
     Ok(PlainOp::BrTable(Boxed::new(alloc, read_branch_table(alloc, reader)?)?))
 }
 
-// A select with types, behind its opcode.
+// Reads the rest of a select with types, whose opcode was read.
 fn read_typed_select(alloc: Global, reader: &mut Reader<'_>) -> Result<PlainOp, DecodeError>
     ensures { Gives result reader.new (mapped_at SelectTyped (vector_at val_type_at) reader.old) }
 {
     Ok(PlainOp::SelectTyped(Boxed::new(alloc, read_vector::<ValType>(alloc, reader)?)?))
 }
 
-// A constant of 32 bits, behind its opcode.
+// Reads the rest of a 32-bit constant, whose opcode was read.
 fn read_i32_const(reader: &mut Reader<'_>) -> Result<PlainOp, DecodeError>
     ensures { Gives result reader.new (mapped_at I32Const (stored_at 32) reader.old) }
 {
     Ok(PlainOp::I32Const(reader.s32()?.cast_unsigned()))
 }
 
-// A constant of 64 bits, behind its opcode.
+// Reads the rest of a 64-bit constant, whose opcode was read.
 fn read_i64_const(reader: &mut Reader<'_>) -> Result<PlainOp, DecodeError>
     ensures { Gives result reader.new (mapped_at I64Const (stored_at 64) reader.old) }
 {
     Ok(PlainOp::I64Const(reader.s64()?.cast_unsigned()))
 }
 
-// A 32-bit constant, behind its opcode, put on the others.
+// Reads and appends a 32-bit constant, whose opcode was read.
 #[inline(always)]
 pub fn push_i32_const(reader: &mut Reader<'_>, ops: &mut Expression) -> Result<(), DecodeError>
     ensures pushes { Pushes result ops.old ops.new reader.new
@@ -71,7 +72,7 @@ pub fn push_i32_const(reader: &mut Reader<'_>, ops: &mut Expression) -> Result<(
     Ok(())
 }
 
-// A control instruction without a body and without a list, behind its opcode, which is at the offset, put on the others.
+// Reads and appends a control instruction without a body and without a list, whose opcode was read at the offset.
 #[inline(always)]
 pub fn push_control(
     reader: &mut Reader<'_>,
@@ -88,7 +89,7 @@ pub fn push_control(
     Ok(())
 }
 
-// An instruction on a local or a global, behind its opcode, which is at the offset, put on the others.
+// Reads and appends an instruction on a local or a global, whose opcode was read at the offset.
 #[inline(always)]
 pub fn push_variable(
     reader: &mut Reader<'_>,
@@ -105,7 +106,7 @@ pub fn push_variable(
     Ok(())
 }
 
-// An instruction on the memory, behind its opcode, from 28 on, which is at the offset, put on the others.
+// Reads and appends an instruction on the memory, whose opcode, from 28 on, was read at the offset.
 #[inline(always)]
 pub fn push_memory(
     reader: &mut Reader<'_>,
@@ -123,7 +124,7 @@ pub fn push_memory(
     Ok(())
 }
 
-// A numeric instruction without an immediate, whose opcode is at the offset, put on the others.
+// Appends a numeric instruction without an immediate, whose opcode was read at the offset.
 #[inline(always)]
 pub fn push_numeric(ops: &mut Expression, code: u8, offset: usize) -> Result<(), DecodeError>
     ensures pushes { (rest : List ℕ) → Pushes result ops.old ops.new rest
@@ -137,7 +138,7 @@ pub fn push_numeric(ops: &mut Expression, code: u8, offset: usize) -> Result<(),
     Ok(())
 }
 
-/// Whether an operation names a data segment.
+/// Returns whether an operation names a data segment.
 pub fn is_of_data(op: LentOp<'_>) -> bool
     ensures { result ≡ names_data (lent_op op.entry) }
 {
@@ -147,7 +148,7 @@ pub fn is_of_data(op: LentOp<'_>) -> bool
     }
 }
 
-// An instruction behind the byte FC, which is at the offset, put on the others. Notes where it names a data segment.
+// Reads and appends an instruction after the byte FC, which was read at the offset. Notes if it names a data segment.
 fn push_prefixed(
     reader: &mut Reader<'_>,
     ops: &mut Expression,
@@ -164,7 +165,7 @@ fn push_prefixed(
     Ok(())
 }
 
-// An instruction without a body, behind its opcode, which is at the offset, put on the others. Notes where it names a data segment.
+// Reads and appends an instruction without a body, whose opcode was read at the offset. Notes if it names a data segment.
 #[tactic(auto, unfolding(crate::specs::Instructions::plain_at))]
 pub fn push_plain(
     alloc: Global,
@@ -189,7 +190,7 @@ pub fn push_plain(
     Ok(())
 }
 
-// An instruction of a group whose opcodes are next to each other, behind its opcode, which is at the offset, put on the others.
+// Reads and appends an instruction of a group with consecutive opcodes, whose opcode was read at the offset.
 #[tactic(auto, unfolding(crate::specs::Instructions::group_at))]
 fn push_group(
     reader: &mut Reader<'_>,
@@ -222,7 +223,7 @@ fn push_group(
     Ok(())
 }
 
-// An instruction behind the byte FC, which is at the offset.
+// Reads an instruction after the byte FC, which was read at the offset.
 #[tactic(auto, unfolding(crate::specs::Instructions::prefixed_at))]
 fn read_prefixed(reader: &mut Reader<'_>, offset: usize) -> Result<PlainOp, DecodeError>
     ensures { Gives result reader.new (chosen_at (unsigned_at 32) prefixed_at reader.old) }

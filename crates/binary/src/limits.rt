@@ -6,16 +6,16 @@ ghost use Rattle.meaning.specs.binary.Limits.{HasFewLocals, IsSmallType, paramet
 
 use core_types::{Func, FuncType, Module};
 
-// Of a module, in bytes.
+// The most bytes of a module.
 pub const MAX_SIZE: usize = 67_108_864;
 
-// Of parameters of a type, and of its results.
+// The most parameters of a type, and the most results.
 const MAX_VALUES: usize = 1_000;
 
-// Of locals of a function, its parameters included.
+// The most locals of a function, its parameters included.
 const MAX_LOCALS: usize = 50_000;
 
-// Whether the module's types and functions are within the limits.
+// Returns whether the module's types and functions are within the limits.
 pub fn has_small_parts(decoded: &Module) -> bool
     ensures { IsTrue result ↔ HasSmallParts decoded.now }
 {
@@ -42,7 +42,7 @@ fn has_few_locals(types: &[FuncType], f: &Func) -> bool
     locals <= MAX_LOCALS && parameters <= MAX_LOCALS - locals
 }
 
-// How many parameters the type with this index has; none where there is no type.
+// Returns the number of parameters of the type with this index, or 0 if there is no such type.
 fn parameters_of(types: &[FuncType], ty: u32) -> usize
     ensures { result ≡ parameter_count (slice_get types.now ty) }
 {

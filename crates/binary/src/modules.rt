@@ -26,10 +26,17 @@ const HEADER: [u8; 8] = [0x00, 0x61, 0x73, 0x6D, 0x01, 0x00, 0x00, 0x00];
 
 /// Decodes a module in the binary format (Binary Format, Modules).
 ///
-/// The module is within the limits that the documents of this repository state: 67,108,864 bytes, 1,000 parameters and 1,000
-/// results of a type, and 50,000 locals of a function, its parameters included. The answer is `Malformed` where the bytes
-/// spell no module, `Unsupported` where they go on with a part of the format that is not read, `Limit` where they spell
-/// a module that is not within the limits, and `OutOfMemory` where there is no memory left for it.
+/// The module is within the limits that the documents of this repository state:
+/// - 67,108,864 bytes
+/// - 1,000 parameters and 1,000 results of a type
+/// - 50,000 locals of a function, its parameters included
+///
+/// # Errors
+///
+/// - `Malformed` if the bytes encode no module
+/// - `Unsupported` if they continue with an unsupported part of the format
+/// - `Limit` if they encode a module that is not within the limits
+/// - `OutOfMemory` if an allocation fails
 pub fn decode(alloc: Global, bytes: &[u8]) -> Result<Module, DecodeError>
     ensures spelt { IfOk result (λ m. SpellsModule bytes.now m) }
     ensures within_limits { IfOk result (λ m. IsWithinLimits bytes.now m) }
@@ -50,7 +57,7 @@ pub fn decode(alloc: Global, bytes: &[u8]) -> Result<Module, DecodeError>
     Ok(decoded)
 }
 
-// What the start, element, data count, code and data sections hold.
+// The contents of the start, element, data count, code and data sections.
 #[derive(Drop)]
 struct Contents {
     start: Option<u32>,
@@ -60,7 +67,7 @@ struct Contents {
     datas: Items<DataSegment>,
 }
 
-// What the table, memory, global and export sections hold, and those behind them.
+// The contents of the table, memory, global and export sections, and of those after them.
 #[derive(Drop)]
 struct Definitions {
     tables: Items<TableType>,
@@ -70,7 +77,7 @@ struct Definitions {
     contents: Contents,
 }
 
-// A module, and its data count. Notes where its code may name a data segment.
+// Reads a module, and its data count. Notes if its code may name a data segment.
 #[tactic(auto, unfolding(crate::specs::Modules::module_at, crate::specs::Modules::sections_at))]
 fn read_module(
     alloc: Global,
@@ -88,7 +95,7 @@ fn read_module(
     Ok(make_module(types, imports, definitions))
 }
 
-// The sections from the table section on, where the functions have types of these indices.
+// Reads the sections from the table section on, for functions whose types have these indices.
 #[tactic(auto, unfolding(crate::specs::Modules::definitions_at))]
 fn read_definitions(
     alloc: Global,
@@ -113,7 +120,7 @@ fn read_definitions(
     })
 }
 
-// The sections from the start section on, where the functions have types of these indices.
+// Reads the sections from the start section on, for functions whose types have these indices.
 #[tactic(auto, unfolding(crate::specs::Modules::contents_at))]
 fn read_contents(
     alloc: Global,

@@ -25,14 +25,13 @@ impl<'a> Model for Reader<'a> {
 }
 
 impl<'a> Reader<'a> {
-    // A reader of all these bytes.
     pub fn new(bytes: &'a [u8]) -> Reader<'a>
         ensures { result ≡ bytes.now }
     {
         Reader { bytes, offset: 0 }
     }
 
-    // Another reader of the same bytes, at the same offset.
+    // Returns another reader of the same bytes, at the same offset.
     #[inline(always)]
     pub fn fork(&self) -> Reader<'a>
         ensures { result ≡ self.now }
@@ -43,7 +42,7 @@ impl<'a> Reader<'a> {
         }
     }
 
-    // Whether all bytes are read.
+    // Returns whether all bytes have been read.
     #[inline(always)]
     pub fn is_empty(&self) -> bool
         ensures { result ≡ (length self.now == 0) }
@@ -51,20 +50,20 @@ impl<'a> Reader<'a> {
         self.offset >= self.bytes.len()
     }
 
-    // The offset in the whole input.
+    // Returns the offset in the whole input.
     #[inline(always)]
     pub fn offset(&self) -> usize {
         self.offset
     }
 
-    // The bytes that are not read yet.
+    // Returns the bytes that are not read yet.
     pub fn rest(&self) -> &'a [u8]
         ensures { result.now ≡ self.now }
     {
         &self.bytes[self.offset..]
     }
 
-    // Passes the next byte if it is this one.
+    // Skips the next byte if it is this one. Returns whether it is.
     #[inline(always)]
     pub fn accept(&mut self, byte: u8) -> bool
         ensures accepted { result ≡ begins_with byte self.old }
@@ -77,7 +76,7 @@ impl<'a> Reader<'a> {
         true
     }
 
-    // Refuses bytes that are not read.
+    // Fails if any bytes are left.
     pub fn finish(&self) -> Result<(), DecodeError>
         ensures ok { OnOk result (self.now ≡ []) }
         ensures refused { IfErr result (λ error. OnRefused error (self.now ≢ [])) }
@@ -88,7 +87,6 @@ impl<'a> Reader<'a> {
         Ok(())
     }
 
-    // Reads a byte.
     #[inline(always)]
     pub fn byte(&mut self) -> Result<u8, DecodeError>
         ensures { Gives result self.new (byte_at self.old) }
@@ -101,7 +99,7 @@ impl<'a> Reader<'a> {
         Ok(byte)
     }
 
-    // Reads an unsigned integer of 32 bits.
+    // Reads an unsigned 32-bit integer.
     #[inline(always)]
     pub fn u32(&mut self) -> Result<u32, DecodeError>
         ensures { Gives result self.new (unsigned_at 32 self.old) }
@@ -113,7 +111,7 @@ impl<'a> Reader<'a> {
         Ok(value)
     }
 
-    // Reads a signed integer of 32 bits.
+    // Reads a signed 32-bit integer.
     #[inline(always)]
     pub fn s32(&mut self) -> Result<i32, DecodeError>
         ensures { Gives result self.new (signed_at 32 self.old) }
@@ -125,7 +123,7 @@ impl<'a> Reader<'a> {
         Ok(value)
     }
 
-    // Reads a signed integer of 33 bits.
+    // Reads a signed 33-bit integer.
     pub fn s33(&mut self) -> Result<i64, DecodeError>
         ensures gives { Gives result self.new (signed_at 33 self.old) }
         ensures range { IfOk result (λ value. value <ℤ pos (2 ^ 32)) }
@@ -137,7 +135,7 @@ impl<'a> Reader<'a> {
         Ok(value)
     }
 
-    // Reads a signed integer of 64 bits.
+    // Reads a signed 64-bit integer.
     pub fn s64(&mut self) -> Result<i64, DecodeError>
         ensures { Gives result self.new (signed_at 64 self.old) }
     {
@@ -148,14 +146,14 @@ impl<'a> Reader<'a> {
         Ok(value)
     }
 
-    // Whether the next byte, on its own, spells a negative number.
+    // Returns whether the next byte alone encodes a negative number.
     pub fn begins_negative(&self) -> bool
         ensures { result ≡ begins_negative self.now }
     {
         matches!(self.rest().first(), Some(0x40..=0x7F))
     }
 
-    // Reads a size, and gives a reader of that many bytes.
+    // Reads a size, and returns a reader of that many bytes.
     #[tactic(auto, unfolding(crate::specs::Values::part_at))]
     pub fn part(&mut self) -> Result<Reader<'a>, DecodeError>
         ensures { Gives result self.new (part_at self.old) }

@@ -1,5 +1,5 @@
-//! Sections (Binary Format, Modules). The type, function, table, memory and start sections hold a vector or a number, and
-//! need no file of their own.
+//! Sections (Binary Format, Modules). The type, function, table, memory and start sections contain a vector or a number, and
+//! have no file of their own.
 
 pub mod code;
 pub mod custom;
@@ -22,7 +22,7 @@ use crate::values::{Readable, read_vector};
 use core_types::{Expression, Items};
 use std::alloc::Global;
 
-// A section with a vector. Where it is absent, the vector is empty.
+// Reads a section with a vector. If it is absent, the vector is empty.
 #[tactic(auto, unfolding(crate::specs::Sections::section_at, crate::specs::Values::sized_at))]
 pub fn read_vector_section<T: Readable>(
     alloc: Global,
@@ -41,7 +41,7 @@ pub fn read_vector_section<T: Readable>(
     Ok(values)
 }
 
-// A section with one number. Where it is absent, there is none.
+// Reads a section with one number. If it is absent, there is no number.
 #[tactic(auto, unfolding(crate::specs::Sections::section_at, crate::specs::Values::sized_at))]
 pub fn read_number_section(reader: &mut Reader<'_>, id: u8) -> Result<Option<u32>, DecodeError>
     ensures { Gives result reader.new (value_section_at id (unsigned_at 32) reader.old) }
@@ -56,7 +56,7 @@ pub fn read_number_section(reader: &mut Reader<'_>, id: u8) -> Result<Option<u32
     Ok(Some(number))
 }
 
-// The index of a table or a memory, and an offset in it.
+// Reads the index of a table or a memory, and an offset in it.
 #[tactic(auto, unfolding(crate::specs::Sections::target_at))]
 pub fn read_target(alloc: Global, reader: &mut Reader<'_>) -> Result<(u32, Expression), DecodeError>
     ensures { Gives result reader.new (target_at reader.old) }

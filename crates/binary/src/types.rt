@@ -59,7 +59,7 @@ impl Readable for TableType {
     }
 }
 
-// A value type: a number type or a reference type.
+// Reads a value type: a number type or a reference type.
 #[tactic(auto, unfolding(crate::specs::Types::val_type_at))]
 pub fn read_val_type(reader: &mut Reader<'_>) -> Result<ValType, DecodeError>
     ensures { Gives result reader.new (val_type_at reader.old) }
@@ -75,7 +75,7 @@ pub fn read_val_type(reader: &mut Reader<'_>) -> Result<ValType, DecodeError>
     }
 }
 
-// A reference type.
+// Reads a reference type.
 #[tactic(auto, unfolding(crate::specs::Types::ref_type_at))]
 pub fn read_ref_type(reader: &mut Reader<'_>) -> Result<RefType, DecodeError>
     ensures { Gives result reader.new (ref_type_at reader.old) }
@@ -88,7 +88,7 @@ pub fn read_ref_type(reader: &mut Reader<'_>) -> Result<RefType, DecodeError>
     }
 }
 
-// Limits, which are also the type of a memory.
+// Reads limits, which are also the type of a memory.
 #[tactic(auto, unfolding(crate::specs::Types::limits_at))]
 pub fn read_limits(reader: &mut Reader<'_>) -> Result<Limits, DecodeError>
     ensures { Gives result reader.new (limits_at reader.old) }
@@ -108,7 +108,6 @@ pub fn read_limits(reader: &mut Reader<'_>) -> Result<Limits, DecodeError>
     }
 }
 
-// A table type.
 #[tactic(auto, unfolding(crate::specs::Types::table_type_at))]
 pub fn read_table_type(reader: &mut Reader<'_>) -> Result<TableType, DecodeError>
     ensures { Gives result reader.new (table_type_at reader.old) }
@@ -130,7 +129,6 @@ fn read_mutability(reader: &mut Reader<'_>) -> Result<Mutability, DecodeError>
     }
 }
 
-// A global type.
 #[tactic(auto, unfolding(crate::specs::Types::global_type_at))]
 pub fn read_global_type(reader: &mut Reader<'_>) -> Result<GlobalType, DecodeError>
     ensures { Gives result reader.new (global_type_at reader.old) }
@@ -140,7 +138,7 @@ pub fn read_global_type(reader: &mut Reader<'_>) -> Result<GlobalType, DecodeErr
     Ok(GlobalType { value, mutability })
 }
 
-// A block type that is not empty: a value type, or an index, which is a signed integer of 33 bits that is not negative.
+// Reads a block type that is not empty: a value type, or an index, which is a nonnegative signed 33-bit integer.
 #[inline(never)]
 fn read_other_block_type(reader: &mut Reader<'_>) -> Result<BlockType, DecodeError>
     ensures { Gives result reader.new (other_block_type_at reader.old) }
@@ -155,7 +153,7 @@ fn read_other_block_type(reader: &mut Reader<'_>) -> Result<BlockType, DecodeErr
     }
 }
 
-// A block type. Most are empty.
+// Reads a block type. Most are empty.
 #[tactic(auto, unfolding(crate::specs::Types::block_type_at))]
 #[inline(always)]
 pub fn read_block_type(reader: &mut Reader<'_>) -> Result<BlockType, DecodeError>

@@ -10,7 +10,7 @@ use crate::reader::Reader;
 use core_types::{Items, Name};
 use std::alloc::Global;
 
-// What the format spells, with its reader.
+// A type of values that the format encodes, with its reader.
 pub trait Readable: Drop {
     ghost reads: { List ℕ → Option (Self × List ℕ) };
 
@@ -42,7 +42,7 @@ fn read_each<T: Readable>(
     Ok(Items::from_vec(values))
 }
 
-// A vector: a count, and as many values.
+// Reads a vector: a count, and that many values.
 #[tactic(auto, unfolding(crate::specs::Values::vector_at))]
 pub fn read_vector<T: Readable>(
     alloc: Global,
@@ -54,7 +54,7 @@ pub fn read_vector<T: Readable>(
     read_each::<T>(alloc, reader, count)
 }
 
-// A vector of bytes, which are copied once.
+// Reads a vector of bytes, which are copied once.
 pub fn read_bytes(alloc: Global, reader: &mut Reader<'_>) -> Result<Items<u8>, DecodeError>
     ensures { Gives result reader.new (part_at reader.old) }
 {
@@ -62,7 +62,7 @@ pub fn read_bytes(alloc: Global, reader: &mut Reader<'_>) -> Result<Items<u8>, D
     Ok(Items::from_vec(Vec::from_slice(alloc, part.rest())?))
 }
 
-// Exactly these bytes.
+// Reads exactly these bytes.
 pub fn read_expected(reader: &mut Reader<'_>, expected: &[u8]) -> Result<(), DecodeError>
     ensures { Gives result reader.new (expected_at expected.now reader.old) }
 {
@@ -74,7 +74,7 @@ pub fn read_expected(reader: &mut Reader<'_>, expected: &[u8]) -> Result<(), Dec
     Ok(())
 }
 
-// The text that bytes spell in UTF-8, if they spell one.
+// Returns the text that bytes encode in UTF-8, if they encode one.
 fn text_in<'a>(bytes: &'a [u8]) -> Option<&'a str>
     ensures some { IfSome result (λ text. (text.now ≡ bytes.now) × (is_utf8 bytes.now ≡ true)) }
     ensures none { IfNone result (is_utf8 bytes.now ≡ false) }
@@ -85,7 +85,7 @@ fn text_in<'a>(bytes: &'a [u8]) -> Option<&'a str>
     }
 }
 
-// The text of a name, where it lies in the input.
+// Reads a name, and returns its text in the input.
 #[tactic(auto, unfolding(crate::specs::Values::name_at))]
 pub fn read_text<'a>(reader: &mut Reader<'a>) -> Result<&'a str, DecodeError>
     ensures { GivesSeen (λ text. text.now) result reader.new (name_at reader.old) }
@@ -97,7 +97,6 @@ pub fn read_text<'a>(reader: &mut Reader<'a>) -> Result<&'a str, DecodeError>
     }
 }
 
-// A name.
 pub fn read_name(alloc: Global, reader: &mut Reader<'_>) -> Result<Name, DecodeError>
     ensures { Gives result reader.new (name_at reader.old) }
 {

@@ -1,2 +1,2 @@
--- What the proofs of the calls rest on.
+-- What the proofs of the calls use.
 pub mod Numbers

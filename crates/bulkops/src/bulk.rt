@@ -5,14 +5,14 @@ ghost use Rattle.bulkops.specs.Accesses.{Wrote};
 use copying::copy_within;
 use core_types::Trap;
 
-/// Whether that many bytes from an offset on lie within so many.
+/// Returns whether `count` bytes from an offset on are within `length` bytes.
 pub fn is_within(length: usize, offset: u32, count: u32) -> bool
     ensures { result ≡ nat_le (offset + count) length }
 {
     offset as u64 + count as u64 <= length as u64
 }
 
-/// Gives that many bytes from an offset on the low byte of a value, or traps and writes nothing (memory.fill).
+/// Fills `count` bytes from an offset on with the low byte of a value, or traps and writes nothing (memory.fill).
 pub fn fill_bytes(bytes: &mut [u8], offset: u32, value: u32, count: u32) -> Result<(), Trap>
     ensures { Wrote result bytes.old bytes.new (fill_of bytes.old offset value count) }
 {
@@ -24,7 +24,7 @@ pub fn fill_bytes(bytes: &mut [u8], offset: u32, value: u32, count: u32) -> Resu
     Ok(())
 }
 
-/// Copies that many bytes within a memory, as if they were read before any is written, or traps and writes nothing (memory.copy).
+/// Copies `count` bytes within a memory, as if all were read before any is written, or traps and writes nothing (memory.copy).
 pub fn copy_bytes(bytes: &mut [u8], target: u32, from: u32, count: u32) -> Result<(), Trap>
     ensures { Wrote result bytes.old bytes.new (copy_of bytes.old bytes.old target from count) }
 {
@@ -38,7 +38,7 @@ pub fn copy_bytes(bytes: &mut [u8], target: u32, from: u32, count: u32) -> Resul
     Ok(())
 }
 
-/// Copies that many bytes of a data segment into a memory, or traps and writes nothing (memory.init).
+/// Copies `count` bytes of a data segment into a memory, or traps and writes nothing (memory.init).
 pub fn init_bytes(
     bytes: &mut [u8],
     segment: &[u8],

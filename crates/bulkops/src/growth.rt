@@ -3,8 +3,8 @@ ghost use Rattle.bulkops.specs.Growth.{size_to_grow as size_by};
 
 use core_types::Limits;
 
-/// The present size under these limits, if they allow so many more: up to the bound of the embedding, to the most that any memory
-/// or table may have, and to the declared maximum.
+/// Returns the present size under these limits, if they allow `more` in addition. The bounds are that of the embedding, the most
+/// that any memory or table may have, and the declared maximum.
 pub fn size_to_grow(bound: u32, most: u32, limits: Limits, more: u32) -> Option<u32>
     ensures { result ≡ size_by bound most limits more }
 {

@@ -1,5 +1,5 @@
-//! What the instructions on tables, memories and segments do to the state of the store, each proved equal to its case of the definitions.
-//! An access that reaches past the end traps before anything is written.
+//! The effects of the instructions on tables, memories and segments on the state of the store. Each is proved equal to its case
+//! of the definitions. An access that reaches past the end traps before anything is written.
 #![tactic(auto)]
 
 mod bulk;

@@ -7,7 +7,7 @@ use byteorder::{ByteOrder, LittleEndian};
 use core_types::{LoadOp, Sign, Trap, UnaryOp, Val, Width};
 use intops::{extend_low_signed, unary_32, unary_64};
 
-/// The byte at an offset, or a trap past the end (Execution, Memory Instructions, t.loadN_sx).
+/// Returns the byte at an offset, or a trap if it is past the end (Execution, Memory Instructions, t.loadN_sx).
 #[inline(always)]
 pub fn read_8(bytes: &[u8], offset: u64) -> Result<u8, Trap>
     ensures { result ≡ number_from bytes.now offset 1 }
@@ -18,7 +18,8 @@ pub fn read_8(bytes: &[u8], offset: u64) -> Result<u8, Trap>
     Ok(bytes[offset as usize])
 }
 
-/// The number of the two bytes from an offset on, or a trap past the end (Execution, Memory Instructions, t.loadN_sx).
+/// Returns the number of the two bytes from an offset on, or a trap if they reach past the end (Execution, Memory Instructions,
+/// t.loadN_sx).
 #[tactic(auto, using(crate::proofs::lemmas::Numbers::little_number_is))]
 #[inline(always)]
 pub fn read_16(bytes: &[u8], offset: u64) -> Result<u16, Trap>
@@ -31,7 +32,8 @@ pub fn read_16(bytes: &[u8], offset: u64) -> Result<u16, Trap>
     Ok(LittleEndian::read_u16(&bytes[offset as usize..]))
 }
 
-/// The number of the four bytes from an offset on, or a trap past the end (Execution, Memory Instructions, t.load and t.loadN_sx).
+/// Returns the number of the four bytes from an offset on, or a trap if they reach past the end (Execution, Memory Instructions,
+/// t.load and t.loadN_sx).
 #[tactic(auto, using(crate::proofs::lemmas::Numbers::little_number_is))]
 #[inline(always)]
 pub fn read_32(bytes: &[u8], offset: u64) -> Result<u32, Trap>
@@ -44,7 +46,8 @@ pub fn read_32(bytes: &[u8], offset: u64) -> Result<u32, Trap>
     Ok(LittleEndian::read_u32(&bytes[offset as usize..]))
 }
 
-/// The number of the eight bytes from an offset on, or a trap past the end (Execution, Memory Instructions, t.load).
+/// Returns the number of the eight bytes from an offset on, or a trap if they reach past the end (Execution, Memory
+/// Instructions, t.load).
 #[tactic(auto, using(crate::proofs::lemmas::Numbers::little_number_is))]
 #[inline(always)]
 pub fn read_64(bytes: &[u8], offset: u64) -> Result<u64, Trap>
@@ -57,7 +60,7 @@ pub fn read_64(bytes: &[u8], offset: u64) -> Result<u64, Trap>
     Ok(LittleEndian::read_u64(&bytes[offset as usize..]))
 }
 
-// The value of a byte.
+// Returns the value of a byte.
 fn value_of_8(width: Width, sign: Sign, n: u8) -> Val
     ensures { result ≡ loaded_value (load.Bits8 width sign) n }
 {
@@ -69,7 +72,7 @@ fn value_of_8(width: Width, sign: Sign, n: u8) -> Val
     }
 }
 
-// The value of two bytes.
+// Returns the value of two bytes.
 fn value_of_16(width: Width, sign: Sign, n: u16) -> Val
     ensures { result ≡ loaded_value (load.Bits16 width sign) n }
 {
@@ -81,7 +84,7 @@ fn value_of_16(width: Width, sign: Sign, n: u16) -> Val
     }
 }
 
-// The value of four bytes, as an i64.
+// Returns the value of four bytes, as an i64.
 fn value_of_32(sign: Sign, n: u32) -> Val
     ensures { result ≡ loaded_value (load.Bits32 sign) n }
 {
@@ -91,7 +94,7 @@ fn value_of_32(sign: Sign, n: u32) -> Val
     }
 }
 
-/// What a load at an offset gives, or its trap (Execution, Memory Instructions).
+/// Returns the value of a load at an offset, or its trap (Execution, Memory Instructions).
 ///
 /// The offset is the sum of an operand and the immediate offset of the instruction, both of which have 32 bits.
 pub fn load(op: LoadOp, bytes: &[u8], offset: u64) -> Result<Val, Trap>

@@ -16,9 +16,9 @@ use core_types::{LoadOp, MAX_PAGES, StoreOp, Trap, Val};
 use std::alloc::AllocError;
 use store::State;
 
-/// What a load from a memory at an offset gives, or its trap (Execution, Memory Instructions).
+/// Returns the value of a load from a memory at an offset, or its trap (Execution, Memory Instructions).
 ///
-/// The memory is there, and the offset is the sum of an operand and the immediate offset of the instruction.
+/// The memory must exist. The offset is the sum of an operand and the immediate offset of the instruction.
 pub fn mem_load(state: &State, address: u32, op: LoadOp, offset: u64) -> Result<Val, Trap>
     requires there { address < length state.now.contents.memories }
     requires offset { offset < 2 ^ 33 }
@@ -32,7 +32,7 @@ pub fn mem_load(state: &State, address: u32, op: LoadOp, offset: u64) -> Result<
 
 /// Writes a number, or its low bytes, into a memory at an offset, or traps and changes nothing (Execution, Memory Instructions).
 ///
-/// The memory is there, and the offset is the sum of an operand and the immediate offset of the instruction.
+/// The memory must exist. The offset is the sum of an operand and the immediate offset of the instruction.
 pub fn mem_store(
     state: &mut State,
     address: u32,
@@ -50,7 +50,7 @@ pub fn mem_store(
     store(op, bytes, offset, n)
 }
 
-// What an instruction on that many bytes costs, by whether it stays in bounds.
+// Returns the cost of an instruction on `count` bytes, by whether it stays in bounds.
 fn bulk_cost(fits: bool, count: u32) -> u64
     ensures price { result ≡ price_if fits (cost_of_bytes count) }
     ensures some { 1 ≤ result }
@@ -58,7 +58,7 @@ fn bulk_cost(fits: bool, count: u32) -> u64
     if fits { 1 + count as u64 / 64 } else { 1 }
 }
 
-/// What a fill costs (memory.fill).
+/// Returns the cost of a fill (memory.fill).
 pub fn mem_fill_cost(state: &State, address: u32, offset: u32, count: u32) -> u64
     requires { address < length state.now.contents.memories }
     ensures price { (value : ℕ)
@@ -72,7 +72,7 @@ pub fn mem_fill_cost(state: &State, address: u32, offset: u32, count: u32) -> u6
     }
 }
 
-/// Gives that many bytes of a memory the low byte of a value, or traps and changes nothing (memory.fill).
+/// Fills `count` bytes of a memory with the low byte of a value, or traps and changes nothing (memory.fill).
 pub fn mem_fill(
     state: &mut State,
     address: u32,
@@ -89,7 +89,7 @@ pub fn mem_fill(
     fill_bytes(bytes, offset, value, count)
 }
 
-/// What a copy within a memory costs (memory.copy).
+/// Returns the cost of a copy within a memory (memory.copy).
 pub fn mem_copy_cost(state: &State, address: u32, target: u32, from: u32, count: u32) -> u64
     requires { address < length state.now.contents.memories }
     ensures price { result ≡ price_of_access
@@ -109,7 +109,7 @@ pub fn mem_copy_cost(state: &State, address: u32, target: u32, from: u32, count:
     }
 }
 
-/// Copies that many bytes within a memory, as if they were read before any is written, or traps and changes nothing (memory.copy).
+/// Copies `count` bytes within a memory, as if all were read before any is written, or traps and changes nothing (memory.copy).
 pub fn mem_copy(
     state: &mut State,
     address: u32,
@@ -127,7 +127,7 @@ pub fn mem_copy(
     copy_bytes(bytes, target, from, count)
 }
 
-/// What a copy from a data segment costs (memory.init).
+/// Returns the cost of a copy from a data segment (memory.init).
 pub fn mem_init_cost(
     state: &State,
     address: u32,
@@ -155,7 +155,7 @@ pub fn mem_init_cost(
     }
 }
 
-/// Copies that many bytes of a data segment into a memory, or traps and changes nothing (memory.init).
+/// Copies `count` bytes of a data segment into a memory, or traps and changes nothing (memory.init).
 pub fn mem_init(
     state: &mut State,
     address: u32,
@@ -175,7 +175,7 @@ pub fn mem_init(
     init_bytes(bytes, source, target, from, count)
 }
 
-/// The size of a memory, in pages (memory.size).
+/// Returns the size of a memory, in pages (memory.size).
 pub fn mem_size(state: &State, address: u32) -> u32
     requires { address < length state.now.contents.memories }
     ensures { result ≡ (memory_of state.now address).limits.min }
@@ -186,7 +186,7 @@ pub fn mem_size(state: &State, address: u32) -> u32
     }
 }
 
-// The size of a memory, in pages, if it may grow by that many more.
+// Returns the size of a memory, in pages, if it may grow by `pages` more.
 fn size_for(state: &State, address: u32, pages: u32) -> Option<u32>
     requires { address < length state.now.contents.memories }
     ensures { result ≡ size_by state.now.bounds.pages most_pages (memory_of state.now
@@ -196,7 +196,7 @@ fn size_for(state: &State, address: u32, pages: u32) -> Option<u32>
     size_to_grow(state.pages(), MAX_PAGES, memory.limits(), pages)
 }
 
-/// What a growth costs (memory.grow).
+/// Returns the cost of a growth (memory.grow).
 pub fn mem_grow_cost(state: &State, address: u32, pages: u32) -> u64
     requires { address < length state.now.contents.memories }
     ensures price { result ≡ price_of_growth (size_by state.now.bounds.pages most_pages
@@ -209,8 +209,8 @@ pub fn mem_grow_cost(state: &State, address: u32, pages: u32) -> u64
     }
 }
 
-/// Adds pages of zeros to a memory, and answers its size before, in pages; or answers -1 and changes nothing where the memory may
-/// not grow so (memory.grow). Where there is no memory for the pages, nothing has changed.
+/// Appends pages of zeros to a memory, and returns its size before, in pages. If the memory may not grow by that many, returns
+/// -1 and changes nothing (memory.grow). If an allocation fails for the pages, nothing has changed.
 pub fn mem_grow(state: &mut State, address: u32, pages: u32) -> Result<u32, AllocError>
     requires { address < length state.old.contents.memories }
     ensures { DidGrow (size_by state.old.bounds.pages most_pages (memory_of state.old
@@ -226,7 +226,7 @@ pub fn mem_grow(state: &mut State, address: u32, pages: u32) -> Result<u32, Allo
     }
 }
 
-/// Leaves a data segment without bytes, and gives their memory back (data.drop).
+/// Removes the bytes of a data segment, and frees their memory (data.drop).
 pub fn data_drop(state: &mut State, segment: u32)
     requires { segment < length state.old.contents.datas }
     ensures { state.new ≡ put_data state.old segment (record { bytes = [] }) }

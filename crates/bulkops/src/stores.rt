@@ -8,7 +8,7 @@ ghost use Rattle.bulkops.specs.Accesses.{Wrote};
 use byteorder::{ByteOrder, LittleEndian};
 use core_types::{StoreOp, Trap, Width};
 
-// Writes the bytes of a number of 16 bits from an offset on.
+// Writes the bytes of a 16-bit number from an offset on.
 fn put_16(bytes: &mut [u8], offset: usize, n: u16)
     requires { offset + 2 ≤ length bytes.old }
     ensures { bytes.new ≡ overwrite bytes.old offset (little_bytes 2 n) }
@@ -16,7 +16,7 @@ fn put_16(bytes: &mut [u8], offset: usize, n: u16)
     LittleEndian::write_u16(&mut bytes[offset..offset + 2], n);
 }
 
-// Writes the bytes of a number of 32 bits from an offset on.
+// Writes the bytes of a 32-bit number from an offset on.
 fn put_32(bytes: &mut [u8], offset: usize, n: u32)
     requires { offset + 4 ≤ length bytes.old }
     ensures { bytes.new ≡ overwrite bytes.old offset (little_bytes 4 n) }
@@ -24,7 +24,7 @@ fn put_32(bytes: &mut [u8], offset: usize, n: u32)
     LittleEndian::write_u32(&mut bytes[offset..offset + 4], n);
 }
 
-// Writes the bytes of a number of 64 bits from an offset on.
+// Writes the bytes of a 64-bit number from an offset on.
 fn put_64(bytes: &mut [u8], offset: usize, n: u64)
     requires { offset + 8 ≤ length bytes.old }
     ensures { bytes.new ≡ overwrite bytes.old offset (little_bytes 8 n) }

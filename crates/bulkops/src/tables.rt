@@ -15,7 +15,7 @@ use core_types::{Trap, Val};
 use std::alloc::AllocError;
 use store::State;
 
-// What an instruction on that many entries costs, by whether it stays in bounds.
+// Returns the cost of an instruction on `count` entries, by whether it stays in bounds.
 fn entries_cost(fits: bool, count: u32) -> u64
     ensures price { result ≡ price_if fits (cost_of_entries count) }
     ensures some { 1 ≤ result }
@@ -23,7 +23,7 @@ fn entries_cost(fits: bool, count: u32) -> u64
     if fits { 1 + count as u64 / 8 } else { 1 }
 }
 
-// How many entries a table has.
+// Returns the number of entries of a table.
 fn length_of(state: &State, address: u32) -> usize
     requires { address < length state.now.contents.tables }
     ensures { result ≡ length (table_of state.now address).entries }
@@ -34,7 +34,7 @@ fn length_of(state: &State, address: u32) -> usize
     }
 }
 
-// How many references an element segment has.
+// Returns the number of references of an element segment.
 fn reference_count(state: &State, segment: u32) -> usize
     requires { segment < length state.now.contents.elements }
     ensures { result ≡ length (elements_of state.now segment).references }
@@ -45,7 +45,7 @@ fn reference_count(state: &State, segment: u32) -> usize
     }
 }
 
-/// The entry of a table at an offset, or its trap (table.get).
+/// Returns the entry of a table at an offset, or its trap (table.get).
 pub fn table_get(state: &State, address: u32, offset: u32) -> Result<Val, Trap>
     requires { address < length state.now.contents.tables }
     ensures { result ≡ read_entry (table_of state.now address).entries offset }
@@ -74,7 +74,7 @@ pub fn table_set(state: &mut State, address: u32, offset: u32, value: Val) -> Re
     Ok(())
 }
 
-/// The size of a table, in entries (table.size).
+/// Returns the size of a table, in entries (table.size).
 pub fn table_size(state: &State, address: u32) -> u32
     requires { address < length state.now.contents.tables }
     ensures { result ≡ (table_of state.now address).ty.limits.min }
@@ -85,7 +85,7 @@ pub fn table_size(state: &State, address: u32) -> u32
     }
 }
 
-/// What a fill costs (table.fill).
+/// Returns the cost of a fill (table.fill).
 pub fn table_fill_cost(state: &State, address: u32, offset: u32, count: u32) -> u64
     requires { address < length state.now.contents.tables }
     ensures price { (value : AnyVal)
@@ -96,7 +96,7 @@ pub fn table_fill_cost(state: &State, address: u32, offset: u32, count: u32) -> 
     entries_cost(is_within(length_of(state, address), offset, count), count)
 }
 
-/// Gives that many entries of a table a value of its type, or traps and changes nothing (table.fill).
+/// Fills `count` entries of a table with a value of its type, or traps and changes nothing (table.fill).
 pub fn table_fill(
     state: &mut State,
     address: u32,
@@ -117,7 +117,7 @@ pub fn table_fill(
     Ok(())
 }
 
-/// What a copy from one table to another, or within one, costs (table.copy).
+/// Returns the cost of a copy from one table to another, or within one (table.copy).
 pub fn table_copy_cost(
     state: &State,
     into: u32,
@@ -138,8 +138,8 @@ pub fn table_copy_cost(
     entries_cost(reads && writes, count)
 }
 
-/// Copies that many entries of a table to another or the same, as if they were read before any is written, or traps and changes
-/// nothing (table.copy). Both tables are named by their addresses, which may be equal.
+/// Copies `count` entries of a table to the same or another table, as if all were read before any is written, or traps and
+/// changes nothing (table.copy). Both tables are named by their addresses, which may be equal.
 pub fn table_copy(
     state: &mut State,
     into: u32,
@@ -165,7 +165,7 @@ pub fn table_copy(
     Ok(())
 }
 
-/// What a copy from an element segment costs (table.init).
+/// Returns the cost of a copy from an element segment (table.init).
 pub fn table_init_cost(
     state: &State,
     into: u32,
@@ -186,7 +186,7 @@ pub fn table_init_cost(
     entries_cost(reads && writes, count)
 }
 
-/// Copies that many references of an element segment into a table, or traps and changes nothing (table.init).
+/// Copies `count` references of an element segment into a table, or traps and changes nothing (table.init).
 pub fn table_init(
     state: &mut State,
     into: u32,
@@ -212,7 +212,7 @@ pub fn table_init(
     Ok(())
 }
 
-// The size of a table, if it may grow by that many entries more.
+// Returns the size of a table, if it may grow by `count` more entries.
 fn size_for(state: &State, address: u32, count: u32) -> Option<u32>
     requires { address < length state.now.contents.tables }
     ensures { result ≡ size_by state.now.bounds.entries most_entries
@@ -222,7 +222,7 @@ fn size_for(state: &State, address: u32, count: u32) -> Option<u32>
     size_to_grow(state.entries(), u32::MAX, table.ty().limits, count)
 }
 
-/// What a growth costs (table.grow).
+/// Returns the cost of a growth (table.grow).
 pub fn table_grow_cost(state: &State, address: u32, count: u32) -> u64
     requires { address < length state.now.contents.tables }
     ensures price { result ≡ price_of_growth (size_by state.now.bounds.entries most_entries
@@ -232,8 +232,8 @@ pub fn table_grow_cost(state: &State, address: u32, count: u32) -> u64
     entries_cost(size_for(state, address, count).is_some(), count)
 }
 
-/// Adds entries to a table, of a value of its type, and answers its size before; or answers -1 and changes nothing where the table may
-/// not grow so (table.grow). Where there is no memory for the entries, nothing has changed.
+/// Appends entries to a table, with a value of its type, and returns its size before. If the table may not grow by that many,
+/// returns -1 and changes nothing (table.grow). If an allocation fails for the entries, nothing has changed.
 pub fn table_grow(
     state: &mut State,
     address: u32,
@@ -255,7 +255,7 @@ pub fn table_grow(
     }
 }
 
-/// Leaves an element segment without references, and gives their memory back (elem.drop).
+/// Removes the references of an element segment, and frees their memory (elem.drop).
 pub fn elem_drop(state: &mut State, segment: u32)
     requires { segment < length state.old.contents.elements }
     ensures { state.new ≡ put_elements state.old segment

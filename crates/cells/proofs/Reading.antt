@@ -46,7 +46,7 @@ cell-at (u ∷ ts) [] k t n h inside = absurd h
 cell-at (u ∷ ts) (m ∷ ns) zero t n h inside = h.0
 cell-at (u ∷ ts) (m ∷ ns) (suc k) t n h inside = cell-at ts ns k t n h.1 (omega (arith, inside))
 
--- One value more is read.
+-- One more value is read.
 values-next-suc : (ts : List ValType) (ns : List ℕ) (k : ℕ) (t : ValType) (n : ℕ) → length ns ≡ length ts → k < length ts
     → values_of (take (suc k) ts) ns ≡ values_of (take k ts) ns ++ (value_of (get_or ts k t) (get_or ns k n) ∷ [])
 values-next-suc [] ns k t n same inside = absurd (omega (arith, inside))
@@ -58,7 +58,7 @@ pub values-next : (ts : List ValType) (ns : List ℕ) (k : ℕ) (t : ValType) (n
     → values_of (take (k + 1) ts) ns ≡ values_of (take k ts) ns ++ (value_of (get_or ts k t) (get_or ns k n) ∷ [])
 values-next ts ns k t n same inside = ap (λ (j : ℕ). values_of (take j ts) ns) (add-one k) ∙ values-next-suc ts ns k t n same inside
 
--- One cell more is written.
+-- One more cell is written.
 write-next-suc : (from : List Val) (into : List ℕ) (k : ℕ) (d : Val) → k < length from → length from ≤ length into
     → set (map cell_of (take k from) ++ drop k into) k (cell_of (get_or from k d)) ≡ map cell_of (take (suc k) from) ++ drop (suc k) into
 write-next-suc [] into k d inside room = absurd (omega (arith, inside))

@@ -6,7 +6,7 @@ use Rattle.core_types.specs.declared.outcome.Val.TheVariants.{I32, I64, FuncRef,
 use Rattle.core_types.specs.declared.types.ValType.{ValType}
 use Rattle.core_types.specs.declared.types.ValType.TheVariants as ty
 
--- Null is zero, and the reference n is the number behind n.
+-- Null is zero, and the reference n is n + 1.
 abbrev pub reference_cell : Option ℕ → ℕ
 reference_cell None = 0
 reference_cell (Some n) = suc n
@@ -18,7 +18,7 @@ cell_of (I64 n) = n
 cell_of (FuncRef a) = reference_cell a
 cell_of (ExternRef x) = reference_cell x
 
--- The reference that a cell is.
+-- The reference that a cell represents.
 abbrev pub reference_of : ℕ → Option ℕ
 reference_of zero = None
 reference_of (suc n) = Some n

@@ -4,7 +4,6 @@ ghost use Rattle.cells.specs.Cells.{AreCellsOf, IsCellOf, cell_of as cell, refer
 use core_types::{Val, ValType};
 use std::alloc::{AllocError, Global};
 
-// The cell of a reference.
 fn reference_cell(r: Option<u32>) -> u64
     ensures { result ≡ reference r }
 {
@@ -14,7 +13,7 @@ fn reference_cell(r: Option<u32>) -> u64
     }
 }
 
-/// The cell of a value: the number of an integer, 0 for null, and n + 1 for the reference n.
+/// Returns the cell of a value: the number of an integer, 0 for null, and n + 1 for the reference n.
 pub fn cell_of(v: Val) -> u64
     ensures { result ≡ cell v }
 {
@@ -25,7 +24,7 @@ pub fn cell_of(v: Val) -> u64
     }
 }
 
-// The reference that a cell is.
+// Returns the reference that a cell represents.
 fn reference_of(n: u64) -> Option<u32>
     requires { n ≤ 4294967296 }
     ensures { result ≡ referred n }
@@ -33,7 +32,7 @@ fn reference_of(n: u64) -> Option<u32>
     if n == 0 { None } else { Some((n - 1) as u32) }
 }
 
-/// The value of a type that a cell is, which the caller owes to be that of one.
+/// Returns the value of a type that a cell represents. The cell must be that of such a value.
 pub fn value_of(ty: ValType, n: u64) -> Val
     requires { IsCellOf ty n }
     ensures { result ≡ value ty n }
@@ -46,7 +45,7 @@ pub fn value_of(ty: ValType, n: u64) -> Val
     }
 }
 
-/// Writes the cells of values over the first ones. Takes no memory.
+/// Writes the cells of values over the first cells. Allocates nothing.
 pub fn write_cells(from: &[Val], into: &mut [u64])
     requires { length from.now ≤ length into.old }
     ensures { into.new ≡ map cell from.now ++ drop (length from.now) into.old }
@@ -56,7 +55,7 @@ pub fn write_cells(from: &[Val], into: &mut [u64])
     }
 }
 
-/// The values of these types that cells are, which the caller owes to be those of such values.
+/// Returns the values of these types that cells represent. The cells must be those of such values.
 pub fn values_of(alloc: Global, types: &[ValType], cells: &[u64]) -> Result<Vec<Val>, AllocError>
     requires { AreCellsOf types.now cells.now }
     ensures { IfOk result (λ vs. vs.items ≡ values types.now cells.now) }

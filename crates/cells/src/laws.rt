@@ -6,7 +6,8 @@ ghost use Rattle.core_types.specs.declared.types.ValType.{ValType};
 ghost use Rattle.meaning.specs.execution.Values.{default_of, type_of};
 ghost use Rattle.cells.specs.Cells.{cell_of, value_of};
 
-/// Law: the cell of a value, read at its type, is the value; and a value read at a type has that type, and the cell that was read.
+/// Law: the cell of a value, read at its type, is the value. A value read at a type has that type, and its cell is the one that
+/// was read.
 pub fn cells_are_values()
     ensures value { (v : Val) → value_of (type_of v) (cell_of v) ≡ v }
     ensures ty { (t : ValType) (n : ℕ) → type_of (value_of t n) ≡ t }

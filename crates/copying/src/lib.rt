@@ -1,10 +1,10 @@
-//! Copies within a slice, at the speed of the C library where the ranges do not overlap.
+//! Copies within a slice, at the speed of the C library if the ranges do not overlap.
 #![tactic(auto)]
 
 ghost use Rattle.std.specs.Prelude.{◌≡◌, ◌+◌, ◌≤◌, length};
 ghost use Rattle.meaning.specs.execution.Storage.{items_at, overwrite};
 
-// Copies that many items to a place after them.
+// Copies `count` items to a place after them.
 fn copy_up<T: Copy>(items: &mut [T], target: usize, from: usize, count: usize)
     requires apart { from + count ≤ target }
     requires inside { target + count ≤ length items.old }
@@ -14,7 +14,7 @@ fn copy_up<T: Copy>(items: &mut [T], target: usize, from: usize, count: usize)
     back[..count].copy_from_slice(&front[from..from + count]);
 }
 
-// Copies that many items to a place before them.
+// Copies `count` items to a place before them.
 fn copy_down<T: Copy>(items: &mut [T], target: usize, from: usize, count: usize)
     requires apart { target + count ≤ from }
     requires inside { from + count ≤ length items.old }
@@ -24,7 +24,7 @@ fn copy_down<T: Copy>(items: &mut [T], target: usize, from: usize, count: usize)
     front[target..target + count].copy_from_slice(&back[..count]);
 }
 
-/// Copies that many items of a slice to another place in it, as if they were read before any is written.
+/// Copies `count` items of a slice to another place in it, as if all were read before any is written.
 pub fn copy_within<T: Copy>(items: &mut [T], target: usize, from: usize, count: usize)
     requires source { from + count ≤ length items.old }
     requires target { target + count ≤ length items.old }

@@ -7,7 +7,7 @@ use Rattle.core_types.specs.declared.types.ValType.{ValType}
 use Rattle.core_types.specs.declared.locals.LocalRun.{LocalRun}
 use Rattle.core_types.specs.LocalRuns.{expanded, IsAscending, end_of, start_of}
 
--- A run behind other locals.
+-- A run after other locals.
 abbrev added : ℕ → ℕ → ValType → LocalRun
 added len count ty = record { end = len + count; ty = ty }
 
@@ -38,7 +38,7 @@ start_of-next start [] k run e = absurd cc
 start_of-next start (first ∷ runs) zero run e = let h : first ≡ run = cc in ap (λ (r : LocalRun). r.end) h
 start_of-next start (first ∷ runs) (suc k) run e = start_of-next first.end runs k run e
 
--- A run begins no sooner than the runs do.
+-- A run begins no earlier than the runs do.
 start_of-above : (start : ℕ) (runs : List LocalRun) (k : ℕ) → IsAscending start runs → start ≤ start_of start runs k
 start_of-above start runs zero h = omega arith
 start_of-above start [] (suc k) h = omega arith
@@ -53,7 +53,7 @@ slice_get-behind : {A : Type 0} (n k : ℕ) (x : A) (rest : List A) → slice_ge
 slice_get-behind zero k x rest = ap (slice_get rest) (omega arith)
 slice_get-behind (suc n) k x rest = let e : suc n + k ≡ suc (n + k) = omega arith in rw e (slice_get-behind n k x rest)
 
--- The local at a index is of the type of the run around it.
+-- The local at an index has the type of the run around it.
 pub expanded-within : (start : ℕ) (runs : List LocalRun) (k index : ℕ) (run : LocalRun) → IsAscending start runs → slice_get runs k ≡ Some run → start_of start runs k ≤ index → index < run.end → slice_get (expanded start runs) (index - start) ≡ Some run.ty
 expanded-within start [] k index run h e le lt = absurd cc
 expanded-within start (first ∷ runs) zero index run h e le lt =
@@ -88,7 +88,7 @@ module _ (runs : List LocalRun) (types : List ValType) (ascending : IsAscending 
       let more : len + count - end_of 0 runs ≡ count = omega (arith, ends_with) in
       expanded-push 0 runs (added len count ty) ∙ rw (more, is) refl
 
-  -- The local at a index is of the type of the run around it.
+  -- The local at an index has the type of the run around it.
   pub type_within : (k index : ℕ) (run : LocalRun) → k < length runs → run ≡ get_or runs k run → start_of 0 runs k ≤ index → IfSome (slice_get runs k) (λ r. index < r.end) → Some run.ty ≡ slice_get types index
   type_within k index run lt e begins ends =
       let there = slice_get_read runs (length runs) k run refl lt e in
@@ -96,7 +96,7 @@ module _ (runs : List LocalRun) (types : List ValType) (ascending : IsAscending 
       let whole : index - 0 ≡ index = omega arith in
       sym (rw whole at (expanded-within 0 runs k index run ascending there begins less)) ∙ ap (λ (ts : List ValType). slice_get ts index) is
 
-  -- Behind the last run there is no local.
+  -- After the last run there is no local.
   pub none_past : (k index : ℕ) → length runs ≤ k → start_of 0 runs k ≤ index → None ≡ slice_get types index
   none_past k index past le = sym (slice_get_past types index (omega (arith, ends_with, start_of-past 0 runs k past)))
 

@@ -1,4 +1,4 @@
--- Operations with numbers, where one more is there, and operations that are no marks.
+-- Operations with numbers, when one more is added, and operations that are not marks.
 use Rattle.std.proofs.Common.{◌≡◌, zero, ℕ, suc, List, [], ◌∷◌, ◌++◌, length, map, refl, ap, ap₂, arith, ◌∙◌}
 use Rattle.std.specs.List.{All}
 use Rattle.std.specs.Prelude.{Result, Ok, Err, OnOk, OnErr}
@@ -22,19 +22,19 @@ only_one : {A : Type 0} (P : A → Type 0) (x : A) → P x → All P (x ∷ [])
 only_one P x one zero d less = one
 only_one P x one (suc k) d less = absurd (omega (arith, less))
 
--- A property of all elements, and of one that is put behind them if there is memory.
+-- A property of all elements, and of one that is appended if memory is available.
 pub all_pushed : {A V E : Type 0} (P : A → Type 0) (r : Result V E) (old new : List A) (x : A) → OnOk r (new ≡ old ++ x ∷ []) → OnErr r (new ≡ old) → All P old → P x → All P new
 all_pushed P (Ok v) old new x ok err all one = rw ok (All-append P old (x ∷ []) all (only_one P x one))
 all_pushed P (Err e) old new x ok err all one = rw err all
 
--- An operation behind the others, which are the same operations as before.
+-- An operation after the others, which are the same operations as before.
 pub view_pushed : (others more : List Op) (ops : List (OpWith ℕ)) (stored : OpWith ℕ) (x : Op) → ((o : OpWith ℕ) → IsWithin (length others) o → stored_op more o ≡ stored_op others o)
     → All (IsWithin (length others)) ops → stored_op more stored ≡ x → map (stored_op more) (ops ++ stored ∷ []) ≡ map (stored_op others) ops ++ x ∷ []
 view_pushed others more ops stored x same all is =
     map-append (stored_op more) ops (stored ∷ []) ∙ ap₂ (λ (xs ys : List Op). xs ++ ys) (same_views others more ops same all) (ap (λ (y : Op). y ∷ []) is)
 
 module _ {T : Type 0} (other_op : T → Op) where
-  -- What is no mark is an instruction without a body.
+  -- An operation that is not a mark is an instruction without a body.
   pub plain_unless_mark : (o : OpWith T) → ((t : Option ValType) → o ≡ short.Block t → ⊥) → ((t : Option ValType) → o ≡ short.Loop t → ⊥) → ((t : Option ValType) → o ≡ short.If t → ⊥)
       → (o ≡ short.Else → ⊥) → (o ≡ short.End → ⊥) → ((t : T) → o ≡ short.Other t → ⊥) → (p : PlainOp) × (op_with other_op o ≡ op.Plain p)
   plain_unless_mark short.Unreachable block loop if_ else_ end other = (_, refl)

@@ -33,7 +33,7 @@ load_at o align offset = op.Plain (plain.Memory (memory.Load o (record { align =
 abbrev pub store_at : StoreOp → ℕ → ℕ → Op
 store_at o align offset = op.Plain (plain.Memory (memory.Store o (record { align = align; offset = offset })))
 
--- The operation, where this is the one that takes more than eight bytes.
+-- The operation, with this function for one that takes more than eight bytes.
 abbrev pub op_with : {T : Type 0} → (T → Op) → OpWith T → Op
 op_with other short.Unreachable = op.Plain (plain.Control control.Unreachable)
 op_with other short.Nop = op.Plain (plain.Control control.Nop)
@@ -72,7 +72,7 @@ op_with other short.Else = op.Else
 op_with other short.End = op.End
 op_with other (short.Other t) = other t
 
--- The operation that is lent.
+-- The borrowed operation.
 abbrev pub lent_op : OpWith (Bor Op) → Op
 lent_op o = op_with (λ op. op.now) o
 
@@ -84,11 +84,11 @@ mark_op (mark.If t) = op.If t
 mark_op mark.Else = op.Else
 mark_op mark.End = op.End
 
--- The operation that is stored, where these are those that take more than eight bytes.
+-- The stored operation, with this list of those that take more than eight bytes.
 abbrev pub stored_op : List Op → OpWith ℕ → Op
 stored_op others o = op_with (λ n. get_or others n op.End) o
 
--- There are as many others as its number asks for.
+-- Its number, if it has one, is below the number of operations in the list.
 abbrev pub IsWithin : ℕ → OpWith ℕ → Type 0
 IsWithin count (short.Other n) = n < count
 IsWithin count o = ⊤

@@ -1,9 +1,9 @@
--- What is said of the end of a run.
+-- What is stated of the end of a run.
 use Rattle.std.specs.Prelude.{ℕ, List, codes}
 use Rattle.core_types.specs.declared.outcome.Trap.{Trap}
 use Rattle.core_types.specs.declared.outcome.Trap.TheVariants.{Unreachable, DivideByZero, IntegerOverflow, MemoryBounds, TableBounds, UndefinedElement, UninitializedElement, IndirectType, Host}
 
--- The text by which a script names a trap.
+-- The name of a trap in scripts.
 abbrev pub trap_text : Trap → List ℕ
 trap_text Unreachable = codes "unreachable"
 trap_text DivideByZero = codes "integer divide by zero"

@@ -13,7 +13,7 @@ fn grow<T>(items: &mut Vec<T>) -> Result<(), AllocError>
     items.reserve(1)
 }
 
-/// Puts an element behind the others. Where memory runs out, they are as before. That there is no room is rare, and apart.
+/// Appends an element. If memory runs out, the elements are unchanged. The rare path that reserves room is a separate function.
 #[inline(always)]
 pub fn append<T: Drop>(items: &mut Vec<T>, x: T) -> Result<(), AllocError>
     ensures ok { OnOk result (items.new.items ≡ items.old.items ++ x ∷ []) }

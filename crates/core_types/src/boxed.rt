@@ -1,7 +1,7 @@
 use std::alloc::{AllocFailed, Global};
 use std::marker::Model;
 
-/// A value behind a pointer, which contracts see as the value.
+/// A value behind a pointer. Contracts see it as the value.
 #[derive(Drop)]
 pub struct Boxed<T> {
     inner: Box<T>,
@@ -16,7 +16,7 @@ impl<T> Model for Boxed<T> {
 impl<T> Boxed<T> {
     ghost use Rattle.std.specs.Prelude.{◌≡◌, IfOk, IfErr};
 
-    /// Puts a value on the heap; where there is no memory the value comes back.
+    /// Moves a value to the heap. If the allocation fails, the value is returned in the error.
     pub fn new(alloc: Global, value: T) -> Result<Boxed<T>, AllocFailed<T>>
         ensures kept { IfOk result (λ boxed. boxed ≡ value) }
         ensures back { IfErr result (λ failed. failed.value ≡ value) }
@@ -25,7 +25,7 @@ impl<T> Boxed<T> {
         Ok(Boxed { inner })
     }
 
-    /// The value, for reading.
+    /// Returns a reference to the value.
     pub fn get(&self) -> &T
         ensures { result.now ≡ self.now }
     {

@@ -11,10 +11,10 @@ use crate::stored_op::{StoredOp, may_be_mark, store_op};
 use std::alloc::{AllocError, Global};
 use std::marker::Model;
 
-/// An expression, as its flat operations without the last `End`, which contracts see as the list of them (Structure, Instructions,
+/// An expression: its flat operations without the last `End`. Contracts see it as the list of them (Structure, Instructions,
 /// Expressions).
 ///
-/// An operation takes eight bytes. One that takes more, which is rare, stands among the others and has its number here.
+/// An operation takes eight bytes. A longer one is rare: it is in a separate list, and its number is stored instead.
 #[derive(Drop)]
 pub struct Expression {
     operations: Vec<StoredOp>,
@@ -34,7 +34,7 @@ impl Model for Expression {
     ghost invariant = { λ e. All (IsWithin (length e.others.items)) e.operations.items };
 }
 
-// A stored operation, lent.
+// Returns a stored operation, borrowed.
 #[inline(always)]
 fn lend<'a>(operation: &StoredOp, others: &'a [Op]) -> LentOp<'a>
     requires { IsWithin (length others.now) operation.now }
@@ -81,7 +81,7 @@ fn lend<'a>(operation: &StoredOp, others: &'a [Op]) -> LentOp<'a>
 }
 
 impl Expression {
-    /// No operations. Takes no memory.
+    /// Creates an expression without operations. Allocates nothing.
     pub fn new(alloc: Global) -> Expression
         ensures { result ≡ [] }
     {
@@ -91,7 +91,7 @@ impl Expression {
         }
     }
 
-    /// No operations, and room for `count` of them where there is memory for it.
+    /// Creates an expression without operations, with room for `count` of them if memory is available.
     pub fn with_room(alloc: Global, count: usize) -> Expression
         ensures { result ≡ [] }
     {
@@ -104,14 +104,14 @@ impl Expression {
         }
     }
 
-    /// Gives back the room for more operations. Takes no memory.
+    /// Frees the unused room. Allocates nothing.
     pub fn shrink(&mut self)
         ensures { self.new ≡ self.old }
     {
         self.operations.shrink_to_fit();
     }
 
-    /// How many operations there are.
+    /// Returns the number of operations.
     #[inline(always)]
     pub fn len(&self) -> usize
         ensures { result ≡ length self.now }
@@ -119,7 +119,7 @@ impl Expression {
         self.operations.len()
     }
 
-    /// The operation at an index, lent.
+    /// Returns the operation at an index, borrowed.
     #[inline(always)]
     pub fn get(&self, index: usize) -> LentOp<'_>
         requires { index < length self.now }
@@ -128,7 +128,7 @@ impl Expression {
         lend(&self.operations[index], &self.others)
     }
 
-    /// Whether the operation at an index is a mark, at which a body begins or ends.
+    /// Returns whether the operation at an index is a mark, at which a body begins or ends.
     #[inline(always)]
     pub fn is_mark_at(&self, index: usize) -> bool
         requires { index < length self.now }
@@ -140,8 +140,7 @@ impl Expression {
         may_be_mark(&self.operations[index]) && is_mark(self.get(index))
     }
 
-    /// Puts an operation behind the others. Fails where there is no memory, or where there are 2^32 that take more than eight
-    /// bytes.
+    /// Appends an operation. Fails if an allocation fails, or if 2^32 operations take more than eight bytes.
     #[inline(always)]
     pub fn push(&mut self, op: Op) -> Result<(), AllocError>
         ensures { OnOk result (self.new ≡ self.old ++ op ∷ []) }
@@ -151,7 +150,7 @@ impl Expression {
     }
 }
 
-// Puts an operation behind the others that take more than eight bytes, and answers its number.
+// Appends an operation to those that take more than eight bytes, and returns its number.
 #[inline(always)]
 fn add(others: &mut Vec<Op>, op: Op) -> Result<u32, AllocError>
     ensures number { IfOk result (λ n. n ≡ length others.old.items) }
@@ -165,7 +164,7 @@ fn add(others: &mut Vec<Op>, op: Op) -> Result<u32, AllocError>
     Ok(number)
 }
 
-// An operation in eight bytes: one that takes more is put behind the others, and stands for its number.
+// Returns an operation in eight bytes. A longer one is appended to the others, and its number is returned.
 #[inline(always)]
 fn store(others: &mut Vec<Op>, op: Op) -> Result<StoredOp, AllocError>
     ensures within { IfOk result (IsWithin (length others.new.items)) }

@@ -3,10 +3,10 @@ ghost use Rattle.core_types.specs.LocalRuns.{start_of};
 
 use crate::locals::LocalRun;
 
-// So many runs at most are looked at in turn, as that is faster.
+// At most this many runs are tried in turn, which is faster.
 const FEW_RUNS: usize = 8;
 
-// The index of the first run that ends behind the index of a local.
+// Returns the index of the first run that ends after the index of a local.
 #[inline(never)]
 pub fn run_at(runs: &[LocalRun], index: u32) -> usize
     ensures within { result ≤ length runs.now }
@@ -20,7 +20,7 @@ pub fn run_at(runs: &[LocalRun], index: u32) -> usize
     }
 }
 
-// The same, where each run is looked at from the first one on.
+// Like `run_at`, by trying each run from the first one on.
 fn run_in_turn(runs: &[LocalRun], index: u32) -> usize
     ensures within { result ≤ length runs.now }
     ensures begins { start_of 0 runs.now result ≤ index }
@@ -36,7 +36,7 @@ fn run_in_turn(runs: &[LocalRun], index: u32) -> usize
     found
 }
 
-// The same, where the runs that may be it are halved.
+// Like `run_at`, by binary search.
 fn run_by_halving(runs: &[LocalRun], index: u32) -> usize
     ensures within { result ≤ length runs.now }
     ensures begins { start_of 0 runs.now result ≤ index }

@@ -3,7 +3,7 @@ ghost use Rattle.std.specs.Prelude.{◌≡◌, ◌==◌, List, length, option_co
 use std::fmt;
 use std::marker::Model;
 
-/// A list, which contracts see as such, over a `Vec`.
+/// A list over a `Vec`. Contracts see it as a list.
 #[derive(Drop)]
 pub struct Items<T> {
     items: Vec<T>,
@@ -16,14 +16,14 @@ impl<T> Model for Items<T> {
 }
 
 impl<T> Items<T> {
-    /// The list of a vector's elements. Takes no memory.
+    /// Creates the list of a vector's elements. Allocates nothing.
     pub fn from_vec(items: Vec<T>) -> Items<T>
         ensures { result ≡ items.items }
     {
         Items { items }
     }
 
-    /// The vector of the elements. Takes no memory.
+    /// Returns the elements as a vector. Allocates nothing.
     pub fn into_vec(self) -> Vec<T>
         ensures { result.items ≡ self }
     {
@@ -31,21 +31,21 @@ impl<T> Items<T> {
         items
     }
 
-    /// The elements, for reading.
+    /// Returns the elements as a slice.
     pub fn as_slice(&self) -> &[T]
         ensures { result.now ≡ self.now }
     {
         self.items.as_slice()
     }
 
-    /// How many elements there are.
+    /// Returns the number of elements.
     pub fn len(&self) -> usize
         ensures { result ≡ length self.now }
     {
         self.items.len()
     }
 
-    /// Whether there is no element.
+    /// Returns whether the list is empty.
     pub fn is_empty(&self) -> bool
         ensures { result ≡ (length self.now == 0) }
     {
@@ -53,7 +53,7 @@ impl<T> Items<T> {
     }
 }
 
-/// The item at an index of 32 bits, if there is one.
+/// Returns the item at a 32-bit index, if there is one.
 #[inline(always)]
 pub fn item<T>(items: &[T], index: u32) -> Option<&T>
     ensures { option_copied result ≡ slice_get items.now index }

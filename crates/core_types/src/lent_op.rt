@@ -7,9 +7,11 @@ use crate::op::{BlockType, NumericOp, Op, ParametricOp, Sign, Width};
 use crate::types::{RefType, ValType};
 use std::alloc::AllocError;
 
-/// A flat operation that has room in eight bytes, or a `T` for one that takes more: a branch by number, a call through a table, a
-/// select with types, an instruction on a table or a segment, a block with a type of the module, a constant of more than 32
-/// bits, an access with an alignment of more than eight bits.
+/// A flat operation that fits in eight bytes, or a `T` for one that does not.
+///
+/// These take more than eight bytes: a branch by number, a call through a table, a select with types, and an instruction on a
+/// table or a segment. So do a block with a type of the module, a constant of more than 32 bits, and an access with an alignment
+/// of more than eight bits.
 #[derive(Copy)]
 pub enum OpWith<T> {
     Unreachable,
@@ -60,10 +62,10 @@ impl<T: Copy> Clone for OpWith<T> {
     }
 }
 
-/// A flat operation that is lent.
+/// A borrowed flat operation.
 pub type LentOp<'a> = OpWith<&'a Op>;
 
-// The type of a block that takes nothing and gives this.
+// Returns the type of a block that takes nothing and gives this.
 #[inline(always)]
 fn block_type(value: Option<ValType>) -> BlockType
     ensures { result ≡ block_type_of value }
@@ -74,7 +76,7 @@ fn block_type(value: Option<ValType>) -> BlockType
     }
 }
 
-/// A mark, at which a body begins or ends.
+/// A mark: the beginning or the end of a body.
 #[derive(Clone, Copy)]
 pub enum Mark {
     Block(BlockType),
@@ -84,7 +86,7 @@ pub enum Mark {
     End,
 }
 
-// The mark that an operation is, if it is one.
+// Returns the mark that an operation is, if it is one.
 fn mark_of_other(op: &Op) -> Option<Mark>
     ensures some { IfSome result (λ mark. op.now ≡ mark_op mark) }
     ensures none { IfNone result ((plain : Plain) × (op.now ≡ flat.Plain plain)) }
@@ -99,7 +101,7 @@ fn mark_of_other(op: &Op) -> Option<Mark>
     }
 }
 
-/// The mark that an operation is, if it is one.
+/// Returns the mark that an operation is, if it is one.
 #[inline(always)]
 pub fn mark_of(op: LentOp<'_>) -> Option<Mark>
     ensures some { IfSome result (λ mark. lent_op op.entry ≡ mark_op mark) }
@@ -116,7 +118,7 @@ pub fn mark_of(op: LentOp<'_>) -> Option<Mark>
     }
 }
 
-/// Whether an operation is a mark, at which a body begins or ends.
+/// Returns whether an operation is a mark, at which a body begins or ends.
 #[inline(always)]
 pub fn is_mark(op: LentOp<'_>) -> bool
     ensures mark { IsTrue result → (plain : Plain) → lent_op op.entry ≢ flat.Plain plain }

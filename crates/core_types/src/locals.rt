@@ -5,14 +5,14 @@ use crate::types::ValType;
 use std::alloc::{AllocError, Global};
 use std::marker::Model;
 
-/// Locals of one type in a row, up to the index `end`.
+/// Consecutive locals of one type, up to the index `end`.
 #[derive(Clone, Copy)]
 pub struct LocalRun {
     pub end: u32,
     pub ty: ValType,
 }
 
-/// The types of a function's locals, kept as runs of one type; contracts see the list of the types.
+/// The types of a function's locals, kept as runs of one type. Contracts see the list of the types.
 #[derive(Drop)]
 pub struct Locals {
     runs: Vec<LocalRun>,
@@ -32,7 +32,7 @@ impl Model for Locals {
 }
 
 impl Locals {
-    /// No locals.
+    /// Creates an empty list of locals.
     pub fn new(alloc: Global) -> Locals
         ensures { result ≡ [] }
     {
@@ -41,7 +41,7 @@ impl Locals {
         }
     }
 
-    /// How many locals there are.
+    /// Returns the number of locals.
     pub fn len(&self) -> u32
         ensures { result ≡ length self.now }
     {
@@ -51,7 +51,7 @@ impl Locals {
         }
     }
 
-    /// Adds `count` locals of one type. Where memory runs out, the locals are as before.
+    /// Appends `count` locals of one type. If memory runs out, the locals are unchanged.
     pub fn push(&mut self, count: u32, ty: ValType) -> Result<(), AllocError>
         requires { length self.old + count < 2 ^ 32 }
         ensures ok { OnOk result (self.new ≡ self.old ++ replicate count ty) }
@@ -62,7 +62,7 @@ impl Locals {
         Ok(())
     }
 
-    /// The type of the local at this index. Most locals are of the first run; the run of another one is found by halving.
+    /// Returns the type of the local at this index. Most locals are in the first run; another run is found by halving.
     #[inline(always)]
     pub fn get(&self, index: u32) -> Option<ValType>
         ensures { result ≡ slice_get self.now index }

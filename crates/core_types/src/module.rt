@@ -13,7 +13,7 @@ pub struct Func {
     pub body: Expression,
 }
 
-/// What an import asks for; a function by the index of its type (Structure, Modules, Imports).
+/// What an import requires. A function is given by the index of its type (Structure, Modules, Imports).
 #[derive(Clone, Copy)]
 pub enum ImportDesc {
     Func(u32),
@@ -54,8 +54,7 @@ pub struct Global {
     pub init: Expression,
 }
 
-/// The references of an element segment: function indices, each of which represents the `ref.func` of it, or constant
-/// expressions.
+/// The references of an element segment: function indices, each of which represents its `ref.func`, or constant expressions.
 #[derive(Drop)]
 pub enum ElementItems {
     Functions(Items<u32>),

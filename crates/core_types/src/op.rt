@@ -9,14 +9,14 @@ pub enum Width {
     W64,
 }
 
-/// How a number of fewer bits is read as one of more bits.
+/// How a number of fewer bits is extended to one of more bits.
 #[derive(Clone, Copy)]
 pub enum Sign {
     Signed,
     Unsigned,
 }
 
-/// An operator on one integer, which gives one of the same width.
+/// An operator on one integer, with a result of the same width.
 #[derive(Clone, Copy)]
 pub enum UnaryOp {
     Clz,
@@ -26,7 +26,7 @@ pub enum UnaryOp {
     Extend16S,
 }
 
-/// An operator on two integers of one width, which gives one of the same width.
+/// An operator on two integers of one width, with a result of the same width.
 #[derive(Clone, Copy)]
 pub enum BinaryOp {
     Add,
@@ -61,7 +61,7 @@ pub enum Comparison {
     GeU,
 }
 
-/// An operator on one integer that exists for one width alone.
+/// An operator on one integer that exists for one width only.
 #[derive(Clone, Copy)]
 pub enum Conversion {
     I32WrapI64,
@@ -170,15 +170,15 @@ pub enum ControlOp {
     ReturnCallIndirect { ty: u32, table: u32 },
 }
 
-/// The labels of a branch by number, and the label for all further numbers.
+/// The labels of a branch by number, and the label for all larger numbers.
 #[derive(Drop)]
 pub struct BranchTable {
     pub labels: Items<u32>,
     pub default: u32,
 }
 
-/// An instruction that has no body (Structure, Instructions). Those with a list keep it on the heap, and those with eight
-/// bytes stand apart from their group.
+/// An instruction that has no body (Structure, Instructions). A list of an instruction is on the heap. An instruction with an
+/// immediate of eight bytes is not in its group.
 #[derive(Drop)]
 pub enum PlainOp {
     Control(ControlOp),

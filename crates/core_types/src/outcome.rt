@@ -1,7 +1,7 @@
 use std::fmt;
 
-/// A value (Execution, Runtime Structure, Values). The number in a `FuncRef` is a function's address in the store; that in
-/// an `ExternRef` is the host's, and is never looked at. `None` is null.
+/// A value (Execution, Runtime Structure, Values). The number in a `FuncRef` is a function's address in the store. The number in
+/// an `ExternRef` belongs to the host, and is never inspected. `None` is null.
 #[derive(Clone, Copy, PartialEq, Eq, Debug)]
 pub enum Val {
     I32(u32),
@@ -10,7 +10,7 @@ pub enum Val {
     ExternRef(Option<u32>),
 }
 
-/// Why an execution was given up by the rules of the instruction that it came to.
+/// Why an execution trapped, by the rules of its next instruction.
 #[derive(Clone, Copy, PartialEq, Eq, Debug)]
 pub enum Trap {
     Unreachable,
@@ -28,7 +28,7 @@ impl Trap {
     ghost use Rattle.std.specs.Prelude.{◌≡◌};
     ghost use Rattle.core_types.specs.Outcome.{trap_text};
 
-    /// The text by which a script names the trap.
+    /// Returns the name of the trap in scripts.
     pub fn text(self) -> &'static str
         ensures { result.now ≡ trap_text self }
     {

@@ -7,7 +7,7 @@ use crate::op::{
     ControlOp, LoadOp, MemArg, MemoryOp, Op, PlainOp, ReferenceOp, StoreOp, VariableOp,
 };
 
-// A load with an alignment of eight bits.
+// Returns a load with an alignment of eight bits.
 fn load(op: LoadOp, align: u8, offset: u32) -> PlainOp
     ensures { Plain result ≡ load_at op align offset }
 {
@@ -15,7 +15,7 @@ fn load(op: LoadOp, align: u8, offset: u32) -> PlainOp
     PlainOp::Memory(MemoryOp::Load(op, MemArg { align, offset }))
 }
 
-// A store with an alignment of eight bits.
+// Returns a store with an alignment of eight bits.
 fn store(op: StoreOp, align: u8, offset: u32) -> PlainOp
     ensures { Plain result ≡ store_at op align offset }
 {
@@ -23,7 +23,7 @@ fn store(op: StoreOp, align: u8, offset: u32) -> PlainOp
     PlainOp::Memory(MemoryOp::Store(op, MemArg { align, offset }))
 }
 
-// A copy of an instruction without a body and a list, if the operation is one.
+// Returns a copy of an instruction without a body and a list, if the operation is one.
 fn copy_plain(op: &Op) -> Option<PlainOp>
     ensures some { IfSome result (λ plain. op.now ≡ Plain plain) }
     ensures none { IfNone result (HasListOrBody op.now) }
@@ -48,7 +48,7 @@ fn copy_plain(op: &Op) -> Option<PlainOp>
     }
 }
 
-/// The instruction that an operation is, if it has neither a body nor a list.
+/// Returns the instruction that an operation is, if it has neither a body nor a list.
 pub fn plain_op(op: LentOp<'_>) -> Option<PlainOp>
     ensures some { IfSome result (λ plain. lent_op op.entry ≡ Plain plain) }
     ensures none { IfNone result (HasListOrBody (lent_op op.entry)) }

@@ -4,7 +4,7 @@ use crate::appending::append;
 use std::alloc::{AllocError, Global};
 use std::marker::Model;
 
-/// A stack, which contracts see as the list of its elements from the top.
+/// A stack. Contracts see it as the list of its elements, from the top.
 #[derive(Drop)]
 pub struct Stack<T> {
     items: Vec<T>,
@@ -17,7 +17,7 @@ impl<T> Model for Stack<T> {
 }
 
 impl<T> Stack<T> {
-    /// An empty stack. Takes no memory.
+    /// Creates an empty stack. Allocates nothing.
     pub fn new(alloc: Global) -> Stack<T>
         ensures { result ≡ [] }
     {
@@ -26,7 +26,7 @@ impl<T> Stack<T> {
         }
     }
 
-    /// How many elements there are.
+    /// Returns the number of elements.
     #[inline(always)]
     pub fn len(&self) -> usize
         ensures { result ≡ length self.now }
@@ -34,7 +34,7 @@ impl<T> Stack<T> {
         self.items.len()
     }
 
-    /// Takes the topmost element off. Takes no memory.
+    /// Pops the topmost element. Allocates nothing.
     #[inline(always)]
     pub fn pop(&mut self) -> Option<T>
         ensures { MatchOption result ((self.old ≡ []) × (self.new ≡ []))
@@ -45,7 +45,7 @@ impl<T> Stack<T> {
 }
 
 impl<T: Drop> Stack<T> {
-    /// Puts an element on top. Where memory runs out, the stack is as before.
+    /// Pushes an element. If memory runs out, the stack is unchanged.
     #[inline(always)]
     pub fn push(&mut self, x: T) -> Result<(), AllocError>
         ensures ok { OnOk result (self.new ≡ x ∷ self.old) }
@@ -54,7 +54,7 @@ impl<T: Drop> Stack<T> {
         append(&mut self.items, x)
     }
 
-    /// Takes all elements off. Takes no memory, and keeps the room.
+    /// Pops all elements. Allocates nothing, and keeps the room.
     pub fn clear(&mut self)
         ensures { self.new ≡ [] }
     {
@@ -63,14 +63,14 @@ impl<T: Drop> Stack<T> {
 }
 
 impl<T: Copy> Stack<T> {
-    /// The topmost element, which stays.
+    /// Returns the topmost element without popping it.
     pub fn top(&self) -> Option<T>
         ensures { result ≡ slice_get self.now 0 }
     {
         self.items.last().copied()
     }
 
-    /// The element at a depth below the topmost one, which stays.
+    /// Returns the element at a depth below the topmost one, without popping it.
     pub fn get(&self, depth: usize) -> Option<T>
         ensures { result ≡ slice_get self.now depth }
     {

@@ -13,7 +13,7 @@ use crate::op::{
 /// A flat operation in eight bytes, or the number of one that takes more.
 pub type StoredOp = OpWith<u32>;
 
-// A control instruction in eight bytes, where it has room there.
+// Returns a control instruction in eight bytes, if it fits.
 #[inline(always)]
 fn store_control(op: ControlOp) -> Option<StoredOp>
     ensures same { IfSome result (λ o. (others : List AnyOp)
@@ -31,7 +31,7 @@ fn store_control(op: ControlOp) -> Option<StoredOp>
     }
 }
 
-// An instruction on references in eight bytes.
+// Returns an instruction on references in eight bytes.
 #[inline(always)]
 fn store_reference(op: ReferenceOp) -> StoredOp
     ensures same { (others : List AnyOp)
@@ -45,7 +45,7 @@ fn store_reference(op: ReferenceOp) -> StoredOp
     }
 }
 
-// An instruction on a local or a global in eight bytes.
+// Returns an instruction on a local or a global in eight bytes.
 #[inline(always)]
 fn store_variable(op: VariableOp) -> StoredOp
     ensures same { (others : List AnyOp)
@@ -61,7 +61,7 @@ fn store_variable(op: VariableOp) -> StoredOp
     }
 }
 
-// An instruction on the memory in eight bytes, where it has room there.
+// Returns an instruction on the memory in eight bytes, if it fits.
 #[inline(always)]
 fn store_memory(op: MemoryOp) -> Option<StoredOp>
     ensures same { IfSome result (λ o. (others : List AnyOp)
@@ -99,7 +99,7 @@ fn store_memory(op: MemoryOp) -> Option<StoredOp>
     }
 }
 
-// A constant in eight bytes, where it has room there.
+// Returns a constant in eight bytes, if it fits.
 #[inline(always)]
 fn store_i64(n: u64) -> Option<StoredOp>
     ensures same { IfSome result (λ o. (others : List AnyOp)
@@ -112,7 +112,7 @@ fn store_i64(n: u64) -> Option<StoredOp>
     }
 }
 
-/// An operation in eight bytes, where it has room there.
+/// Returns an operation in eight bytes, if it fits.
 #[inline(always)]
 pub fn store_op(op: &Op) -> Option<StoredOp>
     ensures same { IfSome result (λ o. (others : List AnyOp) → stored_op others o ≡ op.now) }
@@ -139,7 +139,7 @@ pub fn store_op(op: &Op) -> Option<StoredOp>
     }
 }
 
-/// Whether an operation may be a mark: it is one, or it takes more than eight bytes.
+/// Returns whether an operation can be a mark: it is one, or it takes more than eight bytes.
 #[inline(always)]
 pub fn may_be_mark(op: &StoredOp) -> bool
     ensures { result ≡ false → (others : List AnyOp)

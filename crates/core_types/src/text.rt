@@ -1,6 +1,6 @@
 use std::marker::Model;
 
-/// A name of the module format, which contracts see as the bytes of its text.
+/// A name of the module format. Contracts see the bytes of its text.
 #[derive(Drop)]
 pub struct Name {
     text: String,
@@ -17,14 +17,14 @@ impl Model for Name {
 impl Name {
     ghost use Rattle.std.specs.Prelude.{◌≡◌, string_bytes};
 
-    /// The name with this text. Takes no memory.
+    /// Creates the name with this text. Allocates nothing.
     pub fn from_string(text: String) -> Name
         ensures { result ≡ string_bytes text }
     {
         Name { text }
     }
 
-    /// The text of the name. Takes no memory.
+    /// Returns the text as a string. Allocates nothing.
     pub fn into_string(self) -> String
         ensures { string_bytes result ≡ self }
     {
@@ -32,7 +32,7 @@ impl Name {
         text
     }
 
-    /// The text, for reading.
+    /// Returns the text as a slice.
     pub fn as_str(&self) -> &str
         ensures { result.now ≡ self.now }
     {

@@ -19,8 +19,8 @@ pub enum RefType {
     ExternRef,
 }
 
-/// An operand's type while a body is validated: a value type, or any type, where an operand is taken that can't be reached
-/// (Validation, Instructions, Operand Types).
+/// An operand's type while a body is validated: a value type, or any type, for an operand in unreachable code (Validation,
+/// Instructions, Operand Types).
 #[derive(Clone, Copy, PartialEq, Eq)]
 pub enum OperandType {
     Known(ValType),
@@ -34,7 +34,7 @@ pub struct FuncType {
     pub results: Items<ValType>,
 }
 
-/// Whether two lists of types are equal.
+/// Returns whether two lists of types are equal.
 pub fn are_same_types(first: &[ValType], second: &[ValType]) -> bool
     ensures { IsTrue result ↔ (first.now ≡ second.now) }
 {
@@ -50,7 +50,7 @@ pub fn are_same_types(first: &[ValType], second: &[ValType]) -> bool
 }
 
 impl FuncType {
-    /// Whether two types have equal parameters and equal results.
+    /// Returns whether two types have equal parameters and equal results.
     pub fn is_same(&self, other: &FuncType) -> bool
         ensures { IsTrue result ↔ (self.now ≡ other.now) }
     {
@@ -58,7 +58,7 @@ impl FuncType {
             && are_same_types(self.results.as_slice(), other.results.as_slice())
     }
 
-    /// The same type, with lists of its own.
+    /// Returns a copy of the type, with its own lists.
     pub fn copy(&self, alloc: Global) -> Result<FuncType, AllocError>
         ensures { IfOk result (λ copied. copied ≡ self.now) }
     {
@@ -71,7 +71,7 @@ impl FuncType {
     }
 }
 
-/// How many pages a memory may have: as many as fill an address space of 32 bits (Validation, Types, Memory Types).
+/// The most pages that a memory may have: those that fill a 32-bit address space (Validation, Types, Memory Types).
 pub const MAX_PAGES: u32 = 65_536;
 
 /// The bounds of a memory or a table (Structure, Types, Limits).

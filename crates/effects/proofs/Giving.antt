@@ -1,4 +1,4 @@
--- What comes of a write or a growth that was paid for.
+-- The outcome of a write or a growth that was paid for.
 use Rattle.std.proofs.Common.{◌≡◌, ℕ, ◌-◌, ◌≤◌, List, [], ◌∷◌, ap, sym, refl, arith}
 use Rattle.std.specs.Prelude.{Some, None, Result, Ok, Err, Bool, true, false, if◌then◌else◌}
 use Rattle.std.specs.declared.alloc.AllocError.{AllocError}
@@ -61,7 +61,7 @@ module _ (code : Contents) (s s' : StateContents) (address cost fuel left : ℕ)
       (record { some = omega arith; enough = omega (arith, enough, price); left = omega (arith, left_is, price); result = ap (λ (n : ℕ). n ∷ []) (sym size_is) }, ap (store_with code) kept)
   grew-table value count false (Err error) price wrong = absurd wrong
 
--- Where a trap costs as much.
+-- A trap has the same cost.
 pub price-one : {X : Type 0} (wanted : Result X Trap) → 1 ≡ price_of_access wanted 1
 price-one (Ok x) = refl
 price-one (Err trap) = refl

@@ -1,4 +1,4 @@
--- What instructions on tables, memories and segments come to, with so much fuel.
+-- The outcomes of instructions on tables, memories and segments, with this fuel.
 use Rattle.std.specs.Prelude.{◌≡◌, ℕ, ◌-◌, ◌<◌, ◌≤◌, List, [], ◌∷◌, map, Option, Some, None, Result, Ok, Err}
 use Rattle.std.specs.declared.alloc.AllocError.{AllocError}
 use Rattle.core_types.specs.declared.outcome.Trap.{Trap}
@@ -11,13 +11,13 @@ use Rattle.effects.specs.declared.payment.Paid.{Paid}
 use Rattle.effects.specs.declared.payment.Refusal.{Refusal}
 use Rattle.effects.specs.declared.payment.Refusal.TheVariants.{NoFuel, NoMemory, Traps}
 
--- What an outcome costs. A trap costs as much as any instruction.
+-- The cost of an outcome. A trap costs the same as any instruction.
 abbrev pub cost_of : Outcome → ℕ
 cost_of (made cost store results) = cost
 cost_of (grown cost store results) = cost
 cost_of (failed trap) = instruction_cost
 
--- There is no result, or one, of this cell.
+-- There is no result, or one with this cell.
 abbrev pub AreInCell : List Val → Option ℕ → Type 0
 AreInCell results None = results ≡ []
 AreInCell results (Some cell) = map cell_of results ≡ cell ∷ []
@@ -29,7 +29,7 @@ pub record IsPaid (cost : ℕ) (results : List Val) (fuel : ℕ) (paid : Paid) :
   pub left : paid.fuel ≡ fuel - cost
   pub result : AreInCell results paid.result
 
--- It was done, and left this store.
+-- The instruction was done, and left this store.
 abbrev pub IsDone : Outcome → Store → (fuel : ℕ) → Paid → Type 0
 IsDone (made cost store results) new fuel paid = IsPaid cost results fuel paid × (new ≡ store)
 IsDone (grown cost store results) new fuel paid = IsPaid cost results fuel paid × (new ≡ store)
@@ -41,26 +41,26 @@ LacksMemory (made cost store results) fuel = ⊥
 LacksMemory (grown cost store results) fuel = cost ≤ fuel
 LacksMemory (failed trap) fuel = ⊥
 
--- It is this trap, for which there is fuel.
+-- The outcome is this trap, for which there is fuel.
 abbrev pub IsTrap : Outcome → (fuel : ℕ) → Trap → Type 0
 IsTrap (made cost store results) fuel other = ⊥
 IsTrap (grown cost store results) fuel other = ⊥
 IsTrap (failed trap) fuel other = (other ≡ trap) × (instruction_cost ≤ fuel)
 
--- It was refused, for this reason.
+-- The instruction was refused, for this reason.
 abbrev pub IsRefused : Outcome → (fuel : ℕ) → Refusal → Type 0
 IsRefused o fuel NoFuel = fuel < cost_of o
 IsRefused o fuel NoMemory = LacksMemory o fuel
 IsRefused o fuel (Traps trap) = IsTrap o fuel trap
 
--- It was done, or refused with the store as it was.
+-- The instruction was done, or refused with the store unchanged.
 abbrev pub Gives : Outcome → (old new : Store) → (fuel : ℕ) → Result Paid Refusal → Type 0
 Gives o old new fuel (Ok paid) = IsDone o new fuel paid
 Gives o old new fuel (Err refusal) = IsRefused o fuel refusal × (new ≡ old)
 
 -- ---- how results are made
 
--- So much is left of the fuel, or it is less than the cost.
+-- This much of the fuel is left, or the fuel is less than the cost.
 abbrev pub IsLeft : (fuel cost : ℕ) → Result ℕ Refusal → Type 0
 IsLeft fuel cost (Ok left) = (cost ≤ fuel) × (left ≡ fuel - cost)
 IsLeft fuel cost (Err refusal) = (fuel < cost) × (refusal ≡ NoFuel)
@@ -68,12 +68,12 @@ IsLeft fuel cost (Err refusal) = (fuel < cost) × (refusal ≡ NoFuel)
 abbrev pub paid_with : (fuel : ℕ) → Option ℕ → Paid
 paid_with fuel result = record { fuel = fuel; result = result }
 
--- What a write that was paid for came to, with so much fuel left.
+-- The outcome of a write that was paid for, with this fuel left.
 abbrev pub after_write : {U : Type 0} → Result U Trap → (left : ℕ) → Result Paid Refusal
 after_write (Ok u) left = Ok (paid_with left None)
 after_write (Err trap) left = Err (Traps trap)
 
--- The same of a growth.
+-- The outcome of a growth that was paid for, with this fuel left.
 abbrev pub after_growth : Result ℕ AllocError → (left : ℕ) → Result Paid Refusal
 after_growth (Ok size) left = Ok (paid_with left (Some size))
 after_growth (Err error) left = Err NoMemory

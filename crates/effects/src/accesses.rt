@@ -12,7 +12,7 @@ use core_types::{Trap, UnaryOp};
 use intops::{extend_signed, unary_32, unary_64};
 use sidetable::{LoadInstruction, StoreInstruction};
 
-// The cell of the byte at an offset, or a trap past the end.
+// Returns the cell of the byte at an offset, or a trap if it is past the end.
 #[inline(always)]
 fn unsigned_8(bytes: &[u8], offset: u64) -> Result<u64, Trap>
     ensures { result ≡ number_from bytes.now offset 1 }
@@ -20,7 +20,7 @@ fn unsigned_8(bytes: &[u8], offset: u64) -> Result<u64, Trap>
     Ok(read_8(bytes, offset)? as u64)
 }
 
-// The cell of the number of the two bytes from an offset on, or a trap past the end.
+// Returns the cell of the number of the two bytes from an offset on, or a trap if they reach past the end.
 #[inline(always)]
 fn unsigned_16(bytes: &[u8], offset: u64) -> Result<u64, Trap>
     requires { offset < 2 ^ 33 }
@@ -29,7 +29,7 @@ fn unsigned_16(bytes: &[u8], offset: u64) -> Result<u64, Trap>
     Ok(read_16(bytes, offset)? as u64)
 }
 
-// The cell of the number of the four bytes from an offset on, or a trap past the end.
+// Returns the cell of the number of the four bytes from an offset on, or a trap if they reach past the end.
 #[inline(always)]
 fn unsigned_32(bytes: &[u8], offset: u64) -> Result<u64, Trap>
     requires { offset < 2 ^ 33 }
@@ -38,7 +38,8 @@ fn unsigned_32(bytes: &[u8], offset: u64) -> Result<u64, Trap>
     Ok(read_32(bytes, offset)? as u64)
 }
 
-/// The cell that a load reads at an offset, or a trap past the end (Execution, Memory Instructions, t.load and t.loadN_sx).
+/// Returns the cell that a load reads at an offset, or a trap if it reads past the end (Execution, Memory Instructions, t.load
+/// and t.loadN_sx).
 ///
 /// The offset is the sum of an operand and the immediate offset of the instruction, both of which have 32 bits.
 #[inline(always)]
@@ -70,7 +71,8 @@ pub fn load_cell(op: LoadInstruction, bytes: &[u8], offset: u64) -> Result<u64, 
     }
 }
 
-/// The cell that `i32.load` reads at an offset, or a trap past the end (Execution, Memory Instructions, t.load).
+/// Returns the cell that `i32.load` reads at an offset, or a trap if it reads past the end (Execution, Memory Instructions,
+/// t.load).
 #[inline(always)]
 pub fn load_i32(bytes: &[u8], offset: u64) -> Result<u64, Trap>
     requires { offset < 2 ^ 33 }

@@ -1,5 +1,5 @@
-//! What instructions do: numeric instructions, loads and stores over cells, and those on tables, memories and segments over the state,
-//! each proved equal to its case of the definitions.
+//! The effects of instructions: numeric instructions, loads and stores over cells, and instructions on tables, memories and
+//! segments over the state. Each is proved equal to its case of the definitions.
 #![tactic(auto)]
 
 mod accesses;

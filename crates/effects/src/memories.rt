@@ -13,8 +13,8 @@ use bulkops::{
 };
 use store::State;
 
-/// Adds that many pages of zeros to a memory, and gives the size before, in pages; or -1, for one unit of fuel, where the memory may
-/// not have so many (Execution, Memory Instructions, memory.grow).
+/// Appends `pages` pages of zeros to a memory. The result is the size before, in pages. If the memory may not have that many,
+/// the result is -1, for one unit of fuel (Execution, Memory Instructions, memory.grow).
 ///
 /// A memory has at most 2^16 pages, no more than its type allows, and no more than the state allows.
 pub fn grow_memory(state: &mut State, address: u32, pages: u32, fuel: u64) -> Result<Paid, Refusal>
@@ -28,8 +28,8 @@ pub fn grow_memory(state: &mut State, address: u32, pages: u32, fuel: u64) -> Re
     grown(mem_grow(state, address, pages), left)
 }
 
-/// Gives that many bytes of a memory from an offset on the low byte of a value; or traps past the end, for one unit of fuel, and
-/// writes nothing (Execution, Memory Instructions, memory.fill).
+/// Fills `count` bytes of a memory from an offset on with the low byte of a value. If they reach past the end, traps for one
+/// unit of fuel and writes nothing (Execution, Memory Instructions, memory.fill).
 pub fn fill_memory(
     state: &mut State,
     address: u32,
@@ -48,8 +48,8 @@ pub fn fill_memory(
     written(mem_fill(state, address, offset, value, count), left)
 }
 
-/// Copies that many bytes within a memory, as if they were read before any is written; or traps past the end, for one unit of fuel,
-/// and writes nothing (Execution, Memory Instructions, memory.copy).
+/// Copies `count` bytes within a memory, as if all were read before any is written. If they reach past the end, traps for one
+/// unit of fuel and writes nothing (Execution, Memory Instructions, memory.copy).
 pub fn copy_memory(
     state: &mut State,
     address: u32,
@@ -69,8 +69,8 @@ pub fn copy_memory(
     written(mem_copy(state, address, target, from, count), left)
 }
 
-/// Copies that many bytes of a data segment into a memory; or traps past the end of either, for one unit of fuel, and writes nothing
-/// (Execution, Memory Instructions, memory.init).
+/// Copies `count` bytes of a data segment into a memory. If they reach past the end of either, traps for one unit of fuel and
+/// writes nothing (Execution, Memory Instructions, memory.init).
 pub fn init_memory(
     state: &mut State,
     address: u32,

@@ -11,7 +11,7 @@ use intops::{
 };
 use sidetable::{BinaryInstruction, UnaryInstruction};
 
-/// The low 32 bits of a cell, which are the integer of an i32 (Execution, Numerics, Conversions, wrap).
+/// Returns the low 32 bits of a cell, which are the integer of an i32 (Execution, Numerics, Conversions, wrap).
 #[inline(always)]
 pub fn low(x: u64) -> u32
     ensures { result ≡ x % 2 ^ 32 }
@@ -19,7 +19,7 @@ pub fn low(x: u64) -> u32
     wrap(x)
 }
 
-/// The cell of what an instruction on one integer gives from the integer of a cell (Execution, Numeric Instructions).
+/// Returns the cell of the result of an instruction on the integer of a cell (Execution, Numeric Instructions).
 #[inline(always)]
 pub fn compute_unary(op: UnaryInstruction, x: u64) -> u64
     requires { IsCellOf (operand_type (unary_op op)) x }
@@ -45,7 +45,7 @@ pub fn compute_unary(op: UnaryInstruction, x: u64) -> u64
     }
 }
 
-// The integer of a cell of 32 bits.
+// Returns the integer of a 32-bit cell.
 #[inline(always)]
 fn integer_32(x: u64) -> u32
     requires { x < 2 ^ 32 }
@@ -54,7 +54,7 @@ fn integer_32(x: u64) -> u32
     low(x)
 }
 
-// What an operator gives from the cells of two integers of 32 bits, or its trap.
+// Returns the result of an operator on the cells of two 32-bit integers, or its trap.
 #[inline(always)]
 fn binary_low(op: BinaryOp, x: u64, y: u64) -> Result<u64, Trap>
     requires x { x < 2 ^ 32 }
@@ -64,7 +64,7 @@ fn binary_low(op: BinaryOp, x: u64, y: u64) -> Result<u64, Trap>
     Ok(binary_32(op, integer_32(x), integer_32(y))? as u64)
 }
 
-// Whether the cells of two integers of 32 bits compare so, as a cell.
+// Returns whether the cells of two 32-bit integers satisfy a comparison, as a cell.
 #[inline(always)]
 fn compare_low(op: Comparison, x: u64, y: u64) -> u64
     requires x { x < 2 ^ 32 }
@@ -74,8 +74,8 @@ fn compare_low(op: Comparison, x: u64, y: u64) -> u64
     compare_32(op, integer_32(x), integer_32(y)) as u64
 }
 
-/// The cell of what an instruction on two integers gives from those of two cells, the first operand before the second, or its trap:
-/// a division or a remainder by zero, or a signed quotient that its type does not hold (Execution, Numeric Instructions).
+/// Returns the cell of the result of an instruction on the integers of two cells, the first operand first, or its trap. It traps
+/// for a division or a remainder by zero, or for a signed quotient that does not fit its type (Execution, Numeric Instructions).
 #[inline(always)]
 pub fn compute_binary(op: BinaryInstruction, x: u64, y: u64) -> Result<u64, Trap>
     requires first { IsCellOf (operand_type (binary_op op)) x }

@@ -4,25 +4,24 @@ ghost use Rattle.effects.specs.Outcomes.{IsLeft, after_growth, after_write};
 use core_types::Trap;
 use std::alloc::AllocError;
 
-/// An instruction that was done and paid for: the fuel that is left, and the cell of its result, if it has one.
+/// An instruction that was done and paid for: the fuel left, and the cell of its result, if it has one.
 #[derive(Clone, Copy)]
 pub struct Paid {
     pub fuel: u64,
     pub result: Option<u64>,
 }
 
-/// Why an instruction was not done. The store is as it was.
+/// Why an instruction was not done. The store is unchanged.
 #[derive(Clone, Copy)]
 pub enum Refusal {
-    /// It costs more than there is.
+    /// It costs more than the fuel left.
     NoFuel,
-    /// A table or a memory grows, for which there is no memory. It costs nothing.
+    /// An allocation failed for a table or a memory that grows. It costs nothing.
     NoMemory,
     /// It traps, which costs one unit.
     Traps(Trap),
 }
 
-// Pays a cost.
 pub(crate) fn pay(fuel: u64, cost: u64) -> Result<u64, Refusal>
     ensures { IsLeft fuel cost result }
 {
@@ -32,7 +31,7 @@ pub(crate) fn pay(fuel: u64, cost: u64) -> Result<u64, Refusal>
     Ok(fuel - cost)
 }
 
-// What a write that was paid for came to.
+// Returns the outcome of a write that was paid for.
 pub(crate) fn written(write: Result<(), Trap>, left: u64) -> Result<Paid, Refusal>
     ensures { result ≡ after_write write left }
 {
@@ -45,7 +44,7 @@ pub(crate) fn written(write: Result<(), Trap>, left: u64) -> Result<Paid, Refusa
     }
 }
 
-// What a growth that was paid for came to.
+// Returns the outcome of a growth that was paid for.
 pub(crate) fn grown(growth: Result<u32, AllocError>, left: u64) -> Result<Paid, Refusal>
     ensures { result ≡ after_growth growth left }
 {

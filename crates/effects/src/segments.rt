@@ -9,7 +9,7 @@ use crate::payment::{Paid, Refusal, pay};
 use bulkops::{data_drop, elem_drop};
 use store::State;
 
-/// Leaves an element segment without references, for one unit of fuel (Execution, Table Instructions, elem.drop).
+/// Removes the references of an element segment, for one unit of fuel (Execution, Table Instructions, elem.drop).
 pub fn drop_elements(state: &mut State, segment: u32, fuel: u64) -> Result<Paid, Refusal>
     requires { segment < length state.old.contents.elements }
     ensures { (code : Contents) → Gives
@@ -25,7 +25,7 @@ pub fn drop_elements(state: &mut State, segment: u32, fuel: u64) -> Result<Paid,
     })
 }
 
-/// Leaves a data segment without bytes, for one unit of fuel (Execution, Memory Instructions, data.drop).
+/// Removes the bytes of a data segment, for one unit of fuel (Execution, Memory Instructions, data.drop).
 pub fn drop_data(state: &mut State, segment: u32, fuel: u64) -> Result<Paid, Refusal>
     requires { segment < length state.old.contents.datas }
     ensures { (code : Contents) → Gives

@@ -20,7 +20,7 @@ use cells::{cell_of, value_of};
 use core_types::{RefType, Val, ValType};
 use store::State;
 
-// The entry of a table that a cell is.
+// Returns the entry of a table that a cell represents.
 fn entry(state: &State, address: u32, cell: u64) -> Val
     requires there { address < length state.now.contents.tables }
     requires cell { IsCellOf (entry_of (table_of state.now address)) cell }
@@ -36,7 +36,8 @@ fn entry(state: &State, address: u32, cell: u64) -> Val
     }
 }
 
-/// Reads the entry of a table at an offset, for one unit of fuel; or traps past the end (Execution, Table Instructions, table.get).
+/// Reads the entry of a table at an offset, for one unit of fuel, or traps if it is past the end (Execution, Table Instructions,
+/// table.get).
 pub fn get_entry(state: &State, address: u32, offset: u32, fuel: u64) -> Result<Paid, Refusal>
     requires { address < length state.now.contents.tables }
     ensures { (code : Contents) → Gives
@@ -54,7 +55,8 @@ pub fn get_entry(state: &State, address: u32, offset: u32, fuel: u64) -> Result<
     }
 }
 
-/// Sets the entry of a table at an offset, for one unit of fuel; or traps past the end (Execution, Table Instructions, table.set).
+/// Sets the entry of a table at an offset, for one unit of fuel, or traps if it is past the end (Execution, Table Instructions,
+/// table.set).
 pub fn set_entry(
     state: &mut State,
     address: u32,
@@ -75,7 +77,7 @@ pub fn set_entry(
     written(table_set(state, address, offset, value), left)
 }
 
-/// How many entries a table has, for one unit of fuel (Execution, Table Instructions, table.size).
+/// Returns the number of entries of a table, for one unit of fuel (Execution, Table Instructions, table.size).
 pub fn measure_table(state: &State, address: u32, fuel: u64) -> Result<Paid, Refusal>
     requires { address < length state.now.contents.tables }
     ensures { (code : Contents) → Gives
@@ -90,8 +92,8 @@ pub fn measure_table(state: &State, address: u32, fuel: u64) -> Result<Paid, Ref
     })
 }
 
-/// Adds that many entries of a cell to a table, and gives the size before; or -1, for one unit of fuel, where the table may not have
-/// so many (Execution, Table Instructions, table.grow).
+/// Appends `count` entries with the value of a cell to a table. The result is the size before. If the table may not have that
+/// many, the result is -1, for one unit of fuel (Execution, Table Instructions, table.grow).
 ///
 /// A table has at most 2^32 - 1 entries, no more than its type allows, and no more than the state allows.
 pub fn grow_table(
@@ -115,8 +117,8 @@ pub fn grow_table(
     grown(table_grow(state, address, value, count), left)
 }
 
-/// Gives that many entries of a table from an offset on a cell; or traps past the end, for one unit of fuel, and writes nothing
-/// (Execution, Table Instructions, table.fill).
+/// Fills `count` entries of a table from an offset on with the value of a cell. If they reach past the end, traps for one unit
+/// of fuel and writes nothing (Execution, Table Instructions, table.fill).
 pub fn fill_table(
     state: &mut State,
     address: u32,
@@ -139,8 +141,8 @@ pub fn fill_table(
     written(table_fill(state, address, offset, value, count), left)
 }
 
-/// Copies that many entries of a table into another or the same, as if they were read before any is written; or traps past the end of
-/// either, for one unit of fuel, and writes nothing (Execution, Table Instructions, table.copy).
+/// Copies `count` entries of a table into the same or another table, as if all were read before any is written. If they reach
+/// past the end of either, traps for one unit of fuel and writes nothing (Execution, Table Instructions, table.copy).
 pub fn copy_table(
     state: &mut State,
     address: u32,
@@ -164,8 +166,8 @@ pub fn copy_table(
     written(table_copy(state, address, other, target, from, count), left)
 }
 
-/// Copies that many references of an element segment into a table; or traps past the end of either, for one unit of fuel, and writes
-/// nothing (Execution, Table Instructions, table.init).
+/// Copies `count` references of an element segment into a table. If they reach past the end of either, traps for one unit of
+/// fuel and writes nothing (Execution, Table Instructions, table.init).
 pub fn init_table(
     state: &mut State,
     address: u32,

@@ -1,4 +1,4 @@
--- Lemmas on what an embedding holds and does.
+-- Lemmas on the contents and the steps of an embedding.
 pub mod Causes
 pub mod Steps
 pub mod Definitions

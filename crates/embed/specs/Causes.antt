@@ -1,4 +1,4 @@
--- Why commands are refused, by what the layers below answer.
+-- Why commands are refused, by the results of the layers below.
 use Rattle.std.specs.Prelude.{◌≡◌, List, ℕ, Some, None, slice_get, take}
 use Rattle.core_types.specs.declared.module.Import.{Import}
 use Rattle.core_types.specs.declared.module.Module.{Module}

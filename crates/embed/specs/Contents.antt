@@ -10,7 +10,7 @@ use Rattle.store.specs.Contents.{store_of}
 use Rattle.store.specs.Loaded.{LoadedContents}
 use Rattle.embed.specs.declared.embedding.Embedding.{Embedding as Kept}
 
--- The modules that are shared.
+-- The shared modules.
 abbrev pub modules_in : {Z : Type 0} → List (Rc LoadedContents Z) → List Module
 modules_in shared = map (λ (r : Rc LoadedContents _). r.value.source) shared
 

@@ -1,4 +1,4 @@
--- What comes of the creation of an embedding.
+-- The result of creating an embedding.
 use Rattle.std.specs.Prelude.{Result, Ok, Err}
 use Rattle.meaning.specs.embedding.Creation.{Fault}
 use Rattle.meaning.specs.embedding.Machine.{Embedding}
@@ -9,7 +9,7 @@ use Rattle.embed.specs.Contents.{embedding_of}
 use Rattle.embed.specs.Definitions.{fault_in}
 
 module _ {I : Type 0} {F : I → Type 0} where
-  -- It, or why there is none.
+  -- The embedding, or why there is none.
   abbrev pub created : Result (Kept I F) NewFault → Result (Embedding (HostObject I F)) Fault
   created (Ok e) = Ok (embedding_of e)
   created (Err fault) = Err (fault_in fault)

@@ -34,13 +34,13 @@ module _ {I : Type 0} {F : I → Type 0} where
         (host_function (length store.code.hosts) d.host.ty)
     pub counted : length store'.code.hosts ≡ length store.code.hosts + 1
 
-  -- A definition is taken in: it is named, and its object is the next one.
+  -- A definition is added: it is named, and its object is the next one.
   pub record TakesIn (old : Defined I F) (d : HostDefinition (HostObject I F)) (new : Defined I F)
       : Type 0 where
     pub named : IsNamed d old.names new.names old.store new.store
     pub object : hosts_in new.hosts ≡ hosts_in old.hosts ++ d.host ∷ []
 
-  -- Definitions are taken in, and none is at fault, where a memory and a table may have so much.
+  -- Definitions are added, and none is at fault. A memory and a table may have this many pages and entries.
   pub record AreTakenIn (pages entries : ℕ) (ds : List (HostDefinition (HostObject I F)))
       (new : Defined I F) : Type 0 where
     pub names : new.names ≡ with_definitions type_of_host no_names 0 ds
@@ -57,7 +57,7 @@ module _ {I : Type 0} {F : I → Type 0} (members : (i : I) → Ghosts (F i)) wh
     host = record { ty = declared_type members d.func; object = d.func };
   }
 
-  -- Why a definition is refused: for its first cause, or for want of memory.
+  -- Why a definition is refused: for its first cause, or because memory ran out.
   abbrev pub IsAtFault : NewFault → NamesContents → HostDef I F → Type 0
   IsAtFault HostFuncRef names d =
       fault_of type_of_host names (definition_of d) ≡ Some machine.HostFuncRef
@@ -65,7 +65,7 @@ module _ {I : Type 0} {F : I → Type 0} (members : (i : I) → Ghosts (F i)) wh
       fault_of type_of_host names (definition_of d) ≡ Some machine.NameTaken
   IsAtFault OutOfMemory names d = Unit {0}
 
-  -- The first of the definitions that is at fault is refused so, or memory ran out.
+  -- The first definition at fault is refused with this, or memory ran out.
   abbrev pub IsFirstFault : NewFault → List (HostDef I F) → Type 0
   IsFirstFault HostFuncRef ds =
       first_fault type_of_host no_names 0 (map definition_of ds) ≡ Some machine.HostFuncRef

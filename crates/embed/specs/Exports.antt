@@ -1,4 +1,4 @@
--- What a list of exports says: the name and the type of each. The types are in a list of their own.
+-- What a list of exports contains: the name and the type of each. The types are in a separate list.
 use Rattle.std.specs.Prelude.{◌≡◌, ◌⊎◌, ℕ, List, Some, Err, option_map, option_to_list, slice_get, string_bytes}
 use Rattle.std.specs.List.{AllZip}
 use Rattle.core_types.specs.declared.types.ExternType.{ExternType as Type_of}
@@ -31,7 +31,7 @@ abbrev pub named_export : {H : Type 0} → Embedding H → (number : ℕ) → (n
 named_export at number name =
     option_to_list (option_map (λ (ty : Type_of). (name, ty)) (export_type at number name))
 
--- It is refused as a command that asks for it would be, or an allocation failed.
+-- The refusal is that of a command that asks for the export, or an allocation failed.
 abbrev pub IsRefusedExport : {H : Type 0} → Embedding H → (number : ℕ) → (name : List ℕ)
     → Refusal → Type 0
 IsRefusedExport at number name refusal =

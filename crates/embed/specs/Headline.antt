@@ -13,8 +13,8 @@ use Rattle.embed.specs.Definitions.{definition_of}
 use Rattle.embed.specs.declared.host_definitions.HostDef.{HostDef}
 
 module _ {I : Type 0} {F : I → Type 0} (members : (i : I) → Ghosts (F i)) where
-  -- Whatever list of commands is applied to a fresh embedding, its run is one in which host functions answer by the relations of their
-  -- objects alone, through the same embeddings, and each call and each link in it is as the headline says.
+  -- Any list of commands is applied to a fresh embedding. In its run, host functions act by the relations of their objects alone, through
+  -- the same embeddings. Each call and each link in the run is as the headline states.
   abbrev pub IsAsTheHeadlineSays : List (HostDef I F) → Type 0
   IsAsTheHeadlineSays definitions =
       (setup : Setup) (fresh last : Embedding (HostObject I F)) (commands : List Command)

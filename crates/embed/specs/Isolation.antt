@@ -1,4 +1,4 @@
--- What hosts of plug-ins and platforms of contracts want of embeddings with these definitions of host functions.
+-- What hosts of plug-ins and platforms of contracts require of embeddings with these definitions of host functions.
 use Rattle.std.specs.Prelude.{◌≡◌, ℕ, ◌+◌, ◌<◌, ◌↔◌, List, ◌∷◌, Ok, length, map}
 use Rattle.std.specs.List.{All}
 use Rattle.meaning.specs.embedding.Commands.{Command, SetFuel, Reply, Ended}
@@ -28,7 +28,7 @@ module _ {I : Type 0} {F : I → Type 0} (members : (i : I) → Ghosts (F i)) wh
     pub bytes : All LoadsBytes commands
     pub applied : AppliesAll (HostStep members) fresh commands replies at
 
-  -- What the host function answers and leaves is a function of its object, its arguments and the bytes that it borrows.
+  -- The results and the effects of the host function are a function of its object, its arguments and the bytes that it borrows.
   abbrev pub IsFunction : HostDef I F → Type 0
   IsFunction d = KindIsFunction members d.func.vtable
 
@@ -51,8 +51,8 @@ module _ {I : Type 0} {F : I → Type 0} (members : (i : I) → Ghosts (F i)) wh
       → HasCome definitions setup commands replies at → All GivesNothing commands
       → (one ≡ other → ⊥) → AreApart (reach_from at one) (reach_from at other)
 
-  -- Then a command that does not call an instance never changes what it replies, if host functions keep nothing: after the command the
-  -- same replies are possible as before, once the fuel is set.
+  -- Under the same condition, if host functions also keep nothing, a command that does not call an instance never changes its replies.
+  -- After the command, once the fuel is set, the same replies are possible as before.
   abbrev pub OthersChangeNoAnswers : List (HostDef I F) → Type 0
   OthersChangeNoAnswers definitions = (setup : Setup) (before asked : List Command)
       (replied replies : List Reply) (old new : Embedding (HostObject I F)) (number fuel : ℕ)

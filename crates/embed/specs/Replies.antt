@@ -48,7 +48,7 @@ reply_of (Trap trap) = machine.Ended (WithTrap trap)
 reply_of (Exhausted what) = machine.Ended (exhausted_ending what)
 reply_of (Refused refusal) = machine.Refused (refusal_of refusal)
 
--- What each call answers, as the reply to its command.
+-- The result of each call, as the reply to its command.
 abbrev pub load_reply : Result ModuleNumber Refusal → machine.Reply
 load_reply (Ok number) = machine.Loaded number.0
 load_reply (Err refusal) = machine.Refused (refusal_of refusal)
@@ -78,7 +78,7 @@ abbrev pub values_reply : Result (Vec Val Global) Refusal → machine.Reply
 values_reply (Ok values) = machine.Ended (WithValues values.items)
 values_reply (Err refusal) = machine.Refused (refusal_of refusal)
 
--- What there is, or why there is nothing.
+-- What was found, or why nothing was.
 abbrev pub found_or_refusal : {T : Type 0} → Result T Refusal → Result T machine.Refusal
 found_or_refusal (Ok found) = Ok found
 found_or_refusal (Err refusal) = Err (refusal_of refusal)

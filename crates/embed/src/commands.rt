@@ -7,54 +7,73 @@ use crate::refusals::Refusal;
 use core_types::{Exhaustion, Trap, Val};
 use exec::Outcome;
 
-/// What is asked of an embedding. Modules and instances are named by their numbers, which count up from 0, each over its own
-/// successes.
+/// A command to an embedding.
+///
+/// Modules and instances are named by numbers. Both kinds count up from 0, each over its own successes.
 #[derive(Drop)]
 pub enum Command {
-    /// Loads the module that bytes spell, and gives it the next number: `Loaded`. It is refused with `Malformed`, `Unsupported` or
-    /// `Limit` where the bytes spell no module within the limits, with `Invalid` where it is not valid, and with `OutOfMemory`.
+    /// Loads the module that the bytes encode, and gives it the next module number. The reply is `Loaded`.
     ///
-    /// `Load` of the eight bytes `00 61 73 6D 01 00 00 00` answers `Loaded(0)` at first.
+    /// The command is refused with:
+    /// - `Malformed`, `Unsupported` or `Limit` if the bytes encode no module within the limits
+    /// - `Invalid` if the module is not valid
+    /// - `OutOfMemory` if an allocation fails
+    ///
+    /// The first `Load` of the eight bytes `00 61 73 6D 01 00 00 00` gets the reply `Loaded(0)`.
     Load(Vec<u8>),
-    /// Links the module of a number with what the names of its imports stand for: `Linked` with the number of the new instance, or
-    /// `Trap` or `Exhausted` where a segment or the start function ends so, and then there is no number and what was done stays. It
-    /// is refused with `UnknownModule`; with `UnknownImport` where an import's names stand for nothing; then with
-    /// `IncompatibleImport` where what they stand for does not match; then with `Limit` where a table, a memory or the store would
-    /// be larger than it may be; and with `OutOfMemory`.
+    /// Links the module of a number with what the names of its imports stand for. The reply is `Linked` with the number of the
+    /// new instance. If a segment or the start function traps or is exhausted, the reply is `Trap` or `Exhausted`. Then the
+    /// instance has no number, and what was done stays.
     ///
-    /// `Link(0)` answers `Linked(0)` for a first module without imports, and `Linked(1)` when it is linked again.
+    /// The command is refused, in this order, with:
+    /// - `UnknownModule` if there is no such module
+    /// - `UnknownImport` if an import's names stand for nothing
+    /// - `IncompatibleImport` if what they stand for does not match
+    /// - `Limit` if a table, a memory or the store would be larger than it may be
+    ///
+    /// It is refused with `OutOfMemory` if an allocation fails.
+    ///
+    /// `Link(0)` gets the reply `Linked(0)` for a first module without imports, and `Linked(1)` when it is linked again.
     Link(u64),
-    /// Registers the instance of a number under a name, in the place of the one that was registered under it: `Done`. It is refused
-    /// with `UnknownInstance`, then with `NameTaken` where a host function is defined under this name of a module, and with
-    /// `OutOfMemory`.
+    /// Registers the instance of a number under a name, and replaces the instance that was registered under it. The reply is
+    /// `Done`.
     ///
-    /// After `Register(0, "m")` a module may import what instance 0 exports, from `m`.
+    /// The command is refused, in this order, with `UnknownInstance`, and with `NameTaken` if a host function is defined under
+    /// this name of a module. It is refused with `OutOfMemory` if an allocation fails.
+    ///
+    /// After `Register(0, "m")` a module can import the exports of instance 0 from `m`.
     Register(u64, String),
-    /// Calls the function that the instance of a number exports under a name: `Values`, `Trap` or `Exhausted`. It is refused with
-    /// `UnknownInstance`, `UnknownExport`, `WrongKind` where the export is no function, and `BadArguments` where the arguments are
-    /// too many or too few, or one has not its parameter's type or names a function that is not there.
+    /// Calls the function that the instance of a number exports under a name. The reply is `Values`, `Trap` or `Exhausted`.
     ///
-    /// `Call(0, "add", [I32(1), I32(2)])` answers `Values([I32(3)])` where `add` adds.
+    /// The command is refused with:
+    /// - `UnknownInstance` or `UnknownExport`
+    /// - `WrongKind` if the export is not a function
+    /// - `BadArguments` if the number of arguments is wrong, or if an argument has another type than its parameter or names a
+    ///   function that does not exist
+    ///
+    /// If the function adds, `Call(0, "add", [I32(1), I32(2)])` gets the reply `Values([I32(3)])`.
     Call(u64, String, Vec<Val>),
-    /// Reads the global that the instance of a number exports under a name: `Values` with its value alone. It is refused with
-    /// `UnknownInstance`, `UnknownExport`, `WrongKind` where the export is no global, and with `OutOfMemory`.
+    /// Reads the global that the instance of a number exports under a name. The reply is `Values` with its value alone.
     ///
-    /// `GetGlobal(0, "g")` answers `Values([I32(666)])` where `g` is 666.
+    /// The command is refused with `UnknownInstance`, with `UnknownExport`, with `WrongKind` if the export is not a global, and
+    /// with `OutOfMemory`.
+    ///
+    /// If the global is 666, `GetGlobal(0, "g")` gets the reply `Values([I32(666)])`.
     GetGlobal(u64, String),
-    /// Sets the fuel that is left: `Done`, always.
+    /// Sets the fuel left. The reply is always `Done`.
     ///
-    /// After `SetFuel(10)` the fuel that is left is 10.
+    /// After `SetFuel(10)` the fuel left is 10.
     SetFuel(u64),
 }
 
-/// What an embedding answers.
+/// The reply of an embedding to a command.
 #[derive(Drop)]
 pub enum Reply {
     /// The number of the module: `Loaded(0)` for the first.
     Loaded(u64),
     /// The number of the instance: `Linked(0)` for the first.
     Linked(u64),
-    /// It is done, as `SetFuel(10)` always is.
+    /// The command is done. `SetFuel(10)` always gets this reply.
     Done,
     /// The results of a call, or the value of a global: `Values([I32(3)])`.
     Values(Vec<Val>),

@@ -9,7 +9,7 @@ const MAX_DEPTH: u32 = 65_535;
 
 const MAX_ENTRIES: u32 = 10_000_000;
 
-/// What an embedding is set up with.
+/// The setup of an embedding.
 #[derive(Drop)]
 pub struct Config {
     fuel: u64,
@@ -38,8 +38,11 @@ impl Model for Config {
 }
 
 impl Config {
-    /// A setup with so much fuel at first, at most so many open frames, 1 to 65,535, so many pages of one memory, 0 to 65,536, and
-    /// so many entries of one table, 0 to 10,000,000; none where one is out of its range.
+    /// Creates a setup with the initial fuel, the most open frames, the most pages of one memory, and the most entries of one
+    /// table.
+    ///
+    /// The depth is 1 to 65,535, the pages are 0 to 65,536, and the entries are 0 to 10,000,000. Returns none if one is out of
+    /// its range.
     pub fn new(fuel: u64, depth: u32, pages: u32, entries: u32) -> Option<Config>
         ensures in_range { IsSome result ↔ IsInRange
             (record { fuel = fuel; depth = depth; pages = pages; entries = entries }) }
@@ -57,28 +60,28 @@ impl Config {
         })
     }
 
-    /// The fuel at first.
+    /// Returns the initial fuel.
     pub fn fuel(&self) -> u64
         ensures { result ≡ self.now.fuel }
     {
         self.fuel
     }
 
-    /// How many frames may be open.
+    /// Returns the most frames that may be open.
     pub fn depth(&self) -> u32
         ensures { result ≡ self.now.depth }
     {
         self.depth
     }
 
-    /// How many pages a memory may have.
+    /// Returns the most pages that a memory may have.
     pub fn pages(&self) -> u32
         ensures { result ≡ self.now.pages }
     {
         self.pages
     }
 
-    /// How many entries a table may have.
+    /// Returns the most entries that a table may have.
     pub fn entries(&self) -> u32
         ensures { result ≡ self.now.entries }
     {

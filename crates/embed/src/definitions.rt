@@ -12,7 +12,7 @@ use linker::Names;
 use std::alloc::Global;
 use store::Store;
 
-/// The names, the functions and the objects of host functions that are defined.
+/// The names, functions and objects of the host functions that are defined.
 #[derive(Drop)]
 pub struct Defined {
     pub names: Names,
@@ -20,7 +20,7 @@ pub struct Defined {
     pub hosts: HostTable,
 }
 
-// Names a host function, and takes in its type, as of the next host function.
+// Names a host function as the next one, and adds its type.
 fn name_host(
     alloc: Global,
     definition: &HostDef,
@@ -48,7 +48,6 @@ fn name_host(
     Ok(())
 }
 
-// Takes in one host function.
 fn define_host(alloc: Global, definition: HostDef, defined: &mut Defined) -> Result<(), NewFault>
     requires functions { length (store_of defined.old.store).functions + 1 < 2 ^ 32 }
     requires hosts { length defined.old.store.code.hosts + 1 < 2 ^ 32 }
@@ -63,7 +62,7 @@ fn define_host(alloc: Global, definition: HostDef, defined: &mut Defined) -> Res
     Ok(())
 }
 
-/// Takes in host functions, in order. The first at fault is refused.
+/// Defines host functions, in order. Refuses the first one at fault.
 pub fn define_hosts(
     alloc: Global,
     config: &Config,

@@ -1,4 +1,4 @@
-//! An embedding, what it is asked without a command, and its operations.
+//! An embedding, its queries that are not commands, and its operations.
 
 mod operations;
 
@@ -31,7 +31,7 @@ use std::alloc::{AllocError, Global};
 use std::rc::Rc;
 use store::{Callee, LoadedModule, Store};
 
-/// Modules, instances of them over one store, names, host functions, and the fuel that is left.
+/// An embedding: modules, their instances over one store, names, host functions, and the fuel left.
 #[derive(Drop)]
 pub struct Embedding {
     alloc: Global,
@@ -53,11 +53,15 @@ impl Embedding {
     ghost use Rattle.embed.specs.Definitions.{definition_of};
     ghost use Rattle.embed.specs.Replies.{found_or_refusal};
 
-    /// An embedding with these host functions, to which no command was given. At most 2^32 - 1 may be given.
+    /// Creates an embedding with these host functions, at most 2^32 - 1, before any command.
     ///
-    /// The definitions are taken in order, and the first at fault is refused: with `HostFuncRef` where a funcref is among the results
-    /// that it declares, then with `NameTaken` where one before has the same names; with `OutOfMemory` at any of them where there is no
-    /// memory. A refused call drops all host functions.
+    /// # Errors
+    ///
+    /// The definitions are taken in order, and the first one at fault is refused:
+    /// - with `HostFuncRef` if it declares a funcref among its results
+    /// - otherwise with `NameTaken` if an earlier one has the same names
+    ///
+    /// Any of them is refused with `OutOfMemory` if an allocation fails. A refused call drops all host functions.
     pub fn new(alloc: Global, config: Config, hosts: Vec<HostDef>) -> Result<Embedding, NewFault>
         requires { length hosts.items < 2 ^ 32 }
         ensures created { Creates type_of_host config
@@ -79,35 +83,35 @@ impl Embedding {
         Ok(embedding)
     }
 
-    // An embedding is sound, by its type.
+    // The invariant of the type: an embedding is sound.
     fn show_sound(&self)
         ensures { IsSound type_of_host (embedding_of self.now) }
     {
         let _ = self.store.state();
     }
 
-    /// What it was set up with.
+    /// Returns the setup of the embedding.
     pub fn config(&self) -> &Config
         ensures { result.now ≡ (embedding_of self.now).setup }
     {
         &self.config
     }
 
-    /// The fuel that is left.
+    /// Returns the fuel left.
     pub fn fuel_left(&self) -> u64
         ensures { result ≡ (embedding_of self.now).state.fuel }
     {
         self.meter.left()
     }
 
-    // The address of the instance of a number, if there is one.
+    // Returns the address of the instance of a number, if there is one.
     fn instance(&self, number: u64) -> Option<u32>
         ensures { result ≡ slice_get (embedding_of self.now).instances number }
     {
         self.instances.get(number as usize).copied()
     }
 
-    // What the instance of a number exports under a name.
+    // Returns what the instance of a number exports under a name.
     fn export(&self, number: u64, name: &str) -> Result<Extern, Refusal>
         ensures { found_or_refusal result ≡ export_at (embedding_of self.now) number name.now }
     {
@@ -120,7 +124,7 @@ impl Embedding {
         }
     }
 
-    // The address of the function that the instance of a number exports under a name.
+    // Returns the address of the function that the instance of a number exports under a name.
     fn exported_function(&self, number: u64, name: &str) -> Result<u32, Refusal>
         ensures { found_or_refusal result ≡ as_function
             (export_at (embedding_of self.now) number name.now) }
@@ -131,7 +135,7 @@ impl Embedding {
         }
     }
 
-    // The address of the global that the instance of a number exports under a name.
+    // Returns the address of the global that the instance of a number exports under a name.
     fn exported_global(&self, number: u64, name: &str) -> Result<u32, Refusal>
         ensures { found_or_refusal result ≡ as_global
             (export_at (embedding_of self.now) number name.now) }
@@ -142,12 +146,12 @@ impl Embedding {
         }
     }
 
-    /// Returns the type of what an instance exports under a name, that of a table or a memory with the present size as minimum; none if
-    /// there is no such instance or no such export.
+    /// Returns the type of what an instance exports under a name. The minimum of a table or a memory is its present size.
+    /// Returns none if there is no such instance or no such export.
     ///
     /// # Errors
     ///
-    /// Fails only for a function, if memory for its types runs out.
+    /// Fails only for a function, if the allocation of its types fails.
     pub fn export_type(
         &self,
         instance: InstanceNumber,
@@ -166,7 +170,7 @@ impl Embedding {
         Ok(Some(self.store.extern_type(self.alloc, found)?))
     }
 
-    // The type of what an instance at an address exports by this index, if it is there.
+    // Returns the type of what an instance at an address exports by this index, if it exists.
     fn type_of_export(
         &self,
         instance: u32,
@@ -184,7 +188,7 @@ impl Embedding {
         Ok(Some(self.store.extern_type(self.alloc, found)?))
     }
 
-    // Where the function is declared that an instance at an address exports by this index.
+    // Returns where a function is declared: the one that the instance at an address exports by this index.
     fn declaration(&self, instance: u32, desc: ExportDesc) -> Option<Declaration> {
         let Extern::Func(address) = self.store.code().extern_of(instance, desc)? else {
             return None;
@@ -197,7 +201,7 @@ impl Embedding {
         }
     }
 
-    // Adds an export of the instance at an address to a list, if it stands for something.
+    // Appends an export of the instance at an address to a list, if the export stands for something.
     fn list_export(
         &self,
         instance: u32,
@@ -215,12 +219,12 @@ impl Embedding {
         listing.push(export.name.as_str(), declaration, ty)
     }
 
-    /// Lists what an instance exports, in the order of its module; nothing if there is no such instance. Functions that are declared at
-    /// one place share one type in the list.
+    /// Returns a list of what an instance exports, in the order of its module, or an empty one if there is no such instance.
+    /// Functions that are declared at one place share one type in the list.
     ///
     /// # Errors
     ///
-    /// Fails if an allocation failed.
+    /// Fails if an allocation fails.
     pub fn exports(&self, instance: InstanceNumber) -> Result<Exports, AllocError>
         ensures { IfOk result (λ found. AreExports found
             (exports_at (embedding_of self.now) instance.0)) }
@@ -235,7 +239,7 @@ impl Embedding {
         Ok(listing.finish())
     }
 
-    /// Lists the export of a name with its type, as `exports` lists all.
+    /// Returns a list of the export of a name with its type. The list has the form of the list of `exports`.
     ///
     /// # Errors
     ///

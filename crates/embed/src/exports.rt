@@ -6,7 +6,7 @@ use core_types::ExternType;
 use std::alloc::{AllocError, Global};
 use std::collections::BTreeMap;
 
-/// An export of an instance: its name, and which of the listed types it has.
+/// An export of an instance: its name, and the index of its type.
 #[derive(Drop)]
 pub struct ExportType {
     pub name: String,
@@ -14,11 +14,11 @@ pub struct ExportType {
     pub ty: usize,
 }
 
-/// What an instance exports, in the order of its module. Functions that one instance declares by one index of its types share one type
-/// in the list, and so do exports of one host function. So a long type is not listed anew for each export.
+/// What an instance exports, in the order of its module. Functions that one instance declares by one index of its types share
+/// one type in the list, and so do exports of one host function. So a long type is not listed again for each export.
 #[derive(Drop)]
 pub struct Exports {
-    /// The types; that of a table or a memory has the present size as minimum.
+    /// The types. The minimum of a table or a memory is its present size.
     pub types: Vec<ExternType>,
     pub exports: Vec<ExportType>,
 }
@@ -30,7 +30,7 @@ pub(crate) enum Declaration {
     InHost(u32),
 }
 
-/// A list of exports while it grows, with the indices of the types of functions.
+/// A growing list of exports, with the indices of the types of functions.
 #[derive(Drop)]
 pub(crate) struct Listing {
     alloc: Global,
@@ -38,7 +38,7 @@ pub(crate) struct Listing {
     known: BTreeMap<Declaration, usize>,
 }
 
-// The index of a type in the list, if it is that of a function that is declared there.
+// Returns the index of the type of the function of this declaration, if the list has it.
 fn known_type(
     types: &[ExternType],
     known: &BTreeMap<Declaration, usize>,
@@ -54,7 +54,6 @@ fn known_type(
     }
 }
 
-// Adds a type to the list.
 fn add_type(types: &mut Vec<ExternType>, ty: ExternType) -> Result<usize, AllocError>
     ensures there { IfOk result (λ index. slice_get types.new.items index ≡ Some ty) }
     ensures kept { OnOk result (KeepsTypes types.old.items types.new.items) }
@@ -65,7 +64,7 @@ fn add_type(types: &mut Vec<ExternType>, ty: ExternType) -> Result<usize, AllocE
 }
 
 impl Listing {
-    /// The empty list.
+    /// Creates an empty list.
     pub(crate) fn new(alloc: Global) -> Listing
         ensures { AreExports result.found ([]) }
     {
@@ -79,7 +78,7 @@ impl Listing {
         }
     }
 
-    // The index of a type in the list. The type is added unless it is known.
+    // Returns the index of a type in the list, and adds the type unless the list has it.
     fn index_of(
         &mut self,
         declaration: Option<Declaration>,
@@ -101,7 +100,7 @@ impl Listing {
         add_type(&mut self.found.types, ty)
     }
 
-    /// Adds an export of a name and a type, which functions of one declaration share.
+    /// Appends an export with a name and a type. Functions of one declaration share the type.
     pub(crate) fn push(
         &mut self,
         name: &str,
@@ -117,7 +116,7 @@ impl Listing {
         Ok(())
     }
 
-    /// The list as it is.
+    /// Returns the list.
     pub(crate) fn finish(self) -> Exports
         ensures { result ≡ self.found }
     {

@@ -7,7 +7,7 @@ use core_types::{FuncType, Items, Val, ValType};
 use hostfunc::HostFault;
 use std::alloc::{AllocError, Global};
 
-/// The type of a function with these parameters and results. Fails where there is no memory for them.
+/// Creates the type of a function with these parameters and results. Fails if an allocation fails.
 pub fn func_type(
     alloc: Global,
     params: &[ValType],
@@ -24,14 +24,14 @@ pub fn func_type(
     })
 }
 
-/// The results of a host function that has none. Takes no memory.
+/// Returns the results of a host function that has no result. Allocates nothing.
 pub fn no_results(alloc: Global) -> Vec<Val>
     ensures { result.items ≡ [] }
 {
     Vec::new(alloc)
 }
 
-/// The results of a host function that has one. Fails with `HostFault::Memory` where there is no memory for it.
+/// Returns the results of a host function that has one result. Fails with `HostFault::Memory` if an allocation fails.
 pub fn one_result(alloc: Global, value: Val) -> Result<Vec<Val>, HostFault>
     ensures ok { IfOk result (λ values. values.items ≡ value ∷ []) }
     ensures err { IfErr result (λ fault. fault ≡ MemoryFault) }
@@ -39,7 +39,7 @@ pub fn one_result(alloc: Global, value: Val) -> Result<Vec<Val>, HostFault>
     Ok(vec![in alloc; value]?)
 }
 
-/// So many bytes of a memory that was lent, from an address on; none where it has not all of them.
+/// Returns `len` bytes of a borrowed memory from the address `start` on, or none if the memory ends before them.
 pub fn bytes_at(memory: &[u8], start: u32, len: u32) -> Option<&[u8]>
     ensures { MatchOption result (length memory.now < start + len)
         (λ bytes. (start + len ≤ length memory.now) × (bytes.now ≡ take len

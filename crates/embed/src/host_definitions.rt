@@ -3,7 +3,7 @@ ghost use Rattle.std.specs.Prelude.{◌≡◌, IfOk, string_bytes};
 use hostfunc::HostFn;
 use std::alloc::{AllocError, Global};
 
-/// A host function, and the names by which modules import it: that of a module, and one in it.
+/// A host function, and the two names by which modules import it: the name of a module, and a name in it.
 #[derive(Drop)]
 pub struct HostDef {
     pub module: String,
@@ -12,7 +12,7 @@ pub struct HostDef {
 }
 
 impl HostDef {
-    /// A host function under these names. Fails where there is no memory for them.
+    /// Creates a host function under these names. Fails if an allocation fails.
     pub fn new(
         alloc: Global,
         module: &str,

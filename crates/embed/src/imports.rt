@@ -9,8 +9,11 @@ use linker::Names;
 use std::alloc::Global;
 use store::Store;
 
-/// What the names of imports stand for, in their order. Refused with `UnknownImport` and the index
-/// of the first one whose names stand for nothing.
+/// Returns what the names of imports stand for, in their order.
+///
+/// # Errors
+///
+/// Refused with `UnknownImport` and the index of the first one whose names stand for nothing, and with `OutOfMemory`.
 pub fn resolve_imports(
     alloc: Global,
     names: &Names,

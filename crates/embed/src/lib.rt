@@ -1,4 +1,4 @@
-//! The embedding: modules are loaded, linked and called by commands, over one store, its names and its fuel.
+//! The embedding: commands load, link and call modules over one store, with its names and its fuel.
 #![tactic(auto)]
 
 mod commands;

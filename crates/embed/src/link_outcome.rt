@@ -8,18 +8,18 @@ use crate::numbers::InstanceNumber;
 use core_types::{Exhaustion, Trap};
 use exec::Outcome;
 
-/// How a link ended that was not refused.
+/// The end of a link that was not refused.
 #[derive(Clone, Copy, PartialEq, Eq, Debug)]
 pub enum LinkOutcome {
     /// The instance has this number.
     Linked(InstanceNumber),
-    /// A segment or the start function trapped. There is no instance of a number, and what was done stays.
+    /// A segment or the start function trapped. The instance has no number, and what was done stays.
     Trap(Trap),
-    /// The start function ran out of fuel, depth or memory. There is no instance of a number, and what was done stays.
+    /// The start function ran out of fuel, depth or memory. The instance has no number, and what was done stays.
     Exhausted(Exhaustion),
 }
 
-/// The outcome of a link that ended so, and not with values.
+/// Returns the outcome of a link that ended like this run, which returned no values.
 pub fn without_instance(outcome: &Outcome) -> LinkOutcome
     requires { HasNoValues (ending_of outcome.now) }
     ensures { link_outcome_reply result ≡ Ended (ending_of outcome.now) }

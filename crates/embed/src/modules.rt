@@ -10,7 +10,7 @@ use std::rc::Rc;
 use store::LoadedModule;
 use validator::validate;
 
-/// The module that bytes spell, if it is valid.
+/// Returns the module that the bytes encode, if it is valid.
 pub fn load_module(alloc: Global, bytes: &[u8]) -> Result<Rc<LoadedModule>, Refusal>
     ensures decoded { IfOk result (λ loaded. IsDecoded bytes.now loaded.value.source) }
     ensures valid { IfOk result (λ loaded. IsValid loaded.value.source) }

@@ -7,7 +7,7 @@ use linker::NameRefusal;
 use std::alloc::{AllocError, AllocFailed};
 use thiserror::Error;
 
-/// Why there is no embedding.
+/// Why an embedding was not created.
 #[derive(Debug, Drop, Error)]
 pub enum NewFault {
     /// A host function declares a funcref among its results.
@@ -16,13 +16,13 @@ pub enum NewFault {
     /// Two host functions have the same names.
     #[error("two host functions have the same names")]
     NameTaken,
-    /// There was no memory.
+    /// An allocation failed.
     #[error("out of memory")]
     OutOfMemory,
 }
 
 impl NewFault {
-    /// The number of the fault.
+    /// Returns the number of the fault.
     pub fn number(&self) -> u8
         ensures { result ≡ fault_number (fault_in self.now) }
     {

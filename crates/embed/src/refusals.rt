@@ -11,22 +11,22 @@ use std::alloc::{AllocError, AllocFailed};
 use thiserror::Error;
 use validator::{Place, ValidateError};
 
-/// Why a command is refused, and where, if there is a place. Nothing has changed.
+/// Why a command is refused, and at which place, if there is one. A refused command changes nothing.
 #[derive(Clone, Copy, PartialEq, Eq, Debug, Error)]
 pub enum Refusal {
-    /// The bytes spell no module: reading failed at this byte of them.
+    /// The bytes encode no module: reading failed at this byte.
     #[error("malformed module at byte {0}")]
     Malformed(usize),
-    /// The bytes use what is left out, from this byte of them on.
+    /// The bytes use a feature that is not supported, at this byte.
     #[error("unsupported feature at byte {0}")]
     Unsupported(usize),
-    /// A limit is passed.
+    /// A limit is exceeded.
     #[error("a limit is passed")]
     Limit,
-    /// No typing accepts the module, in this place.
+    /// No typing accepts the module, at this place.
     #[error("invalid module in {0}")]
     Invalid(Place),
-    /// There is no module of the number.
+    /// No module has the number.
     #[error("there is no module of the number")]
     UnknownModule,
     /// The names of the import of this index stand for nothing.
@@ -35,28 +35,28 @@ pub enum Refusal {
     /// What the names of the import of this index stand for does not match.
     #[error("import {0} is of another type")]
     IncompatibleImport(usize),
-    /// There is no instance of the number.
+    /// No instance has the number.
     #[error("there is no instance of the number")]
     UnknownInstance,
     /// Nothing is exported under the name.
     #[error("nothing is exported under the name")]
     UnknownExport,
-    /// What is exported is no function, or no global.
+    /// What is exported is not a function, or not a global.
     #[error("the export is of another kind")]
     WrongKind,
-    /// The arguments are too many or too few, or one has not its type.
+    /// The number of arguments is wrong, or an argument has the wrong type.
     #[error("the arguments are not those of the function")]
     BadArguments,
     /// A host function has the name.
     #[error("a host function has the name")]
     NameTaken,
-    /// There was no memory.
+    /// An allocation failed.
     #[error("out of memory")]
     OutOfMemory,
 }
 
 impl Refusal {
-    /// The number of the refusal, which does not tell where.
+    /// Returns the number of the refusal, which does not include the place.
     pub fn number(self) -> u8
         ensures { result ≡ number_of (refusal_of self) }
     {
@@ -77,7 +77,7 @@ impl Refusal {
         }
     }
 
-    /// The name of the refusal, which does not tell where.
+    /// Returns the name of the refusal, which does not include the place.
     pub fn name(self) -> &'static str {
         match self {
             Refusal::Malformed(_) => "Malformed",

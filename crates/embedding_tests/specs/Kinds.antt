@@ -1,4 +1,4 @@
--- What the host functions of the tests give.
+-- The results of the host functions of the tests.
 use Rattle.std.specs.Prelude.{List, [], ◌∷◌}
 use Rattle.core_types.specs.declared.types.ValType.{ValType}
 use Rattle.core_types.specs.declared.types.ValType.TheVariants.{I32, I64, FuncRef, ExternRef}

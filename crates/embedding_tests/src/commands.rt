@@ -1,4 +1,4 @@
-//! Commands that follow one another, and their replies.
+//! Sequences of commands, and their replies.
 
 use crate::engines::{Asked, want_memory};
 use core_types::{Exhaustion, Trap, Val};
@@ -6,7 +6,7 @@ use embed::{Config, Embedding, InstanceNumber, LinkOutcome, ModuleNumber, Place,
 use std::alloc::Global;
 use testing::assemble;
 
-/// What a command answers.
+/// The expected reply to a command.
 #[derive(Clone, Copy)]
 pub enum Answer {
     // The number of a module, or of an instance.
@@ -20,7 +20,7 @@ pub enum Answer {
 
 use Answer::{Done, Lacks, Number, Refused, Trapped, Values};
 
-/// A command with its answer, or the fuel that is left then.
+/// A command with its expected reply, or the fuel left at this point.
 #[derive(Clone, Copy)]
 pub enum Step {
     // The bytes of a module.
@@ -28,9 +28,9 @@ pub enum Step {
     // The text of a module.
     Load(&'static str, Answer),
     Link(u64, Answer),
-    // A module that is linked so many times, whatever the answers are.
+    // A module that is linked that many times, with any replies.
     LinkTimes(u64, u64),
-    // Modules that differ, one for each number from the first to before the last, are loaded and linked.
+    // Modules that differ, one for each number from the first to before the last. Each is loaded and linked.
     LinkOthers(u64, u64),
     Register(u64, &'static str, Answer),
     Call(u64, &'static str, &'static [Val], Answer),
@@ -43,7 +43,7 @@ use Step::{
     Call, GetGlobal, Left, Link, LinkOthers, LinkTimes, Load, LoadBytes, Register, SetFuel,
 };
 
-// Steps that follow one another in a fresh embedding.
+// Steps in a row, in a fresh embedding.
 struct Row {
     name: &'static str,
     steps: &'static [Step],
@@ -70,7 +70,7 @@ pub const PAST_THE_END: &str =
 const ENTRY_ONE: &str =
     "(import \"ten\" \"table\" (table 10 funcref)) (func (result i32) i32.const 7) (elem (offset i32.const 1) func 0)";
 
-// Takes a reference to a function, and tells whether it is null.
+// Takes a reference to a function, and returns whether it is null.
 pub const TAKES_FUNCTION: &str =
     "(func (param funcref) (result i32) local.get 0 ref.is_null) (export \"is_null\" (func 0))";
 
@@ -159,7 +159,7 @@ static REFUSALS: [Row; 8] = [
     ] },
 ];
 
-// Whether a reply is this answer.
+// Returns whether a reply is the expected one.
 fn is_answer(reply: &Reply, answer: Answer) -> bool {
     match (reply, answer) {
         (Reply::Loaded(number), Number(wanted)) => *number == wanted,
@@ -173,7 +173,7 @@ fn is_answer(reply: &Reply, answer: Answer) -> bool {
     }
 }
 
-// The command that a step is, and its answer, if it is one.
+// Returns the command of a step and the expected reply, if the step is a command.
 fn command_in(step: Step) -> Option<(Asked, Answer)> {
     match step {
         LoadBytes(_, wanted) | Load(_, wanted) => Some((Asked::Load, wanted)),
@@ -186,7 +186,7 @@ fn command_in(step: Step) -> Option<(Asked, Answer)> {
     }
 }
 
-// What is answered where the module of a text is loaded.
+// Returns the reply when the module of a text is loaded.
 fn load_text(alloc: Global, at: &mut Embedding, text: &str) -> Reply {
     match assemble(alloc, text) {
         Ok(bytes) => Reply::from(at.load(bytes.as_slice())),
@@ -194,7 +194,7 @@ fn load_text(alloc: Global, at: &mut Embedding, text: &str) -> Reply {
     }
 }
 
-// What is answered where a global is read.
+// Returns the reply when a global is read.
 fn read(alloc: Global, at: &Embedding, number: u64, name: &str) -> Reply {
     match at.get_global(InstanceNumber(number), name) {
         Ok(value) => match Vec::from_slice(alloc, &[value]) {
@@ -205,7 +205,7 @@ fn read(alloc: Global, at: &Embedding, number: u64, name: &str) -> Reply {
     }
 }
 
-// What the method of its command answers to a step.
+// Returns the reply of the method for a step's command.
 fn ask(alloc: Global, at: &mut Embedding, step: Step) -> Reply {
     match step {
         LoadBytes(bytes, _) => Reply::from(at.load(bytes)),
@@ -222,7 +222,7 @@ fn ask(alloc: Global, at: &mut Embedding, step: Step) -> Reply {
     }
 }
 
-// Whether a step gets the answer of its command, where one command, if it is given, always wants memory.
+// Returns whether a step gets the expected reply. If `wanting` is given, commands of that kind always run out of memory.
 fn gets(alloc: Global, at: &mut Embedding, wanting: Option<Asked>, step: Step) -> bool {
     match command_in(step) {
         Some((asked, wanted)) if wanting == Some(asked) => is_answer(&want_memory(asked), wanted),
@@ -231,14 +231,14 @@ fn gets(alloc: Global, at: &mut Embedding, wanting: Option<Asked>, step: Step) -
     }
 }
 
-// Links a module so many times.
+// Links a module that many times.
 fn link_times(at: &mut Embedding, number: u64, times: u64) {
     for _ in 0..times {
         let _ = at.link(ModuleNumber(number));
     }
 }
 
-// Whether the module of a text is loaded and linked.
+// Returns whether the module of a text is loaded and linked.
 fn links_text(alloc: Global, at: &mut Embedding, text: &str) -> bool {
     let Ok(bytes) = assemble(alloc, text) else {
         return false;
@@ -249,7 +249,7 @@ fn links_text(alloc: Global, at: &mut Embedding, text: &str) -> bool {
     }
 }
 
-// Whether a module with objects of its own, and a function that answers this number, is loaded and linked.
+// Returns whether a module with its own objects, and a function that returns this number, is loaded and linked.
 fn links_other(alloc: Global, at: &mut Embedding, number: u64) -> bool {
     match format!(in alloc;
         "(memory 1) (table 2 funcref) (global i32 i32.const {number}) (func (result i32) i32.const {number}) (elem (offset i32.const 0) func 0) (data (offset i32.const 0) \"x\")"
@@ -259,7 +259,7 @@ fn links_other(alloc: Global, at: &mut Embedding, number: u64) -> bool {
     }
 }
 
-// Whether such modules are loaded and linked, one for each of these numbers.
+// Returns whether such modules are loaded and linked, one for each of these numbers.
 fn links_others(alloc: Global, at: &mut Embedding, first: u64, last: u64) -> bool {
     let mut all = true;
     for number in first..last {
@@ -268,7 +268,7 @@ fn links_others(alloc: Global, at: &mut Embedding, first: u64, last: u64) -> boo
     all
 }
 
-// Whether a step is as it says.
+// Returns whether a step holds.
 fn is_so(alloc: Global, at: &mut Embedding, wanting: Option<Asked>, step: Step) -> bool {
     match step {
         LinkTimes(number, times) => {
@@ -281,7 +281,7 @@ fn is_so(alloc: Global, at: &mut Embedding, wanting: Option<Asked>, step: Step) 
     }
 }
 
-/// Whether all steps are as they say, where one command, if it is given, always wants memory.
+/// Returns whether all steps hold. If `wanting` is given, commands of that kind always run out of memory.
 pub fn steps_hold_wanting(
     alloc: Global,
     at: &mut Embedding,
@@ -295,18 +295,18 @@ pub fn steps_hold_wanting(
     all
 }
 
-/// Whether all steps are as they say.
+/// Returns whether all steps hold.
 pub fn steps_hold(alloc: Global, at: &mut Embedding, steps: &[Step]) -> bool {
     steps_hold_wanting(alloc, at, None, steps)
 }
 
-/// A fresh embedding without host functions.
+/// Returns a fresh embedding without host functions.
 pub fn fresh_embedding(alloc: Global) -> Option<Embedding> {
     let config = Config::new(1_000_000_000, 1_024, 1_024, 1_000_000)?;
     Embedding::new(alloc, config, Vec::new(alloc)).ok()
 }
 
-/// Whether all steps are as they say, in a fresh embedding without host functions.
+/// Returns whether all steps hold in a fresh embedding without host functions.
 pub fn all_are_so(alloc: Global, steps: &[Step]) -> bool {
     match fresh_embedding(alloc) {
         Some(mut at) => steps_hold(alloc, &mut at, steps),
@@ -328,8 +328,8 @@ fn refused_commands_say_why(rt: HostRuntime) {
     }
 }
 
-// Whether so many of the first bytes of the module that adds are answered so: they are loaded where they are a module (without
-// sections, with its type alone, and whole), and are malformed at one of them or at their end elsewhere.
+// Returns whether that many of the first bytes of the module that adds get the right reply. They are loaded if they are a
+// module: without sections, with its type alone, or whole. Otherwise they are malformed at one of them or at their end.
 fn is_answer_to_first(answer: Result<ModuleNumber, Refusal>, count: usize) -> bool {
     match answer {
         Ok(number) => matches!(count, 8 | 17 | 41) && number == ModuleNumber(0),
@@ -338,13 +338,13 @@ fn is_answer_to_first(answer: Result<ModuleNumber, Refusal>, count: usize) -> bo
     }
 }
 
-// Whether so many of the first bytes get their answer from an embedding.
+// Returns whether that many of the first bytes get the right reply from an embedding.
 fn loads_first_in(at: &mut Embedding, count: usize) -> bool {
     let first = &ADD[..count.min(ADD.len())];
     is_answer_to_first(at.load(first), count)
 }
 
-// Whether so many of the first bytes get their answer.
+// Returns whether that many of the first bytes get the right reply.
 fn loads_first(alloc: Global, count: usize) -> bool {
     match fresh_embedding(alloc) {
         Some(mut at) => loads_first_in(&mut at, count),

@@ -6,7 +6,7 @@ use Step::{Call, GetGlobal, Left, Link, Load, Register, SetFuel};
 use core_types::{Trap, Val};
 use embed::{Place, Refusal};
 
-// Steps that follow one another in a fresh embedding.
+// Steps in a row, in a fresh embedding.
 struct Row {
     name: &'static str,
     steps: &'static [Step],
@@ -14,7 +14,7 @@ struct Row {
 
 const GLOBAL: &str = "(global i32 i32.const 666) (export \"global_i32\" (global 0))";
 
-// A function in the second entry of a table, whose offset is an imported global and one more.
+// A function in the second entry of a table. The offset is an imported global plus one.
 const SECOND_ENTRY: &str =
     "(type (func (result i32))) (import \"spectest\" \"one\" (global i32)) (table 3 funcref) (func (result i32) i32.const 42) (func (param i32) (result i32) local.get 0 call_indirect (type 0)) (elem (offset global.get 0 i32.const 1 i32.add) funcref (item ref.func 0)) (export \"call\" (func 1))";
 

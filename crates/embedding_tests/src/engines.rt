@@ -1,9 +1,9 @@
-//! What is tested: an embedding, or one that wants memory for nothing.
+//! The engine under test: an embedding, or one that runs out of memory without need.
 
 use core_types::Exhaustion;
 use embed::{Refusal, Reply};
 
-/// A command of any arguments.
+/// A command with any arguments.
 #[derive(Clone, Copy, PartialEq, Eq)]
 pub enum Asked {
     Load,
@@ -14,7 +14,7 @@ pub enum Asked {
     SetFuel,
 }
 
-/// What an embedding that wants memory, though it is there, answers to a command.
+/// Returns the reply to a command of an embedding that runs out of memory without need.
 pub fn want_memory(asked: Asked) -> Reply {
     match asked {
         Asked::Call => Reply::Exhausted(Exhaustion::Memory),

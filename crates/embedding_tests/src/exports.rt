@@ -53,7 +53,6 @@ static EXPORTS: [(&str, Type); 6] = [
     ("again", Type::Function(ValType::I32, ValType::I64)),
 ];
 
-// Whether a type is this one.
 fn is_type(found: Option<&ExternType>, wanted: Type) -> bool {
     match (found, wanted) {
         (None, Type::Nothing) => true,
@@ -82,18 +81,16 @@ static GROWN: [Step; 3] = [
     Call(0, "grow", &[], Values(&[])),
 ];
 
-// An embedding with that instance.
 fn embedding_with_instance(alloc: Global) -> Option<Embedding> {
     let mut at = fresh_embedding(alloc)?;
     steps_hold(alloc, &mut at, &GROWN).then_some(at)
 }
 
-// The rows.
 fn rows() -> &'static [Row] {
     &ROWS
 }
 
-// Whether an answer is the type of a row.
+// Returns whether a result is the type of a row.
 fn is_right(answer: Result<Option<ExternType>, AllocError>, row: &Row) -> bool {
     match answer {
         Ok(found) => is_type(found.as_ref(), row.ty),
@@ -101,12 +98,12 @@ fn is_right(answer: Result<Option<ExternType>, AllocError>, row: &Row) -> bool {
     }
 }
 
-// Whether an export has its type.
+// Returns whether an export has its type.
 fn is_so(at: &Embedding, row: &Row) -> bool {
     is_right(at.export_type(InstanceNumber(row.instance), row.name), row)
 }
 
-// Whether all exports have their types.
+// Returns whether all exports have their types.
 fn all_are_so(alloc: Global) -> bool {
     let Some(at) = embedding_with_instance(alloc) else {
         return false;
@@ -130,14 +127,12 @@ fn call_always_out_of_memory(rt: HostRuntime) {
     }
 }
 
-// Whether exports are these.
 fn are_exports(found: &Exports, wanted: &[(&str, Type)]) -> bool {
     found.exports.len() == wanted.len()
         && found.exports.iter().zip(wanted).all(|(export, (name, ty))| export.name.as_str() == *name
             && is_type(found.types.get(export.ty), *ty))
 }
 
-// Whether an instance has these exports.
 fn has_exports(at: &Embedding, instance: u64, wanted: &[(&str, Type)]) -> bool {
     match at.exports(InstanceNumber(instance)) {
         Ok(found) => are_exports(&found, wanted),
@@ -145,7 +140,7 @@ fn has_exports(at: &Embedding, instance: u64, wanted: &[(&str, Type)]) -> bool {
     }
 }
 
-// Whether the instance has its exports, and one that is not there has none.
+// Returns whether the instance has its exports, and an instance that does not exist has none.
 fn exports_are_so(alloc: Global) -> bool {
     match embedding_with_instance(alloc) {
         Some(at) => has_exports(&at, 0, &EXPORTS) && has_exports(&at, 1, &[]),
@@ -153,7 +148,7 @@ fn exports_are_so(alloc: Global) -> bool {
     }
 }
 
-// Whether this many types are listed for the exports of the instance.
+// Returns whether this many types are listed for the exports of the instance.
 fn has_types(at: &Embedding, count: usize) -> bool {
     match at.exports(InstanceNumber(0)) {
         Ok(found) => found.types.len() == count,
@@ -161,7 +156,7 @@ fn has_types(at: &Embedding, count: usize) -> bool {
     }
 }
 
-// Two exports of one function share their type.
+// Returns whether two exports of one function share their type.
 fn types_are_shared(alloc: Global) -> bool {
     match embedding_with_instance(alloc) {
         Some(at) => has_types(&at, 5),
@@ -169,7 +164,7 @@ fn types_are_shared(alloc: Global) -> bool {
     }
 }
 
-// Whether an answer is the export of a row, or that there is none.
+// Returns whether a result is the export of a row, or that there is none.
 fn is_named(answer: Result<Exports, Refusal>, row: &Row) -> bool {
     match answer {
         Ok(found) => are_exports(&found, &[(row.name, row.ty)]),
@@ -179,7 +174,7 @@ fn is_named(answer: Result<Exports, Refusal>, row: &Row) -> bool {
     }
 }
 
-// Whether each export is found by its name.
+// Returns whether each export is found by its name.
 fn all_are_named(alloc: Global) -> bool {
     let Some(at) = embedding_with_instance(alloc) else {
         return false;

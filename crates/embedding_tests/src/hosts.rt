@@ -1,4 +1,4 @@
-//! Host functions: what they answer, what they are lent, and which definitions are refused.
+//! Host functions: their results, what they borrow, and which definitions are refused.
 
 ghost use Rattle.std.specs.Prelude.{◌≡◌, ◌<◌, ◌^◌, ◌∷◌, [], IfOk, IfErr, length, map};
 ghost use Rattle.std.proofs.Props.{props};
@@ -17,7 +17,7 @@ use embed::{Config, Embedding, HostDef, NewFault, Refusal};
 use hostfunc::{HostFault, HostFn};
 use std::alloc::{AllocError, Global};
 
-// A host function of a kind, and how often it was called.
+// A host function of a kind, and the number of its calls.
 #[derive(Drop)]
 struct Host {
     alloc: Global,
@@ -27,7 +27,6 @@ struct Host {
     ghost typed: { ty.results ≡ results_of kind } by { Prim.hlevel props },
 }
 
-// A host function of this kind.
 fn new_host(alloc: Global, kind: Kind) -> Result<Host, AllocError> {
     let params = Vec::from_slice(alloc, kind.params())?;
     let results = Vec::from_slice(alloc, kind.results())?;
@@ -42,7 +41,7 @@ fn new_host(alloc: Global, kind: Kind) -> Result<Host, AllocError> {
     })
 }
 
-// One i32 as results.
+// Returns one i32 as results.
 fn one_result(alloc: Global, number: u32) -> Result<Vec<Val>, HostFault>
     ensures ok { IfOk result (λ values. values.items ≡ I32Value number ∷ []) }
     ensures err { IfErr result (λ fault. fault ≡ MemoryFault) }
@@ -54,7 +53,6 @@ fn one_result(alloc: Global, number: u32) -> Result<Vec<Val>, HostFault>
     }
 }
 
-// These results.
 fn results(alloc: Global, values: &[Val]) -> Result<Vec<Val>, HostFault>
     ensures ok { IfOk result (λ copied. copied.items ≡ values.now) }
     ensures err { IfErr result (λ fault. fault ≡ MemoryFault) }
@@ -65,7 +63,7 @@ fn results(alloc: Global, values: &[Val]) -> Result<Vec<Val>, HostFault>
     }
 }
 
-// An i32 and an i64 as results, in the other order.
+// Returns an i32 and an i64 as results, in the other order.
 fn swapped(alloc: Global, args: &[Val]) -> Result<Vec<Val>, HostFault>
     ensures ok { IfOk result (λ values. map type_of values.items ≡ I64 ∷ I32 ∷ []) }
 {
@@ -77,7 +75,7 @@ fn swapped(alloc: Global, args: &[Val]) -> Result<Vec<Val>, HostFault>
     }
 }
 
-// Writes the byte 7 at 0, if there is anything.
+// Writes the byte 7 at 0, unless the memory is empty.
 fn mark(memory: &mut [u8]) {
     if !memory.is_empty() {
         memory[0] = 7;
@@ -132,8 +130,8 @@ impl HostFn for Host {
     }
 }
 
-// Host functions under the module name `host`, each with its name, and steps that follow one another in a fresh embedding; or the
-// number of the refusal where there is none.
+// Host functions under the module name `host`, each with its name, and steps in a row in a fresh embedding. If there is no
+// embedding, the number of the refusal.
 struct Row {
     name: &'static str,
     hosts: &'static [(&'static str, Kind)],
@@ -159,7 +157,7 @@ const MEASURES_NOTHING: &str =
 const CALLS_THROUGH_A_TABLE: &str =
     "(type (func (result i32))) (import \"host\" \"c\" (func (result i32))) (table 1 funcref) (func (result i32) i32.const 0 call_indirect (type 0)) (elem (offset i32.const 0) func 0) (export \"f\" (func 1))";
 
-// Has a memory, and a table with the host function in it.
+// Has a memory, and a table that contains the host function.
 pub const LENDS_A_TABLE: &str =
     "(import \"host\" \"w\" (func (result i32))) (memory 1) (table 1 funcref) (func (result i32) i32.const 0 i32.load8_u) (elem (offset i32.const 0) func 0) (export \"table\" (table 0)) (export \"byte\" (func 1))";
 
@@ -244,7 +242,7 @@ static LENT: [Row; 7] = [
     ] },
 ];
 
-// Adds the definition of a host function.
+// Appends the definition of a host function.
 fn defined(alloc: Global, name: &str, func: Box<dyn HostFn>) -> Result<HostDef, AllocError> {
     Ok(HostDef {
         module: String::from_str(alloc, "host")?,
@@ -253,13 +251,13 @@ fn defined(alloc: Global, name: &str, func: Box<dyn HostFn>) -> Result<HostDef, 
     })
 }
 
-// Whether there is no embedding for this reason.
+// Returns whether no embedding was created, for this reason.
 fn is_refusal(fault: &NewFault, refused: Option<u8>) -> bool {
     refused == Some(fault.number())
 }
 
-// Whether all steps are as they say in a fresh embedding with these host functions, where so many frames may be open; or whether
-// there is none for the reason of this number.
+// Returns whether all steps hold in a fresh embedding with these host functions, in which that many frames may be open. If a
+// number of a refusal is given, returns whether no embedding was created for that reason.
 fn steps_hold_in(
     alloc: Global,
     hosts: Vec<HostDef>,
@@ -278,8 +276,8 @@ fn steps_hold_in(
     }
 }
 
-/// Whether all steps are as they say in a fresh embedding with host functions of these names and kinds, where so many frames may be open;
-/// or whether there is none for the reason of this number.
+/// Returns whether all steps hold in a fresh embedding with host functions of these names and kinds, in which that many frames
+/// may be open. If a number of a refusal is given, returns whether no embedding was created for that reason.
 pub fn steps_hold_with(
     alloc: Global,
     defs: &[(&str, Kind)],
@@ -295,12 +293,11 @@ pub fn steps_hold_with(
     Ok(hosts.len() <= 10 && steps_hold_in(alloc, hosts, depth, refused, steps))
 }
 
-// Whether a row is as it says.
+// Returns whether a row holds.
 fn is_so(alloc: Global, row: &Row) -> Result<bool, AllocError> {
     steps_hold_with(alloc, row.hosts, 1_024, row.refused, row.steps)
 }
 
-// The rows of calls.
 fn calls() -> &'static [Row] {
     &CALLS
 }

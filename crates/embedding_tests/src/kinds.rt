@@ -5,31 +5,31 @@ ghost use Rattle.embedding_tests.specs.Kinds.{results_of};
 
 use core_types::ValType;
 
-/// What a host function does.
+/// The behavior of a host function.
 #[derive(Clone, Copy)]
 pub enum Kind {
     /// Counts its calls, from 1.
     Counts,
     /// Traps with the code 5.
     Traps,
-    /// Says that there is no memory.
+    /// Returns that memory ran out.
     LacksMemory,
-    /// Writes the byte 7 at 0 of what it is lent, if it is lent anything, and answers 5.
+    /// Writes the byte 7 at 0 of what it borrows, if it borrows anything, and returns 5.
     Writes,
-    /// Writes the byte 7 at 0 of what it is lent, if it is lent anything, and answers nothing.
+    /// Writes the byte 7 at 0 of what it borrows, if it borrows anything, and returns nothing.
     Marks,
-    /// Answers how many bytes it is lent.
+    /// Returns the number of bytes that it borrows.
     Measures,
-    /// Answers five values: 1 and 2, an i32 and an i64, a reference and null, and the i32 5.
+    /// Returns five values: 1 and 2, an i32 and an i64, a reference and null, and the i32 5.
     GivesFive,
-    /// Takes an i32 and an i64, and answers them in the other order.
+    /// Takes an i32 and an i64, and returns them in the other order.
     Swaps,
     /// Has a funcref result, and is never called.
     GivesFunction,
 }
 
 impl Kind {
-    /// The types of what it takes.
+    /// Returns the types of its parameters.
     pub fn params(self) -> &'static [ValType] {
         match self {
             Kind::Swaps => &[ValType::I32, ValType::I64],
@@ -37,7 +37,7 @@ impl Kind {
         }
     }
 
-    /// The types of what it answers.
+    /// Returns the types of its results.
     pub fn results(self) -> &'static [ValType]
         ensures { result.now ≡ results_of self }
     {

@@ -7,7 +7,7 @@ use core_types::{Trap, Val};
 use embed::{Embedding, Refusal};
 use std::alloc::Global;
 
-// Steps in a fresh embedding, steps that are taken so many times then, and steps that show what is left.
+// Steps in a fresh embedding, then steps that are repeated that many times, and then steps that show what is left.
 struct Row {
     name: &'static str,
     before: &'static [Step],
@@ -67,7 +67,7 @@ static ROWS: [Row; 2] = [
     },
 ];
 
-// Whether steps are as they say so many times.
+// Returns whether steps hold that many times.
 fn hold_each_time(alloc: Global, at: &mut Embedding, times: u64, steps: &[Step]) -> bool {
     let mut all = true;
     for _ in 0..times {

@@ -1,5 +1,5 @@
-//! Tests of the embedding: commands and their replies, setups, and the types of exports; of scripts and what they report; and of orders
-//! and answers as messages spell them.
+//! Tests of the embedding: commands and their replies, setups, and the types of exports. Also tests of scripts and their
+//! reports, and of orders and answers in messages.
 #![tactic(auto)]
 
 #[cfg(test)]

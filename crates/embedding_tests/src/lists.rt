@@ -8,13 +8,13 @@ use testing::assemble;
 const ADD: &str =
     "(func (param i32 i32) (result i32) local.get 0 local.get 1 i32.add) (export \"add\" (func 0))";
 
-// A call of the function with these arguments.
+// Returns a call of the function with these arguments.
 fn call(alloc: Global, args: &[Val]) -> Option<Command> {
     let name = String::from_str(alloc, "add").ok()?;
     Some(Command::Call(0, name, Vec::from_slice(alloc, args).ok()?))
 }
 
-// Six commands: a load, a link, a call, a refused call, a registration and more fuel.
+// Returns six commands: a load, a link, a call, a refused call, a registration and more fuel.
 fn commands(alloc: Global) -> Option<Vec<Command>> {
     let load = Command::Load(assemble(alloc, ADD).ok()?);
     let right = call(alloc, &[Val::I32(1), Val::I32(2)])?;
@@ -31,7 +31,7 @@ fn commands(alloc: Global) -> Option<Vec<Command>> {
     .ok()
 }
 
-// Whether these are the replies to the load, the link and the call.
+// Returns whether these are the replies to the load, the link and the call.
 fn are_first_replies(replies: &[Reply]) -> bool {
     match replies {
         [Reply::Loaded(0), Reply::Linked(0), Reply::Values(sum)] => {
@@ -41,7 +41,7 @@ fn are_first_replies(replies: &[Reply]) -> bool {
     }
 }
 
-// Whether these are the replies to the refused call, the registration and the fuel.
+// Returns whether these are the replies to the refused call, the registration and the fuel.
 fn are_last_replies(replies: &[Reply]) -> bool {
     matches!(
         replies,
@@ -53,12 +53,12 @@ fn are_last_replies(replies: &[Reply]) -> bool {
     )
 }
 
-// Whether these are the replies to the six commands.
+// Returns whether these are the replies to the six commands.
 fn are_replies(replies: &[Reply]) -> bool {
     replies.len() == 6 && are_first_replies(&replies[..3]) && are_last_replies(&replies[3..])
 }
 
-// The replies to one command, which sets the fuel, and behind them those to a list.
+// Returns the reply to one command, which sets the fuel, followed by the replies to a list.
 fn replies_to(alloc: Global, at: &mut Embedding, list: &[Command]) -> Option<Vec<Reply>> {
     let mut replies = Vec::new(alloc);
     at.apply_all(&[Command::SetFuel(20)], &mut replies).ok()?;
@@ -66,7 +66,7 @@ fn replies_to(alloc: Global, at: &mut Embedding, list: &[Command]) -> Option<Vec
     Some(replies)
 }
 
-// Whether the six commands get their replies, behind those that were there, and leave the fuel that the last one sets.
+// Returns whether the six commands get their replies, after those that were there, and leave the fuel that the last one sets.
 fn is_answered(alloc: Global, at: &mut Embedding, list: &[Command]) -> bool {
     match replies_to(alloc, at, list) {
         Some(replies) => { replies.len() == 7 && are_replies(&replies[1..]) && at.fuel_left() == 9 }
@@ -74,12 +74,12 @@ fn is_answered(alloc: Global, at: &mut Embedding, list: &[Command]) -> bool {
     }
 }
 
-// An embedding with little fuel and no room.
+// Returns an embedding with 10 units of fuel, and with bounds of one frame, one page and one entry.
 fn small_embedding(alloc: Global) -> Option<Embedding> {
     Embedding::new(alloc, Config::new(10, 1, 1, 1)?, Vec::new(alloc)).ok()
 }
 
-// Whether the six commands are answered in such an embedding.
+// Returns whether the six commands get their replies in such an embedding.
 fn list_is_answered(alloc: Global) -> bool {
     let Some(list) = commands(alloc) else {
         return false;

@@ -1,4 +1,4 @@
-//! Answers, as messages spell them.
+//! Answers, and the messages that encode them.
 
 use answers::{Answer, Cause, push_answer};
 use core_types::{
@@ -9,7 +9,7 @@ use scripts::{Report, ScriptFault};
 use std::alloc::{AllocError, Global};
 use testing::bytes_of;
 
-// An answer, before memory is taken for it.
+// An answer, before memory is allocated for it.
 enum Said {
     Done,
     Loaded(u64),
@@ -81,7 +81,7 @@ static ROWS: [Row; 38] = [
     Row { name: "not now", said: Said::NotNow, message: "0000000000000000 0900000000000000" },
 ];
 
-// The answer that a row says.
+// Returns the answer of a row.
 fn make_answer(alloc: Global, said: &Said) -> Result<Answer, AllocError> {
     Ok(match said {
         Said::Done => Answer::Done,
@@ -113,14 +113,13 @@ fn make_answer(alloc: Global, said: &Said) -> Result<Answer, AllocError> {
     })
 }
 
-// Whether the message of an answer is this one.
 fn has_message(alloc: Global, answer: &Answer, message: &str) -> Result<bool, AllocError> {
     let (mut fields, mut out) = (Vec::new(alloc), Vec::new(alloc));
     push_answer(alloc, &mut fields, &mut out, answer)?;
     Ok(out.as_slice() == bytes_of(alloc, message)?.as_slice())
 }
 
-// Whether the answer of a row has its message.
+// Returns whether the answer of a row has its message.
 fn is_spelt(alloc: Global, row: &Row) -> Result<bool, AllocError> {
     has_message(alloc, &make_answer(alloc, &row.said)?, row.message)
 }
@@ -132,13 +131,13 @@ fn answers_are_spelt(rt: HostRuntime) {
     }
 }
 
-// A type of an export, before memory is taken for it.
+// A type of an export, before memory is allocated for it.
 enum Exported {
     Func,
     Other(ExternTypeParts),
 }
 
-// The types of exports that take no memory.
+// The types of exports that need no allocation.
 #[derive(Clone, Copy)]
 enum ExternTypeParts {
     Table(TableType),
@@ -156,7 +155,6 @@ static EXPORTS: [(&str, Exported, &str); 6] = [
     ("c", Exported::Other(ExternTypeParts::Global(GlobalType { value: ValType::I32, mutability: Mutability::Const })), "0300000000000000 7F00000000000000 0000000000000000"),
 ];
 
-// The type of an export.
 fn make_type(alloc: Global, exported: &Exported) -> Result<ExternType, AllocError> {
     Ok(match exported {
         Exported::Func => ExternType::Func(func_type(
@@ -170,7 +168,7 @@ fn make_type(alloc: Global, exported: &Exported) -> Result<ExternType, AllocErro
     })
 }
 
-// A list of two exports, "" and "f", which share a type.
+// Returns a list of two exports, "" and "f", which share a type.
 fn make_exports(alloc: Global, exported: &Exported) -> Result<Exports, AllocError> {
     let mut types = Vec::new(alloc);
     types.push(make_type(alloc, exported)?)?;
@@ -182,7 +180,7 @@ fn make_exports(alloc: Global, exported: &Exported) -> Result<Exports, AllocErro
     Ok(Exports { types, exports })
 }
 
-// Whether these two exports of a type are one type, and two names of it.
+// Returns whether these two exports of a type are encoded as one type, and two names with it.
 fn are_spelt(alloc: Global, exported: &Exported, ty: &str) -> Result<bool, AllocError> {
     let exports = make_exports(alloc, exported)?;
     let size = 8 + bytes_of(alloc, ty)?.len() + 16 + 17;

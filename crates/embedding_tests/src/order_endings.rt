@@ -1,4 +1,4 @@
-//! How a server ends, as an exit status.
+//! The endings of a server, as exit statuses.
 
 use serve::Ending;
 

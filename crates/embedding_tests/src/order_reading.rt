@@ -1,4 +1,4 @@
-//! Orders, as messages spell them.
+//! Orders, and the messages that encode them.
 
 use core_types::{FuncType, Val, ValType};
 use messages::ReadFault;
@@ -6,7 +6,7 @@ use orders::{Order, read_order};
 use std::alloc::{AllocError, Global};
 use testing::bytes_of;
 
-// What fields are read as.
+// The expected result of reading fields.
 enum Expected {
     End,
     Load(&'static [u8]),
@@ -25,7 +25,7 @@ enum Expected {
     NotSpelt,
 }
 
-// The kind of a message, its fields as hexadecimal numbers, and what they are read as.
+// The kind of a message, its fields as hexadecimal numbers, and the expected result of reading them.
 struct Row {
     name: &'static str,
     kind: u64,
@@ -83,12 +83,10 @@ static ROWS: [Row; 46] = [
     Row { name: "the greatest kind", kind: 0xFFFF_FFFF_FFFF_FFFF, fields: "", expected: Expected::NotSpelt },
 ];
 
-// Whether a type has these parameters and results.
 fn has_types(ty: &FuncType, params: &[ValType], results: &[ValType]) -> bool {
     ty.params.as_slice() == params && ty.results.as_slice() == results
 }
 
-// Whether an order is the expected one.
 fn is_expected(order: &Order<'_>, expected: &Expected) -> bool {
     match (order, expected) {
         (Order::End, Expected::End) | (Order::FuelLeft, Expected::FuelLeft) => true,
@@ -118,7 +116,7 @@ fn is_expected(order: &Order<'_>, expected: &Expected) -> bool {
     }
 }
 
-// Whether a row's fields are read as it says.
+// Returns whether a row's fields are read as expected.
 fn is_read(alloc: Global, row: &Row) -> Result<bool, AllocError> {
     let fields = bytes_of(alloc, row.fields)?;
     Ok(match read_order(alloc, row.kind, fields.as_slice()) {

@@ -1,4 +1,4 @@
-//! A refusal tells where a module is at fault, and its text says so.
+//! A refusal contains the place where a module is at fault, and so does its text.
 
 use crate::commands::{Answer, Step, all_are_so};
 use Answer::{Done, Number, Refused};
@@ -6,7 +6,7 @@ use Step::{Link, Load, LoadBytes, Register};
 use embed::{Place, Refusal};
 use std::alloc::Global;
 
-// Steps that follow one another in a fresh embedding.
+// Steps in a row, in a fresh embedding.
 struct Row {
     name: &'static str,
     steps: &'static [Step],
@@ -93,7 +93,7 @@ fn refusals_tell_where(rt: HostRuntime) {
     }
 }
 
-// Whether a refusal reads so.
+// Returns whether a refusal has this text.
 fn reads(alloc: Global, refusal: Refusal, text: &str) -> bool {
     match format!(in alloc; "{refusal}") {
         Ok(written) => written.as_str() == text,

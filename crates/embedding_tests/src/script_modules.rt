@@ -1,6 +1,6 @@
 //! Modules of scripts, in the text format.
 
-/// The text of the module that is called so; the text of no module stands for bytes that spell none.
+/// Returns the text of the module with this name. The text of no module represents bytes that encode none.
 #[rattlefmt::skip]
 pub fn module_text(name: &str) -> &'static str {
     match name {
@@ -20,7 +20,7 @@ pub fn module_text(name: &str) -> &'static str {
         // Two functions that call each other last, one that calls an entry of a table last, and one that calls only itself.
         "even_and_odd" => "(type (func (param i32) (result i32))) (table 2 funcref) (func (param i32) (result i32) local.get 0 i32.eqz if (result i32) i32.const 1 else local.get 0 i32.const 1 i32.sub return_call 1 end) (func (param i32) (result i32) local.get 0 i32.eqz if (result i32) i32.const 0 else local.get 0 i32.const 1 i32.sub return_call 0 end) (func (param i32 i32) (result i32) local.get 0 local.get 1 return_call_indirect (type 0)) (func return_call 3) (elem (offset i32.const 0) func 0) (export \"even\" (func 0)) (export \"odd\" (func 1)) (export \"through\" (func 2)) (export \"last\" (func 3))",
         "calls_f_last" => "(import \"M\" \"f\" (func (result i32))) (func (result i32) return_call 0) (export \"g\" (func 1))",
-        // The function that is called last has another result than the one that calls it.
+        // The function that is called last has another result than its caller.
         "other_result" => "(func (result i64) return_call 1) (func (result i32) i32.const 1)",
         _ => "",
     }

@@ -1,9 +1,9 @@
-//! How texts are read as scripts.
+//! Reading texts as scripts.
 
 use scripts::{Script, ScriptFault, read_script};
 use std::alloc::Global;
 
-// What comes of a text.
+// The expected result of reading a text.
 #[derive(Clone, Copy)]
 enum Outcome {
     // A script that needs these files.
@@ -73,12 +73,10 @@ static ROWS: [Row; 47] = [
     Row { name: "an argument of a vector", bytes: b"{\"commands\":[{\"type\":\"assert_trap\",\"line\":1,\"action\":{\"args\":[{\"type\":\"v128\"}]}}]}", outcome: Files(&[]) },
 ];
 
-// The rows.
 fn rows() -> &'static [Row] {
     &ROWS
 }
 
-// Whether a script needs these files.
 fn needs(script: &Script, files: &[&str]) -> bool {
     let names = script.filenames();
     names.len() == files.len()
@@ -88,7 +86,7 @@ fn needs(script: &Script, files: &[&str]) -> bool {
             .all(|(name, file)| name.as_str() == *file)
 }
 
-// Whether what was read is what a row says.
+// Returns whether the result of reading is that of a row.
 fn is_outcome(read: Result<Script, ScriptFault>, row: &Row) -> bool {
     match (read, row.outcome) {
         (Ok(script), Files(files)) => needs(&script, files),
@@ -98,7 +96,7 @@ fn is_outcome(read: Result<Script, ScriptFault>, row: &Row) -> bool {
     }
 }
 
-// Whether a text is read as its row says.
+// Returns whether a text is read as its row states.
 fn is_read(alloc: Global, row: &Row) -> bool {
     is_outcome(read_script(alloc, row.bytes), row)
 }
@@ -110,7 +108,7 @@ fn texts_are_read(rt: HostRuntime) {
     }
 }
 
-// The numbers of the refusals.
+// Returns whether refusals have their numbers.
 fn has_its_numbers() -> bool {
     ScriptFault::NotJson.number() == 15
         && ScriptFault::BadCommand(1).number() == 16

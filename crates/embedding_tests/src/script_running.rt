@@ -1,4 +1,4 @@
-//! What scripts report.
+//! The reports of scripts.
 
 use crate::script_modules::module_text;
 use embed::{Config, Embedding};
@@ -6,17 +6,17 @@ use scripts::{Report, Script, ScriptFault, read_script, run_script};
 use std::alloc::Global;
 use testing::assemble;
 
-/// What comes of a run.
+/// The expected end of a run.
 #[derive(Clone, Copy)]
 pub enum End {
-    // So many passed, failed and were skipped, and the lines of those that failed.
+    // The numbers of commands that passed, failed and were skipped, and the lines of those that failed.
     Counts(u64, u64, u64, &'static [u64]),
     Missing(u64),
 }
 
 use End::{Counts, Missing};
 
-/// Commands of a script, and files: words, each a name and what its module is called.
+/// The commands of a script, and its files: words, each with a name and the name of its module.
 pub struct Row {
     pub name: &'static str,
     pub commands: &'static str,
@@ -50,12 +50,10 @@ static ROWS: [Row; 22] = [
     Row { name: "a wrong number of arguments", commands: "{\"type\":\"module\",\"line\":1,\"filename\":\"a\"},{\"type\":\"assert_trap\",\"line\":2,\"action\":{\"type\":\"invoke\",\"field\":\"add\",\"args\":[]},\"text\":\"\"}", files: "a=add", end: Counts(1, 1, 0, &[2]) },
 ];
 
-// The rows.
 fn rows() -> &'static [Row] {
     &ROWS
 }
 
-// The bytes of a script of these commands.
 fn script_bytes(alloc: Global, commands: &str) -> Option<String> {
     let mut text = String::from_str(alloc, "{\"source_filename\":\"a.wast\",\"commands\":[").ok()?;
     text.push_str(commands).ok()?;
@@ -63,7 +61,7 @@ fn script_bytes(alloc: Global, commands: &str) -> Option<String> {
     Some(text)
 }
 
-// The bytes of the module of a text; the text of no module stands for bytes that spell none.
+// Returns the bytes of the module of a text. The text of no module represents bytes that encode none.
 fn module_bytes(alloc: Global, text: &str) -> Option<Vec<u8>> {
     if text.is_empty() {
         return Vec::from_slice(alloc, &[0x00, 0x61, 0x73]).ok();
@@ -71,7 +69,7 @@ fn module_bytes(alloc: Global, text: &str) -> Option<Vec<u8>> {
     assemble(alloc, text).ok()
 }
 
-// The files of these words, each a name and what its module is called.
+// Returns the files of these words, each with a name and the name of its module.
 fn read_files(alloc: Global, words: &str) -> Option<Vec<(String, Vec<u8>)>> {
     let mut list = Vec::new(alloc);
     for word in words.split_whitespace() {
@@ -83,7 +81,6 @@ fn read_files(alloc: Global, words: &str) -> Option<Vec<(String, Vec<u8>)>> {
     Some(list)
 }
 
-// Whether a report has these counts and lines.
 fn counts(report: &Report, (passed, failed, skipped): (u64, u64, u64), lines: &[u64]) -> bool {
     report.passed == passed
         && report.failed == failed
@@ -91,7 +88,6 @@ fn counts(report: &Report, (passed, failed, skipped): (u64, u64, u64), lines: &[
         && report.failures.as_slice() == lines
 }
 
-// Whether a run ended so.
 fn is_end(run: Result<Report, ScriptFault>, end: End) -> bool {
     match (run, end) {
         (Ok(report), Counts(passed, failed, skipped, lines)) => {
@@ -102,18 +98,17 @@ fn is_end(run: Result<Report, ScriptFault>, end: End) -> bool {
     }
 }
 
-// The script of these commands.
 fn script_of(alloc: Global, commands: &str) -> Option<Script> {
     let text = script_bytes(alloc, commands)?;
     read_script(alloc, text.as_bytes()).ok()
 }
 
-// A fresh embedding without host functions.
+// Returns a fresh embedding without host functions.
 fn fresh_embedding(alloc: Global) -> Option<Embedding> {
     Embedding::new(alloc, Config::new(1000, 100, 10, 10)?, Vec::new(alloc)).ok()
 }
 
-// Whether a script over these files ends so in a fresh embedding.
+// Returns whether a script with these files has this end in a fresh embedding.
 fn ends_so(alloc: Global, script: &Script, files: &[(String, Vec<u8>)], end: End) -> bool {
     match fresh_embedding(alloc) {
         Some(mut embedding) => is_end(run_script(alloc, script, files, &mut embedding), end),
@@ -121,7 +116,7 @@ fn ends_so(alloc: Global, script: &Script, files: &[(String, Vec<u8>)], end: End
     }
 }
 
-/// Whether a script ends as its row says.
+/// Returns whether a script ends as its row states.
 pub fn is_run(alloc: Global, row: &Row) -> bool {
     match (script_of(alloc, row.commands), read_files(alloc, row.files)) {
         (Some(script), Some(files)) => ends_so(alloc, &script, &files, row.end),

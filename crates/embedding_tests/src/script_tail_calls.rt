@@ -1,4 +1,4 @@
-//! What scripts report of modules with tail calls.
+//! The reports of scripts for modules with tail calls.
 
 use crate::script_running::{End, Row, is_run};
 use End::Counts;

@@ -1,4 +1,4 @@
-//! What an embedding may be set up with.
+//! The setups that an embedding may have.
 
 use embed::{Config, Embedding};
 use std::alloc::Global;
@@ -24,7 +24,7 @@ static ROWS: [Row; 8] = [
     Row { name: "all too great", depth: u32::MAX, pages: u32::MAX, entries: u32::MAX, in_range: false },
 ];
 
-// Whether an embedding has this setup, and the fuel of it.
+// Returns whether an embedding has this setup, and the fuel of it.
 fn is_set_up(alloc: Global, config: Config, row: &Row) -> bool {
     let Ok(at) = Embedding::new(alloc, config, Vec::new(alloc)) else {
         return false;
@@ -37,7 +37,7 @@ fn is_set_up(alloc: Global, config: Config, row: &Row) -> bool {
         && kept.entries() == row.entries
 }
 
-// Whether a setup is answered, and kept by an embedding, exactly where it is in range.
+// Returns whether a setup is created, and kept by an embedding, exactly if it is in range.
 fn is_so(alloc: Global, row: &Row) -> bool {
     match Config::new(7, row.depth, row.pages, row.entries) {
         Some(config) => row.in_range && is_set_up(alloc, config, row),

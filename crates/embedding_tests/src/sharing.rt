@@ -6,13 +6,13 @@ use Step::{Call, GetGlobal, Left, Link, Load, Register, SetFuel};
 use core_types::{Exhaustion, Val};
 use embed::Refusal;
 
-// Steps that follow one another in a fresh embedding.
+// Steps in a row, in a fresh embedding.
 struct Row {
     name: &'static str,
     steps: &'static [Step],
 }
 
-// A table of four functions that answer 10 to 13, and a function that calls its entries.
+// A table of four functions that return 10 to 13, and a function that calls its entries.
 const FOUR: &str =
     "(type (func (result i32))) (table 4 funcref) (func (result i32) i32.const 10) (func (result i32) i32.const 11) (func (result i32) i32.const 12) (func (result i32) i32.const 13) (func (param i32) (result i32) local.get 0 call_indirect (type 0)) (elem (offset i32.const 0) func 0 1 2 3) (export \"table\" (table 0)) (export \"call\" (func 4))";
 
@@ -30,7 +30,7 @@ const BYTES: &str =
 const TWO_BYTES: &str =
     "(import \"o\" \"memory\" (memory 1)) (data (offset i32.const 0) \"a\") (data (offset i32.const 1) \"b\")";
 
-// A constant global and a variable one.
+// A constant global and a mutable one.
 const GLOBALS: &str =
     "(global i32 i32.const 5) (global (mut i32) i32.const 6) (export \"constant\" (global 0)) (export \"variable\" (global 1))";
 

@@ -1,4 +1,4 @@
-//! Tail calls of host functions: what they are lent, what becomes of their results, and what is charged.
+//! Tail calls of host functions: what they borrow, where their results go, and what is charged.
 
 use crate::commands::{Answer, Step};
 use crate::hosts::{CALLS_THROUGH_THAT_TABLE, LENDS_A_TABLE, steps_hold_with};
@@ -8,8 +8,8 @@ use Step::{Call, Left, Link, Load, Register, SetFuel};
 use core_types::{Exhaustion, Trap, Val};
 use std::alloc::{AllocError, Global};
 
-// Host functions under the module name `host`, each with its name, and steps that follow one another in a fresh embedding where so many
-// frames may be open.
+// Host functions under the module name `host`, each with its name, and steps in a row in a fresh embedding with this most number
+// of open frames.
 struct Row {
     name: &'static str,
     hosts: &'static [(&'static str, Kind)],
@@ -42,7 +42,7 @@ const CALLS_LAST: &str =
 const FAILS_LAST: &str =
     "(import \"host\" \"h\" (func)) (func i32.const 1 i64.const 2 return_call 0) (export \"f\" (func 1))";
 
-// The same through a table.
+// The same, through a table.
 const FAILS_THROUGH_A_TABLE: &str =
     "(import \"host\" \"h\" (func)) (table 1 funcref) (func i64.const 2 i32.const 0 return_call_indirect) (elem (offset i32.const 0) func 0) (export \"f\" (func 1))";
 
@@ -76,7 +76,7 @@ const STARTS_A_TRAP: &str = "(import \"host\" \"h\" (func)) (func nop return_cal
 const CHAIN: &str =
     "(import \"host\" \"c\" (func (result i32))) (func (result i32) return_call 0) (func (result i32) return_call 1) (func (result i32) return_call 2) (export \"f\" (func 3))";
 
-// A function is called last that calls the host function twice, and then last.
+// A function that is called last calls the host function twice, and then last.
 const CALLS_BEFORE: &str =
     "(import \"host\" \"c\" (func (result i32))) (func (result i32) call 0 drop call 0 drop return_call 0) (func (result i32) i64.const 8 return_call 1) (export \"f\" (func 2))";
 
@@ -142,7 +142,7 @@ static FAULTS: [Row; 6] = [
     ] },
 ];
 
-// ---- under a caller that waits
+// ---- below a caller that waits
 
 const ADDS: &str =
     "(import \"host\" \"c\" (func (result i32))) (func (result i32) return_call 0) (func (result i32) i32.const 40 call 1 i32.add) (export \"f\" (func 2))";
@@ -165,14 +165,14 @@ const SIX: [Val; 6] = [
     Val::I32(5),
 ];
 
-// The frame that is replaced has locals and an operand, and there are no results.
+// The replaced frame has locals and an operand, and there are no results.
 const WAITS_FOR_NOTHING: &str =
     "(import \"host\" \"s\" (func)) (func (param i32 i64) (local i64 externref) i64.const 4 return_call 0) (func (result i32 i64) i32.const 3 i32.const 4 i64.const 5 call 1 i64.const 8) (export \"f\" (func 2))";
 
 const WAITS_FOR_BOTH: &str =
     "(import \"host\" \"swap\" (func (param i32 i64) (result i64 i32))) (func (param i32 i64 i32) (result i64 i32) local.get 2 local.get 1 return_call 0) (func (result i32 i64 i32) i32.const 100 i32.const 5 i64.const 6 i32.const 7 call 1) (export \"f\" (func 2))";
 
-// The last function calls the one before it twice; that one calls the first, and then the host function last, as the first does.
+// The last function calls the one before it twice. That one calls the first, and then the host function last, as the first does.
 const ONE_AFTER_THE_OTHER: &str =
     "(import \"host\" \"c\" (func (result i32))) (func (result i32) return_call 0) (func (result i32) call 1 drop return_call 0) (func (result i32 i32) call 2 call 2) (export \"f\" (func 3))";
 
@@ -213,13 +213,13 @@ static WAITING: [Row; 9] = [
     ] },
 ];
 
-// ---- the memory that is lent
+// ---- the memory that is borrowed
 
 // Has a memory, and calls the host function last.
 const WRITES_LAST: &str =
     "(import \"host\" \"w\" (func (result i32))) (memory 1) (func (result i32) return_call 0) (func (result i32) i32.const 0 i32.load8_u) (export \"f\" (func 1)) (export \"byte\" (func 2))";
 
-// Has a memory, and calls that function, and last.
+// Has a memory, calls that function, and calls it last.
 const CALLS_A: &str =
     "(import \"a\" \"f\" (func (result i32))) (memory 1) (func (result i32 i32) call 0 i32.const 0 i32.load8_u) (func (result i32) return_call 0) (func (result i32) i32.const 0 i32.load8_u) (export \"f\" (func 1)) (export \"last\" (func 2)) (export \"byte\" (func 3))";
 
@@ -227,7 +227,7 @@ const CALLS_A: &str =
 const CALLS_ENTRY_OF_T: &str =
     "(type (func (result i32))) (import \"t\" \"table\" (table 1 funcref)) (memory 1) (func (result i32) i32.const 0 return_call_indirect (type 0)) (func (result i32) i32.const 0 i32.load8_u) (export \"f\" (func 0)) (export \"byte\" (func 1))";
 
-// Has a memory, and a table with the function in it that calls the host function last.
+// Has a memory, and a table that contains the function that calls the host function last.
 const LENDS_ITS_FUNCTION: &str =
     "(import \"host\" \"w\" (func (result i32))) (memory 1) (table 1 funcref) (func (result i32) return_call 0) (func (result i32) i32.const 0 i32.load8_u) (elem (offset i32.const 0) func 1) (export \"table\" (table 0)) (export \"byte\" (func 2))";
 
@@ -239,7 +239,7 @@ const MEASURES_NOTHING: &str =
 const GOES: &str =
     "(type (func (result i32))) (import \"host\" \"m\" (func (result i32))) (memory 2) (table 1 funcref) (func (result i32) return_call 0) (func (result i32) i32.const 0 return_call_indirect (type 0)) (export \"f\" (func 1)) (export \"go\" (func 2)) (export \"table\" (table 0))";
 
-// Has a memory of one page, and writes a function into that table which calls one of that instance last.
+// Has a memory of one page, and writes a function into that table that calls one of that instance last.
 const COMES_BACK: &str =
     "(import \"a\" \"table\" (table 1 funcref)) (import \"a\" \"f\" (func (result i32))) (memory 1) (func (result i32) return_call 0) (elem (offset i32.const 0) func 1)";
 
@@ -300,7 +300,7 @@ static LENT_THROUGH_TABLES: [Row; 4] = [
     ] },
 ];
 
-// Whether a row is as it says.
+// Returns whether a row holds.
 fn is_so(alloc: Global, row: &Row) -> Result<bool, AllocError> {
     steps_hold_with(alloc, row.hosts, row.depth, None, row.steps)
 }

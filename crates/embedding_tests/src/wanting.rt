@@ -1,4 +1,4 @@
-//! Engines that want memory though it is there: each row that is named fails for them.
+//! Engines that run out of memory without need: each row that is named fails for them.
 
 use crate::commands::{Answer, Step, fresh_embedding, steps_hold_wanting};
 use crate::engines::Asked;
@@ -8,7 +8,7 @@ use core_types::{Exhaustion, Val};
 use embed::{Place, Refusal};
 use std::alloc::Global;
 
-// Steps that follow one another in a fresh embedding, and the commands of which each fails them if it always wants memory.
+// Steps in a row, in a fresh embedding, and commands. If any of these commands always runs out of memory, the steps fail.
 struct Row {
     name: &'static str,
     wanting: &'static [Asked],
@@ -77,12 +77,11 @@ static ROWS: [Row; 9] = [
     ] },
 ];
 
-// The rows.
 fn rows() -> &'static [Row] {
     &ROWS
 }
 
-// Whether the steps of a row hold in an embedding.
+// Returns whether the steps of a row hold in an embedding.
 fn holds(alloc: Global, row: &Row) -> bool {
     match fresh_embedding(alloc) {
         Some(mut at) => steps_hold_wanting(alloc, &mut at, None, row.steps),
@@ -90,7 +89,7 @@ fn holds(alloc: Global, row: &Row) -> bool {
     }
 }
 
-// Whether they do not where one command always wants memory.
+// Returns whether the steps fail if one command always runs out of memory.
 fn fails(alloc: Global, row: &Row, asked: Asked) -> bool {
     match fresh_embedding(alloc) {
         Some(mut at) => !steps_hold_wanting(alloc, &mut at, Some(asked), row.steps),
@@ -98,7 +97,7 @@ fn fails(alloc: Global, row: &Row, asked: Asked) -> bool {
     }
 }
 
-// Whether they hold in an embedding, and fail where any of the commands that are named always wants memory.
+// Returns whether the steps hold in an embedding, and fail if any of the named commands always runs out of memory.
 fn is_so(alloc: Global, row: &Row) -> bool {
     let mut all = holds(alloc, row);
     for asked in row.wanting {
@@ -114,7 +113,7 @@ fn call_always_out_of_memory(rt: HostRuntime) {
     }
 }
 
-// The first three rows call a function that ends with values, or for want of fuel.
+// The first three rows call a function that ends with values, or runs out of fuel.
 #[test]
 fn engine_always_out_of_memory(rt: HostRuntime) {
     for row in rows().iter().take(3) {

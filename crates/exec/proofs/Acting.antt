@@ -1,4 +1,4 @@
--- What instructions on tables, memories and segments need, and what outcomes they have, at rest.
+-- What instructions on tables, memories and segments need, and their outcomes, at rest.
 use Rattle.std.proofs.Common.{◌≡◌, ℕ, zero, suc, ◌+◌, ◌-◌, ◌<◌, ◌≤◌, List, [], ◌∷◌, length, reverse, set, get_or, refl, ap, sym, subst, ◌∙◌, arith}
 use Rattle.std.proofs.lemmas.List.{length-reverse, length-set}
 use Rattle.std.proofs.lemmas.Option.{get_or_from_slice_get, slice_get_within}
@@ -105,11 +105,11 @@ module _ (bound : ℕ) (r : AtRest) (op : PlainOp) (u : Whole) (b : RestsBefore 
         };
       }
 
-  -- None of them.
+  -- No operands.
   no-operands : Operands []
   no-operands = record { low = omega (arith, runs.low); has = record { low = omega arith; inside = inside b.rests.world m g runs; cells = λ k less. absurd (omega (arith, less)) } }
 
-  -- There is room for one more.
+  -- There is room for one more operand.
   room-above : height_in m < length (cells_in g m) → m.top + 1 < length m.cells
   room-above room =
       let written = length-set m.cells m.top m.operand in
@@ -127,7 +127,7 @@ module _ (bound : ℕ) (r : AtRest) (op : PlainOp) (u : Whole) (b : RestsBefore 
   over-none : (below : ℕ) (outcome : Store → Outcome) → HasAt below (outcome g.store) → HasAt below (outcome (store_around r))
   over-none below outcome = subst (λ (s : Store). HasAt below (outcome s)) store-is
 
-  -- Below none of them.
+  -- Below no operands.
   over-all : (outcome : Store → Outcome) → HasAt (height_in m) (outcome g.store) → HasAt (height_in m - 0) (outcome (store_around r))
   over-all outcome h =
       let same : height_in m ≡ height_in m - 0 = omega arith in
@@ -158,7 +158,7 @@ module _ (m : Machine) (taken : ℕ) where
       by (Some cell) = omega (arith, some, low, inside)
   room-taken some below low inside (Err refusal) = tt
 
-  -- Where there is none.
+  -- If there is no result.
   pub room-none : (cost : ℕ) (store old new : Store) (fuel : ℕ) (result : Result Paid Refusal) → Gives (made cost store []) old new fuel result → HasRoomFor m taken result
   room-none cost store old new fuel (Ok paid) (is, left) = by paid.result is.result
     where
@@ -303,7 +303,7 @@ module _ (r : AtRest) (u : Whole) where
         (found bound r (Memory memory.Copy) u b no_memory (λ (s : Store). s.memories) (λ (i : ModuleInstance). i.memories) 0 a t there) o
         (over-three bound r (Memory memory.Copy) u b 3 o.low _ (omega arith) (λ (s : Store) (x y z : ℕ). written_memory s x a t (copy_bytes t.bytes t.bytes z y x)) (leads _ refl))
 
-    -- table.size, for whose result there is room.
+    -- table.size. There is room for its result.
     pub measures : (index : ℕ) → RestsBefore bound r (Table (table.Size index)) u
         → ReadyOnTable index (λ (t : TableInstance). []) (λ (a : ℕ) (t : TableInstance). made 1 its_store (value.I32 t.ty.limits.min ∷ [])) × (machine.top + 1 < length machine.cells)
     measures index b =

@@ -1,4 +1,4 @@
--- Calls of host functions: what they lead to for the whole.
+-- Calls of host functions: the steps of the whole.
 use Rattle.std.proofs.Common.{IfErr, IfOk, Result, Ok, Err, ◌≡◌, ℕ, suc, ◌+◌, ◌-◌, ◌<◌, ◌≤◌, List, [], ◌∷◌, ◌++◌, length, map, reverse, take, drop, set, refl, ap, sym, subst, ◌∙◌, arith, append_assoc, length-append}
 use Rattle.std.proofs.lemmas.List.{append-nil, length-drop, length-reverse, length-set, reverse-reverse, take-set-le, take-take}
 use Rattle.std.proofs.lemmas.Option.{same_Some}
@@ -80,7 +80,7 @@ types-read [] (n ∷ ns) fit = absurd fit
 types-read (t ∷ ts) [] fit = absurd fit
 types-read (t ∷ ts) (n ∷ ns) fit = rw (type-of-value t n, types-read ts ns fit.1) refl
 
--- The cells with the topmost operand put back.
+-- The cells with the topmost operand written back.
 abbrev pub cells_held : AtRest → List ℕ
 cells_held r = set (machine_of r).cells (machine_of r).top (machine_of r).operand
 
@@ -121,14 +121,14 @@ module _ (bound : ℕ) (r : AtRest) (w : Whole) (rests : Rests bound r w) (op : 
   many-are : length function.ty.params ≡ k
   many-are = ap (λ (ts : List ValType). length ts) params-are
 
-  -- Once labels were left, the call is next.
+  -- After labels were left, the call is next.
   abbrev pub there : Reaches bound l w l
   there = lifted-there bound l w rests.runs (fuel_left r) (record { new = c.new; same = c.same; store = c.store; steps = c.steps (fuel_left r); runs = c.runs })
 
   instance-is : g.instance ≡ r.call.position.instance
   instance-is = c.same.instance ∙ rests.runs.runs.number ∙ sym rests.runs.number
 
-  -- Its code is that of the frame.
+  -- The code is that of the frame.
   locals-are : g.code.locals ≡ w.ghost.code.locals
   locals-are = ap (λ (code : FrameCode). code.locals) c.same.code
 
@@ -188,7 +188,7 @@ module _ (bound : ℕ) (r : AtRest) (w : Whole) (rests : Rests bound r w) (op : 
   lent-is : lent_memory (store_around r) (frame_of g) ≡ lent
   lent-is = ap (λ (i : ℕ). first_memory (code_store r.code) i) instance-is
 
-  -- What the whole does next is the call, with the arguments read.
+  -- The next step of the whole is the call, with the arguments read.
   next-read : (waiting : Configuration) → next g.store no_frame (whole there.new) ≡ CallsHost 1 number (lent_memory g.store (frame_of g)) arguments_read waiting → next (store_around r) no_frame (whole there.new) ≡ CallsHost 1 number lent arguments waiting
   next-read waiting is =
       subst (λ (o : Option ℕ). next (store_around r) no_frame (whole there.new) ≡ CallsHost 1 number o arguments waiting) lent-is
@@ -206,7 +206,7 @@ module _ (bound : ℕ) (r : AtRest) (w : Whole) (rests : Rests bound r w) (op : 
       subst (λ (n : ℕ). IsLoaded r.code n rests.world.instance) rests.sees.seen_from
       (subst (λ (code : Contents). IsLoaded code rests.world.number rests.world.instance) rests.sees.code rests.sees.instance.loaded)
 
-  -- ---- what comes of it
+  -- ---- the result of the call
 
   module _ {H : Type 0} (host_type : H → FuncType) (Answers : H → List Val → List ℕ → Answer → List ℕ → H → Type 0) (hosts hosts' : List H) (waiting : Configuration) (calls-next : next (store_around r) no_frame (whole there.new) ≡ CallsHost 1 number lent arguments waiting) where
     abbrev Over : List H → ℕ → Option ℕ → List Val → Store → Answer → Store → List H → Type 0
@@ -220,7 +220,7 @@ module _ (bound : ℕ) (r : AtRest) (w : Whole) (rests : Rests bound r w) (op : 
         subst (λ (s : Store). Steps Over bound no_frame (run_state s hosts (fuel_left r)) (whole w) (run_state s hosts (fuel_left r)) (whole there.new)) rests.sees.store
         (steps-over Over hosts bound no_frame there.steps)
 
-    -- It is out of memory.
+    -- The call runs out of memory.
     lacks-memory : Run Over bound no_frame at (whole w) OutOfMemory at
     lacks-memory =
         Steps-run Over bound no_frame steps-first
@@ -231,12 +231,12 @@ module _ (bound : ℕ) (r : AtRest) (w : Whole) (rests : Rests bound r w) (op : 
         (subst (λ (n : Next). price n ≤ fuel_left r) (sym calls-next) paid)
         refl refl))
 
-    -- It traps.
+    -- The call traps.
     host-traps : (store' : Store) (why : ℕ) → Over hosts number lent arguments (store_around r) (HostTrap why) store' hosts'
         → Run Over bound no_frame at (whole w) (WithTrap (Host why)) (run_state store' hosts' (fuel_left r - 1))
     host-traps store' why told = Steps-run Over bound no_frame steps-first (end (host_trapped calls-next paid refl told refl))
 
-    -- It answers with results.
+    -- The call returns results.
     module _ (ready : AreReady host_type (store_around r) hosts) (state' : StateContents) (values : List Val)
         (told : Over hosts number lent arguments (store_around r) (Results values) (store_with r.code state') hosts') where
       abbrev pub store' : Store
@@ -275,7 +275,7 @@ module _ (bound : ℕ) (r : AtRest) (w : Whole) (rests : Rests bound r w) (op : 
       steps : Steps Over bound no_frame at (whole w) (run_state store' hosts' (fuel_left r - 1)) (answered values waiting)
       steps = one_more steps-first (calls calls-next paid refl told refl)
 
-  -- ---- a call, whose results take the place of its arguments
+  -- ---- a call, whose results replace its arguments
 
   module _ (counted : counts_of c.new.code.signatures op ≡ Some (counts (c.over + length function.ty.params) (length function.ty.results)))
       (goes_on : (results : List Val) → ValuesHaveTypes c.new.store results function.ty.results → ConfigurationHasType c.new.store (place_of c.new) (in_frame (reverse results ++ drop (length function.ty.params) c.values) c.new.labels c.rest) c.new.results)
@@ -316,7 +316,7 @@ module _ (bound : ℕ) (r : AtRest) (w : Whole) (rests : Rests bound r w) (op : 
       new-steps = subst (λ (d : Configuration). Steps (IsHostStep host_type Answers) bound no_frame (run_state (store_around r) hosts (fuel_left r)) (whole w) (run_state its_store hosts' (fuel_left r - 1)) d) answered-is
           (steps host_type Answers hosts hosts' waiting_nested nested-next ready state' values told)
 
-      -- ---- the cells behind it
+      -- ---- the cells after it
 
       many : length values ≡ length function.ty.results
       many = as-many host_type Answers hosts hosts' waiting_nested nested-next ready state' values told
@@ -423,7 +423,7 @@ module _ (bound : ℕ) (r : AtRest) (w : Whole) (rests : Rests bound r w) (op : 
             };
           }
 
-  -- ---- a tail call, whose results take the place of the frame
+  -- ---- a tail call, whose results replace the frame
 
   module _ (results_are : function.ty.results ≡ c.new.results) (step : step_instruction c.new.store (frame_of c.new) op c.new.values c.rest ≡ TailCalls (lent_memory c.new.store (frame_of c.new)) function c.values) where
     abbrev last : IsTailCalling op address function w.ghost (cells_in w.ghost m) m.place (height_in m) height
@@ -463,7 +463,7 @@ module _ (bound : ℕ) (r : AtRest) (w : Whole) (rests : Rests bound r w) (op : 
       last-typed : ConfigurationHasType then_store outermost (answered values (waiting_around w.callers)) w.results
       last-typed = then-typed host_type Answers hosts hosts' (waiting_around w.callers) last-next ready state' values told
 
-      -- As many as the frame gives.
+      -- The number of results is that of the frame.
       last-many : length (reverse values) ≡ g.code.outermost.kept
       last-many =
           let given = as-many host_type Answers hosts hosts' (waiting_around w.callers) last-next ready state' values told in
@@ -471,7 +471,7 @@ module _ (bound : ℕ) (r : AtRest) (w : Whole) (rests : Rests bound r w) (op : 
           let arity = there.runs.arity in
           omega (arith, given, same, arity, length-reverse values)
 
-      -- ---- none waits
+      -- ---- no frame waits
 
       ends-alone : (bs : List Caller) → CallersStand rests.world.code (length m.cells) [] bs g.code.outermost.kept (take m.base m.cells) → answered values (waiting_around bs) ≡ Running (reverse values) Empty
       ends-alone [] stand = ap (λ (vs : List Val). Running vs Empty) (append-nil (reverse values))
@@ -482,7 +482,7 @@ module _ (bound : ℕ) (r : AtRest) (w : Whole) (rests : Rests bound r w) (op : 
           let stand = subst (λ (fs : List Frame). CallersStand rests.world.code (length m.cells) fs w.callers g.code.outermost.kept (take m.base m.cells)) none there.runs.callers in
           Steps-run (IsHostStep host_type Answers) bound no_frame (subst LeadsOn (ends-alone w.callers stand) last-steps) (end (values_left refl (ap WithValues (sym (reverse-reverse values))) refl))
 
-      -- ---- one waits
+      -- ---- a frame waits
 
       module _ (frame : Frame) (others : List Frame) (are : r.call.callers ≡ frame ∷ others) where
         abbrev Stand : List Caller → Type 0
@@ -650,7 +650,7 @@ module _ (bound : ℕ) (r : AtRest) (w : Whole) (kind : CallKind) (address behin
       behind-inside bound r w wait.rests n.op address n.function n.height behind n.lies n.paid d number t found,
     )
 
--- What comes of it, of either kind.
+-- The result of the call, of either kind.
 module _ (bound : ℕ) (r : AtRest) (w : Whole) (address behind : ℕ) (number : ℕ) (t : FuncType) (found : slice_get (functions_in r.code) address ≡ Some (host_function number t))
     {H : Type 0} (host_type : H → FuncType) (Answers : H → List Val → List ℕ → Answer → List ℕ → H → Type 0) (hosts hosts' : List H) where
   abbrev its_lent : Option ℕ
@@ -683,7 +683,7 @@ module _ (bound : ℕ) (r : AtRest) (w : Whole) (address behind : ℕ) (number :
       (last-next bound r w wait.rests wait.next.op address wait.next.function wait.next.height behind wait.next.lies wait.next.paid wait.next.calls.reached number t found wait.next.calls.results wait.next.calls.step)
 
   module _ (ready : AreReady host_type (store_around r) hosts) (state' : StateContents) (values : List Val) (told : HostsAnswer hosts number its_lent its_arguments (store_around r) (Results values) (store_with r.code state') hosts') where
-    -- Behind a call.
+    -- After a call.
     module _ (wait : WaitsForHost bound r w Nested address behind) where
       pub room-behind : behind - length t.params + length values ≤ length (machine_of r).cells
       room-behind =
@@ -697,7 +697,7 @@ module _ (bound : ℕ) (r : AtRest) (w : Whole) (address behind : ℕ) (number :
           comes-over bound r w wait.rests wait.next.op address wait.next.function wait.next.height behind wait.next.lies wait.next.paid wait.next.calls.reached number t found wait.next.calls.counted wait.next.calls.goes_on wait.next.calls.step
           host_type Answers hosts hosts' ready state' values told
 
-    -- Behind a tail call.
+    -- After a tail call.
     module _ (wait : WaitsForHost bound r w Tail address behind) where
       pub ends-there : r.call.callers ≡ [] → Run HostsAnswer bound no_frame start (whole w) (WithValues values) (run_state (store_with r.code state') hosts' (fuel_left r - 1))
       ends-there =
@@ -715,7 +715,7 @@ module _ (bound : ℕ) (r : AtRest) (w : Whole) (address behind : ℕ) (number :
           comes-back bound r w wait.rests wait.next.op address wait.next.function wait.next.height behind wait.next.lies wait.next.paid wait.next.calls.reached number t found wait.next.calls.results wait.next.calls.step
           host_type Answers hosts hosts' ready state' values told
 
--- A call that comes over a host function, or ends the run there, does one of both.
+-- A call returns from a host function, or ends the run there: it does one of the two.
 pub comes-or-ends : {H U : Type 0} (HostsAnswer : List H → ℕ → Option ℕ → List Val → Store → Answer → Store → List H → Type 0) (bound : ℕ) (r : AtRest) (hosts : List H) (w : Whole)
     (r' : AtRest) (hosts' : List H) (result : Result U Outcome) → IfOk result (λ u. ComesOver HostsAnswer bound r hosts w r' hosts')
     → IfErr result (λ outcome. Run HostsAnswer bound no_frame (run_state (store_around r) hosts (fuel_left r)) (whole w) (ending_of outcome) (run_state (store_around r') hosts' (fuel_left r')))

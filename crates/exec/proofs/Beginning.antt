@@ -1,4 +1,4 @@
--- What a call from outside begins with.
+-- The beginning of a call from outside.
 use Rattle.std.proofs.Common.{◌≡◌, ℕ, ◌+◌, ◌-◌, ◌<◌, ◌≤◌, List, [], ◌∷◌, ◌++◌, length, map, reverse, take, drop, set, replicate, Option, Some, None, slice_get, refl, ap, sym, ◌∙◌, arith, length-append, subst}
 use Rattle.std.proofs.lemmas.Option.{same_Some}
 use Rattle.std.proofs.lemmas.List.{append-nil, drop-replicate, drop_all, length-map, length-replicate, length-reverse, length-set, map-append, reverse-reverse, take-replicate, take_all}

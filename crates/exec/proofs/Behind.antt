@@ -1,4 +1,4 @@
--- What an instruction's outcome in its frame comes to for the machine.
+-- What an instruction's outcome in its frame means for the machine.
 use Rattle.std.proofs.Common.{◌≡◌, ℕ, suc, ◌+◌, ◌-◌, ◌<◌, ◌≤◌, List, ◌++◌, length, map, take, set, ap, sym, subst, ◌∙◌, arith}
 use Rattle.std.proofs.lemmas.List.{append-nil, length-map, length-set, take-set-le}
 use Rattle.std.specs.Prelude.{Option, Some, None, reverse}
@@ -21,14 +21,14 @@ module _ (w : World) (m : Machine) (g : Ghost) (r : RunsAt w m g) (taken : ℕ) 
   spilled-size : length spilled ≡ length m.cells
   spilled-size = length-set m.cells m.top m.operand
 
-  -- The machine behind the instruction, with its result, if it has one.
+  -- The machine after the instruction, with its result, if it has one.
   abbrev pub machine_behind : Option ℕ → Machine
   machine_behind result = record m { cells = spilled; place = m.place + 1; top = top_behind m.top taken result; operand = operand_behind spilled m.top taken result }
 
   abbrev below : ℕ
   below = height_in m - taken
 
-  -- The frame's cells behind it: those below its operands, and that of its result.
+  -- The frame's cells after the instruction: those below its operands, and that of its result.
   behind : (results : List Val) (result : Option ℕ) → AreInCell results result → HasRoom m taken result
       → (take (height_in (machine_behind result)) (cells_in g (machine_behind result)) ≡ take below (cells_in g m) ++ cells_of results)
       × (length (cells_in g (machine_behind result)) ≡ length (cells_in g m))
@@ -62,7 +62,7 @@ module _ (w : World) (m : Machine) (g : Ghost) (r : RunsAt w m g) (taken : ℕ) 
         omega (arith, low),
       )
 
-  -- It goes on there, in the store that the outcome has.
+  -- It continues there, in the store that the outcome has.
   pub goes-on : (cost : ℕ) (store' : Store) (results : List Val) (result : Option ℕ) → AreInCell results result → HasRoom m taken result → IsMade g cost store' (cells_in g m) m.place below results
       → (w' : World) → store' ≡ store_in w' → (fuel left : ℕ) → cost ≤ fuel → left ≡ fuel - cost → GoesTo g m fuel w' (machine_behind result) left
   goes-on cost store' results result are room made w' store_is fuel left enough left_is =

@@ -1,4 +1,4 @@
--- What an instruction's outcome in its frame comes to for the whole, at rest.
+-- What an instruction's outcome in its frame means for the whole, at rest.
 use Rattle.std.proofs.Common.{◌≡◌, ℕ, ◌+◌, ◌-◌, ◌^◌, ◌<◌, ◌≤◌, List, length, take, refl, ap, sym, subst, ◌∙◌, arith}
 use Rattle.std.proofs.lemmas.List.{length-set}
 use Rattle.std.specs.Prelude.{Result, Ok, Err}
@@ -52,7 +52,7 @@ module _ (bound : ℕ) (r : AtRest) (u : Whole) (rests : Rests bound r u) (state
   abbrev there : AtRest
   there = at_rest r.code state' call'
 
-  -- The instance is there.
+  -- The instance exists.
   number-there : IsLoaded r.code number rests.world.instance
   number-there =
       subst (λ (n : ℕ). IsLoaded r.code n rests.world.instance) rests.sees.seen_from
@@ -64,9 +64,9 @@ module _ (bound : ℕ) (r : AtRest) (u : Whole) (rests : Rests bound r u) (state
   store-is : u.ghost.store ≡ store_around r
   store-is = runs.store ∙ rests.sees.store
 
-  -- ---- where it rests
+  -- ---- where the call rests
 
-  -- Something runs there, over these cells.
+  -- Something runs there, with these cells.
   abbrev RestsAt : Whole → (cells : List ℕ) → List WaitingFrame → Position → Type 0
   RestsAt new cells callers position = (w : World) × Sees r.code (store_with r.code state') position.instance w × RunsWhole bound (loop_at w cells callers position) new
 
@@ -77,7 +77,7 @@ module _ (bound : ℕ) (r : AtRest) (u : Whole) (rests : Rests bound r u) (state
       (subst (λ (z : List ℕ). RestsAt new z callers position) (sym cells_are) at)) in
       record { world = w; sees = sees; runs = its }
 
-  -- ---- it goes on in its frame
+  -- ---- the call continues in its frame
 
   module _ (cells' : List ℕ) (place top operand left : ℕ) (goes : (w' : World) → Sees r.code (store_with r.code state') number w' → GoesTo u.ghost (machine_of r) (fuel_left r) w' (record (machine_of r) { cells = cells'; place = place; top = top; operand = operand }) left) where
     abbrev position : Position
@@ -118,7 +118,7 @@ module _ (bound : ℕ) (r : AtRest) (u : Whole) (rests : Rests bound r u) (state
           );
         }
 
-  -- ---- it stays where it is
+  -- ---- the call stays where it is
 
   module _ (same : store_with r.code state' ≡ store_around r) (cells_are : call'.cells.items ≡ r.call.cells.items) (callers_are : call'.callers ≡ r.call.callers) (left : ℕ) (position_is : call'.position ≡ record r.call.position { fuel = left }) where
     abbrev its_loop : Loop
@@ -149,7 +149,7 @@ module _ (bound : ℕ) (r : AtRest) (u : Whole) (rests : Rests bound r u) (state
         let both = subst (λ (n : ℕ). (c : Comes bound r u there n) × StopsBy bound stop.NoFuel c.rests.world (store_around there) n (machine_of there) c.new) now (stayed (fuel_left r) t, dear') in
         record { there = both.0; by = both.1 }
 
-    -- It traps.
+    -- The call traps.
     pub traps : (trap : Trap) → 1 ≤ fuel_left r → left ≡ fuel_left r - 1 → Fails u.ghost (fuel_left r) (cells_in u.ghost (machine_of r)) (machine_of r).place (height_in (machine_of r)) left trap → StopsAtRest bound r u (stop.Traps trap) there
     traps trap enough left_is fails =
         let (t, wrong) = fails-whole bound its_loop u rests.runs left trap fails in
@@ -158,7 +158,7 @@ module _ (bound : ℕ) (r : AtRest) (u : Whole) (rests : Rests bound r u) (state
         let both = subst (λ (n : ℕ). (c : Comes bound r u there n) × StopsBy bound (stop.Traps trap) c.rests.world (store_around there) n (machine_of there) c.new) now (stayed (left + 1) t, (wrong', omega arith)) in
         record { there = both.0; by = both.1 }
 
-    -- It asks to grow.
+    -- The call asks to grow.
     pub lacks-memory : left ≡ fuel_left r → (cost : ℕ) → cost ≤ fuel_left r → AsksToGrow u.ghost (fuel_left r) (cells_in u.ghost (machine_of r)) (machine_of r).place (height_in (machine_of r)) cost → LacksMemory bound r u there
     lacks-memory left_is cost enough asks =
         let t = lifted-there bound its_loop u rests.runs (fuel_left r) asks.leads in
@@ -180,7 +180,7 @@ module _ (bound : ℕ) (r : AtRest) (u : Whole) (rests : Rests bound r u) (state
         left_is_now : left ≡ fuel_left r → fuel_left r ≡ fuel_left there
         left_is_now e = sym e ∙ ap (λ (p : Position). p.fuel) (sym position_is)
 
--- ---- what an instruction comes to
+-- ---- the result of an instruction
 
 module _ (r : AtRest) (op : PlainOp) (taken : ℕ) (state' : StateContents) where
   abbrev Acted : Result Paid Refusal → Type 0

@@ -1,4 +1,4 @@
--- The results of a call that is over.
+-- The results of a call that ended.
 use Rattle.std.proofs.Common.{◌≡◌, ℕ, zero, suc, add-one, get_or, ◌+◌, ◌-◌, ◌^◌, ◌<◌, ◌≤◌, List, [], ◌∷◌, ◌++◌, length, map, reverse, take, drop, set, refl, ap, sym, subst, ◌∙◌, arith}
 use Rattle.std.proofs.lemmas.List.{length-reverse, reverse-append, map-append, reverse-reverse}
 use Rattle.std.specs.Prelude.{None, Some}
@@ -83,7 +83,7 @@ cell-there (u ∷ ts) [] k t n fit inside = absurd fit
 cell-there (u ∷ ts) (m ∷ ns) zero t n fit inside = fit.0
 cell-there (u ∷ ts) (m ∷ ns) (suc k) t n fit inside = cell-there ts ns k t n fit.1 (omega (arith, inside))
 
--- One value more is read over others.
+-- One more value is read over others.
 next-read-suc : (ts : List ValType) (ns : List ℕ) (into : List Val) (k : ℕ) (t : ValType) (n : ℕ) → AreCellsOf ts ns → length into ≡ length ts → k < length ts
     → set (values_of (take k ts) ns ++ drop k into) k (value_of (get_or ts k t) (get_or ns k n)) ≡ values_of (take (suc k) ts) ns ++ drop (suc k) into
 next-read-suc [] ns into k t n fit room inside = absurd (omega (arith, inside))

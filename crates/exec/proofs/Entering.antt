@@ -82,7 +82,7 @@ module _ (a : FunctionAddress) (f : ModuleFunction) (arguments : List Val) (take
         typed = subst (λ (s : Store). ConfigurationHasType s outermost (whole (begun a f arguments takes)) f.ty.now.results) (sym sees.store) typed;
       }
 
-  -- It runs at the first place of its code.
+  -- The function runs at the first place of its code.
   pub begins : (bound : ℕ) → 1 ≤ bound → (fuel : ℕ) (v : Vec ℕ) → v.items ≡ cells → (callers : List Frame) → callers ≡ [] → Begins bound a f arguments fuel (record { cells = v; callers = callers; position = first_position f fuel })
   begins bound some fuel v v_is callers callers_are =
       let (w, sees) = seen-from a.code a.state f.instance (takes.flat.0, takes.flat.1) in record {

@@ -20,7 +20,7 @@ use Rattle.exec.specs.Endings.{run_state}
 use Rattle.exec.specs.Resting.{AtRest, Comes, Concludes, Ends, LacksMemory, StopsAtRest, fuel_left, machine_of, store_around}
 
 module _ {H : Type 0} (HostStep : List H → ℕ → Option ℕ → List Val → Store → Answer → Store → List H → Type 0) (bound : ℕ) where
-  -- Where it starts it has come to.
+  -- The call has arrived where it starts.
   pub over-first : (r : AtRest) (hosts : List H) (w : Whole) (types : List ValType) → RestsWith bound r w types → ComesOver HostStep bound r hosts w r hosts
   over-first r hosts w types (rests, is) = record { new = w; results = refl; steps = none; rests = rests }
 
@@ -33,20 +33,20 @@ module _ {H : Type 0} (HostStep : List H → ℕ → Option ℕ → List Val →
   }
 
   module _ (r r' : AtRest) (hosts : List H) (u : Whole) where
-    -- Code of modules leads on over any host functions.
+    -- Code of modules has the same steps over any host functions.
     pub led : (left : ℕ) (there : Comes bound r u r' left) → Steps HostStep bound no_frame (run_state (store_around r) hosts (fuel_left r)) (whole u) (run_state (store_around r') hosts left) (whole there.new)
     led left there = steps-over HostStep hosts bound no_frame there.steps
 
-    -- It is over.
+    -- The call is over.
     pub over-ends : (e : Ends bound r u r') (results : List Val) → results ≡ reverse e.values
         → Run HostStep bound no_frame (run_state (store_around r) hosts (fuel_left r)) (whole u) (WithValues results) (run_state (store_around r') hosts (fuel_left r'))
     over-ends e results is = Steps-run HostStep bound no_frame (steps-over HostStep hosts bound no_frame e.steps) (end (values_left refl (ap WithValues is) refl))
 
-    -- It lacks memory that the next step asks for.
+    -- The call lacks memory that the next step asks for.
     pub over-lacks : LacksMemory bound r u r' → Run HostStep bound no_frame (run_state (store_around r) hosts (fuel_left r)) (whole u) OutOfMemory (run_state (store_around r') hosts (fuel_left r'))
     over-lacks l = Steps-run HostStep bound no_frame (led (fuel_left r') l.there) (end (no_memory l.by.asks l.by.within l.by.enough refl refl))
 
-    -- It stops.
+    -- The call stops.
     module _ (s : Stop) (stops : StopsAtRest bound r u s r') where
       abbrev there : Comes bound r u r' (fuel_left r' + paid_for s)
       there = stops.there
@@ -74,7 +74,7 @@ module _ {H : Type 0} (HostStep : List H → ℕ → Option ℕ → List Val →
         pub stops-deep : OpensNext (store_around r') (fuel_left r' + paid_for s) there.new → bound ≤ depth (whole there.new) → RunsTo OutOfDepth
         stops-deep o deep = Steps-run HostStep bound no_frame (led (fuel_left r' + paid_for s) there) (end (no_depth o.opens o.paid deep refl (same-fuel unpaid)))
 
-        -- It has come to where a host function is called.
+        -- The call has arrived where a host function is called.
         abbrev pub stops-over : ComesOver HostStep bound r hosts u r' hosts
         stops-over = record {
           new = there.new;
@@ -92,7 +92,7 @@ module _ {H : Type 0} (HostStep : List H → ℕ → Option ℕ → List Val →
 
 -- ---- a run from its start
 
--- It has come to another place, from whatever rests at the start.
+-- The call has arrived at another place, from whatever rests at the start.
 pub record CameOver {H : Type 0} (HostStep : List H → ℕ → Option ℕ → List Val → Store → Answer → Store → List H → Type 0)
     (bound : ℕ) (r : AtRest) (hosts : List H) (types : List ValType) (r' : AtRest) (hosts' : List H) : Type 0 where
   pub from : (w : Whole) → RestsWith bound r w types → ComesOver HostStep bound r hosts w r' hosts'
@@ -119,7 +119,7 @@ module _ {H : Type 0} {HostStep : List H → ℕ → Option ℕ → List Val →
       pub some-results : Concludes bound r' stop.Over r'' → (s : Store) × (values : List Val) × HasResults s (machine_of r'') types values
       some-results c = (store_around r'', (c first.new first.rests).values, over-typed c)
 
-      -- With the results, as they are read, in the place of as many values.
+      -- With the results, as they are read, in the place of that many values.
       pub ends-taken : (c : Concludes bound r' stop.Over r'') (values old : List Val) (n : ℕ) (results : List Val) (fuel : ℕ) → length values ≡ n
           → ((s : Store) (given : List Val) → HasResults s (machine_of r'') types given → values ≡ reverse given)
           → results ≡ take n (values ++ drop (length values) old) → fuel ≡ fuel_left r'' → Run HostStep bound no_frame (run_state (store_around r) hosts (fuel_left r)) (whole w) (WithValues results) (run_state (store_around r'') hosts' fuel)

@@ -1,4 +1,4 @@
--- Runs of code of instances, one behind the other.
+-- Runs of code of instances, one after the other.
 use Rattle.std.proofs.Common.{◌≡◌, ◌≢◌, ℕ, suc, ◌+◌, ◌-◌, ◌*◌, ◌^◌, ◌<◌, ◌≤◌, List, ◌++◌, length, replicate, Some, slice_get, refl, ap, sym, subst, ◌∙◌, arith, length-append}
 use Rattle.std.proofs.lemmas.List.{length-replicate}
 use Rattle.std.proofs.lemmas.Option.{slice_get_within}
@@ -29,15 +29,15 @@ use Rattle.interpreter.proofs.Forms.{inside}
 use Rattle.exec.proofs.Growing.{longer-whole}
 use Rattle.exec.proofs.Resting.{rests-valid}
 
--- A call has come from one place to another.
+-- A call has arrived at another place.
 pub record Came (bound : ℕ) (r r' : AtRest) : Type 0 where
   pub from : (u : Whole) → Rests bound r u → Comes bound r u r' (fuel_left r')
 
--- With other cells.
+-- The call with other cells.
 abbrev pub with_cells : AtRest → Vec ℕ → AtRest
 with_cells r v = record r { call = record r.call { cells = v } }
 
--- As much is left to do, with more cells.
+-- The same work is left, with more cells.
 pub measure-grows : (left left' : ℕ) (old mid new : List ℕ) → left' ≤ left → length mid ≡ length old → 1 ≤ length old → new ≡ mid ++ replicate (length mid) 0 → length new < 2 ^ 64
     → 2 ^ 64 * left' + (2 ^ 64 - length new) < 2 ^ 64 * left + (2 ^ 64 - length old)
 measure-grows left left' old mid new le same some is few =
@@ -46,7 +46,7 @@ measure-grows left left' old mid new le same some is few =
     let more : length (replicate (length mid) 0) ≡ length mid = length-replicate {A = ℕ} (length mid) 0 in
     omega (arith, le, same, some, all, sum, more, few)
 
--- Less is left to do with less fuel.
+-- Less work is left with less fuel.
 measure-falls : (fuel fuel' callers callers' place place' size size' : ℕ) → fuel' < fuel → suc callers' < 2 ^ 64 → size' ≡ size → 2 ^ 64 * left_at fuel' callers' place' + (2 ^ 64 - size') < 2 ^ 64 * left_at fuel callers place + (2 ^ 64 - size)
 measure-falls fuel fuel' callers callers' place place' size size' less few same = omega (arith, less, few, same)
 
@@ -83,7 +83,7 @@ module _ (bound : ℕ) where
   abbrev stops-later : (r r' r'' : AtRest) (u : Whole) (s : Stop) (first : Comes bound r u r' (fuel_left r')) → StopsAtRest bound r' first.new s r'' → StopsAtRest bound r u s r''
   stops-later r r' r'' u s first last = record { there = comes-then r r' r'' u (fuel_left r'' + paid_for s) first last.there; by = last.by }
 
-  -- It asks for memory.
+  -- The call asks for memory.
   asks-for-memory : (r r' : AtRest) (u : Whole) → StopsAtRest bound r u stop.NoMemory r' → LacksMemory bound r u r'
   asks-for-memory r r' u stops =
       let same : fuel_left r' + 0 ≡ fuel_left r' = omega arith in
@@ -95,7 +95,7 @@ module _ (bound : ℕ) where
     pub came-switched : RunsFrom bound r' stop.Switches r'' → Came bound r r''
     came-switched runs = record { from = λ u rests. let first = came.from u rests in comes-then r r' r'' u (fuel_left r'') first (runs.from first.new first.rests) }
 
-    -- It is over, or stops.
+    -- The call is over, or stops.
     concludes-from : (s : Stop) → s ≢ stop.Switches → s ≢ stop.NoRoom → ((kind : OtherInstruction) (n : ℕ) → s ≢ stop.LeavesOther kind n) → (u : Whole) (first : Comes bound r u r' (fuel_left r')) → RunsTo bound r' first.new s r'' → ConcludesFrom bound r u s r''
     concludes-from stop.Over apart roomy its u first ends = record {
       values = ends.values;
@@ -121,7 +121,7 @@ module _ (bound : ℕ) where
     pub concludes-valid : (s : Stop) → s ≢ stop.Switches → s ≢ stop.NoRoom → ((kind : OtherInstruction) (n : ℕ) → s ≢ stop.LeavesOther kind n) → RunsFrom bound r' s r'' → RestsSome bound r → StoreIsValid (store_around r'')
     concludes-valid s apart roomy its runs (u, rests) = valid-from s apart roomy its u (concludes-so s apart roomy its runs u rests)
 
-    -- There is no room.
+    -- The loop stops with `NoRoom`.
     module _ (runs : RunsFrom bound r' stop.NoRoom r'') where
       abbrev stopped : (u : Whole) → Rests bound r u → StopsAtRest bound r u stop.NoRoom r''
       stopped u rests = let first = came.from u rests in stops-later r r' r'' u stop.NoRoom first (runs.from first.new first.rests)
@@ -162,7 +162,7 @@ module _ (bound : ℕ) where
 
   -- ---- instructions that the loop leaves to others
 
-  -- The instance whose code is next is there.
+  -- The instance whose code is next exists.
   pub left-there : (r r' r'' : AtRest) → Came bound r r' → (kind : OtherInstruction) (n : ℕ) → RunsFrom bound r' (stop.LeavesOther kind n) r'' → RestsSome bound r → r''.call.position.instance < length r''.code.instances
   left-there r r' r'' came kind n runs (u, rests) =
       let first = came.from u rests in
@@ -177,13 +177,13 @@ module _ (bound : ℕ) where
     abbrev op : PlainOp
     op = other_op tables kind n
 
-    -- They are those of the world that is seen.
+    -- The tables are those of the world that is seen.
     tables-seen : (w : World) → Sees r''.code (store_around r'') r''.call.position.instance w → w.flat.tables ≡ tables
     tables-seen w sees =
         ap (λ (z : FlatModule). z.tables) sees.instance.flat
         ∙ sym (are w.instance (subst (λ (n : ℕ). slice_get r''.code.instances n ≡ Some w.instance) sees.seen_from (subst (λ (c : Contents). slice_get c.instances w.number ≡ Some w.instance) sees.code sees.instance.loaded.there)))
 
-    -- The call has come before it.
+    -- The call has arrived before the instruction.
     come-before : (u : Whole) → Rests bound r u → (there : Comes bound r u r'' (fuel_left r'')) × RestsBefore bound r'' op there.new
     come-before u rests =
         let first = came.from u rests in
@@ -199,7 +199,7 @@ module _ (bound : ℕ) where
     pub some-before : RestsSome bound r → RestsSomeBefore r'' op
     some-before (u, rests) = let (there, b) = come-before u rests in (bound, there.new, b)
 
-    -- It goes on behind it.
+    -- The call continues after the instruction.
     pub came-done : GoesOn r'' op r3 → Came bound r r3
     came-done done = record { from = λ u rests. let (there, b) = come-before u rests in comes-then r r'' r3 u (fuel_left r3) there (done.comes bound there.new b) }
 
@@ -213,7 +213,7 @@ module _ (bound : ℕ) where
         measure-falls (fuel_left r') (fuel_left r3) (length r'.call.callers) (length r3.call.callers) r'.call.position.place r3.call.position.place (length r'.call.cells.items) (length r3.call.cells.items)
         (omega (arith, spent, done.falls)) (omega (arith, deep, as_many, small)) (done.size ∙ size)
 
-    -- It stops there.
+    -- The call stops there.
     concludes-there : (s : Stop) (u : Whole) (there : Comes bound r u r'' (fuel_left r'')) → StopsFor bound r'' there.new s r3 → ConcludesFrom bound r u s r3
     concludes-there stop.NoFuel u there stops = stops-later r r'' r3 u stop.NoFuel there stops
     concludes-there stop.NoMemory u there lacks = record { there = comes-then r r'' r3 u (fuel_left r3) there lacks.there; by = lacks.by }

@@ -1,4 +1,4 @@
--- More cells: the loop runs with them what it runs with fewer.
+-- More cells: the loop runs the same with more cells.
 use Rattle.std.proofs.Common.{◌≡◌, ℕ, suc, ◌+◌, ◌<◌, ◌≤◌, List, [], ◌∷◌, ◌++◌, length, take, drop, set, ap, sym, subst, ◌∙◌, arith, append_assoc, length-append}
 use Rattle.std.proofs.lemmas.List.{drop-append-le, length-drop, length-set, set-append_left, take-append-le}
 use Rattle.simulation.specs.Runs.{Ghost}
@@ -25,7 +25,7 @@ longer-put_back locals base cells more top operand scrap within =
     let size = length-set cells top operand in
     ap (without_scrap locals base) (set-append_left cells more top operand within) ∙ longer-frame locals base (set cells top operand) more (omega (arith, size, scrap))
 
--- Those that wait stand among more cells.
+-- The waiting frames are in more cells.
 longer-caller : (code : Contents) (size size' : ℕ) → size ≤ size' → (frame : Frame) (c : Caller) (arity : ℕ) (below : List ℕ) → CallerStands code size frame c arity below → CallerStands code size' frame c arity below
 longer-caller code size size' le frame c arity below s = record {
   place = s.place;

@@ -38,7 +38,7 @@ module _ {H : Type 0} (HostStep : List H → ℕ → Option ℕ → List Val →
   pub too-deep : depth ≡ 0 → Run HostStep depth no_frame at invoking OutOfDepth at
   too-deep is = end (no_depth (opens-first a f arguments takes) (omega arith) (omega (arith, is)) refl refl)
 
-  -- There is no memory for the frame or for the results.
+  -- Memory for the frame or for the results ran out.
   pub lacks-first : 1 ≤ depth → Run HostStep depth no_frame at invoking OutOfMemory at
   lacks-first some =
       end
@@ -65,7 +65,7 @@ module _ {H : Type 0} (host_type : H → FuncType) (Answers : H → List Val →
   abbrev RunsTo : Ending → List H → Type 0
   RunsTo ending after = Run (IsHostStep host_type Answers) bound no_frame (run_state store hosts fuel) (Invoking (reverse args) address) ending (run_state store after fuel)
 
-  -- It is lent no bytes.
+  -- The host function borrows no bytes.
   host-next : next store no_frame (Invoking (reverse args) address) ≡ CallsHost 0 number None args (Running [] Empty)
   host-next =
       let count : length t.params ≡ length (reverse args) = ap length (sym typed) ∙ length-map args type_of ∙ sym (length-reverse args) in

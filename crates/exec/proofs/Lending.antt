@@ -1,4 +1,4 @@
--- Host functions, and the memories that are lent to them.
+-- Host functions, and the memories that they borrow.
 use Rattle.std.proofs.Common.{◌≡◌, ℕ, ◌<◌, List, [], ◌++◌, length, take, drop, refl, ap, sym, subst, ◌∙◌}
 use Rattle.std.specs.Prelude.{Option, Some, None, slice_get}
 use Rattle.std.proofs.lemmas.List.{take_at}
@@ -12,7 +12,7 @@ use Rattle.meaning.specs.execution.Store.{Store, with_memory}
 use Rattle.store.specs.Contents.{Contents, store_with}
 use Rattle.store.specs.State.{StateContents, memory_of, no_memory, with_lent}
 
--- Where no memory is there, nothing changes.
+-- If there is no memory, nothing changes.
 with-none : (store : Store) (lent : Option ℕ) (bytes : List ℕ) → memory_lent store lent ≡ None → with_lent_bytes store lent bytes ≡ store
 with-none store None bytes none = refl
 with-none store (Some address) bytes none = ap (λ (there : Option MemoryInstance). with_bytes store address there bytes) none

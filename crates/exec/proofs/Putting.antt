@@ -9,7 +9,7 @@ use Rattle.interpreter.specs.Layout.{without_scrap}
 use Rattle.interpreter.proofs.Cells.{take-frame}
 use Rattle.exec.specs.Hosting.{with_results}
 
--- Behind a part of a list.
+-- After a part of a list.
 take-behind : (A B : List ℕ) (j n : ℕ) → length A ≡ j → take (j + n) (A ++ B) ≡ A ++ take n B
 take-behind A B j n is = subst (λ (k : ℕ). take (k + n) (A ++ B) ≡ A ++ take n B) is (take-append-add A B n)
 
@@ -34,11 +34,11 @@ module _ (cells : List ℕ) (first : ℕ) (values : List Val) (room : first + le
       let four = length-drop (first + length values) cells in
       omega (arith, one, two, three, four, first-size, room)
 
-  -- The cells below are as they were.
+  -- The cells below are unchanged.
   pub results-below : (n : ℕ) → n ≤ first → take n new ≡ take n cells
   results-below n le = take-append-le n (take first cells) (given ++ others) (omega (arith, le, first-size)) ∙ take-take n first cells le
 
-  -- In the frame they lie on what was below the arguments.
+  -- In the frame, the results are on what was below the arguments.
   module _ (locals base height : ℕ) (first_is : first ≡ base + suc height) (above : locals ≤ height) where
     abbrev from : ℕ
     from = suc (base + locals)
@@ -78,7 +78,7 @@ module _ (cells : List ℕ) (first : ℕ) (values : List Val) (room : first + le
         ∙ sym (append_assoc (take locals (drop base cells)) (take j (drop from cells)) given)
         ∙ ap (λ (z : List ℕ). z ++ given) (sym (take-frame locals base cells (omega (arith, first_is, above, room)) j) ∙ ap (λ (n : ℕ). take n (without_scrap locals base cells)) part)
 
--- The operands of a frame where they lie.
+-- The operands of a frame, in their cells.
 pub operands-there : (locals base : ℕ) (cells : List ℕ) (height many first : ℕ) → base + locals ≤ length cells → many ≤ height → first ≡ base + suc (height - many) → locals ≤ height - many
     → operand_cells (without_scrap locals base cells) height many ≡ take many (drop first cells)
 operands-there locals base cells height many first inside few is above =

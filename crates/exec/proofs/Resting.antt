@@ -18,9 +18,9 @@ use Rattle.interpreter.specs.declared.machine.Stop.TheVariants as stop
 use Rattle.interpreter.proofs.Worlds.{flat-seen}
 use Rattle.exec.proofs.Seeing.{seen-from}
 
--- ---- whoever sees the store
+-- ---- any view of the store
 
--- What the loop runs in a store it runs in it as it is seen from the same instance.
+-- What the loop runs in a store, it also runs in the store as seen from the same instance.
 runs-seen : (bound : ℕ) (l : Loop) (u : Whole) (other : World) → IsSeenFrom l.number l.world other → RunsWhole bound l u → RunsWhole bound (record l { world = other }) u
 runs-seen bound l u other seen r = record {
   runs = record {
@@ -39,7 +39,7 @@ runs-seen bound l u other seen r = record {
   typed = subst (λ (s : Store). ConfigurationHasType s outermost (whole u) u.results) (sym seen.store) r.typed;
 }
 
--- Whatever fuel there is.
+-- For any fuel.
 refuelled : (bound : ℕ) (l : Loop) (fuel : ℕ) (u : Whole) → RunsWhole bound (record l { fuel = fuel }) u → RunsWhole bound l u
 refuelled bound l fuel u r = record { runs = r.runs; number = r.number; callers = r.callers; arity = r.arity; deep = r.deep; typed = r.typed }
 
@@ -92,7 +92,7 @@ module _ (bound : ℕ) (r r' : AtRest) (w w' : World) (start : Sees r.code (stor
   pub runs-on : (s : Stop) → StopsAt bound (loop_of w r) s (loop_of w' r') → RunsFrom bound r s r'
   runs-on s stops = record { from = λ u rests. runs-to s u (stops.from u (runs-at bound r u rests w start)); falls = falls-to s stops.falls }
 
--- The store is valid then.
+-- The store is valid afterwards.
 module _ (bound : ℕ) (l l' : Loop) (u : Whole) where
   valid-from : (s : Stop) → StopsFrom bound l u s l' → StoreIsValid (store_in l'.world)
   valid-from stop.Over o = o.results.valid

@@ -50,7 +50,7 @@ module _ (code : Contents) (state : StateContents) where
     },
   )
 
-  -- With its memory taken out.
+  -- The same with its memory taken out.
   pub seen-taken : (number : ℕ) (i : Instance) → IsLoaded code number i → (a : ℕ) → slice_get i.addresses.memories.items 0 ≡ Some a
       → Sees code store number (record {
         code = code;
@@ -81,7 +81,7 @@ module _ (code : Contents) (state : StateContents) where
       memory-valid : MemoryIsValid state.bounds.pages (memory_of state a)
       memory-valid = All-at (MemoryIsValid state.bounds.pages) state.contents.memories a (memory_of state a) (slice_get-get_or state.contents.memories a no_memory memory-inside) valid.memories
 
--- What is known of a memory once it is back in a valid store.
+-- What holds for a memory after it is back in a valid store.
 pub record IsBack (state : StateContents) (a : ℕ) (memory : MemoryInstance) : Type 0 where
   pub inside : a < length state.contents.memories
   pub few : memory.limits.min ≤ state.bounds.pages

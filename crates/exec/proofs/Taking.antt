@@ -20,7 +20,7 @@ use Rattle.interpreter.specs.declared.machine.Stop.{Stop}
 use Rattle.exec.proofs.Resting.{runs-on, stops-valid}
 use Rattle.exec.proofs.Seeing.{seen-taken}
 
--- As many items written over others are those that are there.
+-- Items written over others are the first ones afterwards.
 pub written-over : (n : ℕ) (xs ys : List ℕ) → length ys ≡ n → take n (ys ++ drop (length ys) xs) ≡ ys
 written-over n xs ys size = take-append-le n ys (drop (length ys) xs) (omega (arith, size)) ∙ take_all n ys (omega (arith, size))
 

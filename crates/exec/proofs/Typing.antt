@@ -20,7 +20,7 @@ use Rattle.hostfunc.proofs.Fitting.{boxes-answer-well}
 use Rattle.exec.specs.Endings.{run_state}
 
 module _ {I : Type 0} {F : I → Type 0} (members : (i : I) → Ghosts (F i)) (bound : ℕ) (old new : Store) (hosts hosts' : List (HostObject I F)) (fuel fuel' : ℕ) where
-  -- A call of a function with arguments that it takes ends with its results, or without any.
+  -- A call of a function with arguments that it takes ends with its results, or without values.
   pub call-ends : (address : ℕ) (args : List Val) (ending : Ending) → StoreIsValid old → HaveHosts old hosts → TakesArguments old address args
       → Run (HostStep members) bound no_frame (run_state old hosts fuel) (Invoking (reverse args) address) ending (run_state new hosts' fuel')
       → EndsTyped (HostStep members) HaveHosts (results_of (slice_get old.functions address)) (run_state old hosts fuel) ending (run_state new hosts' fuel')

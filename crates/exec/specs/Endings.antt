@@ -27,7 +27,7 @@ run_state store hosts fuel = record { store = store; hosts = hosts; fuel = fuel 
 abbrev pub first_memory : Store → (instance : ℕ) → Option ℕ
 first_memory store instance = slice_get (instance_of store (Some instance)).memories 0
 
--- A call of the function at an address from outside, with these arguments, is a run that ended so.
+-- A call of the function at an address from outside, with these arguments, is a run that ended like this.
 abbrev pub RunsCall : {H : Type 0}
     (HostStep : List H → ℕ → Option ℕ → List Val → Store → Answer → Store → List H → Type 0)
     → (bound : ℕ) → (old : State H) → (address : ℕ) → List Val → Outcome → (new : State H) → Type 0

@@ -1,4 +1,4 @@
--- Calls of host functions, and where calls go on behind them.
+-- Calls of host functions, and where calls continue after them.
 use Rattle.std.specs.Prelude.{◌≡◌, ℕ, ◌+◌, ◌-◌, ◌≤◌, List, [], ◌∷◌, ◌++◌, Option, Result, Ok, Err, length, map, take, drop, get_or}
 use Rattle.core_types.specs.declared.outcome.Val.{Val}
 use Rattle.core_types.specs.declared.types.ValType.{ValType}
@@ -16,7 +16,7 @@ use Rattle.exec.specs.declared.hosts.HostCall.{HostCall}
 use Rattle.exec.specs.declared.outcome.Outcome.{Outcome}
 use Rattle.exec.specs.Resting.{AtRest, Rests, fuel_left, machine_of, store_around}
 
--- The call rests before that.
+-- The call rests before a call of the function at an address, of this kind.
 pub record WaitsForHost (bound : ℕ) (r : AtRest) (w : Whole) (kind : CallKind)
     (address behind : ℕ) : Type 0 where
   pub rests : Rests bound r w
@@ -30,16 +30,16 @@ WaitsFor bound r w wanted = WaitsForHost bound r w wanted.kind wanted.address wa
 abbrev pub RestsWith : (bound : ℕ) → AtRest → Whole → List ValType → Type 0
 RestsWith bound r w types = Rests bound r w × (w.results ≡ types)
 
--- So many cells below a place.
+-- That many cells below a place.
 abbrev pub cells_below : (behind many : ℕ) → List ℕ → List ℕ
 cells_below behind many cells = take many (drop (behind - many) cells)
 
--- Cells with those of values from a place on.
+-- The cells, with those of values from a place on.
 abbrev pub with_results : List ℕ → (first : ℕ) → List Val → List ℕ
 with_results cells first values =
     take first cells ++ (map cell_of values ++ drop (first + length values) cells)
 
--- In a frame behind a call, which was paid for, with so many results from a place on.
+-- The position in a frame after a call, which was paid for, with that many results from a place on.
 abbrev pub position_answered : Frame → Position → (first : ℕ) → List Val → List ℕ → Position
 position_answered frame at first values cells = record {
   instance = frame.instance;
@@ -50,14 +50,14 @@ position_answered frame at first values cells = record {
   fuel = at.fuel - 1;
 }
 
--- In the place of the innermost frame there is room for so many results, if a frame waits for them.
+-- There is room for that many results in the place of the innermost frame, if a frame waits for them.
 abbrev pub HasRoomForResults : Call → (many : ℕ) → Type 0
 HasRoomForResults call many =
     (frame : Frame) (others : List Frame) → call.callers ≡ frame ∷ others
     → (1 ≤ call.position.base)
     × (call.position.base + many ≤ length call.cells.items)
 
--- Results took the place of the innermost frame, in the one that waited.
+-- Results replaced the innermost frame, and the waiting frame has them.
 abbrev pub GoesBack : Call → List Val → Call → Type 0
 GoesBack old values new =
     (frame : Frame) × (old.callers ≡ frame ∷ new.callers)
@@ -65,7 +65,7 @@ GoesBack old values new =
     × (new.position ≡
     position_answered frame old.position old.position.base values old.cells.items)
 
--- None waited, and the call ended with them.
+-- No frame waited, and the call ended with the results.
 abbrev pub EndsWith : Call → List Val → Outcome → Call → Type 0
 EndsWith old values outcome new =
     (old.callers ≡ []) × (ending_of outcome ≡ WithValues values)
@@ -73,7 +73,7 @@ EndsWith old values outcome new =
 
 module _ {H : Type 0} (HostStep : List H → ℕ → Option ℕ → List Val → Store → Answer → Store
     → List H → Type 0) (bound : ℕ) where
-  -- Steps of the whole lead on to where the call rests.
+  -- Steps of the whole lead to where the call rests.
   pub record ComesOver (r : AtRest) (hosts : List H) (w : Whole) (r' : AtRest) (hosts' : List H)
       : Type 0 where
     pub new : Whole
@@ -82,7 +82,7 @@ module _ {H : Type 0} (HostStep : List H → ℕ → Option ℕ → List Val →
         (whole w) (run_state (store_around r') hosts' (fuel_left r')) (whole new)
     pub rests : Rests bound r' new
 
-  -- The call came over it, or it ended the run.
+  -- The call continues after the host function, or the host function ended the run.
   abbrev pub ComesOverOrEnds : {U : Type 0} → AtRest → List H → Whole → Result U Outcome → AtRest
       → List H → Type 0
   ComesOverOrEnds r hosts w (Ok u) r' hosts' = ComesOver r hosts w r' hosts'

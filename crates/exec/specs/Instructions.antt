@@ -25,7 +25,7 @@ use Rattle.exec.specs.declared.call.Call.{Call}
 
 -- ---- before an instruction
 
--- The call rests before it, and this runs there.
+-- The call rests before the instruction, in this run.
 pub record RestsBefore (bound : ℕ) (r : AtRest) (op : PlainOp) (u : Whole) : Type 0 where
   pub rests : Rests bound r u
   pub there : StandsThere (machine_of r) u.ghost (Plain op)
@@ -33,11 +33,11 @@ pub record RestsBefore (bound : ℕ) (r : AtRest) (op : PlainOp) (u : Whole) : T
 abbrev pub RestsSomeBefore : AtRest → PlainOp → Type 0
 RestsSomeBefore r op = (bound : ℕ) × (u : Whole) × RestsBefore bound r op u
 
--- What the instance of the innermost frame has.
+-- The instance of the innermost frame.
 abbrev pub instance_in : Contents → Call → ModuleInstance
 instance_in code call = instance_of (code_store code) (Some call.position.instance)
 
--- An address is there.
+-- The address exists.
 abbrev pub IsNamed : Option ℕ → Type 0
 IsNamed found = (address : ℕ) × (found ≡ Some address)
 
@@ -52,9 +52,9 @@ pub record HasOperands (call : Call) (types : List ValType) : Type 0 where
   pub inside : call.position.top < length call.cells.items
   pub cells : (k : ℕ) → k < length types → IsCellOf (get_or types k I32) (operand_of call k)
 
--- ---- what comes of it
+-- ---- the outcome of an instruction
 
--- How many operands it takes.
+-- The number of operands that an instruction takes.
 abbrev pub taken_by : OtherInstruction → ℕ
 taken_by other.MemoryGrow = 1
 taken_by other.MemoryFill = 3
@@ -77,7 +77,7 @@ abbrev pub HasRoomFor : Machine → (taken : ℕ) → Result Paid Refusal → Ty
 HasRoomFor m taken (Ok paid) = HasRoom m taken paid.result
 HasRoomFor m taken (Err refusal) = Unit {0}
 
--- With so many operands it has an outcome in the frame, and this came of it.
+-- With that many operands the instruction has an outcome in the frame, and this is its result.
 pub record HasCome (r : AtRest) (g : Ghost) (taken : ℕ) (new : Store) (result : Result Paid Refusal)
     : Type 0 where
   pub outcome : Outcome
@@ -87,14 +87,14 @@ pub record HasCome (r : AtRest) (g : Ghost) (taken : ℕ) (new : Store) (result 
   pub room : HasRoomFor (machine_of r) taken result
   pub gives : Gives outcome (store_around r) new (fuel_left r) result
 
--- Whatever runs there.
+-- The same for any run there.
 abbrev pub Acts : AtRest → PlainOp → (taken : ℕ) → Store → Result Paid Refusal → Type 0
 Acts r op taken new result =
     (bound : ℕ) (u : Whole) → RestsBefore bound r op u → HasCome r u.ghost taken new result
 
--- ---- where it goes on
+-- ---- where the call continues
 
--- Where the topmost operand would lie behind it, and that operand: its result, or the one below its operands.
+-- Where the topmost operand would be after the instruction, and that operand: its result, or the one below its operands.
 abbrev pub top_behind : (top taken : ℕ) → Option ℕ → ℕ
 top_behind top taken None = top - taken
 top_behind top taken (Some cell) = top - taken + 1
@@ -103,7 +103,7 @@ abbrev pub operand_behind : List ℕ → (top taken : ℕ) → Option ℕ → �
 operand_behind cells top taken None = get_or cells (top - taken) 0
 operand_behind cells top taken (Some cell) = cell
 
--- The cells with the topmost operand put back.
+-- The cells, with the topmost operand written back.
 abbrev pub cells_behind : Call → List ℕ
 cells_behind call = set call.cells.items call.position.top call.position.operand
 
@@ -116,21 +116,21 @@ position_behind call taken paid =
       fuel = paid.fuel;
     }
 
--- The call goes on behind it, with less fuel.
+-- The call continues after the instruction, with less fuel.
 pub record GoesOn (r : AtRest) (op : PlainOp) (r' : AtRest) : Type 0 where
   pub comes : (bound : ℕ) (u : Whole) → RestsBefore bound r op u → Comes bound r u r' (fuel_left r')
   pub falls : fuel_left r' < fuel_left r
   pub size : length r'.call.cells.items ≡ length r.call.cells.items
   pub callers : r'.call.callers ≡ r.call.callers
 
--- The call stops before it: it costs more than is left, asks for memory, or traps.
+-- The call stops before the instruction: it costs more than is left, asks for memory, or traps.
 abbrev pub StopsFor : (bound : ℕ) → AtRest → Whole → Stop → AtRest → Type 0
 StopsFor bound r u stop.NoFuel r' = StopsAtRest bound r u stop.NoFuel r'
 StopsFor bound r u stop.NoMemory r' = LacksMemory bound r u r'
 StopsFor bound r u (stop.Traps trap) r' = StopsAtRest bound r u (stop.Traps trap) r'
 StopsFor bound r u s r' = ⊥
 
--- It was done, and the call goes on; or the call stops before it.
+-- The instruction was done, and the call continues, or the call stops before it.
 abbrev pub Does : AtRest → PlainOp → Result (Unit {0}) Stop → AtRest → Type 0
 Does r op (Ok u) r' = GoesOn r op r'
 Does r op (Err s) r' =

@@ -1,4 +1,4 @@
--- Calls between runs of code of one instance: each memory lies in the state.
+-- Calls between runs of code of one instance: each memory is in the state.
 use Rattle.std.specs.Prelude.{◌≡◌, ℕ, ◌+◌, ◌<◌, ◌≤◌, List, length}
 use Rattle.core_types.specs.declared.outcome.Val.{Val}
 use Rattle.meaning.specs.structure.Bodies.{Empty}
@@ -30,7 +30,7 @@ store_around r = store_with r.code r.state
 abbrev pub fuel_left : AtRest → ℕ
 fuel_left r = r.call.position.fuel
 
--- What the loop is given there.
+-- The machine that the loop starts with.
 abbrev pub machine_of : AtRest → Machine
 machine_of r = machine_at r.call.cells.items r.call.position
 
@@ -46,34 +46,34 @@ pub record Rests (bound : ℕ) (r : AtRest) (w : Whole) : Type 0 where
 abbrev pub RestsSome : (bound : ℕ) → AtRest → Type 0
 RestsSome bound r = (w : Whole) × Rests bound r w
 
--- ---- where a call comes
+-- ---- where a call arrives
 
--- Steps of the whole lead to a configuration, with so much fuel left.
+-- Steps of the whole lead to a configuration, with this fuel left.
 abbrev pub LeadsTo : (bound : ℕ) → AtRest → Whole → AtRest → (fuel : ℕ) → Configuration → Type 0
 LeadsTo bound r w r' fuel c =
     Steps NoHosts bound no_frame (state (store_around r) (fuel_left r)) (whole w)
     (state (store_around r') fuel) c
 
--- They lead to where the call rests again.
+-- The steps lead to where the call rests again.
 pub record Comes (bound : ℕ) (r : AtRest) (w : Whole) (r' : AtRest) (fuel : ℕ) : Type 0 where
   pub new : Whole
   pub results : new.results ≡ w.results
   pub steps : LeadsTo bound r w r' fuel (whole new)
   pub rests : Rests bound r' new
 
--- It came to where it stops.
+-- The call arrived where it stops.
 pub record StopsAtRest (bound : ℕ) (r : AtRest) (w : Whole) (s : Stop) (r' : AtRest)
     : Type 0 where
   pub there : Comes bound r w r' (fuel_left r' + paid_for s)
   pub by : StopsBy bound s there.rests.world (store_around r') (fuel_left r' + paid_for s)
       (machine_of r') there.new
 
--- It came to where it asks for memory that is not there.
+-- The call arrived where it asks for memory that cannot be allocated.
 pub record LacksMemory (bound : ℕ) (r : AtRest) (w : Whole) (r' : AtRest) : Type 0 where
   pub there : Comes bound r w r' (fuel_left r')
   pub by : AsksNext bound (store_around r') (fuel_left r') there.new
 
--- It is over, and its results lie on top.
+-- The call ended, and its results are on top.
 pub record Ends (bound : ℕ) (r : AtRest) (w : Whole) (r' : AtRest) : Type 0 where
   pub values : List Val
   pub steps : LeadsTo bound r w r' (fuel_left r') (Running values Empty)
@@ -109,7 +109,7 @@ ConcludesFrom bound r w stop.NoRoom r' = ⊥
 ConcludesFrom bound r w (stop.LeavesOther kind n) r' = ⊥
 ConcludesFrom bound r w s r' = StopsAtRest bound r w s r'
 
--- It never stops where code of another instance is next, nor for want of cells alone, nor before an instruction that the loop
--- leaves to others.
+-- The call never stops where code of another instance is next, nor for lack of cells only, nor before an instruction that the loop leaves
+-- to others.
 abbrev pub Concludes : (bound : ℕ) → AtRest → Stop → AtRest → Type 0
 Concludes bound r s r' = (w : Whole) → Rests bound r w → ConcludesFrom bound r w s r'

@@ -1,4 +1,4 @@
--- Calls from outside: what starts them.
+-- The start of calls from outside.
 use Rattle.std.specs.Prelude.{◌≡◌, ℕ, ◌≤◌, List, reverse, Some, slice_get}
 use Rattle.core_types.specs.declared.outcome.Val.{Val}
 use Rattle.meaning.specs.execution.Configurations.{Invoking, no_frame}
@@ -22,7 +22,7 @@ pub record FunctionAddress : Type 0 where
 abbrev pub address_in : Contents → StateContents → (address : ℕ) → FunctionAddress
 address_in code state address = record { code = code; state = state; address = address }
 
--- In a valid store a function of a module was found at the address, and it takes the arguments.
+-- In a valid store, a function of a module was found at the address, and it takes the arguments.
 pub record Takes (a : FunctionAddress) (f : ModuleFunction) (arguments : List Val) : Type 0 where
   pub valid : StoreIsValid (store_with a.code a.state)
   pub found : slice_get (functions_in a.code) a.address ≡ Some (callee_function (InModule f))

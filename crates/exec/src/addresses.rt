@@ -4,7 +4,7 @@ ghost use Rattle.exec.specs.Instructions.{IsNamed, instance_in};
 use crate::call::Call;
 use store::Code;
 
-/// The address of the table that the innermost frame's instance has under an index.
+/// Returns the address of the table that the innermost frame's instance has under an index.
 pub fn table_at(code: &Code, call: &Call, x: u32) -> u32
     requires { IsNamed (slice_get (instance_in code.now call.now).tables x) }
     ensures { slice_get (instance_in code.now call.now).tables x ≡ Some result }
@@ -15,7 +15,7 @@ pub fn table_at(code: &Code, call: &Call, x: u32) -> u32
     }
 }
 
-/// The address of its memory.
+/// Returns the address of the memory of the innermost frame's instance.
 pub fn memory_at(code: &Code, call: &Call) -> u32
     requires { IsNamed (slice_get (instance_in code.now call.now).memories 0) }
     ensures { slice_get (instance_in code.now call.now).memories 0 ≡ Some result }
@@ -26,7 +26,7 @@ pub fn memory_at(code: &Code, call: &Call) -> u32
     }
 }
 
-/// The address of an element segment.
+/// Returns the address of the element segment that the innermost frame's instance has under an index.
 pub fn elements_at(code: &Code, call: &Call, x: u32) -> u32
     requires { IsNamed (slice_get (instance_in code.now call.now).elements x) }
     ensures { slice_get (instance_in code.now call.now).elements x ≡ Some result }
@@ -37,7 +37,7 @@ pub fn elements_at(code: &Code, call: &Call, x: u32) -> u32
     }
 }
 
-/// The address of a data segment.
+/// Returns the address of the data segment that the innermost frame's instance has under an index.
 pub fn data_at(code: &Code, call: &Call, x: u32) -> u32
     requires { IsNamed (slice_get (instance_in code.now call.now).datas x) }
     ensures { slice_get (instance_in code.now call.now).datas x ≡ Some result }

@@ -4,7 +4,7 @@ ghost use Rattle.interpreter.specs.Calling.{frame_waiting};
 use core_types::Stack;
 use interpreter::{Frame, Position};
 
-/// A call that runs or has stopped: its cells, the frames that wait, the innermost first, and where it is.
+/// A call that runs or has stopped: its cells, the waiting frames, the innermost first, and its position.
 #[derive(Drop)]
 pub struct Call {
     pub cells: Vec<u64>,
@@ -12,7 +12,7 @@ pub struct Call {
     pub position: Position,
 }
 
-/// The innermost frame, behind the operation where it is.
+/// Returns the innermost frame, after the operation at the position.
 pub fn frame_behind(position: Position) -> Frame
     requires { position.place + 1 < 2 ^ 32 }
     ensures { result ≡ frame_waiting position }

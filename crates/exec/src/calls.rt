@@ -11,7 +11,7 @@ use sidetable::SideTables;
 use std::alloc::AllocError;
 use store::{Code, Instance, State};
 
-// Runs code of an instance that has a memory, which is taken out of the state meanwhile.
+// Runs code of an instance that has a memory. Meanwhile the memory is taken out of the state.
 fn run_with_memory(
     code: &Code,
     instance: &Instance,
@@ -50,7 +50,7 @@ fn run_with_memory(
     stop
 }
 
-// Runs code of an instance that has none.
+// Runs code of an instance that has no memory.
 fn run_without_memory(
     code: &Code,
     instance: &Instance,
@@ -101,7 +101,7 @@ fn run_code(code: &Code, state: &mut State, bound: u64, call: &mut Call) -> Stop
     }
 }
 
-// Twice as many cells. Where memory runs out, there are as many as before.
+// Doubles the number of cells. If memory runs out, the number is unchanged.
 fn grow(cells: &mut Vec<u64>) -> Result<(), AllocError>
     ensures grown { OnOk result (cells.new.items ≡ cells.old.items ++ replicate
         (length cells.old.items) 0) }
@@ -111,7 +111,7 @@ fn grow(cells: &mut Vec<u64>) -> Result<(), AllocError>
     cells.resize(size, 0)
 }
 
-// The side tables of the module whose code is next.
+// Returns the side tables of the module whose code is next.
 fn tables_of<'a>(code: &'a Code, call: &Call) -> &'a SideTables
     requires { call.now.position.instance < length code.now.instances }
     ensures { (i : AnyInstance) → slice_get code.now.instances call.now.position.instance ≡ Some i
@@ -123,11 +123,11 @@ fn tables_of<'a>(code: &'a Code, call: &Call) -> &'a SideTables
     &instance.loaded.as_ref().flat().tables
 }
 
-/// Runs a call on, in code of any instances, until it is over or stops (Execution, Instructions).
+/// Runs a call, in code of any instances, until it ends or stops (Execution, Instructions).
 ///
-/// At most so many frames may be open. Cells are added as frames need them. Where there is no memory for them, for a frame, or for a
-/// table or a memory that grows, it stops with `NoMemory`. It never stops with `NoRoom` or `Switches`, nor before an instruction that
-/// the loop leaves to others. Where it stops it can be run on, from there and with the fuel that is left.
+/// At most `bound` frames may be open. Cells are added as frames need them. If an allocation fails for cells, for a frame, or
+/// for a table or a memory that grows, the call stops with `NoMemory`. It never stops with `NoRoom` or `Switches`, nor before an
+/// instruction that the loop leaves to others. A call that stopped can be run again, from there and with the fuel left.
 pub fn go_on(code: &Code, state: &mut State, bound: u64, call: &mut Call) -> Stop
     requires rests { RestsSome bound (at_rest code.now state.old call.old) }
     ensures concludes { Concludes bound (at_rest code.now state.old call.old) result

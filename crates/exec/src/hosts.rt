@@ -25,7 +25,7 @@ use interpreter::{CallKind, Frame};
 use std::alloc::{AllocError, Global};
 use store::{Callee, Code, State, Store};
 
-// The address of the memory that an instance has, if it has one and that is there.
+// Returns the address of the memory of an instance, if it has one and that memory exists.
 fn memory_to_lend(code: &Code, state: &State, instance: u32) -> Option<u32>
     ensures { MatchOption result (memory_lent (store_with code.now state.now)
         (first_memory (code_store code.now) instance) ≡ None) (λ address.
@@ -39,7 +39,7 @@ fn memory_to_lend(code: &Code, state: &State, instance: u32) -> Option<u32>
     }
 }
 
-// Calls the host function of a number, which is lent the memory of an instance, or no bytes where that has none.
+// Calls the host function of a number. It is passed the memory of an instance, or no bytes if that has none.
 fn call_lent(
     code: &Code,
     state: &mut State,
@@ -63,7 +63,7 @@ fn call_lent(
     }
 }
 
-// Reads arguments of these types, which lie below a place among the cells.
+// Reads arguments of these types, which are in the cells below a place.
 fn read_arguments(
     alloc: Global,
     types: &[ValType],
@@ -79,7 +79,7 @@ fn read_arguments(
     values_of(alloc, types, &cells[behind - types.len()..behind])
 }
 
-// Puts results from a cell on, and goes on in a frame behind the call, which was paid for.
+// Writes results from a cell on, and continues in a frame after the call, which was paid for.
 fn put_results(values: &[Val], first: usize, frame: Frame, call: &mut Call)
     requires room { first + length values.now ≤ length call.old.cells.items }
     requires above { 1 ≤ first }
@@ -99,8 +99,8 @@ fn put_results(values: &[Val], first: usize, frame: Frame, call: &mut Call)
     call.position.fuel -= 1;
 }
 
-// Puts results in the place of the innermost frame, whose last step was paid for. The frame that waits goes on with them; where none
-// waits, the call ends with them.
+// Replaces the innermost frame with results, after its last step was paid for. The waiting frame continues with them. If no
+// frame waits, the call ends with them.
 fn return_results(values: Vec<Val>, call: &mut Call) -> Result<(), Outcome>
     requires room { HasRoomForResults call.old (length values.items) }
     requires paid { 1 ≤ call.old.position.fuel }
@@ -116,7 +116,8 @@ fn return_results(values: Vec<Val>, call: &mut Call) -> Result<(), Outcome>
     Ok(())
 }
 
-/// A host function that a call waits for: how it is called, its address, and the place among the cells below which its arguments lie.
+/// A host function that a call waits for: how it is called, its address, and the place in the cells below which its arguments
+/// are.
 #[derive(Clone, Copy)]
 pub struct HostCall {
     pub kind: CallKind,
@@ -124,7 +125,7 @@ pub struct HostCall {
     pub behind: usize,
 }
 
-/// Calls the host function that a call waits for: its results take the place of its arguments, or, behind a tail call, that of the
+/// Calls the host function that a call waits for. Its results replace its arguments. After a tail call they replace the
 /// innermost frame, which may end the call.
 pub fn call_host(
     alloc: Global,
@@ -177,7 +178,7 @@ pub fn call_host(
     }
 }
 
-// Whether a function has an object of its type, if it is one of the host.
+// Returns whether a host function has an object of its type. For a function of a module, returns true.
 fn has_host(callee: &Callee<'_>, hosts: &HostTable) -> bool
     ensures { IsTrue result ↔ ((number : ℕ)
         → (callee_function callee.now).implementation ≡ InHost number →
@@ -195,8 +196,8 @@ fn has_host(callee: &Callee<'_>, hosts: &HostTable) -> bool
     }
 }
 
-/// Whether each host function of the store has an object of its type: the test of the condition on host functions under which `invoke`
-/// and `instantiate` are called.
+/// Returns whether each host function of the store has an object of its type. `invoke` and `instantiate` require this of host
+/// functions.
 pub fn have_hosts(store: &Store, hosts: &HostTable) -> bool
     ensures { IsTrue result ↔ HaveHosts (store_of store.now) (hosts_in hosts.now) }
 {

@@ -16,7 +16,7 @@ use interpreter::Stop;
 use sidetable::{IndexPair, OtherInstruction, SideTables};
 use store::{Code, State};
 
-// The pair of a number.
+// Returns the pair of a number.
 fn pair_of(tables: &SideTables, n: u32) -> IndexPair
     ensures { result ≡ pair_at tables.now n }
 {
@@ -29,7 +29,7 @@ fn pair_of(tables: &SideTables, n: u32) -> IndexPair
     }
 }
 
-// Does an instruction that the loop leaves to others.
+// Executes an instruction that the loop leaves to others.
 fn act(
     code: &Code,
     tables: &SideTables,
@@ -64,7 +64,7 @@ fn act(
     }
 }
 
-// How many operands it takes.
+// Returns the number of operands that an instruction takes.
 fn taken_by(kind: OtherInstruction) -> usize
     ensures { result ≡ takes kind }
 {
@@ -81,7 +81,7 @@ fn taken_by(kind: OtherInstruction) -> usize
     }
 }
 
-// Goes on behind an instruction that took so many operands.
+// Continues after an instruction that took this many operands.
 fn go_behind(call: &mut Call, taken: usize, paid: Paid)
     requires low { taken ≤ call.old.position.top }
     requires inside { call.old.position.top < length call.old.cells.items }
@@ -107,7 +107,8 @@ fn go_behind(call: &mut Call, taken: usize, paid: Paid)
     call.position.fuel = paid.fuel;
 }
 
-/// Does the instruction before which the loop stopped, whose module has these side tables, and goes on behind it; or stops there.
+/// Executes the instruction before which the loop stopped, and continues after it, or stops there. These must be the side tables
+/// of its module.
 pub fn step(
     code: &Code,
     tables: &SideTables,

@@ -13,7 +13,7 @@ use interpreter::Position;
 use std::alloc::{AllocError, Global};
 use store::ModuleFunction;
 
-// The cells of an outermost frame, for so many locals and operands: the arguments first, and zeros behind them.
+// Returns the cells of an outermost frame, for that many locals and operands: the arguments, followed by zeros.
 fn first_cells(alloc: Global, greatest: u64, arguments: &[Val]) -> Result<Vec<u64>, AllocError>
     requires { length arguments.now ≤ greatest }
     ensures { IfOk result (λ cells. cells.items ≡ map cell arguments.now ++ drop
@@ -28,9 +28,9 @@ fn first_cells(alloc: Global, greatest: u64, arguments: &[Val]) -> Result<Vec<u6
     Ok(cells)
 }
 
-/// Begins a call of a function of a module, with arguments of its parameter types.
+/// Begins a call of a function of a module, with arguments of its parameter types (Execution, Modules, Invocation).
 ///
-/// Where there is no memory for the cells of its frame, there is no call (Execution, Modules, Invocation).
+/// Fails if an allocation fails for the cells of its frame.
 pub fn begin(
     alloc: Global,
     function: &ModuleFunction<'_>,
@@ -57,7 +57,7 @@ pub fn begin(
     })
 }
 
-// Reads cells over as many values, at these types.
+// Reads cells as values of these types, and overwrites the same number of values.
 fn read_cells(types: &[ValType], cells: &[u64], into: &mut [Val])
     requires fit { AreCellsOf types.now cells.now }
     requires room { length into.old ≡ length types.now }
@@ -68,7 +68,8 @@ fn read_cells(types: &[ValType], cells: &[u64], into: &mut [Val])
     }
 }
 
-/// Reads the results of a call that is over, of these types, over as many values. Takes no memory (Execution, Modules, Invocation).
+/// Reads the results of a call that ended, of these types, and overwrites the same number of values. Allocates nothing
+/// (Execution, Modules, Invocation).
 pub fn results(call: &mut Call, types: &[ValType], values: &mut [Val])
     requires over { (store : Store) × (results : List AnyVal) × HasResults store
         (machine_at call.old.cells.items call.old.position) types.now results }

@@ -1,4 +1,4 @@
-//! Calls from outside: each is a bounded run of the reduction, by the loop over cells.
+//! Calls from outside. Each is a bounded run of the reduction, by the loop over cells.
 #![tactic(auto)]
 
 mod addresses;

@@ -21,7 +21,7 @@ pub fn memory_grow(code: &Code, state: &mut State, call: &Call) -> Result<Paid, 
     grow_memory(state, address, pages, call.position.fuel)
 }
 
-/// Gives bytes of the memory a value (Execution, Memory Instructions, memory.fill).
+/// Fills bytes of the memory with a value (Execution, Memory Instructions, memory.fill).
 pub fn memory_fill(code: &Code, state: &mut State, call: &Call) -> Result<Paid, Refusal>
     requires { RestsSomeBefore (at_rest code.now state.old call.now) (Memory memory.Fill) }
     ensures { Acts (at_rest code.now state.old call.now) (Memory memory.Fill) 3

@@ -4,7 +4,7 @@ ghost use Rattle.exec.specs.Instructions.{operand_of};
 use crate::call::Call;
 use effects::low;
 
-/// An operand, counted from the topmost one.
+/// Returns an operand, counted from the topmost one.
 pub fn operand(call: &Call, depth: usize) -> u64
     requires low { depth ≤ call.now.position.top }
     requires inside { call.now.position.top < length call.now.cells.items }
@@ -17,7 +17,7 @@ pub fn operand(call: &Call, depth: usize) -> u64
     }
 }
 
-/// An operand that is an integer of 32 bits.
+/// Returns an operand that is a 32-bit integer.
 pub fn integer(call: &Call, depth: usize) -> u32
     requires low { depth ≤ call.now.position.top }
     requires inside { call.now.position.top < length call.now.cells.items }

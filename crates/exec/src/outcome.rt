@@ -1,12 +1,12 @@
 use core_types::{Exhaustion, Items, Trap, Val};
 
-/// How a call from outside ended.
+/// The end of a call from outside.
 #[derive(Debug, Drop)]
 pub enum Outcome {
-    /// With these results.
+    /// The call returned these results.
     Values(Items<Val>),
-    /// With a trap.
+    /// The call trapped.
     Trap(Trap),
-    /// Out of fuel, depth or memory.
+    /// The call ran out of fuel, depth or memory.
     Exhausted(Exhaustion),
 }

@@ -31,7 +31,7 @@ use interpreter::Stop;
 use std::alloc::{AllocError, Global};
 use store::{Callee, Code, ModuleFunction, State, Store};
 
-// Runs a call to its end, with results of these types in the place of as many values.
+// Runs a call to its end. Results of these types overwrite the same number of values.
 fn run_to_end<'a>(
     alloc: Global,
     code: &'a Code,
@@ -79,7 +79,7 @@ fn run_to_end<'a>(
     }
 }
 
-// So many values, for results to be put in their place.
+// Returns that many values, which results overwrite.
 fn reserve_results(alloc: Global, count: usize) -> Result<Vec<Val>, AllocError>
     ensures { IfOk result (λ values. values.items ≡ replicate count (value.I32 0)) }
 {
@@ -124,7 +124,7 @@ fn call_code<'a>(
     outcome
 }
 
-// Calls a host function from outside, which is lent no bytes.
+// Calls a host function from outside, which borrows no bytes.
 fn call_host_alone(hosts: &mut HostTable, number: u32, args: &[Val]) -> Outcome
     requires there { (t : FuncType) × IsHost (hosts_in hosts.old) number t
         × (map type_of args.now ≡ t.params) }
@@ -168,7 +168,7 @@ fn call_function(
     }
 }
 
-// The same with the fuel and the depth bound of a meter.
+// Like `call_function`, with the fuel and the depth bound of a meter.
 fn call_from_outside(
     alloc: Global,
     code: &Code,
@@ -195,13 +195,18 @@ fn call_from_outside(
     outcome
 }
 
-/// Calls the function at an address from outside, and runs it to its end within the fuel that is left and the depth bound.
+/// Calls the function at an address from outside, and runs it to its end within the fuel left and the depth bound (Execution,
+/// Modules, Invocation).
 ///
-/// The caller owes a function at the address, arguments of its parameter types (`accepts` is the test of both), for each host function
-/// of the store an object of its type, and a meter without an open frame; at the end no frame is open. A refused step charges
-/// nothing. In a valid store no call goes wrong: results have the function's result types. It ends for want of memory only where a
-/// frame is opened, a table or a memory grows, or a host function is called. If each host function declares the type that it was
-/// taken in with, each answers by the relation of its object alone, and still declares that type (Execution, Modules, Invocation).
+/// The caller must pass:
+/// - a function at the address, and arguments of its parameter types (`accepts` tests both)
+/// - an object of its type for each host function of the store
+/// - a meter without an open frame
+///
+/// At the end no frame is open. A refused step charges nothing. In a valid store no call goes wrong: results have the function's
+/// result types. It runs out of memory only when a frame is opened, a table or a memory grows, or a host function is called. If
+/// each host function declares the type that it was defined with, each acts by the relation of its object alone, and still
+/// declares that type.
 pub fn invoke(
     alloc: Global,
     store: &mut Store,

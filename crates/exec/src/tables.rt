@@ -36,7 +36,7 @@ pub fn table_set(code: &Code, state: &mut State, call: &Call, x: u32) -> Result<
     set_entry(state, address, offset, cell, call.position.fuel)
 }
 
-/// Measures a table (Execution, Table Instructions, table.size).
+/// Returns the size of a table (Execution, Table Instructions, table.size).
 pub fn table_size(code: &Code, state: &mut State, call: &Call, x: u32) -> Result<Paid, Refusal>
     requires { RestsSomeBefore (at_rest code.now state.old call.now) (Table (table.Size x)) }
     ensures { Acts (at_rest code.now state.old call.now) (Table (table.Size x)) 0
@@ -58,7 +58,7 @@ pub fn table_grow(code: &Code, state: &mut State, call: &Call, x: u32) -> Result
     grow_table(state, address, cell, count, call.position.fuel)
 }
 
-/// Gives entries of a table a reference (Execution, Table Instructions, table.fill).
+/// Fills entries of a table with a reference (Execution, Table Instructions, table.fill).
 pub fn table_fill(code: &Code, state: &mut State, call: &Call, x: u32) -> Result<Paid, Refusal>
     requires { RestsSomeBefore (at_rest code.now state.old call.now) (Table (table.Fill x)) }
     ensures { Acts (at_rest code.now state.old call.now) (Table (table.Fill x)) 3
@@ -71,7 +71,7 @@ pub fn table_fill(code: &Code, state: &mut State, call: &Call, x: u32) -> Result
     fill_table(state, address, offset, cell, count, call.position.fuel)
 }
 
-/// Copies entries of a table into another or the same (Execution, Table Instructions, table.copy).
+/// Copies entries of a table into the same or another table (Execution, Table Instructions, table.copy).
 pub fn table_copy(
     code: &Code,
     state: &mut State,

@@ -1,4 +1,4 @@
-//! Loads and stores over cells: what is read and written, worked out from the standard.
+//! Loads and stores over cells: what they read and write, worked out from the standard.
 
 use core_types::Trap;
 use effects::{load_cell, load_i32, store_cell};
@@ -8,7 +8,7 @@ const PAST: Trap = Trap::MemoryBounds;
 
 static BYTES: [u8; 9] = [0x80, 0xFF, 0x01, 0x02, 0x03, 0x04, 0x05, 0x06, 0x87];
 
-// A load, where it reads and what it gives.
+// A load, where it reads, and its result.
 struct LoadRow {
     name: &'static str,
     op: Load,
@@ -58,7 +58,7 @@ fn loads_give_cells(rt: HostRuntime) {
     }
 }
 
-// An offset, and what i32.load gives there.
+// An offset, and the result of i32.load there.
 struct FrequentRow {
     name: &'static str,
     offset: u64,
@@ -84,7 +84,7 @@ fn frequent_loads_give_cells(rt: HostRuntime) {
     }
 }
 
-// A store into nine zeros, its answer and the bytes after it.
+// A store into nine zeros, its result, and the bytes after it.
 struct StoreRow {
     name: &'static str,
     op: Store,
@@ -93,7 +93,7 @@ struct StoreRow {
     after: [u8; 9],
 }
 
-// What each row stores.
+// The cell that each row stores.
 const CELL: u64 = 0x8182_8384_8586_8788;
 
 #[rattlefmt::skip]

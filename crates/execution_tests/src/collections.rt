@@ -7,7 +7,7 @@ use core_types::{
 use std::alloc::{AllocError, Global};
 use std::mem::size_of;
 
-// How many locals of a type come in a row, in few runs.
+// The number of consecutive locals of a type, in few runs.
 static FEW_RUNS: [(u32, ValType); 6] = [
     (2, ValType::I32),
     (0, ValType::FuncRef),
@@ -45,7 +45,6 @@ static LOCALS: [(u32, Option<ValType>); 8] = [
     (u32::MAX, None),
 ];
 
-// Locals in runs.
 fn locals_of(alloc: Global, runs: &[(u32, ValType)]) -> Result<Locals, AllocError> {
     let mut locals = Locals::new(alloc);
     for (count, ty) in runs {
@@ -56,7 +55,7 @@ fn locals_of(alloc: Global, runs: &[(u32, ValType)]) -> Result<Locals, AllocErro
     Ok(locals)
 }
 
-// How many locals there are in the runs, and which one is at an index.
+// Returns the number of locals in the runs, and the one at an index.
 fn local_at(alloc: Global, runs: &[(u32, ValType)], index: u32) -> Option<(u32, Option<ValType>)> {
     let locals = locals_of(alloc, runs).ok()?;
     Some((locals.len(), locals.get(index)))
@@ -76,7 +75,7 @@ fn finds_locals_by_index(rt: HostRuntime) {
     }
 }
 
-// Whether there are no locals at first, and as many as there are numbers after one run.
+// Returns whether there are no locals at first, and the greatest number of them after one run.
 fn counts_locals(alloc: Global) -> Result<bool, AllocError> {
     let mut locals = Locals::new(alloc);
     let none = locals.len() == 0 && locals.get(0).is_none();
@@ -90,19 +89,18 @@ fn keeps_many_locals(rt: HostRuntime) {
     assert!(rt; counts_locals(rt.alloc()) == Ok(true));
 }
 
-// A list of three elements.
+// Returns a list of three elements.
 fn three_items(alloc: Global) -> Result<Items<u32>, AllocError> {
     let elements = vec![in alloc; 1u32, 2, 3]?;
     Ok(Items::from_vec(elements))
 }
 
-// Whether a list has these three elements.
+// Returns whether a list has these three elements.
 fn has_three(items: &Items<u32>) -> bool {
     let is_read = items.len() == 3 && !items.is_empty() && items.as_slice() == [1, 2, 3].as_slice();
     is_read && item(items.as_slice(), 2) == Some(&3) && item(items.as_slice(), 3).is_none()
 }
 
-// Whether a list keeps its elements.
 fn keeps_elements(alloc: Global) -> Result<bool, AllocError> {
     let items = three_items(alloc)?;
     let same = three_items(alloc)?;
@@ -116,13 +114,11 @@ fn keeps_items(rt: HostRuntime) {
     assert!(rt; none.is_empty() && keeps_elements(rt.alloc()) == Ok(true));
 }
 
-// Whether a name keeps its text.
 fn keeps_text(alloc: Global) -> Result<bool, AllocError> {
     let name = Name::from_string(String::from_str(alloc, "add")?);
     Ok(name.as_str() == "add" && name.into_string().as_str() == "add")
 }
 
-// Whether a box keeps its value.
 fn keeps_value(alloc: Global) -> Result<bool, AllocError> {
     let boxed = Boxed::new(alloc, 7u32)?;
     Ok(*boxed.get() == 7)
@@ -134,7 +130,7 @@ fn keeps_names_and_boxes(rt: HostRuntime) {
     assert!(rt; keeps_value(rt.alloc()) == Ok(true));
 }
 
-// Whether elements stand behind one another, in the order in which they were put.
+// Returns whether elements are in the order in which they were pushed.
 fn keeps_order(alloc: Global) -> Result<bool, AllocError> {
     let mut items = Vec::new(alloc);
     append(&mut items, 1u32)?;
@@ -147,7 +143,7 @@ fn appends_elements(rt: HostRuntime) {
     assert!(rt; keeps_order(rt.alloc()) == Ok(true));
 }
 
-// A call of a stack, and its answer where it has one.
+// A call of a stack, and its result if it has one.
 #[derive(Clone, Copy)]
 enum Step {
     Push(u32),
@@ -166,7 +162,7 @@ static STEPS: [Step; 16] = [
     Pop(Some(3)), Len(2), Clear, Len(0), Pop(None), Push(5), Push(6), Len(2),
 ];
 
-// Whether a stack takes a step so.
+// Returns whether a stack has the result of a step.
 fn takes(stack: &mut Stack<u32>, step: Step) -> bool {
     match step {
         Push(x) => stack.push(x).is_ok(),
@@ -181,7 +177,7 @@ fn takes(stack: &mut Stack<u32>, step: Step) -> bool {
     }
 }
 
-// Whether a stack takes all steps so.
+// Returns whether a stack has the results of all steps.
 fn takes_all(alloc: Global) -> bool {
     let mut stack = Stack::new(alloc);
     let mut all = true;
@@ -196,20 +192,19 @@ fn keeps_stacks(rt: HostRuntime) {
     assert!(rt; takes_all(rt.alloc()));
 }
 
-// A branch by number to two labels, and to a third one else.
+// Returns a branch by number to two labels, or else to a third one.
 fn branch_by_number(alloc: Global) -> Result<Op, AllocError> {
     let labels = Items::from_vec(vec![in alloc; 1u32, 2]?);
     let table = BranchTable { labels, default: 3 };
     Ok(Op::Plain(PlainOp::BrTable(Boxed::new(alloc, table)?)))
 }
 
-// A select with a type.
 fn typed_select(alloc: Global) -> Result<Op, AllocError> {
     let types = Items::from_vec(vec![in alloc; ValType::I64]?);
     Ok(Op::Plain(PlainOp::SelectTyped(Boxed::new(alloc, types)?)))
 }
 
-// Puts operations in eight bytes and others that take more, in turn, behind the others.
+// Appends operations that take eight bytes and others that take more, in turn.
 fn push_operations(alloc: Global, expression: &mut Expression) -> Result<(), AllocError> {
     let argument = MemArg {
         align: 256,
@@ -225,7 +220,7 @@ fn push_operations(alloc: Global, expression: &mut Expression) -> Result<(), All
     expression.push(Op::Plain(PlainOp::Memory(MemoryOp::Store(StoreOp::Bits32, argument))))
 }
 
-// An expression of these operations.
+// Returns an expression of these operations.
 fn expression_of(alloc: Global, room: usize) -> Result<Expression, AllocError> {
     let mut expression = Expression::with_room(alloc, room);
     push_operations(alloc, &mut expression)?;
@@ -233,7 +228,7 @@ fn expression_of(alloc: Global, room: usize) -> Result<Expression, AllocError> {
     Ok(expression)
 }
 
-// Whether an operation that takes more than eight bytes is the one of that index.
+// Returns whether an operation that takes more than eight bytes is the one of that index.
 fn is_other(index: usize, op: &Op) -> bool {
     match (index, op) {
         (1, Op::Plain(PlainOp::BrTable(table))) => {
@@ -252,7 +247,7 @@ fn is_other(index: usize, op: &Op) -> bool {
     }
 }
 
-// Whether an operation is the one of that index.
+// Returns whether an operation is the one of that index.
 fn is_operation(index: usize, op: LentOp<'_>) -> bool {
     match (index, op) {
         (0, OpWith::I64Const(n)) => n == 7 && !is_mark(op),
@@ -263,7 +258,7 @@ fn is_operation(index: usize, op: LentOp<'_>) -> bool {
     }
 }
 
-// Whether an expression with such room has its eight operations.
+// Returns whether an expression with this room has its eight operations.
 fn keeps_operations(alloc: Global, room: usize) -> Result<bool, AllocError> {
     let expression = expression_of(alloc, room)?;
     let mut all = expression.len() == 8;

@@ -7,7 +7,7 @@ use core_types::{StoreOp, Val, Width};
 use std::alloc::Global;
 use store::State;
 
-// The greatest length and distance of a copy of bytes, and how many bytes hold each such copy from there.
+// The greatest length and distance of a copy of bytes, and the number of bytes from there that contain each such copy.
 const MOST_BYTES: u32 = 40;
 
 const BYTES: u32 = 120;
@@ -19,7 +19,7 @@ const ENTRIES: u32 = 99;
 
 const TEXT: &str = "(memory 1) (table 99 externref)";
 
-// The place whose number is at a place after a copy, where before it each place has its own number.
+// Returns the place whose number is at a place after a copy, where before it each place has its own number.
 fn place_read(target: u32, from: u32, count: u32, place: u32) -> u32 {
     if place < target || place - target >= count {
         return place;
@@ -27,7 +27,7 @@ fn place_read(target: u32, from: u32, count: u32, place: u32) -> u32 {
     from.wrapping_add(place - target)
 }
 
-// Gives each byte the number of its place.
+// Sets each byte to the number of its place.
 fn number_bytes(state: &mut State) -> bool {
     for place in 0..BYTES {
         let is_written = state.memory_count() > 0
@@ -46,7 +46,7 @@ fn number_bytes(state: &mut State) -> bool {
     true
 }
 
-// Gives each entry the number of its place.
+// Sets each entry to the number of its place.
 fn number_entries(state: &mut State) -> bool {
     for place in 0..ENTRIES {
         let value = Val::ExternRef(Some(place));
@@ -60,7 +60,7 @@ fn number_entries(state: &mut State) -> bool {
     true
 }
 
-// Whether each byte is as the copy leaves it.
+// Returns whether each byte is as the copy leaves it.
 fn shows_bytes(state: &State, target: u32, from: u32, count: u32) -> bool {
     let Some(memory) = state.memory(0) else {
         return false;
@@ -78,7 +78,7 @@ fn shows_bytes(state: &State, target: u32, from: u32, count: u32) -> bool {
     true
 }
 
-// Whether each entry is as the copy leaves it.
+// Returns whether each entry is as the copy leaves it.
 fn shows_entries(state: &State, target: u32, from: u32, count: u32) -> bool {
     let Some(table) = state.table(0) else {
         return false;
@@ -96,7 +96,7 @@ fn shows_entries(state: &State, target: u32, from: u32, count: u32) -> bool {
     true
 }
 
-// Whether bytes that are numbered anew are copied so.
+// Returns whether bytes are copied right, after they are numbered again.
 fn copies_bytes(state: &mut State, target: u32, from: u32, count: u32) -> bool {
     number_bytes(state)
         && state.memory_count() > 0
@@ -104,7 +104,7 @@ fn copies_bytes(state: &mut State, target: u32, from: u32, count: u32) -> bool {
         && shows_bytes(state, target, from, count)
 }
 
-// Whether entries that are numbered anew are copied so.
+// Returns whether entries are copied right, after they are numbered again.
 fn copies_entries(state: &mut State, target: u32, from: u32, count: u32) -> bool {
     number_entries(state)
         && state.table_count() > 0
@@ -112,7 +112,7 @@ fn copies_entries(state: &mut State, target: u32, from: u32, count: u32) -> bool
         && shows_entries(state, target, from, count)
 }
 
-// Whether that many bytes are copied to each place.
+// Returns whether that many bytes are copied to each place.
 fn copies_bytes_everywhere(state: &mut State, count: u32) -> bool {
     for target in 0..=2 * MOST_BYTES {
         if !copies_bytes(state, target, MOST_BYTES, count) {
@@ -122,7 +122,7 @@ fn copies_bytes_everywhere(state: &mut State, count: u32) -> bool {
     true
 }
 
-// Whether that many entries are copied to each place.
+// Returns whether that many entries are copied to each place.
 fn copies_entries_everywhere(state: &mut State, count: u32) -> bool {
     for target in 0..=2 * MOST_ENTRIES {
         if !copies_entries(state, target, MOST_ENTRIES, count) {
@@ -132,7 +132,7 @@ fn copies_entries_everywhere(state: &mut State, count: u32) -> bool {
     true
 }
 
-// Whether a store of its own takes copies of that many bytes, and of that many entries where they fit.
+// Returns whether a new store copies that many bytes, and that many entries if they fit.
 fn takes_copies(alloc: Global, count: u32) -> bool {
     match store_with(alloc, &[TEXT]) {
         Some(store) => {

@@ -1,5 +1,5 @@
-//! Rows of flat code: for the last function of a module, its operations with their entries and its greatest height above its locals,
-//! or how many parameters, locals and results it has.
+//! Rows of flat code for the last function of a module. A row has the operations with their entries and the greatest height
+//! above the locals, or the numbers of parameters, locals and results.
 
 use crate::listing::list;
 use crate::modules::valid_module;
@@ -7,17 +7,17 @@ use sidetable::{FlatModule, PackedFunction, PackedOp, flatten};
 use std::alloc::{AllocError, Global};
 use std::mem::size_of;
 
-// What a row says of a function.
+// The expected result for a function.
 enum Expected {
     // Its operations, and its greatest height above its locals.
     Code(&'static str, u64),
-    // How many parameters, locals with these, and results it has.
+    // The numbers of its parameters, its locals including these, and its results.
     Counts(u32, u32, u32),
 }
 
 use Expected::{Code, Counts};
 
-// A row: a name, a module, and what its last function is.
+// A row: a name, a module, and the expected result for its last function.
 struct Row {
     name: &'static str,
     source: &'static str,
@@ -86,7 +86,7 @@ static TAIL_CALLS: [Row; 6] = [
         expected: Code(" plain plain return_call_indirect(0,1) leave", 2) },
 ];
 
-// Whether a function's flat code is so.
+// Returns whether a function has the expected flat code.
 fn is_so(
     alloc: Global,
     flat: &FlatModule,
@@ -108,13 +108,13 @@ fn is_so(
     }
 }
 
-// The flat code of a source's module.
+// Returns the flat code of a source's module.
 fn flat_module_of(alloc: Global, source: &str) -> Option<FlatModule> {
     let validated = valid_module(alloc, source)?;
     flatten(alloc, &validated).ok()
 }
 
-// Whether the last function of a module is so.
+// Returns whether the last function of a module is as expected.
 fn is_last_so(alloc: Global, flat: &FlatModule, expected: &Expected) -> Result<bool, AllocError> {
     match flat.functions.last() {
         Some(last) => is_so(alloc, flat, last, expected),
@@ -122,7 +122,7 @@ fn is_last_so(alloc: Global, flat: &FlatModule, expected: &Expected) -> Result<b
     }
 }
 
-// Whether the last function of a row's module is flattened so.
+// Returns whether the last function of a row's module has the expected flat code.
 fn is_flattened(alloc: Global, row: &Row) -> bool {
     match flat_module_of(alloc, row.source) {
         Some(flat) => is_last_so(alloc, &flat, &row.expected) == Ok(true),

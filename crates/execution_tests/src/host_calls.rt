@@ -16,7 +16,7 @@ const CALLER: &str = "\
 (func (type 0) i32.const 100 local.get 0 local.get 1 i32.const 0 call_indirect (type 0) i32.add) \
 (func (type 0) local.get 0 local.get 1 call 0 drop i32.const 0 i32.load8_u)";
 
-// Its first function of its own has the index 4, which is its address too.
+// The first function of its own has the index 4, which is also its address.
 const TAIL_CALLER: &str = "\
 (type (func (param i32 i32) (result i32))) (type (func (result i32))) \
 (import \"host\" \"difference\" (func (type 0))) (import \"host\" \"sum\" (func (param i32) (result i32))) \
@@ -93,7 +93,7 @@ static TAIL_CALLS_INSIDE: [Call; 9] = [
     Call { name: "two in a row, the second for a caller of the first", address: 13, args: &[Val::I32(7), Val::I32(2)], bounds: (13, 3), ends: "values i32 103", left: 0 },
 ];
 
-// Tail calls of the function that keeps a sum.
+// Tail calls of the function that adds up its arguments.
 #[rattlefmt::skip]
 static SUMS: [Call; 8] = [
     Call { name: "a sum of 3", address: 8, args: &[Val::I32(3)], bounds: (2, 1), ends: "values i32 3", left: 0 },
@@ -125,7 +125,7 @@ fn link(alloc: Global, hosted: &mut Hosted, text: &str) -> bool {
     instantiate(alloc, store, hosts, &mut meter, &loaded, &given).is_ok()
 }
 
-// Whether a call ends so and leaves so much fuel.
+// Returns whether a call ends as its row states and leaves its fuel.
 fn goes_so(alloc: Global, hosted: &mut Hosted, row: &Call) -> bool {
     let call = (row.address, row.args);
     let wanted = (row.ends, row.left);
@@ -133,7 +133,7 @@ fn goes_so(alloc: Global, hosted: &mut Hosted, row: &Call) -> bool {
     calls_so(alloc, store, hosts, call, row.bounds, wanted)
 }
 
-// The first call that does not go so once a module is linked.
+// Returns the first call that fails its row after a module is linked.
 fn first_behind_link(
     alloc: Global,
     hosted: &mut Hosted,
@@ -152,7 +152,7 @@ fn first_behind_link(
     first
 }
 
-// The first call that does not go so in a store of the host functions and a module.
+// Returns the first call that fails its row, in a store of the host functions and a module.
 fn first_at_fault(alloc: Global, text: &str, calls: &[Call]) -> Option<&'static str> {
     match new_hosted(alloc) {
         Ok(mut hosted) => first_behind_link(alloc, &mut hosted, text, calls),

@@ -14,7 +14,6 @@ use hostfunc::{HostFault, HostFn, HostTable, has_funcref, object_type};
 use std::alloc::{AllocError, Global};
 use store::Store;
 
-// The type with these parameters and results.
 fn function_type(
     alloc: Global,
     params: &[ValType],
@@ -30,7 +29,7 @@ fn function_type(
     })
 }
 
-// One i32 as results.
+// Returns one i32 as results.
 fn one_result(alloc: Global, number: u32) -> Result<Vec<Val>, HostFault>
     ensures ok { IfOk result (λ values. values.items ≡ I32Value number ∷ []) }
     ensures err { IfErr result (λ fault. fault ≡ MemoryFault) }
@@ -42,14 +41,14 @@ fn one_result(alloc: Global, number: u32) -> Result<Vec<Val>, HostFault>
     }
 }
 
-// Writes the byte 7 at 0, if there is anything.
+// Writes the byte 7 at 0, unless the memory is empty.
 fn mark(memory: &mut [u8]) {
     if !memory.is_empty() {
         memory[0] = 7;
     }
 }
 
-// Answers the difference of two i32 and writes the byte 7 at 0; traps with the code 5 where the second is 0.
+// Returns the difference of two i32 and writes the byte 7 at 0. Traps with the code 5 if the second is 0.
 #[derive(Drop)]
 struct Difference {
     alloc: Global,
@@ -84,7 +83,7 @@ impl HostFn for Difference {
     }
 }
 
-// Answers the sum of the i32 of all calls; says that there is no memory where one is 0.
+// Returns the sum of the i32 of all calls. Returns that memory ran out if one is 0.
 #[derive(Drop)]
 struct Sum {
     alloc: Global,
@@ -121,7 +120,7 @@ impl HostFn for Sum {
     }
 }
 
-// Answers 1 to 4, of which the second is an i64.
+// Returns 1 to 4, of which the second is an i64.
 #[derive(Drop)]
 struct Four {
     alloc: Global,
@@ -153,7 +152,7 @@ impl HostFn for Four {
     }
 }
 
-// Writes the byte 7 at 0, and answers nothing.
+// Writes the byte 7 at 0, and returns nothing.
 #[derive(Drop)]
 struct Marker {
     alloc: Global,
@@ -181,7 +180,7 @@ impl HostFn for Marker {
     }
 }
 
-// Writes the byte 7 at 0, and answers how many bytes it is lent.
+// Writes the byte 7 at 0, and returns the number of bytes that it borrows.
 #[derive(Drop)]
 struct Measure {
     alloc: Global,
@@ -218,7 +217,7 @@ pub struct Hosted {
     pub hosts: HostTable,
 }
 
-/// A store without anything in it.
+/// Returns an empty store.
 pub fn empty_hosted(alloc: Global) -> Hosted
     ensures objects { hosts_in result.hosts ≡ [] }
     ensures functions { (store_of result.store).functions ≡ [] }
@@ -230,7 +229,7 @@ pub fn empty_hosted(alloc: Global) -> Hosted
     }
 }
 
-// Takes in an object that gives no funcref, behind as many host functions.
+// Appends an object that gives no funcref, after that many host functions.
 fn take_in(hosted: &mut Hosted, alloc: Global, object: Box<dyn HostFn>) -> Result<(), AllocError>
     requires objects { length (hosts_in hosted.old.hosts) < 9 }
     requires functions { length (store_of hosted.old.store).functions < 9 }
@@ -251,7 +250,7 @@ fn take_in(hosted: &mut Hosted, alloc: Global, object: Box<dyn HostFn>) -> Resul
     Ok(())
 }
 
-// Takes in two such objects, one after the other.
+// Appends two such objects, one after the other.
 fn take_in_both(
     hosted: &mut Hosted,
     alloc: Global,
@@ -290,7 +289,7 @@ fn new_functions(alloc: Global) -> Result<Functions, AllocError> {
     })
 }
 
-/// A store with these four host functions alone.
+/// Creates a store with only these four host functions.
 pub fn new_hosted(alloc: Global) -> Result<Hosted, AllocError> {
     let functions = new_functions(alloc)?;
     let mut hosted = empty_hosted(alloc);
@@ -313,8 +312,8 @@ fn new_lent(alloc: Global) -> Result<Lent, AllocError> {
     })
 }
 
-/// A store with two host functions alone, which write the byte 7 at 0: the first one answers how many bytes it is lent, and the
-/// second one nothing.
+/// Creates a store with only two host functions, which write the byte 7 at 0. The first one returns the number of bytes that it
+/// borrows, and the second one returns nothing.
 pub fn new_measured(alloc: Global) -> Result<Hosted, AllocError> {
     let functions = new_lent(alloc)?;
     let mut hosted = empty_hosted(alloc);

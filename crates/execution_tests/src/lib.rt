@@ -1,5 +1,5 @@
-//! Tests of what runs: of `core_types`, `cells`, `intops`, `fuel`, `sidetable`, `store`, `bulkops`, `effects`, `exec`, `instantiate` and
-//! `linker`.
+//! Tests of execution: of `core_types`, `cells`, `intops`, `fuel`, `sidetable`, `store`, `bulkops`, `effects`, `exec`,
+//! `instantiate` and `linker`.
 #![tactic(auto)]
 
 #[cfg(test)]

@@ -11,7 +11,7 @@ use std::alloc::Global;
 const THROUGH_FOUR: &str =
     "(type (func (result i32))) (import \"m\" \"table\" (table 4 funcref)) (global i32 i32.const 32) (func (param i32) (result i32) local.get 0 return_call_indirect (type 0)) (func (param i32) (result i32) local.get 0 call 0 global.get 0 i32.add)";
 
-// Answers 40 where a number is even, and else 41. Each of two instances calls the function of the other one last.
+// Returns 40 if a number is even, and otherwise 41. Each of two instances calls the function of the other one last.
 const ASKS_WHETHER_ODD: &str =
     "(type (func (param i32) (result i32))) (table 1 funcref) (func (type 0) local.get 0 i32.eqz if i32.const 40 return end local.get 0 i32.const 1 i32.sub i32.const 0 return_call_indirect (type 0))";
 
@@ -99,8 +99,8 @@ const MEASURES: &str =
 const CALLS_THAT: &str =
     "(import \"m\" \"f\" (func (result i32))) (memory 3) (func (result i32) call 0) (func (result i32) return_call 0) (func (result i32) i32.const 0 i32.load8_u)";
 
-// A tail call of a host function is lent the memory of the instance that executes it. The addresses of the host functions are 0
-// and 1.
+// A tail call of a host function is passed the memory of the instance that executes it. The addresses of the host functions are
+// 0 and 1.
 #[rattlefmt::skip]
 static TAIL_CALLS_OF_HOSTS: [Row; 7] = [
     Row { name: "the caller has another memory", steps: &[
@@ -155,7 +155,7 @@ static TAIL_CALLS_OF_HOSTS: [Row; 7] = [
     ] },
 ];
 
-// Whether all steps end so, in a store of the host functions.
+// Returns whether all steps end as expected, in a store of the host functions.
 fn all_end_so_with_hosts(alloc: Global, steps: &[Step]) -> bool {
     match new_measured(alloc) {
         Ok(hosted) => all_end_so(alloc, hosted, steps),

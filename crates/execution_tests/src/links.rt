@@ -9,7 +9,7 @@ use instantiate::{LinkEnd, LinkRefusal};
 use std::alloc::Global;
 use store::accepts;
 
-// How a link or a call ends.
+// The expected end of a link or a call.
 #[derive(Clone, Copy)]
 pub enum End {
     // The number of the instance.
@@ -24,8 +24,8 @@ pub enum End {
 
 use End::{Exhausted as Lacks, Linked, Nothing, Refused, Trapped, Value};
 
-// A link of a text with these external values, or a call of the function at an address with these arguments; the fuel, how it
-// ends, and the fuel that it leaves.
+// A link of a text with these external values, or a call of the function at an address with these arguments; the fuel; the
+// expected end; and the fuel left.
 #[derive(Clone, Copy)]
 pub enum Step {
     Link(&'static str, &'static [Extern], u64, End, u64),
@@ -34,7 +34,7 @@ pub enum Step {
 
 use Step::{Call, Link};
 
-// Steps that follow one another in a store.
+// Steps in a row, in a store.
 pub struct Row {
     pub name: &'static str,
     pub steps: &'static [Step],
@@ -49,7 +49,7 @@ const BYTES: &str =
 const TWO_BYTES: &str =
     "(import \"m\" \"memory\" (memory 1)) (data (offset i32.const 0) \"a\") (data (offset i32.const 1) \"b\")";
 
-// A table of four functions that answer 10 to 13, and a function that calls its entries.
+// A table of four functions that return 10 to 13, and a function that calls its entries.
 const FOUR: &str =
     "(type (func (result i32))) (table 4 funcref) (func (result i32) i32.const 10) (func (result i32) i32.const 11) (func (result i32) i32.const 12) (func (result i32) i32.const 13) (func (param i32) (result i32) local.get 0 call_indirect (type 0)) (elem (offset i32.const 0) func 0 1 2 3)";
 
@@ -76,7 +76,7 @@ const SHARED: &str =
 const FUNCTION_IMPORT: &str =
     "(import \"m\" \"function\" (func (result i32))) (func (result i32) call 0 i32.const 1 i32.add)";
 
-// What a link lacks, or has just so much of: fuel, room, and what is imported.
+// What a link lacks, or has just enough of: fuel, room, and imports.
 #[rattlefmt::skip]
 static LACKING: [Row; 8] = [
     Row { name: "a start function that traps, and then another module", steps: &[
@@ -169,7 +169,7 @@ static SHARING: [Row; 6] = [
     ] },
 ];
 
-// Whether an outcome is this end.
+// Returns whether an outcome is this end.
 fn outcome_is(outcome: &Outcome, end: End) -> bool {
     match (outcome, end) {
         (Outcome::Values(found), Nothing) => found.is_empty(),
@@ -180,7 +180,7 @@ fn outcome_is(outcome: &Outcome, end: End) -> bool {
     }
 }
 
-// Whether a link answers this end.
+// Returns whether a link has this end.
 fn link_is(answer: &Result<u32, LinkEnd>, end: End) -> bool {
     match (answer, end) {
         (Ok(instance), Linked(wanted)) => *instance == wanted,
@@ -190,7 +190,7 @@ fn link_is(answer: &Result<u32, LinkEnd>, end: End) -> bool {
     }
 }
 
-// Whether a link of a text ends so.
+// Returns whether a link of a text has this end.
 fn links_so(
     alloc: Global,
     hosted: &mut Hosted,
@@ -206,7 +206,7 @@ fn links_so(
     link_is(&answer, end) && left_over == left
 }
 
-// Whether a call of the function at an address ends so.
+// Returns whether a call of the function at an address has this end.
 fn calls_so(
     alloc: Global,
     hosted: &mut Hosted,
@@ -223,7 +223,7 @@ fn calls_so(
     outcome_is(&outcome, end) && meter.left() == left
 }
 
-// Whether a step ends so.
+// Returns whether a step ends as expected.
 fn ends_so(alloc: Global, hosted: &mut Hosted, step: Step) -> bool {
     match step {
         Link(text, given, fuel, end, left) => {
@@ -235,7 +235,7 @@ fn ends_so(alloc: Global, hosted: &mut Hosted, step: Step) -> bool {
     }
 }
 
-// Whether all steps end so, one behind the other.
+// Returns whether all steps end as expected, one after the other.
 pub fn all_end_so(alloc: Global, mut hosted: Hosted, steps: &[Step]) -> bool {
     let mut all = true;
     for step in steps {
@@ -244,7 +244,7 @@ pub fn all_end_so(alloc: Global, mut hosted: Hosted, steps: &[Step]) -> bool {
     all
 }
 
-// Whether all steps end so, in a store without anything in it.
+// Returns whether all steps end as expected, in an empty store.
 pub fn all_end_so_alone(alloc: Global, steps: &[Step]) -> bool {
     all_end_so(alloc, empty_hosted(alloc), steps)
 }

@@ -1,5 +1,5 @@
-//! Flat code as text: a word for each operation, and behind it the entries of those that have some, as (target,kept,height), and
-//! the indices of tail calls. Targets count from the first operation of the function, and heights from its locals on.
+//! Flat code as text: a word for each operation, followed by its entries, if it has some, as (target,kept,height), and by the
+//! indices of tail calls. Targets count from the first operation of the function, and heights from its locals on.
 
 use sidetable::{
     Entry, FlatModule, IndexPair, PackedFunction, PackedOp, SideTables, TransferInstruction,
@@ -7,7 +7,8 @@ use sidetable::{
 use std::alloc::{AllocError, Global};
 use std::fmt::Write;
 
-// A function whose flat code is listed: the tables of its module, the place of its first operation, and how many locals it has.
+// A function whose flat code is listed: the tables of its module, the place of its first operation, and the number of its
+// locals.
 #[derive(Clone, Copy)]
 struct Listed<'a> {
     tables: &'a SideTables,
@@ -15,7 +16,7 @@ struct Listed<'a> {
     locals: u32,
 }
 
-// An entry of a number, as it is seen from the function.
+// Returns an entry of a number, relative to the function.
 fn find_entry(listed: Listed<'_>, number: u32) -> Option<Entry> {
     let entry = listed.tables.entries.get(number as usize)?;
     Some(Entry {
@@ -38,7 +39,7 @@ fn write_entry(text: &mut String, listed: Listed<'_>, number: u32) -> Result<(),
     }
 }
 
-// The entries of a branch by number: those of its labels, and the one for all further numbers.
+// Writes the entries of a branch by number: those of its labels, and the one for all larger numbers.
 fn write_range(text: &mut String, listed: Listed<'_>, number: u32) -> Result<(), AllocError> {
     let Some(range) = listed.tables.branch_ranges.get(number as usize) else {
         return text.push_str("(none)");
@@ -50,7 +51,7 @@ fn write_range(text: &mut String, listed: Listed<'_>, number: u32) -> Result<(),
     write_entry(text, listed, range.default)
 }
 
-// The two indices of a number.
+// Writes the two indices of a number.
 fn write_pair(text: &mut String, tables: &SideTables, number: u32) -> Result<(), AllocError> {
     match tables.pairs.get(number as usize) {
         Some(IndexPair { first, second }) => write!(text, "({first},{second})"),
@@ -102,7 +103,7 @@ fn write_operation(text: &mut String, listed: Listed<'_>, op: PackedOp) -> Resul
     }
 }
 
-/// The listing of the flat code of a module's last function, with a space before each word.
+/// Returns the listing of the flat code of a module's last function, with a space before each word.
 pub fn list(alloc: Global, flat: &FlatModule, last: &PackedFunction) -> Result<String, AllocError> {
     let listed = Listed {
         tables: &flat.tables,

@@ -1,4 +1,4 @@
-//! What `bulkops` does to the memory and the data segments of a store, and what it costs.
+//! The effects of `bulkops` on the memory and the data segments of a store, and their costs.
 
 use crate::modules::store_with;
 use Step::{Bytes, Copy, Drop, Fill, Grow, Init, Load, Size, Write};
@@ -10,19 +10,19 @@ use core_types::{LoadOp, Sign, StoreOp, Trap, Val, Width};
 use std::alloc::Global;
 use store::State;
 
-// A call on the first memory and the first data segment of a store, what it costs where that is asked for, and its answer.
+// A call on the first memory and the first data segment of a store, its cost if that is checked, and its result.
 #[derive(Clone, Copy)]
 enum Step {
-    // At an offset.
+    // At this offset.
     Load(LoadOp, u64, Result<Val, Trap>),
-    // A number, at an offset.
+    // A number, at this offset.
     Write(StoreOp, u64, u64, Result<(), Trap>),
     // An offset, a value and a count.
     Fill(u32, u32, u32, u64, Result<(), Trap>),
     // A target, where it is copied from, and a count.
     Copy(u32, u32, u32, u64, Result<(), Trap>),
     Init(u32, u32, u32, u64, Result<(), Trap>),
-    // By that many pages.
+    // By this many pages.
     Grow(u32, u64, u32),
     Size(u32),
     // Of the data segment.
@@ -137,7 +137,7 @@ static CASES: [Case; 10] = [
     ] },
 ];
 
-// Whether these are the bytes of the memory from an offset on.
+// Returns whether these are the bytes of the memory from an offset on.
 fn shows(state: &State, offset: usize, bytes: &[u8]) -> bool {
     match state
         .memory(0)
@@ -148,7 +148,7 @@ fn shows(state: &State, offset: usize, bytes: &[u8]) -> bool {
     }
 }
 
-// Whether a bulk instruction costs so and answers so.
+// Returns whether a bulk instruction has this cost and this result.
 fn writes(state: &mut State, step: Step) -> bool {
     if state.memory_count() == 0 || state.data_count() == 0 {
         return false;
@@ -170,7 +170,7 @@ fn writes(state: &mut State, step: Step) -> bool {
     }
 }
 
-// Whether a store takes a step so.
+// Returns whether a store has the result of a step.
 fn takes(state: &mut State, step: Step) -> bool {
     if state.memory_count() == 0 || state.data_count() == 0 {
         return false;
@@ -193,7 +193,7 @@ fn takes(state: &mut State, step: Step) -> bool {
     }
 }
 
-// How many steps are taken so, up to the first one that is not.
+// Returns the number of steps with the right result, up to the first one with a wrong result.
 fn count_taken(state: &mut State, steps: &[Step]) -> usize {
     for (index, step) in steps.iter().enumerate() {
         if !takes(state, *step) {
@@ -203,7 +203,7 @@ fn count_taken(state: &mut State, steps: &[Step]) -> usize {
     steps.len()
 }
 
-// How many steps of a case are taken so in a store of its own.
+// Returns the number of steps of a case with the right result, in a new store.
 fn count_steps(alloc: Global, case: &Case) -> usize {
     match store_with(alloc, &[case.text]) {
         Some(store) => {

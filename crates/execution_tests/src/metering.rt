@@ -2,7 +2,7 @@
 
 use fuel::Meter;
 
-// A call of a meter, and its answer where it has one.
+// A call of a meter, and its result if it has one.
 #[derive(Clone, Copy)]
 enum Step {
     Spend(u64, bool),
@@ -22,7 +22,7 @@ static CASES: [(&str, u64, u32, &[Step]); 3] = [
     ("no frame", 1, 0, &[Enter(false), Bound(0)]),
 ];
 
-// Whether a meter answers a step so.
+// Returns whether a meter has the result of a step.
 fn takes(meter: &mut Meter, step: Step) -> bool {
     match step {
         Spend(cost, spent) => meter.try_spend(cost) == spent,
@@ -36,7 +36,7 @@ fn takes(meter: &mut Meter, step: Step) -> bool {
     }
 }
 
-// Whether a meter takes all steps so.
+// Returns whether a meter has the results of all steps.
 fn takes_all(fuel: u64, depth_bound: u32, steps: &[Step]) -> bool {
     let mut meter = Meter::new(fuel, depth_bound);
     let mut all = true;
@@ -53,7 +53,7 @@ fn counts_fuel_and_frames(rt: HostRuntime) {
     }
 }
 
-// Whether a frame can be opened in place of one that was left.
+// Returns whether a frame can be opened after one was left.
 fn reopens() -> bool {
     let mut meter = Meter::new(0, 2);
     if !meter.enter() || !meter.enter() || meter.enter() {

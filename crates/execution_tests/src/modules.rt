@@ -12,19 +12,19 @@ use store::{LoadedModule, Store};
 use testing::assemble;
 use validator::{ValidModule, validate};
 
-/// How many pages a memory may have.
+/// The most pages that a memory may have.
 pub const PAGES: u32 = 1024;
 
-/// How many entries a table may have.
+/// The most entries that a table may have.
 pub const ENTRIES: u32 = 100;
 
-// What the link of a module without imports may spend.
+// The fuel for the link of a module without imports.
 const FUEL: u64 = 1_000;
 
-/// How many frames may be open.
+/// The most frames that may be open.
 pub const DEPTH: u32 = 100;
 
-/// The valid module of a text; none where the text is no module, or an invalid one.
+/// Returns the valid module of a text. Returns none if the text is not a module, or an invalid one.
 pub fn valid_module(alloc: Global, text: &str) -> Option<ValidModule> {
     let Ok(bytes) = assemble(alloc, text) else {
         return None;
@@ -35,7 +35,7 @@ pub fn valid_module(alloc: Global, text: &str) -> Option<ValidModule> {
     validate(alloc, decoded).ok()
 }
 
-/// The loaded module of a text; none where the text is no module, or an invalid one.
+/// Returns the loaded module of a text. Returns none if the text is not a module, or an invalid one.
 pub fn loaded_module(alloc: Global, text: &str) -> Option<Rc<LoadedModule>> {
     let Some(valid) = valid_module(alloc, text) else {
         return None;
@@ -46,12 +46,13 @@ pub fn loaded_module(alloc: Global, text: &str) -> Option<Rc<LoadedModule>> {
     Rc::new(alloc, loaded).ok()
 }
 
-/// A store without anything, in which a memory may have 1024 pages and a table 100 entries.
+/// Returns an empty store, in which a memory may have 1024 pages and a table 100 entries.
 pub fn empty_store(alloc: Global) -> Store {
     Store::new(alloc, PAGES, ENTRIES)
 }
 
-/// Links a module with these external values and this fuel: the number of the instance or how the link ends, and the fuel left.
+/// Links a module with these external values and this fuel. Returns the number of the instance or how the link ends, and the
+/// fuel left.
 pub fn link(
     alloc: Global,
     store: &mut Store,
@@ -68,19 +69,19 @@ pub fn link(
     (answer, meter.left())
 }
 
-/// Links a module without imports, and answers the number of its instance; none where the link does not come to its end.
+/// Links a module without imports, and returns the number of its instance. Returns none if the link does not complete.
 pub fn append(alloc: Global, store: &mut Store, loaded: &Rc<LoadedModule>) -> Option<u32> {
     let mut hosts = HostTable::new(alloc);
     let (answer, _) = link(alloc, store, &mut hosts, loaded, &[], FUEL);
     answer.ok()
 }
 
-// Links the module of a text, which has no imports, and answers the number of its instance.
+// Links the module of a text, which has no imports, and returns the number of its instance.
 fn append_text(alloc: Global, store: &mut Store, text: &str) -> Option<u32> {
     append(alloc, store, &loaded_module(alloc, text)?)
 }
 
-// Whether the modules of all these texts can be linked, one after the other.
+// Returns whether the modules of all these texts can be linked, one after the other.
 fn can_append_all(alloc: Global, store: &mut Store, texts: &[&str]) -> bool {
     for text in texts {
         if append_text(alloc, store, text).is_none() {
@@ -90,7 +91,7 @@ fn can_append_all(alloc: Global, store: &mut Store, texts: &[&str]) -> bool {
     true
 }
 
-/// A store with an instance of each of these modules, which have no imports.
+/// Returns a store with an instance of each of these modules, which have no imports.
 pub fn store_with(alloc: Global, texts: &[&str]) -> Option<Store> {
     let mut store = empty_store(alloc);
     can_append_all(alloc, &mut store, texts).then_some(store)

@@ -8,11 +8,11 @@ use std::alloc::Global;
 use std::rc::Rc;
 use store::{LoadedModule, Store};
 
-// A module with two functions and one object of each other kind, all of them exported but the first function.
+// A module with two functions and one object of each other kind. All of them except the first function are exported.
 const TEXT: &str =
     "(func) (func) (table 1 funcref) (memory 1) (global i32 i32.const 7) (export \"run\" (func 1)) (export \"table\" (table 0)) (export \"memory\" (memory 0)) (export \"global\" (global 0))";
 
-// Links a module twice; whether both links end with an instance.
+// Links a module twice. Returns whether both links end with an instance.
 fn link_twice(alloc: Global, store: &mut Store, loaded: &Rc<LoadedModule>) -> bool {
     let mut hosts = HostTable::new(alloc);
     let (first, _) = link(alloc, store, &mut hosts, loaded, &[], 0);
@@ -20,14 +20,14 @@ fn link_twice(alloc: Global, store: &mut Store, loaded: &Rc<LoadedModule>) -> bo
     first.is_ok() && second.is_ok()
 }
 
-// A store with two instances of the module: the second has the functions 2 and 3, and objects at 1.
+// Returns a store with two instances of the module: the second has the functions 2 and 3, and objects at 1.
 fn store_of_two(alloc: Global) -> Option<Store> {
     let loaded = loaded_module(alloc, TEXT)?;
     let mut store = Store::new(alloc, PAGES, ENTRIES);
     link_twice(alloc, &mut store, &loaded).then_some(store)
 }
 
-// A call of the names, and its answer.
+// A call of the names, and its result.
 #[derive(Clone, Copy)]
 enum Step {
     // The name of a module, a name and an address.
@@ -40,7 +40,7 @@ enum Step {
 
 use Step::{Define, Register, Resolve};
 
-// Calls that follow one another.
+// Calls in a row.
 struct Row {
     name: &'static str,
     steps: &'static [Step],
@@ -62,7 +62,6 @@ static ROWS: [Row; 10] = [
     Row { name: "no export and no instance", steps: &[Register("m", 0, Ok(())), Register("n", 2, Ok(())), Resolve("m", "walk", None), Resolve("m", "", None), Resolve("n", "run", None)] },
 ];
 
-// The kind of an external value, and its address.
 fn kind_and_address(value: Extern) -> (u8, u32) {
     match value {
         Extern::Func(address) => (0, address),
@@ -72,7 +71,7 @@ fn kind_and_address(value: Extern) -> (u8, u32) {
     }
 }
 
-// Whether a step gives its answer.
+// Returns whether a step has its result.
 fn answers(names: &mut Names, store: &Store, step: Step) -> bool {
     match step {
         Define(module, name, address, answer) => {
@@ -85,7 +84,7 @@ fn answers(names: &mut Names, store: &Store, step: Step) -> bool {
     }
 }
 
-// Whether all steps give their answers, in a store.
+// Returns whether all steps have their results, in a store.
 fn all_answer_in(alloc: Global, store: &Store, steps: &[Step]) -> bool {
     let mut names = Names::new(alloc);
     let mut all = true;
@@ -95,7 +94,7 @@ fn all_answer_in(alloc: Global, store: &Store, steps: &[Step]) -> bool {
     all
 }
 
-// Whether all steps give their answers, in a store of two instances.
+// Returns whether all steps have their results, in a store of two instances.
 fn all_answer(alloc: Global, steps: &[Step]) -> bool {
     match store_of_two(alloc) {
         Some(store) => all_answer_in(alloc, &store, steps),

@@ -1,4 +1,4 @@
-//! Numeric instructions over cells: their operands and what they give, worked out from the standard.
+//! Numeric instructions over cells: their operands and results, worked out from the standard.
 
 ghost use Rattle.std.specs.Prelude.{IsTrue};
 ghost use Rattle.cells.specs.Cells.{IsCellOf};
@@ -59,7 +59,7 @@ static UNARY: [UnaryRow; 29] = [
     UnaryRow { name: "i64.extend_i32_u least", op: Unary::I64ExtendI32U, x: LEAST_32, result: LEAST_32 },
 ];
 
-// Whether a cell may be that of the instruction's operand.
+// Returns whether a cell can be the instruction's operand.
 fn is_unary_operand(op: Unary, x: u64) -> bool
     ensures { IsTrue result → IsCellOf (operand_type (unary_op op)) x }
 {
@@ -174,7 +174,7 @@ static BINARY: [BinaryRow; 70] = [
     BinaryRow { name: "i64.ge_u least 0", op: Binary::I64GeU, x: LEAST_64, y: 0, result: Ok(1) },
 ];
 
-// Whether a cell may be that of the instruction's operands.
+// Returns whether a cell can be one of the instruction's operands.
 fn is_binary_operand(op: Binary, x: u64) -> bool
     ensures { IsTrue result → IsCellOf (operand_type (binary_op op)) x }
 {

@@ -1,4 +1,4 @@
-// Operators, their operands and what they give, worked out from the standard.
+// Operators, their operands and their results, worked out from the standard.
 pub const BINARY_32: &str = "add 1 2 = 3
 add 4294967295 1 = 0
 add 2147483647 1 = 2147483648

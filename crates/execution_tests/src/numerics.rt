@@ -1,4 +1,4 @@
-//! The integer operators: their operands and what they give.
+//! The integer operators: their operands and results.
 
 use crate::numeric_rows::{BINARY_32, BINARY_64, COMPARISON_32, COMPARISON_64, UNARY_32, UNARY_64};
 use core_types::{BinaryOp, Comparison, Trap, UnaryOp};
@@ -7,7 +7,7 @@ use intops::{
     extend_unsigned, unary_32, unary_64, wrap,
 };
 
-// A row of a table: an operator's name, its operands, and its answer as text.
+// A row of a table: an operator's name, its operands, and its result as text.
 #[derive(Clone, Copy)]
 struct Row<'a> {
     name: &'a str,
@@ -79,7 +79,7 @@ fn trap_named(name: &str) -> Option<Trap> {
     }
 }
 
-// What a row's operator gives from its operands, of 32 bits.
+// Returns the result of a row's operator on its 32-bit operands.
 fn result_32(row: Row<'_>) -> Option<Result<u32, Trap>> {
     let a = row.a.parse().ok()?;
     let b = row.b.parse().ok()?;
@@ -92,7 +92,7 @@ fn result_32(row: Row<'_>) -> Option<Result<u32, Trap>> {
     Some(binary_32(binary_named(row.name)?, a, b))
 }
 
-// What a row's operator gives from its operands, of 64 bits.
+// Returns the result of a row's operator on its 64-bit operands.
 fn result_64(row: Row<'_>) -> Option<Result<u64, Trap>> {
     let a = row.a.parse().ok()?;
     let b = row.b.parse().ok()?;
@@ -105,7 +105,7 @@ fn result_64(row: Row<'_>) -> Option<Result<u64, Trap>> {
     Some(binary_64(binary_named(row.name)?, a, b))
 }
 
-// Whether a result is a row's answer: a number, or the name of a trap.
+// Returns whether a result is that of a row: a number, or the name of a trap.
 fn is_answer(given: Option<Result<u64, Trap>>, answer: &str) -> bool {
     match given {
         Some(Ok(n)) => answer.parse().ok() == Some(n),
@@ -114,13 +114,13 @@ fn is_answer(given: Option<Result<u64, Trap>>, answer: &str) -> bool {
     }
 }
 
-// Whether a row of an operator of 32 bits holds.
+// Returns whether a row of a 32-bit operator holds.
 fn agrees_32(line: &str) -> bool {
     let row = row_of(line);
     is_answer(result_32(row).map(|given| given.map(u64::from)), row.answer)
 }
 
-// Whether a row of an operator of 64 bits holds.
+// Returns whether a row of a 64-bit operator holds.
 fn agrees_64(line: &str) -> bool {
     let row = row_of(line);
     is_answer(result_64(row), row.answer)
@@ -150,7 +150,7 @@ fn computes_with_64_bits(rt: HostRuntime) {
     }
 }
 
-// An operator on one integer that is none of those above.
+// An operator on one integer that is not among those above.
 #[derive(Clone, Copy)]
 enum Operator {
     Eqz32,
@@ -161,7 +161,7 @@ enum Operator {
     ExtendLowSigned,
 }
 
-// An operator, its operand and what it gives.
+// An operator, its operand and its result.
 #[rattlefmt::skip]
 static OTHERS: [(&str, Operator, u64, u64); 18] = [
     ("i32.eqz", Operator::Eqz32, 0, 1),
@@ -184,7 +184,7 @@ static OTHERS: [(&str, Operator, u64, u64); 18] = [
     ("i64.extend32_s", Operator::ExtendLowSigned, 18446744071562067967, 2147483647),
 ];
 
-// What an operator gives, if its operand is an integer of its width.
+// Returns the result of an operator, if its operand is an integer of its width.
 fn apply(operator: Operator, a: u64) -> Option<u64> {
     let short = u32::try_from(a).ok();
     match operator {

@@ -7,7 +7,7 @@ use hostfunc::HostTable;
 use std::alloc::Global;
 use store::Store;
 
-// A call of the function at an address: its arguments and the fuel, how it ends, and the fuel that it leaves.
+// A call of the function at an address: its arguments and the fuel, how it ends, and the fuel left.
 struct Call {
     address: u32,
     args: &'static [Val],
@@ -16,8 +16,8 @@ struct Call {
     left: u64,
 }
 
-// Modules, calls in turn in one store of them, and with what bytes the memory of the first module begins at the end, behind which
-// all are zero; none where nothing is said of it.
+// Modules, calls in turn in one store of them, and the first bytes of the first module's memory at the end. All bytes after them
+// are zero. If there are none, the memory is not checked.
 struct Case {
     name: &'static str,
     modules: &'static [&'static str],
@@ -231,7 +231,7 @@ static TAIL_CALLS: [Case; 4] = [
     ] },
 ];
 
-// Whether a call ends so and leaves so much fuel.
+// Returns whether a call ends as its row states and leaves its fuel.
 fn goes_so(alloc: Global, store: &mut Store, hosts: &mut HostTable, call: &Call) -> bool {
     let Call {
         address,
@@ -250,7 +250,7 @@ fn goes_so(alloc: Global, store: &mut Store, hosts: &mut HostTable, call: &Call)
     )
 }
 
-// Whether the first memory begins with these bytes, behind which all are zero.
+// Returns whether the first memory begins with these bytes, followed only by zeros.
 fn begins_with(store: &Store, bytes: &[u8]) -> bool {
     let Some(memory) = store.state().memory(0) else {
         return false;
@@ -261,7 +261,8 @@ fn begins_with(store: &Store, bytes: &[u8]) -> bool {
     }
 }
 
-// The index of the first call of a case that does not go so, or how many calls it has where the memory is not so at the end.
+// Returns the index of the first call of a case that fails its row, or the number of calls if only the memory at the end is
+// wrong.
 fn first_at_fault(alloc: Global, case: &Case) -> Option<usize> {
     let mut hosts = HostTable::new(alloc);
     let Some(mut store) = store_with(alloc, case.modules) else {

@@ -1,4 +1,4 @@
-//! Calls of functions: how they end, and the fuel that they leave.
+//! Calls of functions: how they end, and the fuel left.
 
 use crate::modules::store_with;
 use core_types::{Exhaustion, Trap, Val};
@@ -8,8 +8,7 @@ use hostfunc::HostTable;
 use std::alloc::{AllocError, Global};
 use store::{Store, accepts};
 
-// In each row a name, arguments, fuel, a depth bound, how a call of the first function ends, the fuel that it leaves, and the
-// module.
+// Each row has a name, arguments, fuel, a depth bound, how a call of the first function ends, the fuel left, and the module.
 const ROWS: &str = "\
 i32.div_s of 4294967289 and 2 | | 3 | 1 | values i32 4294967293 | 0 | (func (result i32) i32.const 4294967289 i32.const 2 i32.div_s)
 i32.rem_s of 4294967289 and 2 | | 3 | 1 | values i32 4294967295 | 0 | (func (result i32) i32.const 4294967289 i32.const 2 i32.rem_s)
@@ -190,7 +189,7 @@ table.copy of 8 entries, one fuel short | | 4 | 1 | exhausted fuel | 1 | (table 
 table.copy past the source | | 9 | 1 | trap out of bounds table access | 5 | (table 8 funcref) (table 7 funcref) (func i32.const 0 i32.const 0 i32.const 8 table.copy 0 1)
 table.copy past the target | | 9 | 1 | trap out of bounds table access | 5 | (table 8 funcref) (table 9 funcref) (func i32.const 0 i32.const 0 i32.const 9 table.copy 0 1)";
 
-// The value of a type that a word writes.
+// Returns the value of a type that a word represents.
 fn value(ty: &str, word: &str) -> Option<Val> {
     match (ty, word) {
         ("i32", _) => Some(Val::I32(word.parse().ok()?)),
@@ -203,7 +202,7 @@ fn value(ty: &str, word: &str) -> Option<Val> {
     }
 }
 
-// The values of a text, each as its type and a word.
+// Returns the values of a text, each as its type and a word.
 fn values(alloc: Global, text: &str) -> Result<Vec<Val>, AllocError> {
     let words: Vec<&str> = text.split_whitespace().collect(alloc)?;
     words
@@ -238,7 +237,6 @@ fn exhaustion_text(what: Exhaustion) -> &'static str {
     }
 }
 
-// Whether these are the values of a text.
 fn are_values(alloc: Global, found: &[Val], text: &str) -> bool {
     match values(alloc, text) {
         Ok(wanted) => found == wanted.as_slice(),
@@ -246,7 +244,7 @@ fn are_values(alloc: Global, found: &[Val], text: &str) -> bool {
     }
 }
 
-// Whether a call ends as a text says.
+// Returns whether a call ends as a text states.
 fn ends_so(alloc: Global, outcome: &Outcome, text: &str) -> bool {
     let (how, what) = text.split_once(' ').unwrap_or((text, ""));
     match outcome {
@@ -256,7 +254,7 @@ fn ends_so(alloc: Global, outcome: &Outcome, text: &str) -> bool {
     }
 }
 
-/// Whether a call of the function at an address ends so within fuel and depth, and leaves so much fuel.
+/// Returns whether a call of the function at an address, with this fuel and depth bound, ends as expected and leaves this fuel.
 pub fn calls_so(
     alloc: Global,
     store: &mut Store,
@@ -273,7 +271,7 @@ pub fn calls_so(
     ends_so(alloc, &outcome, ends) && meter.left() == left
 }
 
-/// Whether the first function of a module is run so.
+/// Returns whether a run of the first function of a module ends as expected.
 pub fn runs_so(
     alloc: Global,
     text: &str,
@@ -288,12 +286,12 @@ pub fn runs_so(
     }
 }
 
-// The parts of a row.
+// Returns the parts of a row.
 fn parts_of(alloc: Global, line: &str) -> Result<Vec<&str>, AllocError> {
     line.split('|').map(|part| part.trim()).collect(alloc)
 }
 
-// Whether the first function of a module is run as the parts of a row say.
+// Returns whether a run of the first function of a module ends as the parts of a row state.
 fn parts_agree(alloc: Global, parts: &[&str]) -> bool {
     let [_, args, fuel, depth, ends, left, text] = parts else {
         return false;
@@ -307,7 +305,7 @@ fn parts_agree(alloc: Global, parts: &[&str]) -> bool {
     }
 }
 
-// Whether a row is run as it says.
+// Returns whether a row holds.
 fn agrees(alloc: Global, line: &str) -> bool {
     match parts_of(alloc, line) {
         Ok(parts) => parts_agree(alloc, &parts),
@@ -315,7 +313,7 @@ fn agrees(alloc: Global, line: &str) -> bool {
     }
 }
 
-/// The first of so many rows that is not run as it says.
+/// Returns the first of that many rows that does not hold.
 pub fn first_row_at_fault(alloc: Global, rows: &str, count: usize) -> Option<&str> {
     if rows.lines().count() != count {
         return Some("another count of rows");
@@ -328,7 +326,6 @@ pub fn first_row_at_fault(alloc: Global, rows: &str, count: usize) -> Option<&st
     None
 }
 
-// The rows.
 fn rows() -> &'static str {
     ROWS
 }
@@ -339,7 +336,7 @@ fn runs_functions(rt: HostRuntime) {
     assert!(rt; first.is_none(), "{first:?}");
 }
 
-// Two modules, of which the first function of the second calls the last one of its own.
+// Two modules. The first function of the second one calls the last one of its own.
 #[rattlefmt::skip]
 static TWO: [&str; 2] = [
     "(func (result i32) i32.const 10) (func (result i32) i32.const 11)",
@@ -356,7 +353,7 @@ static ADDRESSES: [(u32, &str, u64); 5] = [
     (4, "values i32 22", 8),
 ];
 
-// Calls the functions at all addresses in turn, in one store of both modules: the first that is not run so.
+// Calls the functions at all addresses in turn, in one store of both modules. Returns the first address whose row does not hold.
 fn first_at_fault(alloc: Global) -> Option<u32> {
     let mut hosts = HostTable::new(alloc);
     let Some(mut store) = store_with(alloc, &TWO) else {

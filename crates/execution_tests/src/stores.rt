@@ -7,7 +7,7 @@ use hostfunc::HostTable;
 use std::alloc::Global;
 use store::{Callee, ModuleFunction, Store, accepts};
 
-// Whether a function is of a module with so many operations, and has this greatest height.
+// Returns whether a function is of a module with that many operations, and has this greatest height.
 fn has_flat_code(store: &Store, function: &ModuleFunction<'_>) -> bool {
     match store.code().instance(function.instance) {
         Some(instance) => {
@@ -18,7 +18,7 @@ fn has_flat_code(store: &Store, function: &ModuleFunction<'_>) -> bool {
     }
 }
 
-// Whether the function of a module is kept with its flat code.
+// Returns whether the function of a module is kept with its flat code.
 fn keeps_flat_code(alloc: Global) -> bool {
     let text = "(func i32.const 0 if block end else end)";
     match store_with(alloc, &[text]) {
@@ -35,7 +35,7 @@ fn keeps_the_flat_code_of_functions(rt: HostRuntime) {
     assert!(rt; keeps_flat_code(rt.alloc()));
 }
 
-// Whether the instance at a number has the function at that address, which takes no arguments.
+// Returns whether the instance at a number has the function at that address, which takes no arguments.
 fn is_kept(store: &Store, address: u32) -> bool {
     let code = store.code();
     matches!(code.function(address), Some(Callee::InModule(function)) if function.instance == address)
@@ -46,7 +46,7 @@ fn is_kept(store: &Store, address: u32) -> bool {
         && accepts(store, address, &[])
 }
 
-// Whether one loaded module that is put into a store three times has an instance and a function of its own each time.
+// Returns whether one loaded module that is appended to a store three times has its own instance and function each time.
 fn keeps_modules(alloc: Global) -> bool {
     let mut store = empty_store(alloc);
     let mut all = true;
@@ -88,7 +88,7 @@ static ADDRESSES: [(u32, u32, Option<u32>); 8] = [
     (3, 0, None),
 ];
 
-// Whether a function has this address, in a store of the three modules.
+// Returns whether a function has this address, in a store of the three modules.
 fn is_at(alloc: Global, instance: u32, x: u32, address: Option<u32>) -> bool {
     match store_with(alloc, &THREE) {
         Some(store) => store.code().function_address(instance, x) == address,
@@ -106,10 +106,10 @@ fn looks_up_addresses(rt: HostRuntime) {
     }
 }
 
-// An address, the instance of its function and the number that the function gives.
+// An address, the instance of its function, and the number that the function returns.
 static FUNCTIONS: [(u32, u32, u32); 4] = [(0, 0, 10), (1, 1, 20), (2, 1, 21), (3, 1, 22)];
 
-// Whether a function of the instance gives an i32, by a body of this constant alone.
+// Returns whether a function of the instance returns an i32, by a body of only this constant.
 fn gives(callee: Callee<'_>, instance: u32, number: u32) -> bool {
     let Callee::InModule(function) = callee else {
         return false;
@@ -120,7 +120,7 @@ fn gives(callee: Callee<'_>, instance: u32, number: u32) -> bool {
     function.instance == instance && results == [ValType::I32].as_slice() && is_constant
 }
 
-// Whether the function at an address is such a one, in a store of the three modules.
+// Returns whether the function at an address is such a function, in a store of the three modules.
 fn has_function(alloc: Global, address: u32, instance: u32, number: u32) -> bool {
     match store_with(alloc, &THREE) {
         Some(store) => match store.code().function(address) {
@@ -152,7 +152,7 @@ static TYPES: [(u32, u32, Option<&[ValType]>); 6] = [
     (3, 0, None),
 ];
 
-// Whether the type at an index gives these results, in a store of the three modules.
+// Returns whether the type at an index gives these results, in a store of the three modules.
 fn has_type(alloc: Global, instance: u32, x: u32, results: Option<&[ValType]>) -> bool {
     match store_with(alloc, &THREE) {
         Some(store) => store
@@ -194,7 +194,7 @@ static ARGUMENTS: [Arguments; 8] = [
     Arguments { name: "no function to take them", address: 1, values: &[Val::I32(1), Val::I64(2), Val::FuncRef(None), Val::ExternRef(Some(9))], are_taken: false },
 ];
 
-// Whether arguments are taken so, in a store with one function that takes one of each type.
+// Returns whether a function that takes one argument of each type takes these, as the row states.
 fn takes_so(alloc: Global, row: &Arguments) -> bool {
     let text = "(func (param i32 i64 funcref externref))";
     match store_with(alloc, &[text]) {
@@ -210,8 +210,8 @@ fn takes_arguments(rt: HostRuntime) {
     }
 }
 
-// What an external value is: the parameters and results of a function; what a table holds, and its sizes; the sizes of a memory;
-// the type of a global.
+// The description of an external value: the parameters and results of a function; what a table holds, and its sizes; the sizes
+// of a memory; the type of a global.
 #[derive(Clone, Copy)]
 enum Described {
     Func(&'static [ValType], &'static [ValType]),
@@ -234,7 +234,6 @@ static EXTERNS: [(Extern, Described); 9] = [
     (Extern::Global(2), Described::Missing),
 ];
 
-// Whether a type is the described one.
 fn is_described(ty: &ExternType, wanted: Described) -> bool {
     match (ty, wanted) {
         (ExternType::Func(ty), Described::Func(params, results)) => {
@@ -251,7 +250,7 @@ fn is_described(ty: &ExternType, wanted: Described) -> bool {
     }
 }
 
-// Whether the function at address 1 ends, which grows a table and a memory by one.
+// Returns whether a call of the function at address 1 ends. It grows a table and a memory by one.
 fn can_grow(alloc: Global, store: &mut Store) -> bool {
     let mut hosts = HostTable::new(alloc);
     let call = (1, [].as_slice());
@@ -259,7 +258,7 @@ fn can_grow(alloc: Global, store: &mut Store) -> bool {
     calls_so(alloc, store, &mut hosts, call, (2000, 1), wanted)
 }
 
-// Whether an external value is as described in a store.
+// Returns whether an external value is as described in a store.
 fn describes_in(alloc: Global, store: &Store, value: Extern, wanted: Described) -> bool {
     if !store.has_extern(value) {
         return matches!(wanted, Described::Missing);
@@ -270,7 +269,7 @@ fn describes_in(alloc: Global, store: &Store, value: Extern, wanted: Described) 
     }
 }
 
-// Whether an external value is as described in a store of a module, whose table and memory were grown by one.
+// Returns whether an external value is as described in a store of a module, whose table and memory were grown by one.
 fn describes(alloc: Global, value: Extern, wanted: Described) -> bool {
     let text =
         "(table 2 5 externref) (memory 1) (global i32 i32.const 1) (global (mut i64) i64.const 1) (func (param i32 funcref) (result i64) i64.const 0) (func ref.null extern i32.const 1 table.grow drop i32.const 1 memory.grow drop)";

@@ -1,4 +1,4 @@
-//! What `bulkops` does to the tables and the element segments of a store, and what it costs.
+//! The effects of `bulkops` on the tables and the element segments of a store, and their costs.
 
 ghost use Rattle.std.specs.Prelude.{◌≡◌, ◌<◌, length, IsTrue};
 ghost use Rattle.meaning.specs.execution.Values.{type_of};
@@ -15,7 +15,7 @@ use core_types::{RefType, Trap, Val};
 use std::alloc::Global;
 use store::State;
 
-// A call on a table by its address, or on the first element segment, what it costs where that is asked for, and its answer.
+// A call on a table by its address, or on the first element segment, its cost if that is checked, and its result.
 #[derive(Clone, Copy)]
 enum Step {
     // A table and an offset.
@@ -24,11 +24,11 @@ enum Step {
     Set(u32, u32, Val, Result<(), Trap>),
     // An offset in the first table, a value and a count.
     Fill(u32, Val, u32, u64, Result<(), Trap>),
-    // The tables into which and from which it is copied, a target, where it is copied from, and a count.
+    // The tables into which and from which it copies, a target, a source, and a count.
     Copy([u32; 2], [u32; 3], u64, Result<(), Trap>),
-    // Into the first table: a target, where it is copied from, and a count.
+    // Into the first table: a target, a source, and a count.
     Init([u32; 3], u64, Result<(), Trap>),
-    // The first table, by that many entries of a value.
+    // The first table, by this many entries with a value.
     Grow(Val, u32, u64, u32),
     // A table and its size.
     Size(u32, u32),
@@ -38,8 +38,8 @@ enum Step {
     Entries(u32, &'static [Val]),
 }
 
-// A name, and steps on two tables of four and three entries, of which the first may have six, and a segment of functions 0, 1 and
-// 2.
+// A name, and steps on two tables of four and three entries and a segment of the functions 0, 1 and 2. The first table may have
+// six entries.
 struct Case {
     name: &'static str,
     steps: &'static [Step],
@@ -89,7 +89,7 @@ static CASES: [Case; 6] = [
     ] },
 ];
 
-// Whether these are the entries of a table.
+// Returns whether these are the entries of a table.
 fn shows(state: &State, address: u32, entries: &[Val]) -> bool {
     match state.table(address) {
         Some(table) => table.entries() == entries,
@@ -97,7 +97,7 @@ fn shows(state: &State, address: u32, entries: &[Val]) -> bool {
     }
 }
 
-/// Whether a value is of the type of a table's entries.
+/// Returns whether a value is of the type of a table's entries.
 pub fn is_entry(state: &State, address: u32, value: Val) -> bool
     requires { address < length state.now.contents.tables }
     ensures { IsTrue result
@@ -112,7 +112,7 @@ pub fn is_entry(state: &State, address: u32, value: Val) -> bool
     }
 }
 
-// Whether a copy costs so and answers so.
+// Returns whether a copy has this cost and this result.
 fn copies(
     state: &mut State,
     [into, source]: [u32; 2],
@@ -127,7 +127,7 @@ fn copies(
         && table_copy(state, into, source, target, from, count) == answer
 }
 
-// Whether a copy from the segment into the first table costs so and answers so.
+// Returns whether a copy from the segment into the first table has this cost and this result.
 fn inits(
     state: &mut State,
     [target, from, count]: [u32; 3],
@@ -141,7 +141,7 @@ fn inits(
         && table_init(state, 0, 0, target, from, count) == answer
 }
 
-// Whether a read or a write of an entry answers so.
+// Returns whether a read or a write of an entry has this result.
 fn accesses(state: &mut State, step: Step) -> bool {
     match step {
         Get(address, offset, value) if (address as usize) < state.table_count() => {
@@ -157,7 +157,7 @@ fn accesses(state: &mut State, step: Step) -> bool {
     }
 }
 
-// Whether a store takes a step so.
+// Returns whether a store has the result of a step.
 fn takes(state: &mut State, step: Step) -> bool {
     if state.table_count() == 0 || state.element_count() == 0 {
         return false;
@@ -184,7 +184,7 @@ fn takes(state: &mut State, step: Step) -> bool {
     }
 }
 
-// How many steps are taken so, up to the first one that is not.
+// Returns the number of steps with the right result, up to the first one with a wrong result.
 fn count_taken(state: &mut State, steps: &[Step]) -> usize {
     for (index, step) in steps.iter().enumerate() {
         if !takes(state, *step) {
@@ -194,7 +194,7 @@ fn count_taken(state: &mut State, steps: &[Step]) -> usize {
     steps.len()
 }
 
-// How many steps of a case are taken so in a store of its own.
+// Returns the number of steps of a case with the right result, in a new store.
 fn count_steps(alloc: Global, case: &Case) -> usize {
     match store_with(alloc, &[TEXT]) {
         Some(store) => {

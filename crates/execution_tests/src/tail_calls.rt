@@ -1,10 +1,10 @@
-//! Tail calls of functions: how they end, and the fuel that they leave.
+//! Tail calls of functions: how they end, and the fuel left.
 
 use crate::runs::{first_row_at_fault, runs_so};
 use core_types::Val;
 use std::alloc::{AllocError, Global};
 
-// In each row what the rows of `runs` have, of tail calls of functions by their indices.
+// Each row has the columns of the rows of `runs`, for tail calls of functions by their indices.
 const TAIL_CALLS: &str = "\
 down from 100000 | i32 100000 | 1000000 | 1 | values i32 9 | 399997 | (func (param i32) (result i32) local.get 0 if local.get 0 i32.const 1 i32.sub return_call 0 end i32.const 9)
 down from 100000, one fuel short | i32 100000 | 600002 | 1 | exhausted fuel | 0 | (func (param i32) (result i32) local.get 0 if local.get 0 i32.const 1 i32.sub return_call 0 end i32.const 9)
@@ -83,7 +83,7 @@ memory.grow behind a tail call | | 1029 | 1 | values i32 3 | 0 | (memory 1 5) (f
 memory.grow behind a tail call, one fuel short | | 1026 | 1 | exhausted fuel | 1024 | (memory 1 5) (func (result i32) return_call 1) (func (result i32) i32.const 1 memory.grow memory.size i32.add)
 global.set behind a tail call | | 7 | 1 | values i32 6 | 0 | (global (mut i32) i32.const 1) (func (result i32) global.get 0 return_call 1) (func (param i32) (result i32) i32.const 5 global.set 0 global.get 0 local.get 0 i32.add)";
 
-// In each row the same, of tail calls through tables.
+// Each row has the same columns, for tail calls through tables.
 const TAIL_CALLS_THROUGH_TABLES: &str = "\
 an entry | i32 4 | 6 | 1 | values i32 5 | 0 | (type (func (param i32) (result i32))) (table 2 funcref) (elem (offset i32.const 1) func 1) (func (type 0) local.get 0 i32.const 1 return_call_indirect (type 0)) (func (type 0) local.get 0 i32.const 1 i32.add)
 an entry, one fuel short | i32 4 | 5 | 1 | exhausted fuel | 0 | (type (func (param i32) (result i32))) (table 2 funcref) (elem (offset i32.const 1) func 1) (func (type 0) local.get 0 i32.const 1 return_call_indirect (type 0)) (func (type 0) local.get 0 i32.const 1 i32.add)
@@ -123,12 +123,10 @@ a caller that waits | | 9 | 2 | values i32 108 | 0 | (type (func (param i32) (re
 no entry, and a caller that waits | | 10 | 2 | trap undefined element | 5 | (type (func (param i32) (result i32))) (table 1 funcref) (elem (offset i32.const 0) func 2) (func (result i32) i32.const 100 call 1 i32.add) (func (result i32) i32.const 7 i32.const 1 return_call_indirect (type 0)) (func (type 0) (local i64 i64) local.get 0 i32.const 1 i32.add)
 a trap in the function | | 9 | 1 | trap unreachable | 6 | (type (func)) (table 1 funcref) (elem (offset i32.const 0) func 1) (func i32.const 0 return_call_indirect (type 0)) (func unreachable)";
 
-// The rows of tail calls by index.
 fn rows_by_index() -> &'static str {
     TAIL_CALLS
 }
 
-// The rows of tail calls through tables.
 fn rows_through_tables() -> &'static str {
     TAIL_CALLS_THROUGH_TABLES
 }
@@ -145,8 +143,8 @@ fn runs_tail_calls_through_tables(rt: HostRuntime) {
     assert!(rt; first.is_none(), "{first:?}");
 }
 
-// A module in pieces, each of which stands so often; how a call of its first function with this argument ends, at this fuel and
-// depth bound; and the fuel left.
+// A module in pieces, each of which is repeated that often. A call of its first function has this argument, fuel and depth
+// bound, this end, and this fuel left.
 struct LongRow {
     name: &'static str,
     pieces: &'static [(&'static str, usize)],
@@ -201,7 +199,6 @@ static LONG_ROWS: [LongRow; 7] = [
     ], argument: 5, bounds: (4_104, 1), ends: "values i32 6 i32 506 i32 1005", left: 0 },
 ];
 
-// The text of pieces.
 fn text_of(alloc: Global, pieces: &[(&str, usize)]) -> Result<String, AllocError> {
     let mut text = String::new(alloc);
     for (piece, count) in pieces {
@@ -210,7 +207,7 @@ fn text_of(alloc: Global, pieces: &[(&str, usize)]) -> Result<String, AllocError
     Ok(text)
 }
 
-// Whether the first function of a module in pieces is run as its row says.
+// Returns whether a run of the first function of a module in pieces ends as its row states.
 fn pieces_agree(alloc: Global, row: &LongRow) -> bool {
     match text_of(alloc, row.pieces) {
         Ok(text) => runs_so(

@@ -31,7 +31,7 @@ fn values_have_cells(rt: HostRuntime) {
     }
 }
 
-// The value of a type that a cell is, where it is one of a reference or an i64.
+// Returns the value of a type that a cell represents, if it is one of a reference or an i64.
 fn read(ty: ValType, cell: u64) -> Option<Val> {
     match ty {
         ValType::I64 => Some(value_of(ty, cell)),
@@ -48,7 +48,7 @@ fn cells_are_values(rt: HostRuntime) {
     }
 }
 
-// Two i64 that are written over the first of three cells, and read.
+// Writes two i64 over the first of three cells, and reads them.
 fn write_and_read(alloc: Global) -> Result<bool, AllocError> {
     let mut cells = [7, 7, 7];
     write_cells(&[Val::I64(5), Val::I64(6)], &mut cells);

@@ -1,4 +1,4 @@
--- A name is found by halving: what lies before the part that is left is less, and what lies behind it is greater.
+-- A name is found by binary search: what is before the rest is less, and what is after it is greater.
 use Rattle.std.proofs.Math.Nat.{eq-or-lt_of_le}
 use Rattle.std.proofs.Common.{cond, inl, inr, ◌⊎◌, ◌≡◌, ◌≢◌, ℕ, zero, suc, ◌+◌, ◌<◌, ◌≤◌, true, false, List, [], ◌∷◌, length, get_or, refl, sym, ap, ◌∙◌, subst, arith}
 use Rattle.std.proofs.lemmas.Bool.{cases_order, false_from_ne_true}
@@ -20,7 +20,7 @@ use Rattle.meaning.specs.validation.Modules.{NamesDiffer}
 use Rattle.export_names.specs.Order.{IsNameOrder, names, names_at}
 use Rattle.export_names.proofs.Sorting.{order, sorted_then}
 
--- ---- the part that is left
+-- ---- the rest of the search
 
 pub record LiesBetween (exports : List Export) (indices : List ℕ) (name : List ℕ) (low high : ℕ) : Type 0 where
   pub rises : low ≤ high
@@ -37,7 +37,7 @@ none_found name (e ∷ es) unlike =
     let here = All-head (λ (e : Export). bytes_eq e.name name ≡ false) e es unlike in
     ap (λ b. cond b (Some e) (find (λ (e : Export). bytes_eq e.name name) es)) here ∙ none_found name es (All-tail (λ (e : Export). bytes_eq e.name name ≡ false) e es unlike)
 
--- The one export of a name is found first.
+-- The only export of a name is found first.
 pub found_first : (name : List ℕ) (es : List Export) (e : Export) → NamesDiffer es → Contains es e → bytes_eq e.name name ≡ true → find (λ (e : Export). bytes_eq e.name name) es ≡ Some e
 found_first name [] e differ contained alike = absurd (omega (arith, contained.1))
 found_first name (x ∷ xs) e differ (zero, within, is) alike =
@@ -56,14 +56,14 @@ less_differs same = absurd cc
 greater_differs : Greater ≢ Equal
 greater_differs same = absurd cc
 
--- What `cmp` answers of a text says of what it is equal to.
+-- The result of `cmp` for a text is the same for texts that are equal to it.
 pub compared : (a n name : List ℕ) (r o : Ordering) → r ≡ order a name → a ≡ n → r ≡ o → order n name ≡ o
 compared a n name r o is same answer = ap (λ m. order m name) (sym same) ∙ sym is ∙ answer
 
 pub equal_is_alike : (a n name : List ℕ) (r : Ordering) → r ≡ order a name → a ≡ n → r ≡ Equal → bytes_eq n name ≡ true
 equal_is_alike a n name r is same answer = texts_ties n name ∙ ap is_eq (compared a n name r Equal is same answer)
 
--- Where an export comes in the order.
+-- The place of an export in the order.
 place_of : (exports : List Export) (indices : List ℕ) → IsNameOrder exports indices → (k : ℕ) → k < length exports → (i : ℕ) × (i < length indices) × (get_or indices i k ≡ k)
 place_of exports indices h k inside =
     Contains-permutation (range_with_len 0 (length exports)) indices k h.permutes

@@ -1,4 +1,4 @@
--- Names in order: where they differ, each is less than those behind it.
+-- Names in order. If they differ, each is less than those after it.
 use Rattle.std.proofs.Math.Nat.{eq-or-lt_of_le}
 use Rattle.std.proofs.Common.{inl, inr, ◌≡◌, ◌≢◌, ℕ, ◌+◌, ◌-◌, ◌<◌, ◌≤◌, Bool, true, false, List, [], ◌∷◌, length, get_or, refl, sym, ap, ◌∙◌, subst, arith}
 use Rattle.std.proofs.lemmas.Bool.{true≢false, false_from_ne_true}
@@ -34,7 +34,7 @@ alike_is a b h = (bytes_eq-Decides a b).0 (texts_ties a b ∙ h)
 pub is_alike : (a b : List ℕ) → a ≡ b → alike a b ≡ true
 is_alike a b same = sym (texts_ties a b) ∙ (bytes_eq-Decides a b).1 same
 
--- What `==` answers of two texts says of what they are equal to.
+-- The result of `==` for two texts is the same for texts that are equal to them.
 pub told_apart : (a b m n : List ℕ) (r : Bool) → r ≡ pointwise nat_eq a b → a ≡ m → b ≡ n → alike m n ≡ r
 told_apart a b m n r is first second = sym (is ∙ texts_ties a b ∙ ap (λ x. alike x b) first ∙ ap (λ x. alike m x) second)
 
@@ -43,13 +43,13 @@ by_cases Less up apart = refl
 by_cases Equal up apart = absurd (true≢false apart)
 by_cases Greater up apart = absurd (true≢false up)
 
--- A text that is not greater than another, and another, is less.
+-- A text that is not greater than another, and differs from it, is less.
 pub is_less : (a b : List ℕ) → is_lt (order b a) ≡ false → alike a b ≡ false → order a b ≡ Less
 is_less a b up apart =
     let back : order b a ≡ ordering_reverse (order a b) = nat_list_cmp_total.antisymm b a in
     by_cases (order a b) (ap is_lt (sym back) ∙ up) apart
 
--- Each text below a place is told apart from the next.
+-- Each text below a place differs from the next.
 abbrev pub AreApartBelow : List (List ℕ) → ℕ → Type 0
 AreApartBelow ns place = (k : ℕ) → k + 1 < place → alike (get_or ns k []) (get_or ns (k + 1) []) ≡ false
 
@@ -141,7 +141,7 @@ module _ (exports : List Export) (indices : List ℕ) (h : IsNameOrder exports i
   differ_from_neighbours apart =
       differ_from_sorted (sorted_from_all_adjacent nat_list_cmp_total (names_at exports indices) [] (λ k within. next_is_less k within (apart k (rw as_long at within))))
 
-  -- The name at a place is that of the export that comes there.
+  -- The name at a place is that of the export at this place.
   pub name_at : (place : ℕ) (e : Export) → place < length indices → e ≡ get_or exports (get_or indices place 0) e → e.name ≡ get_or (names_at exports indices) place []
   name_at place e within is =
       let at : ℕ → List ℕ = λ k. get_or (names exports) k [] in

@@ -14,11 +14,11 @@ names exports = map (λ (e : Export). e.name) exports
 abbrev pub names_at : List Export → (indices : List ℕ) → List (List ℕ)
 names_at exports indices = map (λ k. slice_index_or (names exports) k []) indices
 
--- No name is less than the one before it, by their bytes.
+-- No name is less than the one before it, compared by bytes.
 abbrev pub Ascend : List (List ℕ) → Type 0
 Ascend = IsSorted (slice_cmp nat_cmp)
 
--- Each index once, and the names ascend.
+-- Each index occurs once, and the names ascend.
 pub record IsNameOrder (exports : List Export) (order : List ℕ) : Type 0 where
   pub permutes : IsPermutation (range_with_len 0 (length exports)) order
   pub ascends : Ascend (names_at exports order)
@@ -34,7 +34,7 @@ abbrev pub HaveNames : List Export → Numbered → Type 0
 HaveNames exports found =
     All (λ (p : Bor (List ℕ) × ℕ). p.0.now ≡ slice_index_or (names exports) p.1 []) found
 
--- Each export by its name and its index.
+-- Each export has an entry with its name and its index.
 pub record AreNumbered (exports : List Export) (found : Numbered) : Type 0 where
   pub indices : indices_of found ≡ range_with_len 0 (length exports)
   pub named : HaveNames exports found

@@ -1,5 +1,5 @@
-//! Exports by their names, which a module's author chooses: told apart by sorting and found by halving, in n log n and log n comparisons
-//! whatever the names are.
+//! Exports by their names. A module's author chooses the names, so they are compared by sorting and found by binary search: in n
+//! log n and log n comparisons, for any names.
 #![tactic(auto)]
 
 mod name_order;

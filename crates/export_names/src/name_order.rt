@@ -23,7 +23,7 @@ impl Model for NameOrder {
     ghost view = { λ order. order.indices };
 }
 
-// The name of each export with its index.
+// Returns the name of each export with its index.
 fn numbered(alloc: Global, exports: &[Export]) -> Result<Vec<(&str, usize)>, AllocError>
     ensures { IfOk result (λ found. AreNumbered exports.now found.items) }
 {
@@ -34,7 +34,7 @@ fn numbered(alloc: Global, exports: &[Export]) -> Result<Vec<(&str, usize)>, All
     Ok(found)
 }
 
-// The name of each export with its index, in the order of the names.
+// Returns the name of each export with its index, in the order of the names.
 fn sorted(alloc: Global, exports: &[Export]) -> Result<Vec<(&str, usize)>, AllocError>
     ensures { IfOk result (λ found. IsNameOrder exports.now (indices_of found.items)) }
 {
@@ -44,7 +44,7 @@ fn sorted(alloc: Global, exports: &[Export]) -> Result<Vec<(&str, usize)>, Alloc
 }
 
 impl NameOrder {
-    /// The order of the names of exports.
+    /// Creates the order of the names of exports.
     pub fn new(alloc: Global, exports: &[Export]) -> Result<NameOrder, AllocError>
         ensures { IfOk result (λ order. IsNameOrder exports.now order) }
     {
@@ -58,7 +58,6 @@ impl NameOrder {
         })
     }
 
-    // The export at a place of the order.
     fn export_at<'a>(&self, exports: &'a [Export], place: usize) -> &'a Export
         requires order { IsNameOrder exports.now self.now }
         requires within { place < length self.now }
@@ -69,7 +68,7 @@ impl NameOrder {
         &exports[index]
     }
 
-    /// Whether no export has the name of another.
+    /// Returns whether all names of exports are different.
     pub fn names_differ(&self, exports: &[Export]) -> bool
         requires { IsNameOrder exports.now self.now }
         ensures { IsTrue result ↔ NamesDiffer exports.now }
@@ -84,7 +83,7 @@ impl NameOrder {
         true
     }
 
-    /// What the export of a name names, if there is one.
+    /// Returns the index that the export of a name refers to, if there is one.
     pub fn find(&self, exports: &[Export], name: &str) -> Option<ExportDesc>
         requires order { IsNameOrder exports.now self.now }
         requires differ { NamesDiffer exports.now }

@@ -6,7 +6,7 @@ use crate::sections::{ITEMS, Item, section_of};
 use std::alloc::{AllocError, Global};
 use testing::{assemble, bytes_of};
 
-// Whether a text is assembled to a module that ends with these bytes.
+// Returns whether a text is assembled to a module that ends with these bytes.
 fn ends_with(alloc: Global, text: &str, bytes: &[u8]) -> bool {
     match assemble(alloc, text) {
         Ok(assembled) => assembled.ends_with(bytes),
@@ -14,7 +14,7 @@ fn ends_with(alloc: Global, text: &str, bytes: &[u8]) -> bool {
     }
 }
 
-// A function of one instruction, which has an end where its bytes have one.
+// Returns a function of one instruction, which has an end if its bytes have one.
 fn function_of(alloc: Global, codes: &str, instruction: &str) -> Result<String, AllocError> {
     let mut text = String::from_str(alloc, "(func ")?;
     text.push_str(instruction)?;
@@ -22,19 +22,19 @@ fn function_of(alloc: Global, codes: &str, instruction: &str) -> Result<String, 
     Ok(text)
 }
 
-// The body of one instruction.
+// Returns the body of one instruction.
 fn body_of(alloc: Global, codes: &str) -> Result<Vec<u8>, AllocError> {
     let instruction = bytes_of(alloc, codes)?;
     join(alloc, &[&instruction, &[0x0B]])
 }
 
-// Whether the text of an instruction gives its bytes.
+// Returns whether the text of an instruction gives its bytes.
 fn gives_bytes(alloc: Global, codes: &str, text: &str) -> Result<bool, AllocError> {
     let body = body_of(alloc, codes)?;
     Ok(ends_with(alloc, text, &body))
 }
 
-// Whether the text of a row gives its bytes; a row whose number is not spelled in the shortest way does not.
+// Returns whether the text of a row gives its bytes. A row whose number is not encoded in the shortest form does not.
 fn gives_operation(alloc: Global, row: &str) -> Result<bool, AllocError> {
     let (codes, instruction) = row.split_once(" = ").unwrap_or((row, ""));
     let text = function_of(alloc, codes, instruction)?;
@@ -48,7 +48,7 @@ fn assembles_each_instruction(rt: HostRuntime) {
     }
 }
 
-// Whether the text of an item gives the section of it.
+// Returns whether the text of an item gives its section.
 fn gives_section(alloc: Global, item: &Item) -> Result<bool, AllocError> {
     let section = section_of(alloc, item)?;
     Ok(ends_with(alloc, item.text, &section))

@@ -1,4 +1,4 @@
-//! Vectors that are to have 2^32 - 1 items, of which none is there.
+//! Vectors that declare 2^32 - 1 items and contain none.
 
 use crate::decoding::{Answer, Row, agrees};
 

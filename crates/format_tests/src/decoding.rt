@@ -1,4 +1,4 @@
-//! What `decode` answers, as the rows have it.
+//! The results of `decode`.
 
 use binary::{DecodeError, decode};
 use std::alloc::{AllocError, Global};
@@ -7,7 +7,7 @@ use testing::bytes_of;
 // The magic number and the version.
 static HEADER: [u8; 8] = [0x00, 0x61, 0x73, 0x6D, 0x01, 0x00, 0x00, 0x00];
 
-/// How `decode` answers.
+/// The result of `decode`.
 #[derive(Clone, Copy, PartialEq, Eq)]
 pub enum Answer {
     Decoded,
@@ -17,7 +17,7 @@ pub enum Answer {
     OutOfMemory,
 }
 
-// The answer that a refusal is.
+// Returns the result for a refusal.
 fn answer_of(error: &DecodeError) -> Answer {
     match error {
         DecodeError::Malformed(_) => Answer::Malformed,
@@ -27,7 +27,7 @@ fn answer_of(error: &DecodeError) -> Answer {
     }
 }
 
-/// The answer to these bytes.
+/// Returns the result for these bytes.
 pub fn answer_to(alloc: Global, bytes: &[u8]) -> Answer {
     match decode(alloc, bytes) {
         Ok(_) => Answer::Decoded,
@@ -35,7 +35,7 @@ pub fn answer_to(alloc: Global, bytes: &[u8]) -> Answer {
     }
 }
 
-/// These bytes one behind the other.
+/// Returns these bytes in a row.
 pub fn join(alloc: Global, parts: &[&[u8]]) -> Result<Vec<u8>, AllocError> {
     let mut bytes = Vec::new(alloc);
     for part in parts {
@@ -44,25 +44,25 @@ pub fn join(alloc: Global, parts: &[&[u8]]) -> Result<Vec<u8>, AllocError> {
     Ok(bytes)
 }
 
-/// The header, and sections behind it.
+/// Returns the header, followed by sections.
 pub fn with_header(alloc: Global, sections: &[u8]) -> Result<Vec<u8>, AllocError> {
     join(alloc, &[&HEADER, sections])
 }
 
-/// A name, sections in hexadecimal numbers, and the answer to a module of them.
+/// A name, sections in hexadecimal numbers, and the result for a module of them.
 pub struct Row {
     pub name: &'static str,
     pub sections: &'static str,
     pub answer: Answer,
 }
 
-/// Whether a row's module is answered so.
+/// Returns whether a row's module has its result.
 pub fn agrees(alloc: Global, row: &Row) -> Result<bool, AllocError> {
     let sections = bytes_of(alloc, row.sections)?;
     answers_so(alloc, &sections, row.answer)
 }
 
-/// Whether a module of these sections is answered so.
+/// Returns whether a module of these sections has this result.
 pub fn answers_so(alloc: Global, sections: &[u8], answer: Answer) -> Result<bool, AllocError> {
     let bytes = with_header(alloc, sections)?;
     Ok(answer_to(alloc, &bytes) == answer)

@@ -1,4 +1,4 @@
-//! Spellings of integers and what they represent, alone and within other bytes.
+//! Encodings of integers and what they represent, alone and within other bytes.
 
 ghost use Rattle.std.specs.Prelude.{◌≤◌, IfOk, length, vec_len};
 
@@ -15,7 +15,7 @@ enum Form {
     S64,
 }
 
-// A form, bytes, and the integer that they spell, if they spell one.
+// A form, bytes, and the integer that they encode, if they encode one.
 struct Row {
     form: Form,
     bytes: &'static str,
@@ -41,7 +41,7 @@ static ROWS: [Row; 15] = [
     Row { form: Form::S64, bytes: "8080808080808080807F", value: Some(-9223372036854775808) },
 ];
 
-// The integer of this form at an offset, and the offset behind it.
+// Returns the integer of this form at an offset, and the offset after it.
 fn read(form: Form, bytes: &[u8], at: usize) -> Option<(i64, usize)>
     requires { at ≤ length bytes.now }
 {
@@ -53,7 +53,7 @@ fn read(form: Form, bytes: &[u8], at: usize) -> Option<(i64, usize)>
     }
 }
 
-// The bytes with two others before them and one behind.
+// Returns the bytes with two others before them and one after them.
 fn surround(alloc: Global, bytes: &[u8]) -> Result<Vec<u8>, AllocError>
     ensures { IfOk result (λ v. 2 ≤ vec_len v) }
 {
@@ -63,7 +63,7 @@ fn surround(alloc: Global, bytes: &[u8]) -> Result<Vec<u8>, AllocError>
     Ok(all)
 }
 
-// Whether the bytes of a row are read as its value, at the start and within other bytes.
+// Returns whether the bytes of a row are read as its value, at the start and within other bytes.
 fn agrees(alloc: Global, row: &Row) -> Result<bool, AllocError> {
     let bytes = bytes_of(alloc, row.bytes)?;
     let inside = surround(alloc, &bytes)?;

@@ -27,7 +27,8 @@ fn answers_locals(rt: HostRuntime) {
     }
 }
 
-// A type with a long list of i32: what it is, the bytes before the list, how long it is, the bytes behind it, and the answer.
+// A type with a long list of i32: what it is, the bytes before the list, the length of the list, the bytes after it, and the
+// result.
 struct LongType {
     name: &'static str,
     front: &'static str,
@@ -59,7 +60,7 @@ fn answers_long_types(rt: HostRuntime) {
     }
 }
 
-// A module that is one custom section: its size in bytes, the bytes down to the end of the section's empty name, and the answer.
+// A module that is one custom section: its size in bytes, the bytes up to the end of the section's empty name, and the result.
 #[rattlefmt::skip]
 static SIZES: [(usize, &str, Answer); 2] = [
     (67_108_864, "0061736D 01000000 00 F3FFFF1F 00", Answer::Decoded),
@@ -86,7 +87,7 @@ fn answers_sizes(rt: HostRuntime) {
     }
 }
 
-// The sections of a module with 100,000 functions, each with one group of 50,000 locals.
+// Returns the sections of a module with 100,000 functions, each with one group of 50,000 locals.
 fn many_groups(alloc: Global) -> Result<Vec<u8>, AllocError> {
     let mut bytes = bytes_of(alloc, "0061736D 01000000 010401600000 03A38D06A08D06")?;
     bytes.extend_from_slice(&vec![in alloc; 0x00; 100_000]?)?;
@@ -97,13 +98,13 @@ fn many_groups(alloc: Global) -> Result<Vec<u8>, AllocError> {
     Ok(bytes)
 }
 
-// How many functions a module has, and how many locals the last of them has.
+// Returns the number of functions of a module, and the number of locals of the last one.
 fn functions_and_locals(decoded: &Module) -> Option<(usize, u32)> {
     let last = decoded.funcs.as_slice().last()?;
     Some((decoded.funcs.len(), last.locals.len()))
 }
 
-// Whether bytes are decoded to a module with so many functions and locals.
+// Returns whether bytes are decoded to a module with that many functions and locals.
 fn has_locals(alloc: Global, bytes: &[u8], wanted: (usize, u32)) -> bool {
     match decode(alloc, bytes) {
         Ok(decoded) => functions_and_locals(&decoded) == Some(wanted),
@@ -111,7 +112,7 @@ fn has_locals(alloc: Global, bytes: &[u8], wanted: (usize, u32)) -> bool {
     }
 }
 
-// Whether the module of many groups is decoded with all its functions and locals.
+// Returns whether the module of many groups is decoded with all its functions and locals.
 fn keeps_groups(alloc: Global) -> Result<bool, AllocError> {
     let bytes = many_groups(alloc)?;
     Ok(has_locals(alloc, &bytes, (100_000, 50_000)))

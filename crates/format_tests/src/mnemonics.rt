@@ -7,7 +7,7 @@ use core_types::{
 };
 use std::alloc::AllocError;
 
-/// Printing ends, or finds no memory.
+/// The result of printing, which fails if memory runs out.
 pub type Printed = Result<(), AllocError>;
 
 fn integer_name(width: Width) -> &'static str {
@@ -38,7 +38,7 @@ fn load32_name(sign: Sign) -> &'static str {
     }
 }
 
-/// The name of a value type.
+/// Returns the name of a value type.
 pub fn type_name(ty: ValType) -> &'static str {
     match ty {
         ValType::I32 => "i32",
@@ -58,7 +58,7 @@ pub fn print_types(out: &mut String, keyword: &str, types: &[ValType]) -> Printe
     out.push_str(")")
 }
 
-/// The name of a reference type, behind a blank.
+/// Returns the name of a reference type, after a blank.
 pub fn reference_name(ty: RefType) -> &'static str {
     match ty {
         RefType::FuncRef => " funcref",
@@ -127,12 +127,12 @@ fn conversion_name(op: Conversion) -> &'static str {
     }
 }
 
-/// Prints a word and an index behind it.
+/// Prints a word followed by an index.
 pub fn print_indexed(out: &mut String, word: &str, index: u32) -> Printed {
     write!(out, "{word} {index}")
 }
 
-// Prints a word and two indices behind it.
+// Prints a word followed by two indices.
 fn print_pair(out: &mut String, word: &str, first: u32, second: u32) -> Printed {
     print_indexed(out, word, first)?;
     print_indexed(out, "", second)
@@ -297,7 +297,7 @@ fn print_mark(out: &mut String, mark: Mark) -> Printed {
     }
 }
 
-// An instruction that has a list, or else a question mark.
+// Prints an instruction that has a list, or else a question mark.
 fn print_list(out: &mut String, op: LentOp<'_>) -> Printed {
     match op {
         OpWith::Other(Op::Plain(op)) => print_plain(out, op),

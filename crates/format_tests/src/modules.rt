@@ -1,4 +1,4 @@
-//! A module cut short and put together otherwise.
+//! A module that is cut short, and put together differently.
 
 use crate::decoding::{Answer, Row, agrees, answer_to};
 
@@ -23,8 +23,8 @@ fn answers_each_front(rt: HostRuntime) {
     }
 }
 
-// The sections of that module, which the rows put together: its types, functions, exports and code are
-// `0107 01 60027F7F017F`, `0302 01 00`, `0707 01 036164640000` and `0A09 01 0700200020016A0B`.
+// The sections of that module, which the rows combine: its types, functions, exports and code are `0107 01 60027F7F017F`,
+// `0302 01 00`, `0707 01 036164640000` and `0A09 01 0700200020016A0B`.
 #[rattlefmt::skip]
 static ROWS: [Row; 16] = [
     Row { name: "a custom section before all others", sections: "00020161 01070160027F7F017F 03020100 070701036164640000 0A09010700200020016A0B", answer: Answer::Decoded },

@@ -15,7 +15,7 @@ static FRONT: [u8; 13] = [
 // The end of a body, and a passive data segment without bytes.
 static BACK: [u8; 6] = [0x0B, 0x0B, 0x03, 0x01, 0x01, 0x00];
 
-// In each row the bytes of an instruction, with its end where it has a body, and its text.
+// Each row has the bytes of an instruction, with its end if it has a body, and its text.
 pub const ROWS: &str = "\
 00 = unreachable
 01 = nop
@@ -149,7 +149,7 @@ fc 0f 03 = table.grow 3
 fc 10 04 = table.size 4
 fc 11 05 = table.fill 5";
 
-// A module with one function, whose body these bytes spell.
+// Returns a module with one function, whose body these bytes encode.
 fn module_around(alloc: Global, body: &[u8]) -> Result<Vec<u8>, AllocError> {
     let size = body.len().min(100) as u8;
     let code = [0x0A, size + 4, 0x01, size + 2, 0x00];
@@ -157,7 +157,7 @@ fn module_around(alloc: Global, body: &[u8]) -> Result<Vec<u8>, AllocError> {
     with_header(alloc, &sections)
 }
 
-// The text of the first operation of a module.
+// Returns the text of the first operation of a module.
 fn first_operation(alloc: Global, decoded: &Module) -> Result<String, AllocError> {
     let mut text = String::new(alloc);
     if let Some(func) = decoded.funcs.as_slice().first() {
@@ -168,12 +168,12 @@ fn first_operation(alloc: Global, decoded: &Module) -> Result<String, AllocError
     Ok(text)
 }
 
-// Whether the first operation of a module has this text.
+// Returns whether the first operation of a module has this text.
 fn begins_so(alloc: Global, decoded: &Module, text: &str) -> Result<bool, AllocError> {
     Ok(first_operation(alloc, decoded)?.as_str() == text)
 }
 
-// Whether bytes are decoded to a module whose first operation has this text.
+// Returns whether bytes are decoded to a module whose first operation has this text.
 fn decodes_so(alloc: Global, bytes: &[u8], text: &str) -> Result<bool, AllocError> {
     match decode(alloc, bytes) {
         Ok(decoded) => begins_so(alloc, &decoded, text),
@@ -181,7 +181,7 @@ fn decodes_so(alloc: Global, bytes: &[u8], text: &str) -> Result<bool, AllocErro
     }
 }
 
-// Whether the bytes of a row are decoded to an operation of its text.
+// Returns whether the bytes of a row are decoded to an operation of its text.
 fn agrees(alloc: Global, row: &str) -> Result<bool, AllocError> {
     let (codes, text) = row.split_once(" = ").unwrap_or((row, ""));
     let body = bytes_of(alloc, codes)?;

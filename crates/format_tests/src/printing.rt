@@ -1,4 +1,4 @@
-//! Modules in the standard's text format, each field behind a blank.
+//! Modules in the standard's text format, each field after a blank.
 
 use crate::mnemonics::{
     Printed, print_indexed, print_operation, print_types, reference_name, type_name,
@@ -39,7 +39,7 @@ fn print_global_type(out: &mut String, ty: GlobalType) -> Printed {
     }
 }
 
-// A list of types under a keyword, where there are any.
+// Prints a list of types under a keyword, if there are any.
 fn print_some(out: &mut String, keyword: &str, types: &[ValType]) -> Printed {
     if types.is_empty() {
         return Ok(());
@@ -221,7 +221,7 @@ fn print_exports_and_segments(out: &mut String, module: &Module) -> Printed {
     Ok(())
 }
 
-/// The text of a module.
+/// Returns the text of a module.
 pub fn text_of(alloc: Global, module: &Module) -> Result<String, AllocError> {
     let mut out = String::new(alloc);
     print_declarations(&mut out, module)?;

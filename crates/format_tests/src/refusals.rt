@@ -1,4 +1,4 @@
-//! Opcodes of no instruction that is read, and what a refusal says.
+//! Opcodes that no supported instruction has, and the contents of a refusal.
 
 use crate::decoding::{Answer, answers_so, join};
 use binary::{DecodeError, decode};
@@ -10,13 +10,13 @@ static FRONT: [u8; 13] = [
     0x01, 0x07, 0x01, 0x60, 0x02, 0x7F, 0x7F, 0x01, 0x7F, 0x03, 0x02, 0x01, 0x00,
 ];
 
-// Whether a code section behind those is answered by `Unsupported`.
+// Returns whether the result for a code section after those is `Unsupported`.
 fn is_unsupported(alloc: Global, code: &[u8]) -> Result<bool, AllocError> {
     let sections = join(alloc, &[&FRONT, code])?;
     answers_so(alloc, &sections, Answer::Unsupported)
 }
 
-// Whether a byte is the opcode of no instruction.
+// Returns whether a byte is the opcode of no instruction.
 fn is_no_opcode(code: u8) -> bool {
     matches!(
         code,
@@ -26,7 +26,7 @@ fn is_no_opcode(code: u8) -> bool {
     )
 }
 
-// Whether an opcode of no instruction is refused as such.
+// Returns whether an opcode of no instruction is refused as such.
 fn refuses_opcode(alloc: Global, code: u8) -> Result<bool, AllocError> {
     if !is_no_opcode(code) {
         return Ok(true);
@@ -44,7 +44,7 @@ fn refuses_other_opcodes(rt: HostRuntime) {
     }
 }
 
-// Whether a number behind the byte FC that belongs to no instruction is refused as such.
+// Returns whether a number after the byte FC that belongs to no instruction is refused as such.
 fn refuses_number(alloc: Global, number: u8) -> Result<bool, AllocError> {
     if (8..=17).contains(&number) {
         return Ok(true);
@@ -65,7 +65,7 @@ fn refuses_other_numbers(rt: HostRuntime) {
     }
 }
 
-// What a refusal says of the offset.
+// The offset in a refusal.
 #[derive(Clone, Copy, PartialEq, Eq)]
 enum Refusal {
     Malformed(usize),
@@ -89,7 +89,7 @@ static OFFSETS: [(&str, Refusal); 4] = [
     ("0061736D02000000", Refusal::Malformed(4)),
 ];
 
-// Whether bytes are refused so.
+// Returns whether bytes have this refusal.
 fn names_offset(alloc: Global, bytes: &str, refusal: Refusal) -> Result<bool, AllocError> {
     Ok(refusal_of(alloc, &bytes_of(alloc, bytes)?) == Some(refusal))
 }
@@ -113,7 +113,7 @@ static TEXTS: [(DecodeError, u8, &str); 4] = [
     (DecodeError::OutOfMemory, 13, "out of memory"),
 ];
 
-// Whether a refusal has this number and this text.
+// Returns whether a refusal has this number and this text.
 fn is_shown_as(
     alloc: Global,
     error: &DecodeError,

@@ -1,4 +1,4 @@
-//! Sections, their parts, and bytes that are none: what is answered, and what is decoded.
+//! Sections, their parts, and bytes that are none: the result, and what is decoded.
 
 use crate::decoding::{Answer, Row, agrees, answer_to, answers_so, join, with_header};
 use crate::printing::text_of;
@@ -56,7 +56,7 @@ fn answers_sections(rt: HostRuntime) {
     }
 }
 
-// The one item of a section with this id, and its text.
+// The only item of a section with this id, and its text.
 pub struct Item {
     pub id: u8,
     pub bytes: &'static str,
@@ -88,14 +88,14 @@ pub static ITEMS: [Item; 21] = [
     Item { id: 11, bytes: "02 04 41010B 020506", text: "(data (memory 4) (offset i32.const 1) \"\\05\\06\")" },
 ];
 
-/// A section whose content is a vector of one item.
+/// Returns a section whose content is a vector of one item.
 pub fn section_of(alloc: Global, item: &Item) -> Result<Vec<u8>, AllocError> {
     let content = bytes_of(alloc, item.bytes)?;
     let size = content.len().min(100) as u8;
     join(alloc, &[&[item.id, size + 1, 0x01], &content])
 }
 
-// The text of the module that these bytes spell, empty where they spell none.
+// Returns the text of the module that these bytes encode, or an empty text if they encode none.
 fn text_behind(alloc: Global, bytes: &[u8]) -> Result<String, AllocError> {
     match decode(alloc, bytes) {
         Ok(decoded) => text_of(alloc, &decoded),
@@ -103,7 +103,7 @@ fn text_behind(alloc: Global, bytes: &[u8]) -> Result<String, AllocError> {
     }
 }
 
-// Whether the bytes of an item are decoded to its text.
+// Returns whether the bytes of an item are decoded to its text.
 fn decodes_to_text(alloc: Global, item: &Item) -> Result<bool, AllocError> {
     let bytes = with_header(alloc, &section_of(alloc, item)?)?;
     Ok(text_behind(alloc, &bytes)?.as_str().trim() == item.text)
@@ -131,7 +131,7 @@ static MODULES: [(&str, &str); 2] = [
     ("", ""),
 ];
 
-// Whether sections are decoded to a module of this text.
+// Returns whether sections are decoded to a module of this text.
 fn decodes_whole(alloc: Global, sections: &str, text: &str) -> Result<bool, AllocError> {
     let bytes = with_header(alloc, &bytes_of(alloc, sections)?)?;
     Ok(
@@ -153,7 +153,7 @@ fn decodes_modules(rt: HostRuntime) {
 // A section of one type.
 static TYPES: [u8; 9] = [0x01, 0x07, 0x01, 0x60, 0x02, 0x7F, 0x7F, 0x01, 0x7F];
 
-// Whether a section with this id, which no section has, is refused behind the types.
+// Returns whether a section with this id, which no section has, is refused after the types.
 fn refuses_id(alloc: Global, id: u8) -> Result<bool, AllocError> {
     let sections = join(alloc, &[&TYPES, &[id, 0x01, 0x00]])?;
     answers_so(alloc, &sections, Answer::Malformed)
@@ -166,7 +166,7 @@ fn refuses_other_sections(rt: HostRuntime) {
     }
 }
 
-// Whether a parameter of the type with this code is answered as the format has it.
+// Returns whether a parameter of the type with this code has the result that the format requires.
 fn knows_type(alloc: Global, code: u8) -> Result<bool, AllocError> {
     let answer = match code {
         0x6F | 0x70 | 0x7E | 0x7F => Answer::Decoded,

@@ -9,7 +9,7 @@ pub record Metered : Type 0 where
 abbrev pub metered : ℕ → ℕ → ℕ → Metered
 metered left bound frames = record { left = left; bound = bound; frames = frames }
 
--- What was run from outside spent some of the fuel: the bound stays, and no frame is open.
+-- A run from outside spent some of the fuel. The bound stays, and no frame is open.
 pub record Charges (old new : Metered) : Type 0 where
   pub spends : new.left ≤ old.left
   pub bound : new.bound ≡ old.bound

@@ -1,4 +1,4 @@
-//! The fuel that a run may still spend, and the bound on how many frames it has open.
+//! The fuel that a run may still spend, and the bound on its open frames.
 #![tactic(auto)]
 
 mod meter;

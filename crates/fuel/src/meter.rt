@@ -4,7 +4,7 @@ ghost use Rattle.fuel.specs.Metering.{metered};
 
 use std::marker::Model;
 
-/// The fuel that is left, and how many frames are open under a bound.
+/// The fuel left, and the number of open frames under a bound.
 #[derive(Drop)]
 pub struct Meter {
     left: u64,
@@ -21,7 +21,7 @@ impl Model for Meter {
 }
 
 impl Meter {
-    /// A meter with so much fuel and no open frame. Takes no memory.
+    /// Creates a meter with this fuel and no open frame. Allocates nothing.
     pub fn new(fuel: u64, depth_bound: u32) -> Meter
         ensures { result ≡ metered fuel depth_bound 0 }
     {
@@ -32,14 +32,14 @@ impl Meter {
         }
     }
 
-    /// The fuel that is left.
+    /// Returns the fuel left.
     pub fn left(&self) -> u64
         ensures { result ≡ self.now.left }
     {
         self.left
     }
 
-    /// How many frames may be open.
+    /// Returns the most frames that may be open.
     pub fn bound(&self) -> u32
         ensures { result ≡ self.now.bound }
     {
@@ -53,7 +53,7 @@ impl Meter {
         self.left = fuel;
     }
 
-    /// Spends so much fuel if it is there; if not, answers false and changes nothing.
+    /// Spends `cost` if that much fuel is left. Otherwise returns false and changes nothing.
     pub fn try_spend(&mut self, cost: u64) -> bool
         ensures enough { IsTrue result ↔ (cost ≤ self.old.left) }
         ensures spent { OnTrue result (self.new ≡ metered (self.old.left - cost) self.old.bound
@@ -68,7 +68,7 @@ impl Meter {
         }
     }
 
-    /// Opens a frame if fewer are open than the bound allows; if not, answers false and changes nothing.
+    /// Opens a frame if fewer are open than the bound allows. Otherwise returns false and changes nothing.
     pub fn enter(&mut self) -> bool
         ensures within { IsTrue result ↔ (self.old.frames < self.old.bound) }
         ensures opened { OnTrue result (self.new ≡ metered self.old.left self.old.bound
@@ -83,7 +83,7 @@ impl Meter {
         }
     }
 
-    /// Closes a frame; one must be open.
+    /// Closes a frame. One must be open.
     pub fn leave(&mut self)
         requires { 0 < self.old.frames }
         ensures { self.new ≡ metered self.old.left self.old.bound (self.old.frames - 1) }

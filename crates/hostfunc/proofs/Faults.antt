@@ -1,4 +1,4 @@
--- What calls of host functions answer.
+-- The answers of calls of host functions.
 use Rattle.std.proofs.Common.{◌≡◌, IfOk, List, Result, Ok, Err, map}
 use Rattle.std.specs.Global.{Global}
 use Rattle.std.specs.List.{All}
@@ -12,7 +12,7 @@ use Rattle.hostfunc.specs.Faults.{IfAnswered}
 use Rattle.hostfunc.specs.declared.host_function.HostFault.{HostFault}
 use Rattle.hostfunc.specs.declared.host_function.HostFault.TheVariants.{Trap, Memory}
 
--- What holds of answers holds of each that has it.
+-- A property of an answer can be replaced with a weaker one.
 pub IfAnswered-weaker : (result : Result (Vec Val Global) HostFault) (P Q : Answer → Type 0) → ((answer : Answer) → P answer → Q answer)
     → IfAnswered result P → IfAnswered result Q
 IfAnswered-weaker (Ok values) P Q weaker held = weaker _ held

@@ -1,4 +1,4 @@
--- Host functions that keep their types answer by the relation of their objects alone.
+-- Host functions that keep their types act by the relation of their objects alone.
 use Rattle.std.proofs.Common.{◌≡◌, ℕ, List, ◌∙◌, sym}
 use Rattle.core_types.specs.declared.module.Module.{Module}
 use Rattle.core_types.specs.declared.outcome.Extern.{Extern}

@@ -7,7 +7,7 @@ use Rattle.meaning.specs.execution.Runs.{Answer, HostTrap, Results}
 use Rattle.hostfunc.specs.declared.host_function.HostFault.{HostFault}
 use Rattle.hostfunc.specs.declared.host_function.HostFault.TheVariants.{Trap, Memory}
 
--- Where it gave results or trapped, this is so of that answer.
+-- If the call returned results or trapped, this holds for that answer.
 abbrev pub IfAnswered : Result (Vec Val Global) HostFault → (Answer → Type 0) → Type 0
 IfAnswered (Ok values) holds = holds (Results values.items)
 IfAnswered (Err (Trap code)) holds = holds (HostTrap code)

@@ -8,14 +8,14 @@ ghost use Rattle.hostfunc.specs.declared.host_function.HostFault.TheVariants.{Me
 use crate::host_function::{HostFault, HostFn};
 use core_types::{FuncType, Val};
 
-// The calls that show something do nothing: they say what is known by the types of numbers.
+// The functions named `show_` do nothing. They state what the types of numbers guarantee.
 
-// The number of a value has its width.
+// The number of a value has the width of its type.
 fn show_width(value: Val)
     ensures { FitsWidth value }
 {}
 
-// So have those of a list.
+// The numbers of a list of values have the widths of their types.
 fn show_widths(values: &[Val])
     ensures { All FitsWidth values.now }
 {
@@ -24,7 +24,7 @@ fn show_widths(values: &[Val])
     }
 }
 
-// So have those of an answer, if there is one.
+// The numbers of the results, if there are any, have the widths of their types.
 fn show_answer_fits(answer: &Result<Vec<Val>, HostFault>)
     ensures { IfOk answer.now (λ values. All FitsWidth values.items) }
 {
@@ -33,12 +33,12 @@ fn show_answer_fits(answer: &Result<Vec<Val>, HostFault>)
     }
 }
 
-/// Bytes are bytes.
+/// Each byte is below 256.
 pub fn show_bytes(bytes: &[u8])
     ensures { AreBytes bytes.now }
 {}
 
-// One call of an object that is lent.
+// Calls an object that is borrowed.
 fn call_lent(
     object: &mut dyn HostFn,
     args: &[Val],
@@ -56,7 +56,7 @@ fn call_lent(
     object.call(args, memory)
 }
 
-/// The declared type of an object.
+/// Returns the declared type of an object.
 pub fn object_type(object: &Box<dyn HostFn>) -> &FuncType
     ensures { result.now ≡ declared object.now }
 {
@@ -64,7 +64,7 @@ pub fn object_type(object: &Box<dyn HostFn>) -> &FuncType
     lent.ty()
 }
 
-/// One call of an object.
+/// Calls an object.
 pub fn call_object(
     object: &mut Box<dyn HostFn>,
     args: &[Val],

@@ -11,9 +11,9 @@ use std::alloc::{AllocError, AllocFailed};
 /// Why a host function gives no results.
 #[derive(Clone, Copy)]
 pub enum HostFault {
-    /// A trap of its own, with a code.
+    /// A trap specific to the host function, with a code.
     Trap(u32),
-    /// There was no memory, and nothing has changed.
+    /// An allocation failed, and nothing has changed.
     Memory,
 }
 
@@ -33,23 +33,25 @@ impl<T: Drop> From<AllocFailed<T>> for HostFault {
     }
 }
 
-/// A function of the host: an object with a state of its own (Execution, Instructions, Host Functions).
+/// A function of the host: an object with its own state (Execution, Instructions, Host Functions).
 ///
-/// It states its type, and a relation of its own between the object before, arguments, the bytes that it is lent, its answer, the
-/// bytes then and the object then.
+/// It states its type and a relation. The relation is between the object, the arguments and the bytes that it borrows before the
+/// call, and its answer, the bytes and the object after the call.
 pub trait HostFn: Drop {
-    /// What it takes and gives.
+    /// The types of its parameters and results.
     ghost declared: { Self → Signature };
 
-    /// From an object, arguments and bytes it may come to this answer, these bytes and this object.
+    /// Whether a call with this object, these arguments and these bytes can end with this answer, these bytes and this object.
     ghost Answers: { Self → List Value → List ℕ → Answer → List ℕ → Self → Type 0 };
 
-    /// The declared type.
+    /// Returns the declared type.
     fn ty(&self) -> &FuncType
         ensures { result.now ≡ declared self.now };
 
-    /// One call, which is lent the bytes of the caller's memory, or none. The caller owes arguments of the declared parameter types. The
-    /// host owes results of the declared result types or a fault; the declared type stays; after `Memory` nothing has changed.
+    /// Calls the function. It borrows the bytes of the caller's memory, or no bytes.
+    ///
+    /// The caller must pass arguments of the declared parameter types. The function must return results of the declared result
+    /// types, or a fault, and must not change the declared type. After `Memory` nothing has changed.
     fn call(&mut self, args: &[Val], memory: &mut [u8]) -> Result<Vec<Val>, HostFault>
         requires arguments { map type_of args.now ≡ (declared self.old).params }
         ensures same_type { declared self.new ≡ declared self.old }

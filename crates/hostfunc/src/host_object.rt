@@ -10,7 +10,7 @@ use crate::boxes::{call_object, object_type, show_bytes};
 use crate::host_function::{HostFault, HostFn};
 use core_types::{FuncType, Val};
 
-/// A host function, with the type that it was taken in with.
+/// A host function, with the type that it was defined with.
 #[derive(Drop)]
 pub struct HostObject {
     pub ty: FuncType,
@@ -18,8 +18,10 @@ pub struct HostObject {
 }
 
 impl HostObject {
-    /// One call, with arguments of its parameter types and bytes that it is lent. One that declared another type than it was taken in
-    /// with, which no host that keeps its contract does, would trap with the code 0.
+    /// Calls the function, with arguments of its parameter types and bytes that it borrows.
+    ///
+    /// A function that declares another type than it was defined with would trap with the code 0. No function that keeps its
+    /// contract does this.
     pub fn call(&mut self, args: &[Val], memory: &mut [u8]) -> Result<Vec<Val>, HostFault>
         requires arguments { map type_of args.now ≡ self.old.ty.params }
         ensures same_type { self.new.ty ≡ self.old.ty }

@@ -15,7 +15,7 @@ use crate::host_object::HostObject;
 use core_types::{FuncType, Val};
 use std::alloc::{AllocError, Global};
 
-/// The host functions of an embedding, by number. None gives references to functions.
+/// The host functions of an embedding, by number. None of them returns references to functions.
 #[derive(Drop)]
 pub struct HostTable {
     alloc: Global,
@@ -24,7 +24,7 @@ pub struct HostTable {
 }
 
 impl HostTable {
-    /// A table without host functions. Takes no memory.
+    /// Creates a table without host functions. Allocates nothing.
     pub fn new(alloc: Global) -> HostTable
         ensures { result.objects.items ≡ [] }
     {
@@ -34,15 +34,15 @@ impl HostTable {
         }
     }
 
-    /// How many host functions there are.
+    /// Returns the number of host functions.
     pub fn len(&self) -> usize
         ensures { result ≡ length self.now.objects.items }
     {
         self.objects.len()
     }
 
-    /// Takes in a host function with the type that it declares, which has no funcref among its results, and answers its number, the
-    /// next one. Where memory runs out, the object is dropped and the table stays.
+    /// Appends a host function with the type that it declares, and returns its number, the next one. The type must have no
+    /// funcref among its results. If memory runs out, the object is dropped and the table is unchanged.
     pub fn push(&mut self, object: Box<dyn HostFn>) -> Result<u32, AllocError>
         requires room { length self.old.objects.items < 2 ^ 32 - 1 }
         requires no_funcref { has_funcref (declared object).results ≡ false }
@@ -57,7 +57,7 @@ impl HostTable {
         Ok(number)
     }
 
-    /// The type of the host function of a number.
+    /// Returns the type of the host function of a number.
     pub fn ty(&self, number: u32) -> &FuncType
         requires there { number < length self.now.objects.items }
         ensures { IsHost self.now.objects.items number result.now }
@@ -65,8 +65,8 @@ impl HostTable {
         &self.objects[number as usize].ty
     }
 
-    /// One call of the host function of a number, with arguments of its parameter types and bytes that it is lent. All others stay;
-    /// after `HostFault::Memory` nothing has changed.
+    /// Calls the host function of a number, with arguments of its parameter types and bytes that it borrows. All other host
+    /// functions are unchanged. After `HostFault::Memory` nothing has changed.
     pub fn call(
         &mut self,
         number: u32,

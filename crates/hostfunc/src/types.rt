@@ -4,7 +4,6 @@ ghost use Rattle.meaning.specs.execution.Values.{type_of as value_type};
 
 use core_types::{Val, ValType};
 
-// The type of a value.
 fn type_of(value: Val) -> ValType
     ensures { result ≡ value_type value }
 {
@@ -16,7 +15,7 @@ fn type_of(value: Val) -> ValType
     }
 }
 
-/// Whether the values are of these types, one by one.
+/// Returns whether the values are of these types, one by one.
 pub fn have_types(values: &[Val], types: &[ValType]) -> bool
     ensures { IsTrue result ↔ (map value_type values.now ≡ types.now) }
 {
@@ -31,7 +30,7 @@ pub fn have_types(values: &[Val], types: &[ValType]) -> bool
     true
 }
 
-/// Whether a funcref is among the types.
+/// Returns whether a funcref is among the types.
 pub fn has_funcref(types: &[ValType]) -> bool
     ensures { result ≡ have_funcref types.now }
 {

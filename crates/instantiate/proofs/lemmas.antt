@@ -1,4 +1,4 @@
--- What the proofs of the calls rest on.
+-- What the proofs of the calls use.
 pub mod Addresses
 pub mod Constants
 pub mod Copies

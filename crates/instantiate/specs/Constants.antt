@@ -1,4 +1,4 @@
--- Constant expressions in an instance, of which its addresses alone are known.
+-- Constant expressions in an instance, of which only the addresses are known.
 use Rattle.std.specs.Prelude.{List, Option, reverse}
 use Rattle.core_types.specs.declared.module.Module.{Module}
 use Rattle.core_types.specs.declared.op.Op.{Op}
@@ -13,7 +13,7 @@ use Rattle.store.specs.declared.instances.Addresses.{Addresses}
 abbrev pub instance_with : Addresses → Module → ModuleInstance
 instance_with addresses m = module_instance (lists_of addresses) m
 
--- The operands behind these instructions, which begin with such, the last one on top.
+-- The operands after these instructions, starting from these operands. The last one is on top.
 abbrev pub operands_behind : Contents → StateContents → ModuleInstance → List Op → List Val
     → Option (List Val)
 operands_behind code state i ops operands =

@@ -1,4 +1,4 @@
--- Room for the operands of the constant expressions that say where segments are copied.
+-- Room for the operands of the constant expressions that are the offsets of segments.
 use Rattle.std.specs.Prelude.{ℕ, ◌≤◌, List, length}
 use Rattle.std.specs.List.{All}
 use Rattle.core_types.specs.declared.module.DataMode.{DataMode}
@@ -9,7 +9,7 @@ use Rattle.core_types.specs.declared.module.ElementMode.TheVariants.{Passive, Ac
 use Rattle.core_types.specs.declared.module.ElementSegment.{ElementSegment}
 use Rattle.core_types.specs.declared.module.Module.{Module}
 
--- How many instructions the offset of a segment has, if it has one.
+-- The number of instructions of the offset of a segment, or 0 if it has no offset.
 abbrev pub element_mode_offset : ElementMode → ℕ
 element_mode_offset Passive = 0
 element_mode_offset Declarative = 0
@@ -29,7 +29,7 @@ data_offset d = data_mode_offset d.mode
 abbrev pub HaveRoom : {A : Type 0} → (A → ℕ) → (room : ℕ) → List A → Type 0
 HaveRoom offset room segments = All (λ s. offset s ≤ room) segments
 
--- So there is for all segments of a module.
+-- There is such room for all segments of a module.
 pub record HasRoomForOffsets (room : ℕ) (m : Module) : Type 0 where
   pub elements : HaveRoom element_offset room m.elements
   pub datas : HaveRoom data_offset room m.datas

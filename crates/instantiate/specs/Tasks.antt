@@ -35,19 +35,19 @@ HasInstance code instance m =
     (addresses : AddressLists) × (slice_get (instances_in code) instance ≡
     Some (module_instance addresses m))
 
--- The segments of that module can be run: there is an instance of it under this number, the indices of its segments are of 32 bits,
--- and there is room for their offsets.
+-- The segments of the module can be run. There is an instance of it under this number, the indices of its segments have 32 bits, and
+-- there is room for their offsets.
 pub record SegmentsAreReady (code : Contents) (instance : ℕ) (m : Module) (room : ℕ) : Type 0 where
   pub instance_is : HasInstance code instance m
   pub elements : length m.elements < 2 ^ 32
   pub datas : length m.datas < 2 ^ 32
   pub offsets : HasRoomForOffsets room m
 
--- Its frame, in which segments are copied.
+-- The frame of the new instance, in which segments are copied.
 abbrev pub frame_in : Linked → Frame
 frame_in linked = record { instance = Some linked.instance; locals = [] }
 
--- There is no i32.
+-- The value is not an i32.
 abbrev pub HasNoI32 : Option Val → Type 0
 HasNoI32 None = Unit {0}
 HasNoI32 (Some (I32 n)) = ⊥
@@ -60,18 +60,18 @@ abbrev pub ending_in : TaskEnd → Option Ending
 ending_in (Ended outcome) = Some (ending_of outcome)
 ending_in Stuck = None
 
--- It did not end with values.
+-- The run did not end with values.
 abbrev pub IsWithoutValues : Option Ending → Type 0
 IsWithoutValues None = Unit {0}
 IsWithoutValues (Some ending) = HasNoValues ending
 
--- What is left where a call from outside ended so: nothing, after values.
+-- What is left after a call from outside that ended like this: nothing, if it ended with values.
 abbrev pub EndsAs : {U : Type 0} → Result U TaskEnd → CallOutcome → Type 0
 EndsAs (Ok u) outcome = (values : List Val) × (outcome ≡ Values values)
 EndsAs (Err o) outcome =
     (Some (ending_of outcome) ≡ ending_in o) × IsWithoutValues (ending_in o)
 
--- An instruction was done at its cost, and left this store and so much of the fuel.
+-- An instruction was done at its cost, and left this store and this fuel.
 abbrev pub IsPaidFor : Outcome → (new : Store) → (fuel left : ℕ) → Type 0
 IsPaidFor (made cost store results) new fuel left =
     (cost ≤ fuel) × (left ≡ fuel - cost) × (new ≡ store)
@@ -79,7 +79,7 @@ IsPaidFor (grown cost store results) new fuel left =
     (cost ≤ fuel) × (left ≡ fuel - cost) × (new ≡ store)
 IsPaidFor (failed trap) new fuel left = ⊥
 
--- How a link goes on behind it; where it was not done, the store is as it was.
+-- How a link continues after the instruction. If it was not done, the store is unchanged.
 abbrev pub Passes : {U : Type 0} → Result U TaskEnd → Outcome → (old new : Store)
     → (fuel left : ℕ) → Type 0
 Passes (Ok u) o old new fuel left = IsPaidFor o new fuel left
@@ -93,7 +93,7 @@ Passes (Err other) o old new fuel left = ⊥
 
 module _ {H : Type 0} (HostStep : List H → ℕ → Option ℕ → List Val → Store → Answer → Store
     → List H → Type 0) where
-  -- A run that ends so, or gets stuck.
+  -- A run that ends like this, or gets stuck.
   abbrev pub RunsOn : (bound : ℕ) → Frame → (old : State H) → Configuration → Option Ending
       → (new : State H) → Type 0
   RunsOn bound frame old configuration (Some ending) new =
@@ -101,7 +101,7 @@ module _ {H : Type 0} (HostStep : List H → ℕ → Option ℕ → List Val →
   RunsOn bound frame old configuration None new =
       GetsStuck HostStep bound frame old configuration
 
-  -- The same of tasks.
+  -- The same for tasks.
   abbrev pub TasksRunOn : (bound instance : ℕ) → ModuleInstance → (old : State H) → List Task
       → Option Ending → (new : State H) → Type 0
   TasksRunOn bound instance i old tasks (Some ending) new =
@@ -115,7 +115,7 @@ module _ {H : Type 0} (HostStep : List H → ℕ → Option ℕ → List Val →
     pub ends : RunsOn bound frame old configuration (ending_in o) new
     pub no_values : IsWithoutValues (ending_in o)
 
-  -- One step to this configuration, or another end of the run.
+  -- One step leads to this configuration, or the run has another end.
   abbrev pub StepsOrEnds : {U : Type 0} → Result U TaskEnd → (bound : ℕ) → Frame → (old : State H)
       → Configuration → (new : State H) → Configuration → Type 0
   StepsOrEnds (Ok u) bound frame old configuration new then =
@@ -123,7 +123,7 @@ module _ {H : Type 0} (HostStep : List H → ℕ → Option ℕ → List Val →
   StepsOrEnds (Err o) bound frame old configuration new then =
       Ends bound frame old configuration o new
 
-  -- A run to values, or to another end.
+  -- The run ends with values, or it has another end.
   abbrev pub RunsTo : {U : Type 0} → Result U TaskEnd → (bound : ℕ) → Frame → (old : State H)
       → Configuration → (new : State H) → Type 0
   RunsTo (Ok u) bound frame old configuration new =
@@ -150,7 +150,7 @@ module _ {H : Type 0} (HostStep : List H → ℕ → Option ℕ → List Val →
   RanTasks (Ok u) bound instance i old tasks new = DoneTasks bound instance i old tasks new
   RanTasks (Err o) bound instance i old tasks new = EndedTasks bound instance i old tasks o new
 
-  -- The same of tasks of an instance of the store.
+  -- The same for tasks of an instance of the store.
   abbrev pub RanTasksIn : {U : Type 0} → Result U TaskEnd → (bound instance : ℕ) → (old : State H)
       → List Task → (new : State H) → Type 0
   RanTasksIn result bound instance old tasks new =

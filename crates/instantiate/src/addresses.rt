@@ -16,7 +16,7 @@ pub enum Kind {
     Global,
 }
 
-// The address of an external value, if it is of this kind.
+// Returns the address of an external value, if it is of this kind.
 fn address_of(kind: Kind, value: Extern) -> Option<u32>
     ensures { result ≡ address_as kind value }
 {
@@ -29,7 +29,7 @@ fn address_of(kind: Kind, value: Extern) -> Option<u32>
     }
 }
 
-// Adds the addresses of the external values of a kind, in their order.
+// Appends the addresses of the external values of a kind, in their order.
 fn push_given(addresses: &mut Vec<u32>, kind: Kind, given: &[Extern]) -> Result<(), AllocError>
     ensures { OnOk result (addresses.new.items ≡
         addresses.old.items ++ given_addresses (address_as kind) given.now) }
@@ -42,7 +42,7 @@ fn push_given(addresses: &mut Vec<u32>, kind: Kind, given: &[Extern]) -> Result<
     Ok(())
 }
 
-// Adds that many addresses in a row.
+// Appends that many consecutive addresses.
 fn push_consecutive(addresses: &mut Vec<u32>, first: usize, count: usize) -> Result<(), AllocError>
     requires { first + count ≤ 2 ^ 32 }
     ensures { OnOk result (addresses.new.items ≡ addresses.old.items ++ consecutive first count) }
@@ -53,7 +53,7 @@ fn push_consecutive(addresses: &mut Vec<u32>, first: usize, count: usize) -> Res
     Ok(())
 }
 
-// Adds the addresses of the external values of a kind, and then that many in a row.
+// Appends the addresses of the external values of a kind, followed by that many consecutive ones.
 fn extend(
     addresses: &mut Vec<u32>,
     kind: Kind,
@@ -70,7 +70,7 @@ fn extend(
     push_consecutive(addresses, first, count)
 }
 
-// No addresses of any kind.
+// Returns empty lists of addresses.
 fn no_addresses(alloc: Global) -> Addresses
     ensures functions { result.functions.items ≡ [] }
     ensures tables { result.tables.items ≡ [] }
@@ -89,8 +89,8 @@ fn no_addresses(alloc: Global) -> Addresses
     }
 }
 
-/// The addresses of the new instance of a module: of each kind first what is given for its imports, and then those behind what the
-/// store has (Execution, Modules, Allocation).
+/// Creates the addresses of the new instance of a module. For each kind, those given for its imports come first, and then the
+/// next addresses of the store (Execution, Modules, Allocation).
 pub fn new_addresses(
     alloc: Global,
     store: &Store,

@@ -23,7 +23,7 @@ use std::alloc::{AllocError, Global};
 use std::marker::Model;
 use store::{Addresses, State, null_of};
 
-/// The reference to a function of the instance with these addresses, if it has that function.
+/// Returns the reference to a function of the instance with these addresses, if it has that function.
 pub fn function_reference(addresses: &Addresses, state: &State, x: u32) -> Option<Val>
     ensures { (code : Contents) (m : Module) → result ≡ constant (store_with code state.now)
         (instance_with addresses.now m) (ReferenceForm (FuncForm x)) }
@@ -35,7 +35,7 @@ pub fn function_reference(addresses: &Addresses, state: &State, x: u32) -> Optio
     }
 }
 
-// The value of a global of the instance with these addresses, if it is there.
+// Returns the value of a global of the instance with these addresses, if the global exists.
 fn global_value(addresses: &Addresses, state: &State, x: u32) -> Option<Val>
     ensures { (code : Contents) (m : Module) → result ≡ constant (store_with code state.now)
         (instance_with addresses.now m) (VariableForm (GlobalGetForm x)) }
@@ -47,7 +47,7 @@ fn global_value(addresses: &Addresses, state: &State, x: u32) -> Option<Val>
     }
 }
 
-// The value of a constant instruction, in the instance with these addresses.
+// Returns the value of a constant instruction, in the instance with these addresses.
 fn constant(op: &PlainOp, addresses: &Addresses, state: &State) -> Option<Val>
     ensures { (code : Contents) (m : Module) → result ≡ constant (store_with code state.now)
         (instance_with addresses.now m) op.now }
@@ -64,7 +64,7 @@ fn constant(op: &PlainOp, addresses: &Addresses, state: &State) -> Option<Val>
 
 // ---- operators
 
-// What an operator gives from two operands, if they are integers of its width and it does not trap.
+// Returns the result of an operator on two operands, if they are integers of its width and it does not trap.
 fn operator_value(width: Width, op: BinaryOp, first: Val, second: Val) -> Option<Val>
     ensures { (rest : List AnyVal) → operate_of (BinaryForm width op) (second ∷ first ∷ rest)
         ≡ option_map (λ v. v ∷ rest) result }
@@ -82,7 +82,7 @@ fn operator_value(width: Width, op: BinaryOp, first: Val, second: Val) -> Option
     }
 }
 
-// Puts a value on top of the operands, for which there is room.
+// Pushes a value on the operands, for which there must be room.
 fn push(operands: &mut Vec<Val>, value: Val)
     requires room { vec_len operands.old < vec_capacity operands.old }
     ensures pushed { operands.new.items ≡ operands.old.items ++ value ∷ [] }
@@ -92,7 +92,7 @@ fn push(operands: &mut Vec<Val>, value: Val)
     let _ = operands.push(value);
 }
 
-// Puts what an operator gives in the place of the two topmost operands, and says whether it gives anything.
+// Replaces the two topmost operands with the result of an operator. Returns whether there is a result.
 fn operate(op: NumericOp, operands: &mut Vec<Val>) -> bool
     ensures done { IsTrue result → operate_of op (reverse operands.old.items) ≡ Some
         (reverse operands.new.items) }
@@ -120,7 +120,7 @@ fn operate(op: NumericOp, operands: &mut Vec<Val>) -> bool
 
 // ---- expressions
 
-// Puts a constant on top of the operands, to which there is room for one more, and says whether the instruction gives one.
+// Pushes a constant on the operands, which must have room for one more. Returns whether the instruction has a value.
 fn put_constant(op: &PlainOp, addresses: &Addresses, state: &State, operands: &mut Vec<Val>) -> bool
     requires no_operator { (n : AnyNumericOp) → op.now ≢ NumericForm n }
     requires room { vec_len operands.old < vec_capacity operands.old }
@@ -142,7 +142,7 @@ fn put_constant(op: &PlainOp, addresses: &Addresses, state: &State, operands: &m
     }
 }
 
-// Executes a constant instruction on operands, to which there is room for one more, and says whether it could.
+// Executes a constant instruction on operands, which must have room for one more. Returns whether it could be executed.
 fn execute_plain(
     op: &PlainOp,
     addresses: &Addresses,
@@ -165,7 +165,8 @@ fn execute_plain(
     operate(*operator, operands)
 }
 
-// Executes an operation of a constant expression on operands, to which there is room for one more, and says whether it could.
+// Executes an operation of a constant expression on operands, which must have room for one more. Returns whether it could be
+// executed.
 #[tactic(auto, using(crate::proofs::lemmas::Constants::no_constant))]
 fn execute(op: LentOp<'_>, addresses: &Addresses, state: &State, operands: &mut Vec<Val>) -> bool
     requires room { vec_len operands.old < vec_capacity operands.old }
@@ -185,7 +186,8 @@ fn execute(op: LentOp<'_>, addresses: &Addresses, state: &State, operands: &mut 
     execute_plain(&plain, addresses, state, operands)
 }
 
-/// Operands of constant expressions. Contracts see how many there is room for; what they are between two expressions is of no account.
+/// The operands of constant expressions. Contracts see how many they have room for. Their values between two expressions do not
+/// matter.
 #[derive(Drop)]
 pub struct ConstantOperands {
     values: Vec<Val>,
@@ -200,7 +202,7 @@ impl Model for ConstantOperands {
     ghost invariant = { λ o. o.room ≤ vec_capacity o.values };
 }
 
-// The only one of the operands, if there is one.
+// Returns the operand, if there is exactly one.
 fn only_value(operands: &[Val]) -> Option<Val>
     ensures { result ≡ only (Some (reverse operands.now)) }
 {
@@ -210,8 +212,8 @@ fn only_value(operands: &[Val]) -> Option<Val>
     }
 }
 
-// Executes the instructions of a constant expression, for each of which there is room for an operand, and answers the value if one is
-// left alone.
+// Executes the instructions of a constant expression, for each of which there must be room for an operand. Returns the value if
+// exactly one is left.
 fn run_constant(
     code: &Expression,
     addresses: &Addresses,
@@ -233,7 +235,7 @@ fn run_constant(
 }
 
 impl ConstantOperands {
-    /// Room for none. Takes no memory.
+    /// Creates operands without room. Allocates nothing.
     pub fn new(alloc: Global) -> ConstantOperands
         ensures { result ≡ 0 }
     {
@@ -243,7 +245,7 @@ impl ConstantOperands {
         }
     }
 
-    /// Makes room for so many. Where memory runs out, the room is as before.
+    /// Reserves room for that many operands. If memory runs out, the room is unchanged.
     pub fn reserve(&mut self, count: usize) -> Result<(), AllocError>
         ensures room { OnOk result (count ≤ self.new) }
         ensures more { self.old ≤ self.new }
@@ -256,8 +258,8 @@ impl ConstantOperands {
         Ok(())
     }
 
-    /// The value of a constant expression, in the instance with these addresses (Execution, Modules, Instantiation). In a valid module
-    /// it has one. There is room for an operand for each instruction; it takes no memory.
+    /// Returns the value of a constant expression, in the instance with these addresses (Execution, Modules, Instantiation). In
+    /// a valid module it has one. There must be room for an operand for each instruction. Allocates nothing.
     pub fn value_of(
         &mut self,
         code: &Expression,
@@ -272,7 +274,7 @@ impl ConstantOperands {
         run_constant(code, addresses, state, &mut self.values)
     }
 
-    /// The same, where room is made first. Fails where there is no memory for the operands.
+    /// Like `value_of`, but reserves the room first. Fails if an allocation fails for the operands.
     pub fn evaluate(
         &mut self,
         code: &Expression,

@@ -30,7 +30,7 @@ pub struct Linked<'a> {
     pub module_read: &'a Module,
 }
 
-// How a link goes on where this came of an instruction, which is paid for.
+// Continues a link after an instruction, which is paid for, or ends it.
 fn pass(answer: Result<Paid, Refusal>, meter: &mut Meter) -> Result<(), TaskEnd>
     ensures passes { (o : AnyOutcome) (old new : AnyStore)
         → Gives o old new meter.old.left answer
@@ -54,7 +54,7 @@ fn pass(answer: Result<Paid, Refusal>, meter: &mut Meter) -> Result<(), TaskEnd>
 
 // ---- what is named
 
-// The address of the table that the instance has under an index, if there is one.
+// Returns the address of the table that the instance has under an index, if there is one.
 fn find_table(linked: &Linked<'_>, state: &State, x: u32) -> Option<u32>
     ensures { MatchOption result
         (table_at (store_with linked.now.code.now state.now) (frame_in linked.now) x ≡ None)
@@ -67,7 +67,7 @@ fn find_table(linked: &Linked<'_>, state: &State, x: u32) -> Option<u32>
     Some(address)
 }
 
-// The same of an element segment.
+// Returns the address of the element segment that the instance has under an index, if there is one.
 fn find_elements(linked: &Linked<'_>, state: &State, x: u32) -> Option<u32>
     ensures { MatchOption result
         (elements_at (store_with linked.now.code.now state.now) (frame_in linked.now) x ≡ None)
@@ -80,7 +80,7 @@ fn find_elements(linked: &Linked<'_>, state: &State, x: u32) -> Option<u32>
     Some(address)
 }
 
-// The same of the memory.
+// Returns the address of the memory of the instance, if there is one.
 fn find_memory(linked: &Linked<'_>, state: &State) -> Option<u32>
     ensures { MatchOption result
         (locate state.now.contents.memories (slice_get
@@ -96,7 +96,7 @@ fn find_memory(linked: &Linked<'_>, state: &State) -> Option<u32>
     Some(address)
 }
 
-// The same of a data segment.
+// Returns the address of the data segment that the instance has under an index, if there is one.
 fn find_data(linked: &Linked<'_>, state: &State, x: u32) -> Option<u32>
     ensures { MatchOption result
         (data_at (store_with linked.now.code.now state.now) (frame_in linked.now) x ≡ None)
@@ -151,7 +151,7 @@ pub fn drop_data_segment(
     pass(drop_data(state, address, meter.left()), meter)
 }
 
-// table.init of so many references of an element segment, from its first one.
+// Executes table.init with that many references of an element segment, from its first one.
 fn init_elements(
     segment: u32,
     table: u32,
@@ -182,7 +182,7 @@ fn init_elements(
     )
 }
 
-/// Copies so many references of an element segment into a table, which are all, and drops the segment.
+/// Copies that many references of an element segment, which are all of them, into a table, and drops the segment.
 pub fn copy_elements(
     segment: u32,
     table: u32,
@@ -205,7 +205,7 @@ pub fn copy_elements(
     drop_element_segment(segment, linked, state, meter)
 }
 
-// memory.init of so many bytes of a data segment, from its first one.
+// Executes memory.init with that many bytes of a data segment, from its first one.
 fn init_bytes(
     segment: u32,
     target: u32,
@@ -235,7 +235,7 @@ fn init_bytes(
     )
 }
 
-/// Copies so many bytes of a data segment into the memory, which are all, and drops the segment.
+/// Copies that many bytes of a data segment, which are all of them, into the memory, and drops the segment.
 pub fn copy_bytes(
     segment: u32,
     target: u32,

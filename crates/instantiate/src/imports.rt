@@ -10,7 +10,7 @@ use core_types::{Extern, ExternType, GlobalType, ImportDesc, Limits, Module, Tab
 use matching::matches;
 use store::Store;
 
-// Whether the function at an address has the type of this index.
+// Returns whether the function at an address has the type of this index.
 fn is_function_given(store: &Store, address: u32, wanted: &Module, x: u32) -> bool
     ensures { IsTrue result ↔ IsGiven (store_of store.now) (FuncValue address)
         (import_type wanted.now (FuncImport x)) }
@@ -24,7 +24,7 @@ fn is_function_given(store: &Store, address: u32, wanted: &Module, x: u32) -> bo
     }
 }
 
-// Whether the table at an address matches this type.
+// Returns whether the table at an address matches this type.
 fn is_table_given(store: &Store, address: u32, wanted: TableType) -> bool
     ensures { IsTrue result ↔ IsGiven (store_of store.now) (TableValue address)
         (Some (Table wanted)) }
@@ -35,7 +35,7 @@ fn is_table_given(store: &Store, address: u32, wanted: TableType) -> bool
     }
 }
 
-// Whether the memory at an address matches this type.
+// Returns whether the memory at an address matches this type.
 fn is_memory_given(store: &Store, address: u32, wanted: Limits) -> bool
     ensures { IsTrue result ↔ IsGiven (store_of store.now) (MemoryValue address)
         (Some (Memory wanted)) }
@@ -49,7 +49,7 @@ fn is_memory_given(store: &Store, address: u32, wanted: Limits) -> bool
     }
 }
 
-// Whether the global at an address matches this type.
+// Returns whether the global at an address matches this type.
 fn is_global_given(store: &Store, address: u32, wanted: GlobalType) -> bool
     ensures { IsTrue result ↔ IsGiven (store_of store.now) (GlobalValue address)
         (Some (Global wanted)) }
@@ -65,7 +65,7 @@ fn is_global_given(store: &Store, address: u32, wanted: GlobalType) -> bool
     }
 }
 
-// Whether an external value may be given for an import.
+// Returns whether an external value matches an import.
 fn is_given(store: &Store, value: Extern, wanted: &Module, desc: ImportDesc) -> bool
     ensures { IsTrue result ↔ IsGiven (store_of store.now) value (import_type wanted.now desc) }
 {
@@ -82,7 +82,8 @@ fn is_given(store: &Store, value: Extern, wanted: &Module, desc: ImportDesc) -> 
     }
 }
 
-/// The first import of a module that is given something else than it asks for, by its index (Execution, Modules, Instantiation).
+/// Returns the index of the first import of a module that is given a value that does not match (Execution, Modules,
+/// Instantiation).
 pub fn first_mismatch(store: &Store, wanted: &Module, externs: &[Extern]) -> Option<usize>
     requires { length wanted.now.imports ≤ length externs.now }
     ensures none { IfNone result (AreGiven (store_of store.now) wanted.now wanted.now.imports

@@ -30,7 +30,7 @@ use std::alloc::Global;
 use std::rc::Rc;
 use store::{Code, LoadedModule, State, Store};
 
-// Why a module may not be instantiated with these external values, if it may not.
+// Returns why a module can't be instantiated with these external values, if it can't.
 fn refusal_of(store: &Store, wanted: &Module, externs: &[Extern]) -> Option<LinkRefusal>
     ensures { IsCauseOrAllowed result (store_of store.now) wanted.now externs.now }
 {
@@ -69,7 +69,8 @@ fn allocate(
     Ok(store.append_module(alloc, shared, addresses, objects)?)
 }
 
-// Copies and drops the segments of an instance of a module, in the module's order: the element segments, and then the data segments.
+// Copies and drops the segments of an instance of a module, in the module's order: the element segments, and then the data
+// segments.
 fn copy_segments(
     code: &Code,
     state: &mut State,
@@ -99,7 +100,7 @@ fn copy_segments(
     run_data_segments(&linked, state, meter, operands)
 }
 
-// The same in a store, where the segments go well, and which stays valid.
+// Like `copy_segments`, in a store. The segments can be run, and the store stays valid.
 fn run_segments(
     store: &mut Store,
     meter: &mut Meter,
@@ -123,7 +124,7 @@ fn run_segments(
     copy_segments(code, state, meter, instance, wanted, operands)
 }
 
-// Runs what a link runs in an instance of a module: the segments, and then the start function.
+// Runs the tasks of a link in an instance of a module: the segments, and then the start function.
 fn run_tasks(
     alloc: Global,
     store: &mut Store,
@@ -149,7 +150,7 @@ fn run_tasks(
     run_start(alloc, store, hosts, meter, instance, wanted.start)
 }
 
-// Links a module to its end, or says why it is refused.
+// Links a module to its end, or returns why it is refused.
 fn link(
     alloc: Global,
     store: &mut Store,
@@ -185,19 +186,26 @@ fn link(
     }
 }
 
-/// Links a module with what is given for its imports, in their order, and answers the number of its instance (Execution, Modules,
-/// Instantiation).
+/// Links a module with what is given for its imports, in their order, and returns the number of its instance (Execution,
+/// Modules, Instantiation).
 ///
-/// Its objects and the instance are added to the store; then its active and declarative element segments are copied and dropped, its
-/// active data segments likewise, and its start function is called, all within the fuel that is left. What is given past the imports
-/// is not looked at. A module may be linked any number of times, and nothing of it is copied.
+/// The module's objects and the instance are added to the store. Then its active and declarative element segments are copied and
+/// dropped, its active data segments likewise, and its start function is called, all within the fuel left. Values after the last
+/// import are ignored. A module may be linked any number of times, and nothing of it is copied.
 ///
-/// It is refused, and nothing has changed: with `UnknownImport` where less is given than is imported, and the index of the first import
-/// for which there is nothing; then with `IncompatibleImport` and the index of the first import that does not match, then with `Limit` where a table or a memory would be larger than the
-/// embedding allows, or an address larger than 32 bits; with `OutOfMemory` where there is no memory. A trap or an exhaustion ends
-/// the link where it stands, and what was done stays, a valid instance among it. The caller owes for each host function of the store
-/// an object of its type, and a meter without an open frame; at the end no frame is open. If each host function declares the type
-/// that it was taken in with, each answers by the relation of its object alone, and still declares that type.
+/// The caller must pass an object of its type for each host function of the store, and a meter without an open frame. At the end
+/// no frame is open. If each host function declares the type that it was defined with, each acts by the relation of its object
+/// alone, and still declares that type.
+///
+/// # Errors
+///
+/// A refused link changes nothing. It is refused, in this order:
+/// - with `UnknownImport`, and the index of the first import for which nothing is given
+/// - with `IncompatibleImport`, and the index of the first import that does not match
+/// - with `Limit`, if a table or a memory would be larger than the embedding allows, or an address larger than 32 bits
+///
+/// It is refused with `OutOfMemory` if an allocation fails. A trap or an exhaustion ends the link, and what was done stays,
+/// including a valid instance.
 pub fn instantiate(
     alloc: Global,
     store: &mut Store,

@@ -1,4 +1,4 @@
-//! Instantiation of modules: imports are matched, objects allocated, active segments copied and the start function called.
+//! Instantiation of modules: imports are matched, objects allocated, active segments copied, and the start function called.
 #![tactic(auto)]
 
 mod addresses;

@@ -6,7 +6,7 @@ ghost use Rattle.store.specs.Contents.{store_of};
 use core_types::{Limits, Module, TableType};
 use store::Store;
 
-// Whether no table has more entries at first.
+// Returns whether no table has more than this many entries at first.
 fn have_few_entries(tables: &[TableType], entries: u32) -> bool
     ensures { IsTrue result ↔ All (λ t. t.limits.min ≤ entries) tables.now }
 {
@@ -18,7 +18,7 @@ fn have_few_entries(tables: &[TableType], entries: u32) -> bool
     true
 }
 
-// Whether no memory has more pages at first.
+// Returns whether no memory has more than this many pages at first.
 fn have_few_pages(memories: &[Limits], pages: u32) -> bool
     ensures { IsTrue result ↔ All (λ l. l.min ≤ pages) memories.now }
 {
@@ -30,8 +30,8 @@ fn have_few_pages(memories: &[Limits], pages: u32) -> bool
     true
 }
 
-/// Whether the objects of a module are within the limits of the embedding: the entries of its tables, the pages of its memories,
-/// and addresses for all of its objects.
+/// Returns whether the objects of a module are within the limits of the embedding. The limits are for the entries of tables, the
+/// pages of memories, and the addresses of all objects.
 pub fn is_within_limits(store: &Store, wanted: &Module) -> bool
     ensures { IsTrue result ↔ IsWithinLimits (store_of store.now) wanted.now }
 {

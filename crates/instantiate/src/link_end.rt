@@ -5,34 +5,34 @@ ghost use Rattle.instantiate.specs.declared.link_end.LinkRefusal.TheVariants.{Ou
 use exec::Outcome;
 use std::alloc::{AllocError, AllocFailed};
 
-/// Why a module is not linked. Nothing has changed.
+/// Why a link is refused. Nothing has changed.
 #[derive(Clone, Copy, PartialEq, Eq)]
 pub enum LinkRefusal {
-    /// A limit of the embedding is passed.
+    /// A limit of the embedding is exceeded.
     Limit,
-    /// There is nothing for the import of this index.
+    /// Nothing is given for the import of this index.
     UnknownImport(usize),
     /// What is given for the import of this index does not match.
     IncompatibleImport(usize),
-    /// There was no memory.
+    /// An allocation failed.
     OutOfMemory,
 }
 
-/// How a task of a link ends that does not come to its end.
+/// The end of a task of a link that is not completed.
 #[derive(Drop)]
 pub enum TaskEnd {
-    /// As a call may: with a trap, or out of fuel, depth or memory.
+    /// It ended as a call may: with a trap, or out of fuel, depth or memory.
     Ended(Outcome),
-    /// It cannot go on. No task of a valid module in a valid store ends so.
+    /// It can't continue. No task of a valid module in a valid store ends like this.
     Stuck,
 }
 
-/// How a link ends that does not come to its end.
+/// The end of a link that is not completed.
 #[derive(Drop)]
 pub enum LinkEnd {
     /// It is refused, and nothing has changed.
     Refused(LinkRefusal),
-    /// A trap or an exhaustion ended it where it stood, and what was done stays.
+    /// A trap or an exhaustion ended it, and what was done stays.
     Ended(Outcome),
 }
 

@@ -23,12 +23,12 @@ use store::{
     Store, Table,
 };
 
-/// Why there are no objects for a module.
+/// Why the objects of a module were not created.
 #[derive(Clone, Copy)]
 pub enum ObjectFault {
     /// A constant expression has no value.
     NoValue,
-    /// There was no memory.
+    /// An allocation failed.
     Memory,
 }
 
@@ -48,7 +48,7 @@ impl<T: Drop> From<AllocFailed<T>> for ObjectFault {
     }
 }
 
-// The tables of a module, all null.
+// Creates the tables of a module, all null.
 fn new_tables(alloc: Global, wanted: &[TableType]) -> Result<Vec<Table>, AllocError>
     ensures { IfOk result (λ tables. tables.items ≡ map new_table wanted.now) }
 {
@@ -59,7 +59,7 @@ fn new_tables(alloc: Global, wanted: &[TableType]) -> Result<Vec<Table>, AllocEr
     Ok(tables)
 }
 
-// The memories of a module, all zero.
+// Creates the memories of a module, all zero.
 fn new_memories(alloc: Global, wanted: &[Limits]) -> Result<Vec<Memory>, AllocError>
     requires { All (λ l. l.min ≤ most_pages) wanted.now }
     ensures { IfOk result (λ memories. memories.items ≡ map new_memory wanted.now) }
@@ -71,7 +71,7 @@ fn new_memories(alloc: Global, wanted: &[Limits]) -> Result<Vec<Memory>, AllocEr
     Ok(memories)
 }
 
-// A global of a module, with the value of its constant expression.
+// Creates a global of a module, with the value of its constant expression.
 fn new_global(
     wanted: &ModuleGlobal,
     addresses: &Addresses,
@@ -87,7 +87,7 @@ fn new_global(
     }
 }
 
-// The globals of a module, with the values of their constant expressions.
+// Creates the globals of a module, with the values of their constant expressions.
 fn new_globals(
     alloc: Global,
     wanted: &[ModuleGlobal],
@@ -111,7 +111,6 @@ fn new_globals(
     Ok(globals)
 }
 
-// The references to functions.
 fn function_references(
     alloc: Global,
     indices: &[u32],
@@ -136,7 +135,6 @@ fn function_references(
     Ok(found)
 }
 
-// The values of constant expressions.
 fn values_of(
     alloc: Global,
     expressions: &[Expression],
@@ -161,7 +159,7 @@ fn values_of(
     Ok(found)
 }
 
-// The references of an element segment.
+// Returns the references of an element segment.
 fn references_of(
     alloc: Global,
     items: &ElementItems,
@@ -185,7 +183,7 @@ fn references_of(
     }
 }
 
-// The element segments of a module, with the values of their constant expressions.
+// Creates the element segments of a module, with the values of their constant expressions.
 fn new_element_segments(
     alloc: Global,
     wanted: &[ModuleElements],
@@ -210,7 +208,7 @@ fn new_element_segments(
     Ok(elements)
 }
 
-// The data segments of a module, which share it.
+// Creates the data segments of a module, which share it.
 fn new_datas(alloc: Global, loaded: &Rc<LoadedModule>) -> Result<Vec<DataSegment>, AllocError>
     requires { length loaded.now.value.source.datas < 2 ^ 32 }
     ensures { IfOk result (λ datas. datas.items ≡ map new_data loaded.now.value.source.datas) }
@@ -222,7 +220,7 @@ fn new_datas(alloc: Global, loaded: &Rc<LoadedModule>) -> Result<Vec<DataSegment
     Ok(datas)
 }
 
-/// The objects of a module, whose new instance has these addresses (Execution, Modules, Allocation).
+/// Creates the objects of a module, whose new instance has these addresses (Execution, Modules, Allocation).
 pub fn new_objects(
     alloc: Global,
     store: &Store,

@@ -5,7 +5,7 @@ use crate::constants::ConstantOperands;
 use core_types::{DataMode, DataSegment, ElementMode, ElementSegment, Module};
 use std::alloc::{AllocError, Global};
 
-// How many instructions the offset of an element segment has, if it has one.
+// Returns the number of instructions of the offset of an element segment, or 0 if it has no offset.
 fn element_offset_length(mode: &ElementMode) -> usize
     ensures { result ≡ element_mode_offset mode.now }
 {
@@ -15,7 +15,7 @@ fn element_offset_length(mode: &ElementMode) -> usize
     }
 }
 
-// The same of a data segment.
+// Returns the number of instructions of the offset of a data segment, or 0 if it has no offset.
 fn data_offset_length(mode: &DataMode) -> usize
     ensures { result ≡ data_mode_offset mode.now }
 {
@@ -25,7 +25,7 @@ fn data_offset_length(mode: &DataMode) -> usize
     }
 }
 
-// The length of the longest offset of element segments.
+// Returns the length of the longest offset of element segments.
 fn longest_element_offset(elements: &[ElementSegment]) -> usize
     ensures { HaveRoom element_offset result elements.now }
 {
@@ -39,7 +39,7 @@ fn longest_element_offset(elements: &[ElementSegment]) -> usize
     longest
 }
 
-// The length of the longest offset of data segments.
+// Returns the length of the longest offset of data segments.
 fn longest_data_offset(datas: &[DataSegment]) -> usize
     ensures { HaveRoom data_offset result datas.now }
 {
@@ -53,7 +53,7 @@ fn longest_data_offset(datas: &[DataSegment]) -> usize
     longest
 }
 
-/// Operands with room for those of each offset of a module. Fails where there is no memory for them.
+/// Creates operands with room for each offset of a module. Fails if an allocation fails.
 pub fn reserve_operands(alloc: Global, wanted: &Module) -> Result<ConstantOperands, AllocError>
     ensures { IfOk result (λ room. HasRoomForOffsets room wanted.now) }
 {

@@ -24,7 +24,7 @@ use hostfunc::{HostFn, HostTable};
 use std::alloc::Global;
 use store::{State, Store, accepts};
 
-// The offset at which a segment is copied, if its constant expression has such a value.
+// Returns the offset at which a segment is copied, if its constant expression has such a value.
 fn offset_of(
     code: &Expression,
     linked: &Linked<'_>,
@@ -45,7 +45,7 @@ fn offset_of(
     }
 }
 
-// How many references an element segment has.
+// Returns the number of references of an element segment.
 fn item_count(items: &ElementItems) -> usize
     ensures { result ≡ count_of items.now }
 {
@@ -55,14 +55,14 @@ fn item_count(items: &ElementItems) -> usize
     }
 }
 
-// A number of items as the i32 by which they are copied (Structure, Conventions, Vectors: there are fewer than 2^32).
+// Returns a number of items as the i32 operand of a copy (Structure, Conventions, Vectors: there are fewer than 2^32).
 fn count_operand(count: usize) -> u32
     ensures { result ≡ count % 2 ^ 32 }
 {
     (count % 4_294_967_296) as u32
 }
 
-// Copies the element segment of an index where it is active, and drops it where it is not passive.
+// Copies the element segment of an index if it is active, and drops it unless it is passive.
 fn run_element_segment(
     x: u32,
     wanted: &ElementSegment,
@@ -119,7 +119,7 @@ pub fn run_element_segments(
     Ok(())
 }
 
-// Copies the data segment of an index where it is active, and drops it.
+// Copies the data segment of an index if it is active, and drops it then.
 fn run_data_segment(
     x: u32,
     wanted: &DataSegment,
@@ -175,7 +175,7 @@ pub fn run_data_segments(
     Ok(())
 }
 
-// How a link goes on where a call ended so.
+// Continues a link after a call with this outcome, or ends it.
 fn end_of(outcome: Outcome) -> Result<(), TaskEnd>
     ensures { EndsAs result outcome }
 {
@@ -209,7 +209,7 @@ fn call_start(
     end_of(invoke(alloc, store, hosts, meter, address, &[]))
 }
 
-/// Calls the start function of an instance, where its module has one (Execution, Modules, Instantiation).
+/// Calls the start function of an instance, if its module has one (Execution, Modules, Instantiation).
 pub fn run_start(
     alloc: Global,
     store: &mut Store,

@@ -1,4 +1,4 @@
--- What is called is opened or is of the host, whatever runs.
+-- A called function is opened or is a host function, whatever runs.
 use Rattle.std.proofs.Common.{◌≡◌, ℕ, suc, ◌+◌, ◌-◌, ◌<◌, ◌≤◌, List, length, take, set, get_or, slice_get, refl, ap, sym, subst, ◌∙◌, arith}
 use Rattle.std.proofs.lemmas.List.{length-set}
 use Rattle.std.proofs.lemmas.Option.{get_or_from_slice_get, same_Some}
@@ -50,7 +50,7 @@ use Rattle.interpreter.proofs.Opening.{ArgumentsLie}
 use Rattle.interpreter.proofs.Replacing.{asks, replaced}
 use Rattle.interpreter.proofs.Waiting.{called, depth-is, opened, opens-next}
 
--- An operation calls so what is at an address, with its arguments on top at another position in the frame.
+-- An operation makes this kind of call of the function at an address, with its arguments on top at another position in the frame.
 record CallsFrom (w : World) (cells : List ℕ) (at from : Position) (kind : CallKind) (op : PlainOp) (address : ℕ) (function : FunctionInstance) : Type 0 where
   pub height : ℕ
   pub top_is : from.top ≡ at.base + height
@@ -100,12 +100,12 @@ module _ (bound : ℕ) (w : World) (cells : List ℕ) (callers : List Frame) (at
     abbrev function : FunctionInstance
     function = function_of f.ty.now f.instance f.func.now
 
-    -- The whole, once labels were left.
+    -- The whole, after labels were left.
     module _ (u : Whole) (r : RunsWhole bound l u) (c : ReachesCall op address function u.ghost (cells_in u.ghost m) m.place (height_in m) height) where
       abbrev settles : Reaches bound l u l
       settles = lifted-there bound l u r at.fuel (record { new = c.new; same = c.same; store = c.store; steps = c.steps at.fuel; runs = c.runs })
 
-      -- The frame has as many locals then.
+      -- The frame has the same number of locals then.
       as-many : cells_in u.ghost m ≡ cells_in c.new m
       as-many = ap (λ (k : FrameCode). put_back k.locals at.base cells at.top at.operand) (sym c.same.code)
 
@@ -247,7 +247,7 @@ module _ (bound : ℕ) (w : World) (cells : List ℕ) (callers : List Frame) (at
   calls-in-module Nested f is found k some = calls-module f is found k.height k.top_is k.inside k.same k.calls some
   calls-in-module Tail f is found k some = replaces-module f is found k.height k.top_is k.inside k.same k.calls some
 
-  -- ---- of the host
+  -- ---- of a host function
 
   calls-host : (kind : CallKind) (f : HostFunction) → CallsFrom w cells at from kind op address (host_function f.number f.ty.now) → 1 ≤ at.fuel → StopsAt bound l (stop.CallsHost kind address (from.top + 1)) l
   calls-host kind f k some = record {
@@ -266,13 +266,13 @@ module _ (bound : ℕ) (w : World) (cells : List ℕ) (callers : List Frame) (at
         types = is.types;
       }
 
-  -- What is found there is called.
+  -- The function that is found there is called.
   calls-found : (kind : CallKind) → RunsSomeWhole bound l → (found : Callee) → IsCalleeAt w.code address found → CallsFrom w cells at from kind op address (callee_function found) → Calls bound w cells callers at from kind address found
   calls-found kind some (callee.InModule f) is k =
       calls-in-module kind f is (at-address f is) k some
   calls-found kind some (callee.InHost f) is k = (k.inside, calls-host kind f k)
 
--- What turns at a call, of either kind.
+-- What a call, of either kind, leads to.
 by-name-leads : (kind : CallKind) (w : World) (m : Machine) (n : ℕ) → Turns w m (operation_by_name kind n) → (g : Ghost) → RunsAt w m g → CallsByName kind w m g n × CostsOne g m
 by-name-leads Nested w m n turns g r = turns g r
 by-name-leads Tail w m n turns g r = turns g r
@@ -282,7 +282,7 @@ through-leads : (kind : CallKind) (w : World) (m : Machine) (n : ℕ) → Turns 
 through-leads Nested w m n turns g r = turns g r
 through-leads Tail w m n turns g r = turns g r
 
--- What it needs.
+-- What the call needs.
 pub by-name-fits : (kind : CallKind) (w : World) (m : Machine) (n : ℕ) → Fits w m (operation_by_name kind n) → n < length w.instance.addresses.functions.items
 by-name-fits Nested w m n fits = fits
 by-name-fits Tail w m n fits = fits
@@ -324,7 +324,7 @@ module _ (bound : ℕ) (w : World) (cells : List ℕ) (callers : List Frame) (at
               (subst (λ (i : FunctionInstance). IsCalled kind (by_name kind x) (function_address w x) i g (cells_in g its) its.place (height_in its) (height_in its)) one calls);
         })
 
-    -- One of the instance's own module is called without its address.
+    -- A function of the instance's own module is called without its address.
     module _ (some : RunsSomeWhole bound loop) (f : ModuleFunction) (number : f.instance ≡ w.number) (index : ℕ) (index_is : x ≡ w.instance.imported + index) (inside : x < length w.instance.addresses.functions.items) where
       its-loaded : IsLoaded w.code f.instance w.instance
       its-loaded = subst (λ (n : ℕ). IsLoaded w.code n w.instance) (sym number) some.1.runs.instance.loaded
@@ -397,7 +397,7 @@ module _ (bound : ℕ) (w : World) (cells : List ℕ) (callers : List Frame) (at
         entry-called : (f : Found) → FindsEntry w.code (type_of w.instance type) entry (Ok f) → (g : Ghost) → RunsAt w its g → CalledSo g f.address (callee_function f.callee)
         entry-called f finds g s = entry-calls w.code g (found-in g s) (cells_in g its) its.place (height_in its) (CalledSo g) (type_of w.instance type) entry f finds (through g s entry refl)
 
-        -- The offset of the entry lies above the locals.
+        -- The offset of the entry is above the locals.
         own-fits : at.base + 1 ≤ at.top → (f : Found) → FindsEntry w.code (type_of w.instance type) entry (Ok f) → (g : Ghost) → RunsAt w its g → at.base + g.code.locals + 1 ≤ at.top
         own-fits some f finds g s =
             let c : ReachesCall (through_table kind type x) f.address (callee_function f.callee) g (cells_in g its) its.place (height_in its) (height_in its - 1) =

@@ -1,4 +1,4 @@
--- Calls, on the machine, and what they find.
+-- Calls, on the machine, and the functions that they find.
 use Rattle.std.proofs.Common.{◌≡◌, ℕ, ◌-◌, ◌<◌, List, true, false, length, slice_get, refl, ap, sym, subst, ◌∙◌, arith, length-append}
 use Rattle.std.specs.Prelude.{Option, Some, None, Ok, Err, ◌∷◌, []}
 use Rattle.std.proofs.lemmas.List.{length-map}
@@ -29,7 +29,7 @@ use Rattle.interpreter.specs.declared.machine.CallKind.TheVariants.{Nested, Tail
 use Rattle.interpreter.proofs.Forms.{HasOwn, IsAt, has-operands, topmost}
 use Rattle.interpreter.proofs.Worlds.{TableThere, function-there, table-there, type-there}
 
--- What stands there finds its function, or its table.
+-- The call finds its function, or its table.
 found-by-name : (kind : CallKind) (g : Ghost) (cells : List ℕ) (at top x : ℕ) → IsBefore (Plain (by_name kind x)) g cells at top
     → FindsFunction g x (λ address function. IsCalled kind (by_name kind x) address function g cells at top top) × CostsAround g cells at top
 found-by-name Nested g cells at top x b = calls-by-name g cells at top x b
@@ -71,7 +71,7 @@ module _ (w : World) (m : Machine) (g : Ghost) (r : RunsAt w m g) (kind : CallKi
         ),
       )
 
--- What is found at an address is among the functions that are kept.
+-- The function found at an address is among those that are kept.
 pub within-code : (code : Contents) (address : ℕ) (f : FunctionInstance) → slice_get (functions_in code) address ≡ Some f → address < length code.functions
 within-code code address f there =
     let inside = slice_get_within (functions_in code) address f there in
@@ -110,7 +110,7 @@ module _ (code : Contents) (g : Ghost) (store : (address : ℕ) → slice_get (f
   entry-calls (Some (I64 n)) f finds calls = absurd calls
   entry-calls (Some (ExternRef n)) f finds calls = absurd calls
 
--- What was found through an entry is there.
+-- The function found through an entry exists.
 pub entry-found : (code : Contents) (wanted : FuncType) (entry : Option Val) (f : Found) → FindsEntry code wanted entry (Ok f) → IsCalleeAt code f.address f.callee
 entry-found code wanted None f finds = absurd cc
 entry-found code wanted (Some (FuncRef None)) f finds = absurd cc

@@ -1,4 +1,4 @@
--- A frame's cells with the topmost operand put back and the scrap left out.
+-- A frame's cells with the topmost operand written back and the scrap left out.
 use Rattle.std.proofs.Common.{◌≡◌, ℕ, suc, ◌+◌, ◌-◌, ◌<◌, ◌≤◌, List, [], ◌∷◌, ◌++◌, length, take, drop, set, get_or, ap, sym, ◌∙◌, arith, length-append}
 use Rattle.std.proofs.lemmas.List.{drop-set-add, drop-set-lt, get_or-append_right, get_or-drop, get_or-set_other, get_or-set_same, get_or-take, get_or_append_left, length-drop, length-set, length-take-le, set-append_left, set-append_right, set-get_or, set_comm, take-set-le}
 use Rattle.std.proofs.Math.Seq.{take-append-add, take-set-lt, take-suc-set}
@@ -52,7 +52,7 @@ module _ (locals base : ℕ) (cells : List ℕ) (scrap : base + locals < length 
 -- ---- with a topmost operand
 
 module _ (locals base : ℕ) (cells : List ℕ) (scrap : base + locals < length cells) (k top operand : ℕ) (behind : locals ≤ k) (top_is : top ≡ base + suc k) where
-  -- What is below it.
+  -- What is below the topmost operand.
   pub below-top : (n : ℕ) → n ≤ k → take n (put_back locals base cells top operand) ≡ take n (without_scrap locals base cells)
   below-top n le = ap (take n) (operand-set locals base cells scrap k top operand behind top_is) ∙ take-set-le n (without_scrap locals base cells) k operand le
 
@@ -64,7 +64,7 @@ module _ (locals base : ℕ) (cells : List ℕ) (scrap : base + locals < length 
       ∙ operand-cell locals base cells scrap n place low is
 
   module _ (inside : top < length cells) where
-    -- It is within the frame's cells.
+    -- The topmost operand is within the frame's cells.
     top-within : k < length (without_scrap locals base cells)
     top-within = omega (arith, frame-length locals base cells scrap, inside, top_is)
 
@@ -76,11 +76,11 @@ module _ (locals base : ℕ) (cells : List ℕ) (scrap : base + locals < length 
     pub to-top : take (suc k) (put_back locals base cells top operand) ≡ take k (without_scrap locals base cells) ++ (operand ∷ [])
     to-top = ap (take (suc k)) (operand-set locals base cells scrap k top operand behind top_is) ∙ take-suc-set (without_scrap locals base cells) k operand top-within
 
--- Where a topmost operand is taken from the cells, these are all of the frame's.
+-- If a topmost operand is taken from the cells, these are all of the frame's cells.
 pub popped-frame : (locals base : ℕ) (cells : List ℕ) (top : ℕ) → put_back locals base cells top (get_or cells top 0) ≡ without_scrap locals base cells
 popped-frame locals base cells top = ap (without_scrap locals base) (set-get_or cells top 0)
 
--- A local that is written with a topmost operand over it.
+-- A local that is written with a topmost operand above it.
 pub local-put_back : (locals base : ℕ) (cells : List ℕ) (scrap : base + locals < length cells) (top operand x a : ℕ) → x < locals → base + locals ≤ top
     → put_back locals base (set cells (base + x) a) top operand ≡ set (put_back locals base cells top operand) x a
 local-put_back locals base cells scrap top operand x a inside low =

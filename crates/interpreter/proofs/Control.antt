@@ -32,20 +32,20 @@ module _ (w : World) (m : Machine) (g : Ghost) (r : RunsAt w m g) where
     },
   )
 
-  -- Where a condition is on top.
+  -- With a condition on top.
   module _ (few : m.base + g.code.locals + 1 ≤ m.top) where
-    -- It is taken off.
+    -- The condition is popped.
     falls : (place next_at : ℕ) → place ≡ next_at → IsCharged g (cells_in g m) m.place (height_in m) next_at (height_in m - 1) → Pays g m w (record (popped m 1) { place = place })
     falls place next_at is c = pops w m g r 1 (omega arith) few w place (charged w m g r place (height_in m - 1) next_at is c)
 
-    -- Operands are moved down from below it.
+    -- Operands are moved down from below the condition.
     falls-to : (e : Entry) → IsLanded g (cells_in g m) m.place (height_in m) (height_in m - 1) e → Lands w m g m.cells (m.top - 1) e
     falls-to e l = lands w m g r m.cells (m.top - 1) (height_in m - 1) e l (lower w m g r 1 (omega arith) few) refl refl (omega (arith, few)) (omega (arith, inside w m g r))
 
     kept-below : (e : Entry) → IsLanded g (cells_in g m) m.place (height_in m) (height_in m - 1) e → HasKept m (m.top - 1) e
     kept-below e l = omega (arith, l.0, r.runs.holds.count, few)
 
-    -- What was shown of its cell is shown of the topmost operand.
+    -- What was shown for its cell is shown for the topmost operand.
     condition : get_or (cells_in g m) (height_in m - 1) 0 ≡ m.operand
     condition = topmost w m g r 1 (omega arith) few
 

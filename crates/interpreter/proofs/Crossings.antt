@@ -1,4 +1,4 @@
--- Where operations that may cross frames stop or go on.
+-- Where operations that can cross frames stop or continue.
 use Rattle.std.proofs.Common.{◌≡◌, ℕ, suc, ◌+◌, ◌-◌, ◌^◌, ◌<◌, ◌≤◌, List, ◌∷◌, ◌++◌, length, take, set, replicate, ap, sym, subst, arith}
 use Rattle.store.specs.declared.instances.ModuleFunction.{ModuleFunction}
 use Rattle.interpreter.specs.Calling.{AreReplaced, CallsModule, IsCrossed, Leaves, ReplacesModule, declared_locals, frame_waiting, position_opened, position_replaced, position_resumed}
@@ -23,7 +23,7 @@ module _ (bound : ℕ) (w : World) (cells : List ℕ) (callers : List Frame) (at
       subst (λ (fs : List Frame). Crosses bound (loop_at w cells callers at) result why cells' fs (position_opened at from.top f)) (sym callers_are)
       (crosses bound (loop_at w cells callers at) cells' (frame_waiting at ∷ callers) result (position_opened at from.top f) some is (c.opens paid shallow room cells' filled size) (omega (arith, paid, next)) why)
 
-  -- One took the place of the frame.
+  -- A frame replaced the frame.
   pub crosses-over : (from : Position) (f : ModuleFunction) → RunsSomeWhole bound (loop_at w cells callers at) → ReplacesModule bound w cells callers at from f → 1 ≤ at.fuel
       → at.base + f.flat.now.greatest < length cells → (cells' : List ℕ) → AreReplaced cells at.base from f cells'
       → (result : Crossing) → IsCrossed w.number result f.instance → (why : Stop) → Crosses bound (loop_at w cells callers at) result why cells' callers (position_replaced at f)

@@ -1,4 +1,4 @@
--- The frame of a function of a module, which begins with its arguments, whether it is opened above another or takes its place.
+-- The frame of a function of a module, which begins with its arguments. It is opened above another, or replaces it.
 use Rattle.std.proofs.Common.{◌≡◌, ℕ, ◌+◌, ◌-◌, ◌<◌, ◌≤◌, List, ◌++◌, length, take, drop, replicate, slice_get, ap, sym, subst, ◌∙◌, arith}
 use Rattle.core_types.specs.declared.op.PlainOp.{PlainOp}
 use Rattle.meaning.specs.execution.Modules.{code_of}
@@ -21,7 +21,7 @@ use Rattle.interpreter.proofs.Finding.{IsAtAddress}
 use Rattle.interpreter.proofs.Opening.{ArgumentsLie, arguments-fit, callee-runs}
 use Rattle.interpreter.proofs.Worlds.{flat-seen}
 
--- At the first place of a function, in a frame that begins there.
+-- The machine at the first place of a function, in a frame that begins there.
 abbrev pub machine_entered : ModuleFunction → (cells : List ℕ) → (base top : ℕ) → Machine
 machine_entered f cells base top =
     record { base = base; cells = cells; place = f.flat.now.place; top = top; operand = 0 }
@@ -61,7 +61,7 @@ module _ (w : World) (m : Machine) (h : Ghost) (r : RunsAt w m h) (op : PlainOp)
   functions : (context_at h.store (body_place f.ty.now f.instance (code_of f.func.now))).functions ≡ s.functions
   functions = subst (λ (z : Store). (context_at z (body_place f.ty.now f.instance (code_of f.func.now))).functions ≡ s.functions) (sym r.store) found.types.functions
 
-  -- In a frame that begins with the arguments, and then cleared cells.
+  -- In a frame that begins with the arguments, followed by cleared cells.
   module _ (cells' : List ℕ) (base' : ℕ) (own : take (n + k) (drop base' cells') ≡ take n (drop (b.height - n) (put_back h.code.locals m.base m.cells top operand)) ++ replicate k 0)
       (room : base' + f.flat.now.greatest < length cells') where
     runs : Runs new (put_back (n + k) base' cells' (base' + (n + k)) 0) f.flat.now.place (n + k)

@@ -34,7 +34,7 @@ flat-body s ops f is declared written =
       locals = locals;
     }
 
--- It is at an address, in an instance whose module has this flat code.
+-- The function is at an address, in an instance whose module has this flat code.
 pub record IsAtAddress (code : Contents) (address : ℕ) (f : ModuleFunction) : Type 0 where
   pub found : slice_get (functions_in code) address ≡ Some (callee_function (callee.InModule f))
   pub instance : Instance

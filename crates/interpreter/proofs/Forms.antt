@@ -1,4 +1,4 @@
--- What the forms of a step in a frame come to for the machine.
+-- What the forms of a step in a frame mean for the machine.
 use Rattle.std.proofs.Common.{◌≡◌, ℕ, suc, ◌+◌, ◌-◌, ◌<◌, ◌≤◌, List, [], ◌∷◌, ◌++◌, length, take, drop, set, get_or, refl, ap, sym, subst, ◌∙◌, arith}
 use Rattle.std.proofs.lemmas.List.{drop-take, length-set, take-set-le, take-take}
 use Rattle.std.specs.Prelude.{Some, Result, Ok, Err}
@@ -21,7 +21,7 @@ use Rattle.interpreter.proofs.Cells.{at-top, below-top, frame-length, popped-fra
 use Rattle.interpreter.proofs.Moves.{moved-below, moved-frame}
 use Rattle.interpreter.proofs.Operands.{takes-operands}
 
--- What leads to cells leads to those that are the same up to the top.
+-- Steps to cells are steps to those that are the same up to the top.
 leads-same : (g : Ghost) (fuel : ℕ) (store' : Store) (cells cells' : List ℕ) (at top left : ℕ) → take top cells' ≡ take top cells → length cells' ≡ length cells → Leads g fuel store' cells at top left → Leads g fuel store' cells' at top left
 leads-same g fuel store' cells cells' at top left same size l = record {
   new = l.new;
@@ -48,7 +48,7 @@ part-last n m xs ys same le =
 abbrev pub IsAt : Machine → Ghost → FlatOp → Type 0
 IsAt m g o = IsBefore o g (cells_in g m) m.place (height_in m)
 
--- So many operands lie above the locals of the frame, and there is room for one more.
+-- That many operands are above the locals of the frame, and there is room for one more.
 abbrev pub HasOwn : Ghost → Machine → (count : ℕ) → Type 0
 HasOwn g m count = (m.base + g.code.locals + count ≤ m.top) × (m.top < length m.cells)
 
@@ -64,21 +64,21 @@ module _ (w : World) (m : Machine) (g : Ghost) (r : RunsAt w m g) where
       let whole = frame-length g.code.locals m.base (set m.cells m.top m.operand) (omega (arith, written, r.scrap)) in
       omega (arith, written, whole)
 
-  -- There is room for one operand more.
+  -- There is room for one more operand.
   pub inside : m.top < length m.cells
   inside = let le : height_in m ≤ length (cells_in g m) = top-within g (cells_in g m) m.place (height_in m) r.runs in omega (arith, le, size, r.low, r.scrap)
 
-  -- So many operands lie above the locals.
+  -- That many operands are above the locals.
   pub has-operands : (n : ℕ) → length g.locals + n ≤ height_in m → 1 ≤ n → HasOwn g m n
   has-operands n le some = (omega (arith, r.runs.holds.count, le, some), inside)
 
-  -- As many as an instruction takes.
+  -- There are as many operands as an instruction takes.
   pub takes : (op : PlainOp) (c : Counts) → counts_of g.code.signatures op ≡ Some c → 1 ≤ c.takes → IsAt m g (Plain op) → HasOwn g m c.takes
   takes op c is some b = has-operands c.takes (takes-operands g (cells_in g m) m.place (height_in m) op b c is) some
 
-  -- ---- where it goes on
+  -- ---- where it continues
 
-  -- Over cells that begin so, at a place and a height, for one unit of fuel.
+  -- With cells that begin with these, at a place and a height, for one unit of fuel.
   abbrev GoesOn : Store → (firsts : List ℕ) → (place height : ℕ) → Type 0
   GoesOn store' firsts place height =
       (cells' : List ℕ) (fuel left : ℕ) → take height cells' ≡ firsts → length cells' ≡ length (cells_in g m) → 1 ≤ fuel → left ≡ fuel - 1 → Leads g fuel store' cells' place height left
@@ -86,7 +86,7 @@ module _ (w : World) (m : Machine) (g : Ghost) (r : RunsAt w m g) where
   from-store : (firsts : List ℕ) (place height : ℕ) → GoesOn g.store firsts place height → GoesOn (store_in w) firsts place height
   from-store firsts place height = subst (λ (s : Store). GoesOn s firsts place height) r.store
 
-  -- Behind what is put, kept, or led to with the same cells.
+  -- After a cell is written, kept, or left as it was.
   put : (cell below : ℕ) → IsPut g (cells_in g m) m.place cell below → GoesOn (store_in w) (take below (cells_in g m) ++ (cell ∷ [])) (m.place + 1) (suc below)
   put cell below p = from-store _ _ _ (λ cells' fuel left is same enough left_is. p cells' (m.place + 1) (suc below) fuel left is same (omega arith) refl enough left_is)
 
@@ -98,7 +98,7 @@ module _ (w : World) (m : Machine) (g : Ghost) (r : RunsAt w m g) where
   charged place height next_at is c = from-store _ _ _
       (λ cells' fuel left same as_many enough left_is. leads-same g fuel g.store (cells_in g m) cells' place height left same as_many (subst (λ (n : ℕ). Leads g fuel g.store (cells_in g m) n height left) (sym is) (c.0 fuel left enough left_is)))
 
-  -- The machine's cells begin so.
+  -- The machine's cells begin with these.
   pub pays : (w' : World) (cells' : List ℕ) (place top operand height : ℕ) (firsts : List ℕ) → GoesOn (store_in w') firsts place height → top ≡ m.base + height → g.code.locals ≤ height
       → take height (put_back g.code.locals m.base cells' top operand) ≡ firsts → length cells' ≡ length m.cells → take m.base cells' ≡ take m.base m.cells
       → Pays g m w' (record m { cells = cells'; place = place; top = top; operand = operand })
@@ -113,9 +113,9 @@ module _ (w : World) (m : Machine) (g : Ghost) (r : RunsAt w m g) where
         below = below;
       }
 
-  -- ---- machines behind an operation
+  -- ---- machines after an operation
 
-  -- With one operand more.
+  -- The machine with one more operand.
   pub pushes : (cell cell' : ℕ) → cell' ≡ cell → height_in m < length (cells_in g m) → IsPut g (cells_in g m) m.place cell (height_in m) → Pays g m w (pushed m cell')
   pushes cell cell' is room p =
       let as_many = length-set m.cells m.top m.operand in
@@ -124,11 +124,11 @@ module _ (w : World) (m : Machine) (g : Ghost) (r : RunsAt w m g) where
       ∙ ap (λ (c : ℕ). take (height_in m) (cells_in g m) ++ (c ∷ [])) is)
       as_many (take-set-le m.base m.cells m.top m.operand (omega (arith, r.low)))
 
-  -- In the same place.
+  -- The machine in the same place.
   pub stays : (place : ℕ) → GoesOn (store_in w) (take (height_in m) (cells_in g m)) place (height_in m) → Pays g m w (record m { place = place })
   stays place on = pays w m.cells place m.top m.operand (height_in m) _ on (omega (arith, r.low)) (omega (arith, r.low)) refl refl refl
 
-  -- Where so many operands are taken off.
+  -- The machine with that many operands popped.
   module _ (n : ℕ) (some : 1 ≤ n) (few : m.base + g.code.locals + n ≤ m.top) where
     topmost-is : m.top ≡ m.base + suc (height_in m - 1)
     topmost-is = omega (arith, some, few)
@@ -136,7 +136,7 @@ module _ (w : World) (m : Machine) (g : Ghost) (r : RunsAt w m g) where
     pub lower : take (height_in m - n) (cells_in g m) ≡ take (height_in m - n) (without_scrap g.code.locals m.base m.cells)
     lower = below-top g.code.locals m.base m.cells r.scrap (height_in m - 1) m.top m.operand (omega (arith, some, few)) topmost-is (height_in m - n) (omega (arith, some))
 
-    -- One in their place.
+    -- One operand in their place.
     pub puts : (top : ℕ) → top + n ≡ m.top + 1 → (cell cell' : ℕ) → cell' ≡ cell → IsPut g (cells_in g m) m.place cell (height_in m - n) → Pays g m w (record m { place = m.place + 1; top = top; operand = cell' })
     puts top top_is cell cell' is p =
         pays w m.cells (m.place + 1) top cell' (suc (height_in m - n)) _ (put cell (height_in m - n) p) (omega (arith, top_is, few)) (omega (arith, few))
@@ -149,7 +149,7 @@ module _ (w : World) (m : Machine) (g : Ghost) (r : RunsAt w m g) where
     answers top top_is (Ok k) a = puts top top_is k k refl a
     answers top top_is (Err trap) a = a
 
-    -- None in their place.
+    -- No operand in their place.
     pub pops : (w' : World) (place : ℕ) → GoesOn (store_in w') (take (height_in m - n) (cells_in g m)) place (height_in m - n) → Pays g m w' (record m { place = place; top = m.top - n; operand = get_or m.cells (m.top - n) 0 })
     pops w' place on = pays w' m.cells place (m.top - n) (get_or m.cells (m.top - n) 0) (height_in m - n) _ on (omega (arith, few)) (omega (arith, few)) (ap (take (height_in m - n)) (popped-frame g.code.locals m.base m.cells (m.top - n)) ∙ sym lower) refl refl
 
@@ -164,7 +164,7 @@ module _ (w : World) (m : Machine) (g : Ghost) (r : RunsAt w m g) where
 
   -- ---- moves
 
-  -- Operands are moved down from where cells are those of the frame, up to a height.
+  -- Operands are moved down from cells that are those of the frame, up to a height.
   pub lands : (held : List ℕ) (top above : ℕ) (e : Entry) → IsLanded g (cells_in g m) m.place (height_in m) above e → take above (cells_in g m) ≡ take above (without_scrap g.code.locals m.base held) → length held ≡ length m.cells → take m.base held ≡ take m.base m.cells
       → top ≡ m.base + above → top < length held → Lands w m g held top e
   lands held top above e l same as_many below top_is room cells' operand' moved =

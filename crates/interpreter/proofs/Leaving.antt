@@ -28,7 +28,7 @@ use Rattle.interpreter.proofs.Forms.{inside}
 use Rattle.interpreter.proofs.Lifting.{reaches-then}
 use Rattle.interpreter.proofs.Resuming.{IsLeft, back-fits, ended, resumed}
 
--- Lists that are the same begin with the same frame, and go on alike.
+-- Lists that are the same begin with the same frame, and continue alike.
 parts-same : (x y : Frame) (xs ys : List Frame) → x ∷ xs ≡ y ∷ ys → (x ≡ y) × (xs ≡ ys)
 parts-same x y xs ys e = (cc, cc)
 
@@ -38,7 +38,7 @@ module _ (h : Ghost) where
   abbrev arity : ℕ
   arity = h.code.outermost.kept
 
-  -- What is next in a frame with this inside.
+  -- The next step in a frame with this inside.
   abbrev next_inside : List Layer → Activated → List Val → Body → List Label → (labels : List Label) → (rest : Body) → Next
   next_inside layers outer beneath behind waiting labels rest = next h.store (outermost layers outer) (plug (opened_in arity beneath behind outer waiting layers) (frame_of h) (in_frame h.values labels rest))
 
@@ -46,7 +46,7 @@ module _ (h : Ghost) where
   abbrev left_for : (cost : ℕ) → List Layer → Activated → List Val → Body → List Label → Next
   left_for cost layers outer beneath behind waiting = Goes cost h.store (outermost layers outer) (plug layers outer (in_frame (take arity h.values ++ beneath) waiting behind))
 
-  -- Values alone are left, as many as the frame gives.
+  -- Only values are left, the same number as the frame gives.
   pub left-over : h.labels ≡ [] → h.rest ≡ Empty → length h.values ≡ arity → IsLeft 0 h
   left-over no_labels no_rest count = record {
     enough = omega (arith, count);
@@ -57,7 +57,7 @@ module _ (h : Ghost) where
         ∙ ap (λ (vs : List Val). Goes 0 h.store (outermost layers outer) (plug layers outer (in_frame (vs ++ beneath) waiting behind))) (sym (take_all arity h.values (omega (arith, count))))));
   }
 
-  -- A return stands there.
+  -- There is a return.
   pub left-back : (rest : Body) → h.rest ≡ Then (plain.Control control.Return) rest → arity ≤ length h.values → IsLeft 1 h
   left-back rest is enough = record {
     enough = enough;
@@ -75,7 +75,7 @@ module _ (bound : ℕ) (w : World) (cells : List ℕ) (at : Position) (fuel : �
   abbrev before : List Frame → Loop
   before callers = loop_at w cells callers (record at { fuel = fuel })
 
-  -- It comes to where one step leaves its frame, with so many results.
+  -- The whole arrives where one step leaves its frame, with that many results.
   abbrev pub CanLeave : (callers : List Frame) → (cost results : ℕ) → Type 0
   CanLeave callers cost results =
       (u : Whole) → RunsWhole bound (before callers) u → (s : Reaches bound (before callers) u (before callers)) × IsLeft cost s.new.ghost × (results ≡ s.new.ghost.code.outermost.kept)

@@ -1,4 +1,4 @@
--- What happens in the innermost frame happens to the whole.
+-- A step of the innermost frame is a step of the whole.
 use Rattle.std.proofs.Common.{◌≡◌, ℕ, ◌+◌, ◌-◌, ◌<◌, ◌≤◌, List, [], ◌∷◌, length, take, refl, ap, sym, subst, ◌∙◌, arith}
 use Rattle.std.specs.Prelude.{Some}
 use Rattle.core_types.specs.declared.outcome.Trap.{Trap}
@@ -36,7 +36,7 @@ around-out : (labels : List Label) (layers : List Layer) (f : Frame) → outermo
 around-out [] layers f = refl
 around-out (label ∷ labels) layers f = around-out labels layers f
 
--- Outside of those that wait there is no frame.
+-- Outside of the waiting frames there is no frame.
 pub layers-out : (cs : List Caller) (arity : ℕ) (f : Frame) → outermost (layers_around cs arity) f ≡ no_frame
 layers-out [] arity f = refl
 layers-out (c ∷ cs) arity f =
@@ -68,13 +68,13 @@ module _ (store : Store) (n : ℕ) where
   dear-in-frame outer own a (Over values) lt = absurd (omega (arith, lt))
   dear-in-frame outer own a NotReady lt = absurd (omega (arith, lt))
 
-  -- A step that costs more than that inside of layers does so in the whole.
+  -- A step that costs more than that within layers does so in the whole.
   pub dear-plugged : (layers : List Layer) (frame : Frame) (c : Configuration) → n < price (next store frame c) → n < price (next store (outermost layers frame) (plug layers frame c))
   dear-plugged [] frame c lt = lt
   dear-plugged (AroundLabel label ∷ layers) frame c lt = dear-plugged layers frame _ (dear-in-label frame label (next store frame c) lt)
   dear-plugged (AroundFrame a outer ∷ layers) frame c lt = dear-plugged layers outer _ (dear-in-frame outer frame a (next store frame c) lt)
 
-  -- The same of one that costs more in whatever frame it lies.
+  -- The same for a step that costs more in any frame around it.
   dear-around : (cs : List Caller) (arity : ℕ) (frame : Frame) (c : Configuration) → ((outer : Frame) (a : Activation) → n < price (next store outer (InFrame a frame c)))
       → n < price (next store (outermost (layers_around cs arity) frame) (plug (layers_around cs arity) frame c))
   dear-around [] arity frame c lt = lt no_frame (activation_of arity [] Empty)
@@ -107,7 +107,7 @@ module _ (bound : ℕ) (results : List ValType) where
 
 -- ---- steps in the frame
 
--- What it goes to runs there.
+-- What the frame leads to runs there.
 pub runs-then : (w : World) (m : Machine) (g : Ghost) → RunsAt w m g → (w' : World) → w'.number ≡ w.number → w'.flat ≡ w.flat → IsInstance w' → (cells' : List ℕ) (place top operand fuel left : ℕ)
     → (led : GoesTo g m fuel w' (record m { cells = cells'; place = place; top = top; operand = operand }) left)
     → RunsAt w' (record m { cells = cells'; place = place; top = top; operand = operand }) led.leads.new
@@ -125,7 +125,7 @@ runs-then w m g r w' number flat instance cells' place top operand fuel left led
       instance = instance;
     }
 
--- The loop behind an operation in its frame.
+-- The loop after an operation in its frame.
 abbrev pub turned : Loop → StateContents → (bytes cells : List ℕ) → (place top operand fuel : ℕ) → Loop
 turned l state bytes cells place top operand fuel =
     record l {
@@ -178,13 +178,13 @@ module _ (bound : ℕ) (l : Loop) (w : Whole) (r : RunsWhole bound l w) where
         };
       }
 
-  -- The frame goes on to where the loop is.
+  -- The frame continues to where the loop is.
   abbrev pub lifted-there : (left : ℕ) → Leads w.ghost l.fuel w.ghost.store (cells_in w.ghost l.machine) l.machine.place (height_in l.machine) left → Reaches bound l w (record l { fuel = left })
   lifted-there left leads =
       lifted l.world.state l.world.bytes l.machine.cells l.machine.place l.machine.top l.machine.operand left
       (record { leads = leads-there w.ghost (store_in l.world) l.fuel (cells_in w.ghost l.machine) l.machine.place (height_in l.machine) left r.runs.store leads; low = r.runs.low; size = refl; below = refl })
 
-  -- Where the next step costs more than is left in the frame, it does so in the whole.
+  -- If the next step in the frame costs more than is left, so does the next step of the whole.
   pub lacks-whole : Lacks w.ghost l.fuel (cells_in w.ghost l.machine) l.machine.place (height_in l.machine) l.fuel → (there : Reaches bound l w l) × (l.fuel < price (next (store_in l.world) no_frame (whole there.new)))
   lacks-whole lacks =
       let there = lifted-there l.fuel lacks.leads in
@@ -196,7 +196,7 @@ module _ (bound : ℕ) (l : Loop) (w : Whole) (r : RunsWhole bound l w) where
             (subst (λ (s : Store). l.fuel < price (next s (frame_of h) (config_of h))) (lacks.leads.store ∙ r.runs.store) lacks.dear)),
       )
 
-  -- The same of a step that costs one unit of fuel in whatever frame it lies.
+  -- The same for a step that costs one unit of fuel in any frame around it.
   pub lacks-around : CostsAround w.ghost (cells_in w.ghost l.machine) l.machine.place (height_in l.machine) → l.fuel ≡ 0 → (there : Reaches bound l w l) × (l.fuel < price (next (store_in l.world) no_frame (whole there.new)))
   lacks-around costs empty =
       let there = lifted-there l.fuel (record { new = costs.new; same = costs.same; store = costs.store; steps = costs.steps l.fuel; runs = costs.runs }) in
@@ -207,7 +207,7 @@ module _ (bound : ℕ) (l : Loop) (w : Whole) (r : RunsWhole bound l w) where
             (λ outer a. subst (λ (s : Store). l.fuel < price (next s outer (InFrame a (frame_of h) (config_of h)))) (costs.store ∙ r.runs.store) (omega (arith, costs.price_is outer a, empty)))),
       )
 
-  -- The same of a trap.
+  -- The same for a trap.
   pub fails-whole : (left : ℕ) (trap : Trap) → Fails w.ghost l.fuel (cells_in w.ghost l.machine) l.machine.place (height_in l.machine) left trap
       → (there : Reaches bound l w (record l { fuel = left + 1 })) × (next (store_in l.world) no_frame (whole there.new) ≡ Traps 1 trap)
   fails-whole left trap fails =
@@ -230,7 +230,7 @@ module _ (bound : ℕ) where
     runs = second.runs;
   }
 
-  -- Where a run starts it has come to.
+  -- A run has arrived where it starts.
   abbrev pub reaches-first : (l : Loop) (w : Whole) → RunsWhole bound l w → Reaches bound l w l
   reaches-first l w r = record { new = w; results = refl; steps = none; runs = r }
 
@@ -240,20 +240,20 @@ module _ (bound : ℕ) where
   pub ran-then : (l l' l'' : Loop) → Ran bound l l' → Ran bound l' l'' → Ran bound l l''
   ran-then l l' l'' first second = record { from = λ w r. let f = first.from w r in reaches-then l l' l'' w f (second.from f.new f.runs); falls = omega (arith, first.falls, second.falls) }
 
-  -- It stops where nothing was paid for the next step.
+  -- The loop stops where nothing was paid for the next step.
   pub stops-unpaid : (s : Stop) → paid_for s ≡ 0 → (l l' : Loop) (w : Whole) (there : Reaches bound l w l') → StopsBy bound s l'.world (store_in l'.world) l'.fuel l'.machine there.new → StopsWhole bound l w s l'
   stops-unpaid s none_paid l l' w there by =
       let same : l'.fuel ≡ l'.fuel + paid_for s = omega (arith, none_paid) in
       let both = subst (λ (n : ℕ). (t : Reaches bound l w (record l' { fuel = n })) × StopsBy bound s l'.world (store_in l'.world) n l'.machine t.new) same (there, by) in
       record { there = both.0; by = both.1 }
 
-  -- An operation goes on in the frame, whatever runs there.
+  -- An operation continues in the frame, whatever runs there.
   pub ran-turned : (l : Loop) (state' : StateContents) (bytes' cells' : List ℕ) (place' top' operand' left' : ℕ)
       → ((g : Ghost) → RunsAt l.world l.machine g → GoesTo g l.machine l.fuel (turned l state' bytes' cells' place' top' operand' left').world (turned l state' bytes' cells' place' top' operand' left').machine left')
       → left_to_do (turned l state' bytes' cells' place' top' operand' left') ≤ left_to_do l → Ran bound l (turned l state' bytes' cells' place' top' operand' left')
   ran-turned l state' bytes' cells' place' top' operand' left' step falls = record { from = λ w r. lifted bound l w r state' bytes' cells' place' top' operand' left' (step w.ghost r.runs); falls = falls }
 
-  -- It lacks fuel, or traps.
+  -- The loop lacks fuel, or traps.
   pub stops-lacking : (l : Loop) → ((g : Ghost) → RunsAt l.world l.machine g → Lacks g l.fuel (cells_in g l.machine) l.machine.place (height_in l.machine) l.fuel) → StopsAt bound l stop.NoFuel l
   stops-lacking l lacks = record { from = λ w r. let (there, dear) = lacks-whole bound l w r (lacks w.ghost r.runs) in stops-unpaid stop.NoFuel refl l l w there dear; falls = omega arith }
 

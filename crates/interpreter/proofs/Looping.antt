@@ -26,7 +26,7 @@ use Rattle.interpreter.specs.declared.machine.Stop.TheVariants as stop
 use Rattle.interpreter.proofs.Lifting.{ran-then, ran-turned, reaches-first, reaches-then, stops-failing, stops-lacking, stops-unpaid, turned}
 use Rattle.interpreter.proofs.Returning.{end-leaves}
 
--- Where it stops behind a run it stops from its start.
+-- If the loop stops after a run, it stops from the start of the run.
 stops-from : (bound : ℕ) (l l' l'' : Loop) (s : Stop) (w : Whole) (first : Reaches bound l w l') → StopsFrom bound l' first.new s l'' → StopsFrom bound l w s l''
 stops-from bound l l' l'' stop.Over w first last = record {
   values = last.values;
@@ -61,18 +61,18 @@ module _ (bound : ℕ) (start l : Loop) (ran : Ran bound start l) where
     leads : (g : Ghost) → RunsAt l.world l.machine g → LeadsOn l.world l.machine g o'
     leads = subst (Turns l.world l.machine) is turns
 
-    -- It was paid for.
+    -- The operation was paid for.
     pub pays-op : (state' : StateContents) (bytes' cells' : List ℕ) (place' top' operand' : ℕ) → 1 ≤ l.fuel
         → ((g : Ghost) → LeadsOn l.world l.machine g o' → Pays g l.machine (turned l state' bytes' cells' place' top' operand' (l.fuel - 1)).world (turned l state' bytes' cells' place' top' operand' (l.fuel - 1)).machine)
         → Ran bound start (turned l state' bytes' cells' place' top' operand' (l.fuel - 1))
     pays-op state' bytes' cells' place' top' operand' paid step =
         ran-then bound start l _ ran (ran-turned bound l state' bytes' cells' place' top' operand' (l.fuel - 1) (λ g r. step g (leads g r) l.fuel (l.fuel - 1) paid refl) (omega (arith, paid)))
 
-    -- It lacks fuel.
+    -- The loop lacks fuel.
     pub lacks-op : l.fuel ≡ 0 → ((g : Ghost) → LeadsOn l.world l.machine g o' → IsDear g l.machine) → StopsAt bound start stop.NoFuel l
     lacks-op none dear = stops-then bound start l l stop.NoFuel ran (stops-lacking bound l (λ g r. dear g (leads g r) l.fuel (omega (arith, none))))
 
-    -- It traps, and was paid for.
+    -- The operation traps, and was paid for.
     pub fails-op : (trap : Trap) → 1 ≤ l.fuel → ((g : Ghost) → LeadsOn l.world l.machine g o' → Traps g l.machine trap) → StopsAt bound start (stop.Traps trap) (record l { fuel = l.fuel - 1 })
     fails-op trap paid fails = stops-then bound start l _ (stop.Traps trap) ran (stops-failing bound l (l.fuel - 1) trap (λ g r. fails g (leads g r) l.fuel (l.fuel - 1) paid refl))
 
@@ -84,11 +84,11 @@ module _ (bound : ℕ) (start l : Loop) (ran : Ran bound start l) where
       pays-op o (op.BrIf n) turns is l.world.state l.world.bytes cells' e.target (l.machine.base + e.height + e.kept) operand' paid
       (λ g leads. subst (Lands l.world l.machine g l.machine.cells (l.machine.top - 1)) (sym e_is) (leads.1 taken) cells' operand' moved)
 
-  -- It stops behind an operation that may go on in another frame.
+  -- The loop stops after an operation that can continue in another frame.
   pub stops-across : (s : Stop) (to : Position) (cells' : List ℕ) (callers' : List Frame) → StopsAt bound l s (loop_at l.world cells' callers' to) → StopsAt bound start s (loop_at l.world cells' callers' to)
   stops-across s to cells' callers' stops = stops-then bound start l _ s ran stops
 
--- The run that led to a position led to what is that position.
+-- The run to a position is a run to any equal position.
 pub ran-at : (bound : ℕ) (start : Loop) (w : World) (cells : List ℕ) (callers : List Frame) (at to : Position) → to ≡ at → Ran bound start (loop_at w cells callers at) → Ran bound start (loop_at w cells callers to)
 ran-at bound start w cells callers at to is ran = subst (λ (p : Position). Ran bound start (loop_at w cells callers p)) (sym is) ran
 
@@ -97,9 +97,9 @@ module _ (bound : ℕ) (start : Loop) (w : World) (cells : List ℕ) (callers : 
   pub leaves-op : RunsSomeWhole bound start → (o : PackedOp) (n : ℕ) → Turns w (machine_at cells at) o → o ≡ op.Leave n → Leaves bound w cells callers at at.fuel n
   leaves-op some o n turns is = end-leaves bound w cells callers at n (subst (Turns w (machine_at cells at)) is turns) (some-there bound start (loop_at w cells callers at) ran some)
 
-  -- ---- operations that are rarer
+  -- ---- rarer operations
 
-  -- An instruction went on in its frame.
+  -- An instruction continued in its frame.
   pub steps-on : (state' : StateContents) (bytes' cells' : List ℕ) (to : Position) → StepsTo w cells at (record w { state = state'; bytes = bytes' }) cells' to
       → Ran bound start (loop_at (record w { state = state'; bytes = bytes' }) cells' callers to)
   steps-on state' bytes' cells' to steps =
@@ -115,7 +115,7 @@ module _ (bound : ℕ) (start : Loop) (w : World) (cells : List ℕ) (callers : 
   }
   stays runs other there = let (g, r) = runs in absurd (there g r)
 
-  -- It stopped before it.
+  -- The loop stopped before the instruction.
   pub stops-before : RunsSomeWhole bound start → (s : Stop) (w' : World) (cells' : List ℕ) → StopsBefore w cells at w' cells' s → StopsAt bound start s (loop_at w' cells' callers at)
   stops-before some s w' cells' before =
       subst (λ (v : World). StopsAt bound start s (loop_at v cells' callers at)) (sym before.same)

@@ -1,4 +1,4 @@
--- Instructions on what the store holds, on the machine.
+-- Instructions on the contents of the store, on the machine.
 use Rattle.std.proofs.Common.{◌≡◌, ℕ, ◌+◌, ◌-◌, ◌<◌, ◌≤◌, List, length, get_or, refl, ap, sym, subst, ◌∙◌, arith}
 use Rattle.std.specs.Prelude.{Result, Ok, Err}
 use Rattle.core_types.specs.declared.op.LoadOp.{LoadOp}
@@ -46,7 +46,7 @@ module _ (w : World) (m : Machine) (g : Ghost) (r : RunsAt w m g) where
         ),
       )
 
-  -- The memory has a result's bytes then.
+  -- The memory has a result's bytes afterwards.
   stored : (few : m.base + g.code.locals + 2 ≤ m.top) (address : ℕ) (found : MemoryInstance) → HasMemory g address found → (result : Result (List ℕ) Trap) → IsStored g address found (cells_in g m) m.place (height_in m) result → IsWritten w m g result
   stored few address found has_memory (Ok bytes) s = pops w m g r 2 (omega arith) few (record w { bytes = bytes }) (m.place + 1) (kept w m g r _ (record w { bytes = bytes }) (with-memory w m g r address found has_memory bytes) (cells_in g m) (height_in m - 2) refl s)
   stored few address found has_memory (Err trap) s = s

@@ -1,4 +1,4 @@
--- What runs with some fuel runs with more, of which as much more is left.
+-- What runs with some fuel also runs with more, and the additional fuel is left.
 use Rattle.std.proofs.Common.{◌≡◌, ℕ, ◌+◌, arith, subst}
 use Rattle.meaning.specs.execution.Configurations.{Configuration, no_frame}
 use Rattle.meaning.specs.execution.Runs.{IsStep, NoHosts, State, Steps, calls, goes, grows, none, one_more, opens}
@@ -67,7 +67,7 @@ module _ (bound k : ℕ) where
       let paid = host.paid in
       record { op = host.op; function = host.function; number = host.number; is_host = host.is_host; height = host.height; lies = host.lies; calls = host.calls; paid = omega (arith, paid) }
 
-  -- Where it stops, it stops with more, but for want of fuel.
+  -- If the loop stops, it also stops with more fuel, except for lack of fuel.
   pub stops-more : (l l' : Loop) (s : Stop) → StopsAt bound l s l' → StopsOrLacks bound (with_more_fuel l k) (stop_with_more s) (with_more_fuel l' k)
   stops-more l l' stop.Over stops = record { from = λ w r. over-more l l' w (stops.from w (less l w r)); falls = tt }
   stops-more l l' stop.Switches stops = record { from = λ w r. switches-more l l' w (stops.from w (less l w r)); falls = let falls = stops.falls in omega (arith, falls) }

@@ -23,7 +23,7 @@ module _ (locals base : ℕ) where
       ∙ ap (λ (z : List ℕ). take locals (drop base xs) ++ z) (drop-append-le (suc (base + locals)) xs ys (omega (arith, inside)))
       ∙ sym (append_assoc (take locals (drop base xs)) (drop (suc (base + locals)) xs) ys)
 
-  -- What lies above its locals.
+  -- What is above its locals.
   pub drop-frame : (cells : List ℕ) → base + locals < length cells → (j : ℕ) → drop (locals + j) (without_scrap locals base cells) ≡ drop (suc (base + locals) + j) cells
   drop-frame cells scrap j =
       ap (λ (n : ℕ). drop (n + j) (without_scrap locals base cells)) (sym (own-length locals base cells scrap))
@@ -38,7 +38,7 @@ module _ (locals base : ℕ) where
     first-length : length (take (to + 1) cells) ≡ to + 1
     first-length = length-take-le (to + 1) cells (omega (arith, low, inside))
 
-    -- The cells below the frame are as they were.
+    -- The cells below the frame are unchanged.
     pub moved-below : take base cells' ≡ take base cells
     moved-below =
         sym (take-set-le base cells' (to + kept) operand (omega arith))

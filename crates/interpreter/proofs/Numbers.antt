@@ -34,7 +34,7 @@ record IsUnary (op : NumericOp) : Type 0 where
   results : (numeric_instruction_type op).results ≡ result_type op ∷ []
   count : numeric_counts op ≡ counts 1 1
 
--- On two operands of the same type.
+-- An operator on two operands of the same type.
 record IsBinary (op : NumericOp) : Type 0 where
   params : (numeric_instruction_type op).params ≡ operand_type op ∷ operand_type op ∷ []
   results : (numeric_instruction_type op).results ≡ result_type op ∷ []
@@ -48,10 +48,10 @@ is-binary : (i : BinaryInstruction) → IsBinary (binary_op i)
 is-binary binary.I32Sub = record { params = refl; results = refl; count = refl }
 is-binary other = record { params = refl; results = refl; count = refl }
 
--- ---- what they lead to
+-- ---- the steps of operators
 
 module _ (w : World) (m : Machine) (g : Ghost) (r : RunsAt w m g) where
-  -- What an operator gives here.
+  -- The result of an operator here.
   abbrev GivesOne : NumericOp → (x : ℕ) → Result ℕ Trap → Type 0
   GivesOne op x result =
       (values : List Val) → numeric_effect g.store (frame_of g) op (value_of (operand_type op) x ∷ values) ≡ push_result g.store (frame_of g) (value_of (result_type op)) result values

@@ -35,7 +35,7 @@ own-cells locals base cells operand scrap =
     take_at (take locals (drop base (set cells (base + locals) operand))) (drop (suc (base + locals)) (set cells (base + locals) operand)) locals (own-length locals base (set cells (base + locals) operand) (omega (arith, size, scrap)))
     ∙ ap (take locals) (drop-set-add base cells locals operand) ∙ take-set-le locals (drop base cells) locals operand (omega arith)
 
--- The arguments of a call of a function of a module lie on top of the frame's cells, where this is the topmost operand, at this place.
+-- The arguments of a call of a function of a module are on top of the frame's cells. This is the topmost operand, at this place.
 pub record ArgumentsLie (op : PlainOp) (m : Machine) (h : Ghost) (top operand : ℕ) (t : FuncType) (instance : ℕ) (code : Code) : Type 0 where
   pub rest : Body
   pub rest_is : h.rest ≡ Then op rest
@@ -77,7 +77,7 @@ module _ (w : World) (m : Machine) (h : Ghost) (r : RunsAt w m h) (op : PlainOp)
   frame-size : length frame_cells ≡ length m.cells - suc m.base
   frame-size = let whole = frame-length h.code.locals m.base put (omega (arith, put-size, r.scrap)) in omega (arith, put-size, whole)
 
-  -- The arguments, from where the first one lies.
+  -- The arguments, from the cell of the first one on.
   arguments-lie : (from : ℕ) → from + n ≡ top + 1 → take n (drop from put) ≡ take n (drop (b.height - n) frame_cells)
   arguments-lie from from_is =
       let j = b.height - n - h.code.locals in
@@ -87,7 +87,7 @@ module _ (w : World) (m : Machine) (h : Ghost) (r : RunsAt w m h) (op : PlainOp)
       ∙ ap (take n) (sym (drop-frame h.code.locals m.base put (omega (arith, put-size, r.scrap)) j))
       ∙ ap (λ (i : ℕ). take n (drop i frame_cells)) (sym over)
 
-  -- The callee runs at its first place, in a frame that begins with the arguments, behind which the cells are cleared.
+  -- The callee runs at its first place, in a frame that begins with the arguments, followed by cleared cells.
   module _ (cells' : List ℕ) (base' : ℕ) (own : take (n + k) (drop base' cells') ≡ take n (drop (b.height - n) frame_cells) ++ replicate k 0) where
     pub callee-runs : (s : Signatures) (ops : List FlatOp) (at : ℕ) → (context_at h.store (body_place t instance code)).types ≡ s.types → (context_at h.store (body_place t instance code)).functions ≡ s.functions
         → BeginsAt s ops (n + k) (length t.results) at code.body → base' + (callee h s ops at t instance code b.values).code.greatest < length cells'
@@ -112,12 +112,12 @@ module _ (w : World) (m : Machine) (h : Ghost) (r : RunsAt w m h) (op : PlainOp)
         sym (drop-take m.base (n + k) cells') ∙ ap (drop m.base) filled ∙ drop_at (take m.base m.cells) _ m.base base-size
         ∙ ap (λ (z : List ℕ). z ++ replicate k 0) (arguments-lie (top + 1 - n) (omega (arith, arguments-fit)))
 
-  -- With the cells behind the arguments cleared.
+  -- With the cells after the arguments cleared.
   module _ (cells' : List ℕ) (filled : take (top + 1 + k) cells' ≡ take (top + 1) put ++ replicate k 0) (size : length cells' ≡ length m.cells) (base' : ℕ) (base_is : base' + n ≡ top + 1) where
     first-size : length (take (top + 1) put) ≡ top + 1
     first-size = length-take-le (top + 1) put (omega (arith, put-size, top-inside))
 
-    -- The cells below are as they were.
+    -- The cells below are unchanged.
     same-below : (q : ℕ) → q ≤ top + 1 → take q cells' ≡ take q put
     same-below q le =
         sym (take-take q (top + 1 + k) cells' (omega (arith, le))) ∙ ap (take q) filled
@@ -136,7 +136,7 @@ module _ (w : World) (m : Machine) (h : Ghost) (r : RunsAt w m h) (op : PlainOp)
         ∙ drop-append-le base' (take (top + 1) put) (replicate k 0) (omega (arith, first-size, base_is))
         ∙ ap (λ (z : List ℕ). z ++ replicate k 0) (ap (λ (i : ℕ). drop base' (take i put)) (sym base_is) ∙ drop-take base' n put ∙ arguments-lie base' base_is)
 
-    -- What the caller's frame holds then.
+    -- The caller's frame afterwards.
     pub caller-cells : without_scrap h.code.locals m.base (take base' cells') ≡ map cell_of h.locals ++ cells_of (drop n b.values ++ values_under h.labels)
     caller-cells =
         let j = base' - suc (m.base + h.code.locals) in

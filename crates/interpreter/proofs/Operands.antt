@@ -1,4 +1,4 @@
--- Operands lie above the locals.
+-- Operands are above the locals.
 use Rattle.std.proofs.Common.{◌≡◌, ℕ, zero, suc, ◌+◌, ◌-◌, ◌≤◌, List, length, reverse, get_or, refl, ap, sym, subst, ◌∙◌, arith, length-append}
 use Rattle.std.proofs.lemmas.List.{length-map, length-reverse}
 use Rattle.std.specs.Prelude.{Option, Some}
@@ -48,7 +48,7 @@ module _ (g : Ghost) (cells : List ℕ) (at top : ℕ) where
 
   -- ---- of a condition
 
-  -- What is led to has as many locals.
+  -- The machine after it has the same number of locals.
   pub charged-low : Runs g cells at top → (next_at next_top : ℕ) → IsCharged g cells at top next_at next_top → length g.locals ≤ next_top
   charged-low r next_at next_top (goes, dear) =
       let l : Leads g 1 g.store cells next_at next_top 0 = goes 1 0 (omega arith) (omega arith) in
@@ -57,7 +57,7 @@ module _ (g : Ghost) (cells : List ℕ) (at top : ℕ) where
       let types : length l.new.types ≡ length g.types = ap (λ (ts : List ValType). length ts) l.same.types in
       omega (arith, before, after, types, l.runs.holds.top_is)
 
-  -- Either way.
+  -- In both cases.
   pub either-way : (Zero Other P : Type 0) → IsChosen cells top Zero Other → (Zero → P) → (Other → P) → P
   either-way Zero Other P (some, inside, zeros, others) first second = by (get_or cells (top - 1) 0) zeros others
     where
@@ -65,7 +65,7 @@ module _ (g : Ghost) (cells : List ℕ) (at top : ℕ) where
       by zero zeros others = first (zeros refl)
       by (suc n) zeros others = second (others (λ e. absurd cc))
 
-  -- The condition lies above the locals.
+  -- The condition is above the locals.
   pub condition-low : Runs g cells at top → (next_at : ℕ) (Other : Type 0) → (Other → length g.locals ≤ top - 1) → IsChosen cells top (IsCharged g cells at top next_at (top - 1)) Other → length g.locals + 1 ≤ top
   condition-low r next_at Other low c =
       let le = either-way (IsCharged g cells at top next_at (top - 1)) Other (length g.locals ≤ top - 1) c (charged-low r next_at (top - 1)) low in

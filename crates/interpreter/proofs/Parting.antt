@@ -11,7 +11,7 @@ use Rattle.simulation.proofs.Cells.{cells-joined, cells-length}
 pub middle : (n m : ℕ) (xs : List ℕ) → m ≤ n → drop m (take n xs) ≡ take (n - m) (drop m xs)
 middle n m xs le = let sum : n ≡ m + (n - m) = omega (arith, le) in ap (λ (k : ℕ). drop m (take k xs)) sum ∙ drop-take m (n - m) xs
 
--- Locals and operands, of which the topmost ones are apart.
+-- Locals and operands, with the topmost ones separate.
 parted : (own values : List Val) (n : ℕ) → map cell_of own ++ cells_of values ≡ (map cell_of own ++ cells_of (drop n values)) ++ cells_of (take n values)
 parted own values n =
     ap (λ (z : List ℕ). map cell_of own ++ z) (ap cells_of (sym (take-append-drop n values)) ∙ cells-joined (take n values) (drop n values))

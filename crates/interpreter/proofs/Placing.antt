@@ -1,4 +1,4 @@
--- Where packed operations stand.
+-- The places of packed operations.
 use Rattle.std.proofs.Common.{◌≡◌, ℕ, zero, suc, ◌<◌, List, [], ◌∷◌, length, drop, get_or, refl, ap, sym, subst, ◌∙◌, arith}
 use Rattle.std.specs.List.{All}
 use Rattle.meaning.specs.structure.Bodies.{Body, Empty, Then, Nested, IfElse}
@@ -14,7 +14,7 @@ use Rattle.simulation.specs.Standing.{FrameCode, StandsIn}
 use Rattle.simulation.proofs.Settling.{at-leave}
 use Rattle.simulation.proofs.Typed.{Settled, settled}
 
--- An operation stands at a place.
+-- There is an operation at a place.
 abbrev StandsSomewhere : List FlatOp → (at : ℕ) → Type 0
 StandsSomewhere ops at = (o : FlatOp) × (more : List FlatOp) × (drop at ops ≡ o ∷ more)
 
@@ -25,7 +25,7 @@ stands-at f at values labels (IfElse type inner other rest) s settled = (_, _, s
 stands-at f at values [] Empty s settled = let (more, placed) = at-leave f at values s in (_, more, placed)
 stands-at f at values (label ∷ labels) Empty s settled = (_, _, settled.placed)
 
--- What a packed operation stands for, where it is at a place.
+-- The operation that a packed operation at a place represents.
 pub record IsPackedAt (t : SideTables) (ops : List PackedOp) (whole : List FlatOp) (at : ℕ) : Type 0 where
   pub inside : at < length ops
   pub more : List FlatOp
@@ -41,7 +41,7 @@ packed-at t (op ∷ ops) within (suc at) o more e =
     let lt = further.inside in
     record { inside = omega (arith, lt); more = further.more; there = further.there; within = further.within }
 
--- One stands where the machine is.
+-- There is an operation where the machine is.
 pub stands-there : (t : SideTables) (ops : List PackedOp) → All (IsWithin t) ops → (g : Ghost) (cells : List ℕ) (at top : ℕ) → g.code.operations ≡ made t ops → Runs g cells at top → IsPackedAt t ops g.code.operations at
 stands-there t ops within g cells at top packed r =
     let s : Settled g cells at top = settled g cells at top r in

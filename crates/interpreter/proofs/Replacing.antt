@@ -1,4 +1,4 @@
--- A tail call of a function of a module: its frame takes the place of the one that calls.
+-- A tail call of a function of a module: its frame replaces the frame that calls.
 use Rattle.std.proofs.Common.{◌≡◌, ℕ, ◌+◌, ◌-◌, ◌<◌, ◌≤◌, List, [], ◌∷◌, ◌++◌, length, take, drop, set, replicate, Some, slice_get, refl, ap, sym, subst, ◌∙◌, arith, append_assoc}
 use Rattle.std.proofs.lemmas.List.{take-set-le}
 use Rattle.core_types.specs.declared.op.PlainOp.{PlainOp}
@@ -33,7 +33,7 @@ use Rattle.interpreter.proofs.Lifting.{layers-out}
 use Rattle.interpreter.proofs.Opening.{ArgumentsLie, placed-below, placed-own}
 use Rattle.interpreter.proofs.Switching.{switched}
 
--- Cells that are moved down, and others that are cleared behind them.
+-- Cells that are moved down, and others after them that are cleared.
 pub moved-and-cleared : (cells moved cleared : List ℕ) (base from count many top operand : ℕ) → base ≤ top → take (base + count) moved ≡ take base (set cells top operand) ++ take count (drop from (set cells top operand))
     → take (base + count + many) cleared ≡ take (base + count) moved ++ replicate many 0 → take (base + (count + many)) cleared ≡ take base cells ++ (take count (drop from (set cells top operand)) ++ replicate many 0)
 moved-and-cleared cells moved cleared base from count many top operand low moved_is cleared_is =
@@ -72,7 +72,7 @@ module _ (bound : ℕ) (w : World) (cells : List ℕ) (callers : List Frame) (at
 
   -- ---- the step
 
-  -- In whatever waits.
+  -- Within any waiting frames.
   grows-in : (cs : List Caller) (arity : ℕ) → next h.store no_frame (plug (layers_around cs arity) (frame_of h) (in_frame h.values h.labels (Then op b.rest)))
       ≡ Grows 1 h.store no_frame (plug (layers_around cs (length f.ty.now.results)) (frame_of_call f.ty.now f.instance (code_of f.func.now) b.values) (in_frame [] (function_label (length f.ty.now.results) ∷ []) (code_of f.func.now).body))
   grows-in [] arity =
@@ -98,7 +98,7 @@ module _ (bound : ℕ) (w : World) (cells : List ℕ) (callers : List Frame) (at
     enough = subst (λ (z : Next). price z ≤ at.fuel) (sym grows-next) some;
   }
 
-  -- ---- with the arguments moved down, and the cells behind them cleared
+  -- ---- with the arguments moved down, and the cells after them cleared
 
   module _ (cells' : List ℕ) (replaced_so : AreReplaced cells at.base (record at { top = top; operand = operand }) f cells')
       (room : at.base + f.flat.now.greatest < length cells) where

@@ -1,4 +1,4 @@
--- Results of a frame that land in the cells of the one that waits.
+-- Results of a frame that are moved to the cells of the waiting one.
 use Rattle.std.proofs.Common.{◌≡◌, ℕ, suc, ◌+◌, ◌-◌, ◌<◌, ◌≤◌, List, ◌++◌, length, map, take, drop, set, ap, sym, subst, ◌∙◌, arith, append_assoc}
 use Rattle.std.proofs.lemmas.List.{length-set, length-take-le, take-append-le, take-set-le, take-take}
 use Rattle.core_types.specs.declared.outcome.Val.{Val}
@@ -18,7 +18,7 @@ use Rattle.interpreter.proofs.Forms.{inside}
 use Rattle.interpreter.proofs.Moves.{drop-frame, frame-taken, moved-below, moved-frame}
 use Rattle.interpreter.proofs.Parting.{above-parted}
 
--- How many operands one that waits has.
+-- The number of operands of a waiting frame.
 abbrev pub held_values : Caller → ℕ
 held_values c = length c.values + under c.labels
 
@@ -32,7 +32,7 @@ module _ (w : World) (m : Machine) (h : Ghost) (r : RunsAt w m h) (n : ℕ) (eno
   pub results-low : m.base + h.code.locals + n ≤ m.top
   results-low = omega (arith, r.runs.holds.top_is, r.low, r.runs.holds.count, enough)
 
-  -- The topmost values lie on top.
+  -- The topmost values are on top.
   pub results-lie : take n (drop (m.top + 1 - n) put) ≡ cells_of (take n h.values)
   results-lie =
       let j = height_in m - n - h.code.locals in
@@ -45,7 +45,7 @@ module _ (w : World) (m : Machine) (h : Ghost) (r : RunsAt w m h) (n : ℕ) (eno
       ∙ above-parted (cells_in h m) (height_in m) h.locals (h.values ++ values_under h.labels) n r.runs.holds.held (omega (arith, r.runs.holds.top_is, all)) (omega (arith, enough, all))
       ∙ ap cells_of (take-append-le n h.values (values_under h.labels) enough)
 
-  -- In the frame of the one that waits.
+  -- In the frame that waits.
   module _ (code : Contents) (frame : Frame) (c : Caller) (arity : ℕ) (stands : CallerStands code (length m.cells) frame c arity (take m.base m.cells)) where
     below-size : length (take m.base m.cells) ≡ m.base
     below-size = length-take-le m.base m.cells (omega (arith, r.low, inside w m h r))
@@ -56,7 +56,7 @@ module _ (w : World) (m : Machine) (h : Ghost) (r : RunsAt w m h) (n : ℕ) (eno
     to-is : m.base - 1 ≡ frame.base + c.code.locals + held_values c
     to-is = omega (arith, base-is)
 
-    -- What it holds.
+    -- The cells of the waiting frame.
     pub caller-held : take (c.code.locals + held_values c) (without_scrap c.code.locals frame.base put) ≡ map cell_of c.locals ++ cells_of (c.values ++ values_under c.labels)
     caller-held =
         frame-taken c.code.locals frame.base put (omega (arith, base-is, r.low, inside w m h r, put-size)) (held_values c)
@@ -70,14 +70,14 @@ module _ (w : World) (m : Machine) (h : Ghost) (r : RunsAt w m h) (n : ℕ) (eno
       pub same-size : length cells' ≡ length m.cells
       same-size = moved.size ∙ put-size
 
-      -- The cells below it are as they were.
+      -- The cells below it are unchanged.
       pub under-kept : take frame.base cells' ≡ take frame.base (take m.base m.cells)
       under-kept =
           moved-below c.code.locals frame.base put (omega (arith, base-is, r.low, inside w m h r, put-size)) m.top (held_values c) n cells' operand' (omega (arith, base-is, results-low)) (omega (arith, inside w m h r, put-size)) moved-there
           ∙ take-set-le frame.base m.cells m.top m.operand (omega (arith, base-is, r.low))
           ∙ sym (take-take frame.base m.base m.cells (omega (arith, base-is)))
 
-      -- What it held, and the results on top.
+      -- Its cells before, and the results on top.
       pub results-land : take (c.code.locals + held_values c + n) (put_back c.code.locals frame.base cells' (frame.base + c.code.locals + held_values c + n) operand') ≡ map cell_of c.locals ++ cells_of ((take n h.values ++ c.values) ++ values_under c.labels)
       results-land =
           let scrap : frame.base + c.code.locals < length put = omega (arith, base-is, r.low, inside w m h r, put-size) in

@@ -1,4 +1,4 @@
--- A frame that is left: the one that waits goes on, or the run is over.
+-- A frame that is left: the waiting one continues, or the run is over.
 use Rattle.std.proofs.Common.{◌≡◌, ℕ, suc, ◌+◌, ◌-◌, ◌<◌, ◌≤◌, List, [], ◌∷◌, ◌++◌, length, map, take, drop, set, Some, refl, ap, sym, subst, ◌∙◌, arith, length-append}
 use Rattle.std.proofs.lemmas.List.{append-nil, length-set, length-take-le}
 use Rattle.core_types.specs.declared.outcome.Val.{Val}
@@ -58,7 +58,7 @@ frame-typed store (c ∷ cs) arity frame x results typed =
     let (place, all, there, (stack, given, types, arity_is, values, own_locals, inside_typed, onward)) = inside-typed store around_c outer (InFrame (activation_of arity c.values c.rest) frame x) outside_place results own typed in
     (given, types, arity_is, own_locals, inside_typed)
 
--- What runs where one that waits goes on, with these results.
+-- What runs where a waiting frame continues, with these results.
 abbrev pub ghost_resumed : Caller → Store → (types given : List ValType) → List Val → Ghost
 ghost_resumed c store types given values = record {
   code = c.code;
@@ -130,7 +130,7 @@ module _ (bound : ℕ) (w : World) (cells : List ℕ) (at : Position) (fuel cost
   many : n ≤ length h.values
   many = omega (arith, left.enough, n_is)
 
-  -- ---- one waits
+  -- ---- a frame waits
 
   module _ (frame : Frame) (others : List Frame) (c : Caller) (cs : List Caller) (r : RunsWhole bound (before (frame ∷ others)) (whole_of (c ∷ cs))) where
     abbrev outer : Activated
@@ -187,7 +187,7 @@ module _ (bound : ℕ) (w : World) (cells : List ℕ) (at : Position) (fuel cost
       pub resumed : SwitchesTo bound (before (frame ∷ others)) (whole_of (c ∷ cs)) (loop_at w cells' others (position_resumed at frame n operand'))
       resumed = ((stands.instance, subst (λ (q : ℕ). IsLoaded w.code q stands.instance) (sym stands.number) stands.loaded), resumed-in)
 
-  -- ---- none waits
+  -- ---- no frame waits
 
   module _ (r : RunsWhole bound (before []) (whole_of [])) where
     goes-out : next (store_in w) no_frame (whole (whole_of [])) ≡ Goes cost (store_in w) no_frame (Running (take n h.values) Empty)

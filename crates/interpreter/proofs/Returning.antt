@@ -61,7 +61,7 @@ module _ (bound : ℕ) (w : World) (cells : List ℕ) (callers : List Frame) (at
   abbrev l : Loop
   l = loop_at w cells callers at
 
-  -- The whole, once labels were left.
+  -- The whole, after labels were left.
   module _ (u : Whole) (r : RunsWhole bound l u) where
     abbrev s : Settled u.ghost (cells_in u.ghost m) m.place (height_in m)
     s = settled u.ghost (cells_in u.ghost m) m.place (height_in m) r.runs.runs

@@ -1,4 +1,4 @@
--- Operations in the loop that keeps what is spare of the fuel.
+-- Operations in the loop that keeps the spare fuel.
 use Rattle.std.proofs.Common.{◌≡◌, ℕ, ◌+◌, ◌-◌, ◌^◌, ◌<◌, ◌≤◌, List, length, ap, subst, sym, ◌∙◌, arith}
 use Rattle.std.specs.Prelude.{Option, Some, None}
 use Rattle.core_types.specs.declared.outcome.Trap.{Trap}
@@ -31,16 +31,16 @@ use Rattle.interpreter.proofs.Looping.{branches-op, fails-op, leaves-op, pays-op
 use Rattle.interpreter.proofs.MoreFuel.{ran-more, runs-more, stops-more}
 use Rattle.interpreter.proofs.Turning.{operations-turn}
 
--- Where it ran to, an operation is next.
+-- At the end of a run, an operation is next.
 pub before-end : (bound : ℕ) (start l : Loop) → Ran bound start l → RunsSomeWhole bound start → l.machine.place < length l.world.flat.operations.items
 before-end bound start l ran some = let (g, r) = runs-there bound start l ran some in (operations-turn l.world l.machine g r).0
 
--- Behind a run it stops, or lacks fuel, as from where the run led.
+-- After a run the loop stops, or lacks fuel, as it does from the end of the run.
 then-stops : (bound : ℕ) (l l' l'' : Loop) (s : Option Stop) → Ran bound l l' → StopsOrLacks bound l' s l'' → StopsOrLacks bound l s l''
 then-stops bound l l' l'' (Some s) ran stops = stops-then bound l l' l'' s ran stops
 then-stops bound l l' l'' None ran lacks = ran-then bound l l' l'' ran lacks
 
--- Where it stops it has no more fuel.
+-- Where the loop stops it has no more fuel.
 fuel-falls : (bound : ℕ) (l l' : Loop) (w : Whole) (s : Stop) → RunsWhole bound l w → bound < 2 ^ 64 → StopsAt bound l s l' → l'.fuel ≤ l.fuel
 fuel-falls bound l l' w stop.Over r few stops = Steps-fuel NoHosts bound no_frame (stops.from w r).steps
 fuel-falls bound l l' w stop.Switches r few stops = let deep = r.deep in let falls = stops.falls in omega (arith, deep, few, falls)
@@ -52,7 +52,7 @@ fuel-falls bound l l' w stop.NoMemory r few stops = let less = Steps-fuel NoHost
 fuel-falls bound l l' w (stop.CallsHost kind address behind) r few stops = let less = Steps-fuel NoHosts bound no_frame (stops.from w r).there.steps in omega (arith, less)
 fuel-falls bound l l' w (stop.LeavesOther kind n) r few stops = let less = Steps-fuel NoHosts bound no_frame (stops.from w r).there.steps in omega (arith, less)
 
--- What a position is ahead, it ran to.
+-- The loop ran to any position that is equal to the one ahead.
 pub ran-ahead : (bound : ℕ) (start : Loop) (w : World) (cells : List ℕ) (callers : List Frame) (end : ℕ) (to : Position) (at : Ahead) → to.instance ≡ w.number → position_ahead to.instance end at ≡ to
     → Ran bound start (loop_at w cells callers to) → to.fuel < 2 ^ 64 → RanAhead bound start w cells callers end at
 ran-ahead bound start w cells callers end to at here is ran small = record {
@@ -61,7 +61,7 @@ ran-ahead bound start w cells callers end to at here is ran small = record {
 }
 
 module _ (bound : ℕ) (start : Loop) (w : World) (cells : List ℕ) (callers : List Frame) (end : ℕ) (at : Ahead) (ran : RanAhead bound start w cells callers end at) (inside : at.place < end) where
-  -- Where it is, with all fuel and with one unit of it.
+  -- The loop here, with all fuel and with one unit of it.
   abbrev all : Loop
   all = loop_at w cells callers (position_ahead w.number end at)
 
@@ -71,14 +71,14 @@ module _ (bound : ℕ) (start : Loop) (w : World) (cells : List ℕ) (callers : 
   is-all : 1 + rest_ahead end at ≡ fuel_ahead end at
   is-all = omega (arith, inside)
 
-  -- It ran to there with the rest added.
+  -- The loop ran to there, with the rest added.
   pub ran-here : (p : Position) → p ≡ with_rest end at (position_with w.number 1 at) → Ran bound start (loop_at w cells callers p)
   ran-here p is = ran-at bound start w cells callers _ p is (subst (λ (n : ℕ). Ran bound start (loop_at w cells callers (position_with w.number n at))) (sym is-all) ran.ran)
 
-  -- ---- operations that do not leave the line
+  -- ---- operations in the loop's own code
 
   module _ (o o' : PackedOp) (turns : Turns w (machine_at cells (position_with w.number 1 at)) o) (is_op : o ≡ o') where
-    -- It was paid for.
+    -- The operation was paid for.
     pub pays-ahead : (state' : StateContents) (bytes' cells' : List ℕ) (top' operand' : ℕ)
         → ((g : Ghost) → LeadsOn w (machine_at cells (position_with w.number 1 at)) g o'
         → Pays g (machine_at cells (position_with w.number 1 at)) (record w { state = state'; bytes = bytes' }) (record (machine_at cells (position_with w.number 1 at)) { cells = cells'; place = at.place + 1; top = top'; operand = operand' }))
@@ -92,7 +92,7 @@ module _ (bound : ℕ) (start : Loop) (w : World) (cells : List ℕ) (callers : 
           small = omega (arith, small, inside);
         }
 
-    -- It leads to another place.
+    -- The operation leads to another place.
     pub jumps-ahead : (cells' : List ℕ) (place' top' operand' : ℕ)
         → ((g : Ghost) → LeadsOn w (machine_at cells (position_with w.number 1 at)) g o'
         → Pays g (machine_at cells (position_with w.number 1 at)) w (record (machine_at cells (position_with w.number 1 at)) { cells = cells'; place = place'; top = top'; operand = operand' }))
@@ -102,7 +102,7 @@ module _ (bound : ℕ) (start : Loop) (w : World) (cells : List ℕ) (callers : 
         subst (λ (n : ℕ). Ran bound start (loop_at w cells' callers (record (position_with w.number n at) { place = place'; top = top'; operand = operand' }))) paid
         (pays-op bound start all ran.ran o o' turns is_op w.state w.bytes cells' place' top' operand' (omega (arith, inside)) step)
 
-    -- It traps, and was paid for.
+    -- The operation traps, and was paid for.
     pub fails-ahead : (trap : Trap) → ((g : Ghost) → LeadsOn w (machine_at cells (position_with w.number 1 at)) g o' → Traps g (machine_at cells (position_with w.number 1 at)) trap)
         → (p : Position) → p ≡ with_rest end at (position_with w.number 0 at) → StopsAt bound start (stop.Traps trap) (loop_at w cells callers p)
     fails-ahead trap fails p is =
@@ -122,7 +122,7 @@ module _ (bound : ℕ) (start : Loop) (w : World) (cells : List ℕ) (callers : 
 
   -- ---- where it lands
 
-  -- What is spare there.
+  -- The spare fuel there.
   pub jumps-on : (cells' : List ℕ) (next : Ahead) → fuel_ahead end next ≡ 0 + rest_ahead end at → Ran bound start (loop_at w cells' callers (position_with w.number (0 + rest_ahead end at) next)) → RanAhead bound start w cells' callers end next
   jumps-on cells' next fuel led =
       let small = ran.small in
@@ -145,7 +145,7 @@ module _ (bound : ℕ) (start : Loop) (w : World) (cells : List ℕ) (callers : 
         ran-ahead bound start w cells' callers end (with_rest end at to) next (ap (λ (p : Position). p.instance) landed ∙ here) is
         (subst (λ (p : Position). Ran bound start (loop_at w cells' callers (with_rest end at p))) (sym landed) led) (omega (arith, inside, small, fuel, free))
 
-  -- ---- operations that get one unit of the fuel
+  -- ---- operations that get one unit of fuel
 
   module _ (some : RunsSomeWhole bound start) where
     pub lent : RunsSomeWhole bound one
@@ -163,7 +163,7 @@ module _ (bound : ℕ) (start : Loop) (w : World) (cells : List ℕ) (callers : 
     leaves-ahead o n turns is = leaves-op bound one w cells callers (position_with w.number 1 at) (ran-first bound one) lent o n turns is
 
     module _ (cells' : List ℕ) (callers' : List Frame) (to : Position) where
-      -- It goes on, within the list, and at most the one unit is left.
+      -- The loop continues, within the list, and at most the one unit is left.
       module _ (goes : GoesOn bound one cells' callers' to) where
         pub goes-within : end ≡ length w.flat.operations.items → to.place ≤ end
         goes-within is = let there = before-end bound one (loop_at w cells' callers' to) goes.0 lent in omega (arith, there, is)
@@ -185,7 +185,7 @@ module _ (bound : ℕ) (start : Loop) (w : World) (cells : List ℕ) (callers : 
               let small = ran.small in
               ran-ahead bound start w cells' callers' end (with_rest end at to) next goes.1 is (with-rest w cells' callers' to goes.0) (omega (arith, inside, left, small))
 
-      -- It stops.
+      -- The loop stops.
       pub stops-ahead : (w' : World) (s : Stop) → StopsAt bound one s (loop_at w' cells' callers' to) → (p : Position) → p ≡ with_rest end at to → (result : Option Stop) → result ≡ stop_with_more s
           → StopsOrLacks bound start result (loop_at w' cells' callers' p)
       stops-ahead w' s stops p is result result_is =
@@ -196,7 +196,7 @@ module _ (bound : ℕ) (start : Loop) (w : World) (cells : List ℕ) (callers : 
       pub stops-left : bound < 2 ^ 64 → (w' : World) (s : Stop) → StopsAt bound one s (loop_at w' cells' callers' to) → to.fuel ≤ 1
       stops-left few w' s stops = let (u, r) = lent in fuel-falls bound one (loop_at w' cells' callers' to) u s r few stops
 
-    -- ---- instructions that are rarer
+    -- ---- rarer instructions
 
     pub steps-ahead : (state' : StateContents) (bytes' cells' : List ℕ) (to : Position) → StepsTo w cells (position_with w.number 1 at) (record w { state = state'; bytes = bytes' }) cells' to
         → RanAhead bound start (record w { state = state'; bytes = bytes' }) cells' callers end (record at { place = to.place; top = to.top; operand = to.operand })

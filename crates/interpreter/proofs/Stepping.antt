@@ -40,21 +40,21 @@ module _ (w : World) (cells : List ℕ) (at : Position) (kind : OtherInstruction
     stops : (s : Stop) → s ≡ stop.NoFuel → at.fuel ≡ 0 → ((g : Ghost) → OtherLeads w m g kind' n → IsDear g m) → StopsBefore w cells at w cells s
     stops s is none dear = rw is (record { same = refl; kept = refl; there = λ g r. dear g (leads-as g r) at.fuel (omega (arith, none)) })
 
-    -- An operand more.
+    -- One more operand.
     pub pushes : (result : Option Position) (why : Stop) (cell cell' : ℕ) (cells' : List ℕ) → IsPaid at result why (position_pushed at cell) → OnSome result (cells' ≡ set cells at.top at.operand) → IfNone result (cells' ≡ cells) → cell ≡ cell'
         → ((g : Ghost) → OtherLeads w m g kind' n → Costs w m g (pushed m cell')) → Steps w cells at result why w cells'
     pushes (Some to) why cell cell' cells' (paid, there) put kept same costs =
         rw (there, put, same) (record { there = refl; falls = omega (arith, paid); leads = λ g r. (costs g (leads-as g r)).0 at.fuel (at.fuel - 1) paid refl })
     pushes None why cell cell' cells' (there, none) put kept same costs = rw kept (stops why there none (λ g leads. (costs g leads).1))
 
-    -- A topmost one in the place of so many.
+    -- A topmost operand in the place of that many.
     pub lowers : (result : Option Position) (why : Stop) (by cell : ℕ) → IsPaid at result why (position_lowered at by cell)
         → ((g : Ghost) → OtherLeads w m g kind' n → Costs w m g (lowered m by cell)) → Steps w cells at result why w cells
     lowers (Some to) why by cell (paid, there) costs =
         rw there (record { there = refl; falls = omega (arith, paid); leads = λ g r. (costs g (leads-as g r)).0 at.fuel (at.fuel - 1) paid refl })
     lowers None why by cell (there, none) costs = stops why there none (λ g leads. (costs g leads).1)
 
-  -- In the place of none.
+  -- In the place of no operand.
   pub replaced-here : (g : Ghost) (cell : ℕ) → Costs w m g (replaced m cell) → Costs w m g (lowered m 0 cell)
   replaced-here g cell costs = let same : at.top ≡ at.top - 0 = omega arith in subst (λ (t : ℕ). Costs w m g (record (replaced m cell) { top = t })) same costs
 

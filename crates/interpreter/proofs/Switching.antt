@@ -48,14 +48,14 @@ whole-depth cs arity f values labels rest =
     plugged-depth (layers_around cs arity) f (in_frame values labels rest)
     ∙ ap (λ (n : ℕ). n + depth (in_frame values labels rest)) two ∙ ap (λ (n : ℕ). suc (length cs) + n) three ∙ omega arith
 
--- As many wait as the loop has.
+-- The number of waiting frames is that of the loop.
 pub callers-count : (code : Contents) (size : ℕ) (frames : List Frame) (cs : List Caller) (arity : ℕ) (below : List ℕ) → CallersStand code size frames cs arity below → length frames ≡ length cs
 callers-count code size [] [] arity below stand = refl
 callers-count code size [] (c ∷ cs) arity below stand = absurd stand
 callers-count code size (frame ∷ frames) [] arity below stand = absurd stand
 callers-count code size (frame ∷ frames) (c ∷ cs) arity below (stands, further) = ap suc (callers-count code size frames cs c.code.outermost.kept (take frame.base below) further)
 
--- ---- where the loop goes on
+-- ---- where the loop continues
 
 -- Steps that keep the store lead to a frame, in the world of its instance.
 pub switched : (bound : ℕ) (l l' : Loop) (u new : Whole) (other : World) → IsSeenFrom l'.number l.world other → RunsWhole bound l u → new.results ≡ u.results
@@ -78,7 +78,7 @@ switched bound l l' u new other seen r results steps runs callers arity deep =
       };
     }
 
--- Code of the same instance is gone on with, and code of another one is next.
+-- The loop continues with code of the same instance, or code of another one is next.
 pub crosses : (bound : ℕ) (l : Loop) (cells' : List ℕ) (callers' : List Frame) (result : Crossing) (to : Position) → RunsSomeWhole bound l → IsCrossed l.world.number result to.instance
     → CrossesTo bound l (loop_at l.world cells' callers' to) → left_to_do (loop_at l.world cells' callers' to) < left_to_do l → (why : Stop) → Crosses bound l result why cells' callers' to
 crosses bound l cells' callers' Goes to (u, r) number goes less why = (

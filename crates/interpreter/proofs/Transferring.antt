@@ -95,7 +95,7 @@ module _ (bound : ℕ) (w : World) (cells : List ℕ) (callers : List Frame) (at
         (sym x_is) (λ landed. (turns-at transfer.BrTable is g r).0 held' operand' landed at.fuel left both.0 both.1) there)
         cells' to moved to_is
 
-  -- ---- for nothing
+  -- ---- at no cost
 
   pub jumps : kind ≡ transfer.Jump → at.place + 1 < 2 ^ 32 → Fits w m (op.Transfer kind n) → (x : Entry) → x ≡ e → GoesOn bound l cells callers (record at { place = x.target })
   jumps is next fits x x_is =

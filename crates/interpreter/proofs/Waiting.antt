@@ -1,4 +1,4 @@
--- A call of a function of a module: its frame is opened, and the one that called it waits.
+-- A call of a function of a module: its frame is opened, and the caller waits.
 use Rattle.std.proofs.Common.{◌≡◌, ℕ, suc, ◌+◌, ◌-◌, ◌<◌, ◌≤◌, List, ◌∷◌, ◌++◌, length, take, drop, set, replicate, Some, slice_get, refl, ap, sym, subst, ◌∙◌, arith}
 use Rattle.std.proofs.lemmas.List.{length-drop, length-set, length-take-le}
 use Rattle.core_types.specs.declared.op.PlainOp.{PlainOp}
@@ -57,7 +57,7 @@ module _ (bound : ℕ) (w : World) (cells : List ℕ) (callers : List Frame) (at
   abbrev pub s : Signatures
   s = signatures_of_instance (slice_get w.code.instances f.instance)
 
-  -- The frame that waits, and the whole with the callee's around which it does.
+  -- The waiting frame, and the whole with the callee's frame.
   abbrev pub waiting : Caller
   waiting = record {
     code = h.code;
@@ -86,7 +86,7 @@ module _ (bound : ℕ) (w : World) (cells : List ℕ) (callers : List Frame) (at
       whole-depth u.callers h.code.outermost.kept (frame_of h) h.values h.labels h.rest
       ∙ ap suc (sym (callers-count w.code (length cells) callers u.callers h.code.outermost.kept (take at.base cells) r.callers))
 
-  -- ---- what is there
+  -- ---- what exists
 
   abbrev base' : ℕ
   base' = top + 1 - f.flat.now.params
@@ -106,7 +106,7 @@ module _ (bound : ℕ) (w : World) (cells : List ℕ) (callers : List Frame) (at
     functions = subst (λ (z : Store). (context_at z (place_of h)).functions ≡ h.code.signatures.functions) r.runs.store r.runs.runs.typed.functions;
   }
 
-  -- ---- with the cells behind the arguments cleared
+  -- ---- with the cells after the arguments cleared
 
   module _ (cells' : List ℕ) (filled : take (top + 1 + declared_locals f) cells' ≡ take (top + 1) (set cells top operand) ++ replicate (declared_locals f) 0) (size : length cells' ≡ length cells)
       (room : base' + f.flat.now.greatest < length cells) where

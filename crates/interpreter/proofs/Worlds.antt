@@ -67,7 +67,7 @@ module _ (code : Contents) (s : StateContents) (memory : MemoryInstance) where
 
 -- ---- an instance of a number
 
--- Whoever sees the store from an instance sees its flat code.
+-- The flat code of an instance is the same from any view of the store from that instance.
 pub flat-seen : (code : Contents) (number : ℕ) (i : Instance) → IsLoaded code number i → (other : World) → other.code ≡ code → other.number ≡ number → IsInstance other → other.flat ≡ i.loaded.value.flat
 flat-seen code number i loaded other code_is number_is has =
     let same : other.instance ≡ i = same_Some other.instance i (sym (subst (λ (n : ℕ). slice_get code.instances n ≡ Some other.instance) number_is (subst (λ (c : Contents). slice_get c.instances other.number ≡ Some other.instance) code_is has.loaded.there)) ∙ loaded.there) in

@@ -1,4 +1,4 @@
--- What calls find.
+-- The functions that calls find.
 use Rattle.std.specs.Prelude.{◌≡◌, ◌≢◌, ℕ, ◌<◌, List, length, Option, Some, None, slice_get, Result, Ok, Err}
 use Rattle.core_types.specs.declared.op.ControlOp.TheVariants.{Call, CallIndirect, ReturnCall, ReturnCallIndirect}
 use Rattle.core_types.specs.declared.op.PlainOp.{PlainOp}
@@ -20,14 +20,14 @@ use Rattle.interpreter.specs.declared.callees.Found.{Found}
 use Rattle.interpreter.specs.declared.machine.CallKind.{CallKind}
 use Rattle.interpreter.specs.declared.machine.CallKind.TheVariants.{Nested, Tail}
 
--- An entry of a table, if it is there, is null or refers to a function that is there.
+-- An entry of a table, if it exists, is null or refers to a function that exists.
 abbrev pub RefersToFunction : Contents → Option Val → Type 0
 RefersToFunction code None = Unit {0}
 RefersToFunction code (Some (FuncRef None)) = Unit {0}
 RefersToFunction code (Some (FuncRef (Some address))) = address < length code.functions
 RefersToFunction code (Some other) = ⊥
 
--- A function is found where an entry refers to one of the wanted type.
+-- A function is found if an entry refers to one of the wanted type.
 abbrev pub FindsEntry : Contents → FuncType → Option Val → Result Found Trap → Type 0
 FindsEntry code wanted None result = result ≡ Err UndefinedElement
 FindsEntry code wanted (Some (FuncRef None)) result = result ≡ Err UninitializedElement
@@ -42,7 +42,7 @@ FindsEntry code wanted (Some other) result = ⊥
 
 -- ---- the two kinds of calls
 
--- The instructions that call so, by an index and through a table.
+-- The instructions for this kind of call, by an index and through a table.
 abbrev pub by_name : CallKind → (x : ℕ) → PlainOp
 by_name Nested x = Control (Call x)
 by_name Tail x = Control (ReturnCall x)
@@ -59,7 +59,7 @@ abbrev pub transfer_through : CallKind → TransferInstruction
 transfer_through Nested = transfer.CallIndirect
 transfer_through Tail = transfer.ReturnCallIndirect
 
--- The function at an address is called so.
+-- The function at an address is called by this kind of call.
 abbrev pub IsCalled : CallKind → PlainOp → (address : ℕ) → FunctionInstance → Ghost → List ℕ
     → (at top height : ℕ) → Type 0
 IsCalled Nested op address function g cells at top height =

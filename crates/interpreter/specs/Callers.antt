@@ -16,7 +16,7 @@ use Rattle.store.specs.declared.instances.Instance.{Instance}
 use Rattle.interpreter.specs.declared.machine.Frame.{Frame}
 use Rattle.interpreter.specs.Layout.{without_scrap}
 
--- A frame that waits, as the reduction has it: its code and the place behind the call, its locals, and what is left there.
+-- A waiting frame in the terms of the reduction: its code and the place after the call, its locals, and the rest of its configuration.
 pub record Caller : Type 0 where
   pub code : FrameCode
   pub at : ℕ
@@ -26,7 +26,7 @@ pub record Caller : Type 0 where
   pub labels : List Label
   pub rest : Body
 
--- The layers of those that wait around a frame with so many results, the innermost first; outside of all there is no frame.
+-- The layers of the waiting frames around a frame with that many results, the innermost first. Outside of all there is no frame.
 abbrev pub layers_around : List Caller → (arity : ℕ) → List Layer
 layers_around [] arity = AroundFrame (activation_of arity [] Empty) no_frame ∷ []
 layers_around (c ∷ cs) arity =
@@ -34,7 +34,7 @@ layers_around (c ∷ cs) arity =
     (record { instance = Some c.instance; locals = c.locals })
     ∷ around c.labels (layers_around cs c.code.outermost.kept)
 
--- A frame that waits for so many results, of an instance of its module. Its cells end where those of the frame that it called begin.
+-- A frame that waits for that many results, of an instance of its module. Its cells end where those of the frame that it called begin.
 pub record CallerStands (code : Contents) (size : ℕ) (frame : Frame) (c : Caller) (arity : ℕ)
     (below : List ℕ) : Type 0 where
   pub place : frame.place ≡ c.at
@@ -52,7 +52,7 @@ pub record CallerStands (code : Contents) (size : ℕ) (frame : Frame) (c : Call
   pub stands : (results : List Val) → length results ≡ arity
       → StandsIn c.code c.at (results ++ c.values) c.labels c.rest
 
--- The same of all that wait, the innermost first.
+-- The same for all waiting frames, the innermost first.
 abbrev pub CallersStand : Contents → (size : ℕ) → List Frame → List Caller → (arity : ℕ)
     → (below : List ℕ) → Type 0
 CallersStand code size [] [] arity below = Unit {0}

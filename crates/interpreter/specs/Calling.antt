@@ -1,4 +1,4 @@
--- Calls, returns and ends: what they need, and where they go on.
+-- Calls, returns and ends: what they need, and where they continue.
 use Rattle.std.specs.Prelude.{◌≡◌, ℕ, suc, ◌+◌, ◌-◌, ◌<◌, ◌≤◌, List, [], ◌∷◌, ◌++◌, length, take, drop, set, replicate}
 use Rattle.sidetable.specs.declared.operations.Entry.{Entry}
 use Rattle.store.specs.declared.instances.Callee.{Callee}
@@ -16,11 +16,11 @@ use Rattle.interpreter.specs.declared.machine.Frame.{Frame}
 use Rattle.interpreter.specs.declared.machine.Position.{Position}
 use Rattle.interpreter.specs.declared.machine.Stop.TheVariants as stop
 
--- It goes on in code of any instance.
+-- The loop continues in code of any instance.
 abbrev pub CrossesTo : (bound : ℕ) → Loop → Loop → Type 0
 CrossesTo bound l l' = (w : Whole) → RunsWhole bound l w → SwitchesTo bound l w l'
 
--- It goes on in a frame of an instance: of that whose code runs, or of another one.
+-- The loop continues in a frame of an instance: the one whose code runs, or another one.
 abbrev pub IsCrossed : (number : ℕ) → Crossing → (instance : ℕ) → Type 0
 IsCrossed number Goes instance = instance ≡ number
 IsCrossed number Switches instance = Unit {0}
@@ -32,22 +32,22 @@ with_instance at instance = record at { instance = instance }
 
 -- ---- branches
 
--- Where a branch goes on, with a topmost operand.
+-- Where a branch continues, with a topmost operand.
 abbrev pub position_landed : Position → Entry → (operand : ℕ) → Position
 position_landed at e operand =
     record at { place = e.target; top = at.base + e.height + e.kept; operand = operand }
 
 -- ---- calls
 
--- The frame that calls waits behind the call.
+-- The frame that calls, which waits after the call.
 abbrev pub frame_waiting : Position → Frame
 frame_waiting at = record { base = at.base; place = at.place + 1; instance = at.instance }
 
--- How many locals there are behind the arguments.
+-- The number of locals after the arguments.
 abbrev pub declared_locals : ModuleFunction → ℕ
 declared_locals f = f.flat.now.locals - f.flat.now.params
 
--- The first place of a function that is called at a position, where its last argument lies.
+-- The first place of a function that is called at a position, where its last argument is.
 abbrev pub position_opened : Position → (top : ℕ) → ModuleFunction → Position
 position_opened at top f = record {
   instance = f.instance;
@@ -58,7 +58,7 @@ position_opened at top f = record {
   fuel = at.fuel - 1;
 }
 
--- A call at a position of a function of a module, whose arguments are on top at another one of the frame.
+-- A call of a function of a module at a position. Its arguments are on top at another position of the frame.
 pub record CallsModule (bound : ℕ) (w : World) (cells : List ℕ) (callers : List Frame)
     (at from : Position) (f : ModuleFunction) : Type 0 where
   pub room : from.top < length cells
@@ -72,7 +72,7 @@ pub record CallsModule (bound : ℕ) (w : World) (cells : List ℕ) (callers : L
       → StopsAt bound (loop_at w cells callers at) stop.NoRoom (loop_at w cells callers at)
   pub no_memory : 1 ≤ at.fuel → suc (length callers) < bound
       → StopsAt bound (loop_at w cells callers at) stop.NoMemory (loop_at w cells callers at)
-  -- with the cells behind the arguments cleared
+  -- with the cells after the arguments cleared
   pub opens : 1 ≤ at.fuel → suc (length callers) < bound
       → from.top + 1 - f.flat.now.params + f.flat.now.greatest < length cells → (cells' : List ℕ)
       → take (from.top + 1 + declared_locals f) cells' ≡
@@ -81,7 +81,7 @@ pub record CallsModule (bound : ℕ) (w : World) (cells : List ℕ) (callers : L
       → CrossesTo bound (loop_at w cells callers at)
       (loop_at w cells' (frame_waiting at ∷ callers) (position_opened at from.top f))
 
--- The first place of a function whose frame takes the place of the one at a position.
+-- The first place of a function whose frame replaces the one at a position.
 abbrev pub position_replaced : Position → ModuleFunction → Position
 position_replaced at f = record {
   instance = f.instance;
@@ -92,7 +92,7 @@ position_replaced at f = record {
   fuel = at.fuel - 1;
 }
 
--- A frame's own cells begin with the arguments, which were on top of those before, and behind them lie cleared cells.
+-- A frame's own cells begin with the arguments, which were on top of those before, and cleared cells follow them.
 abbrev pub AreReplaced : (cells : List ℕ) → (base : ℕ) → (from : Position) → ModuleFunction
     → (cells' : List ℕ) → Type 0
 AreReplaced cells base from f cells' =
@@ -103,7 +103,7 @@ AreReplaced cells base from f cells' =
     ++ replicate (declared_locals f) 0))
     × (length cells' ≡ length cells)
 
--- A tail call at a position of a function of a module, whose arguments are on top at another one of the frame.
+-- A tail call of a function of a module at a position. Its arguments are on top at another position of the frame.
 pub record ReplacesModule (bound : ℕ) (w : World) (cells : List ℕ) (callers : List Frame)
     (at from : Position) (f : ModuleFunction) : Type 0 where
   pub room : from.top < length cells
@@ -123,7 +123,7 @@ abbrev pub CallsInModule : CallKind → (bound : ℕ) → World → (cells : Lis
 CallsInModule Nested bound w cells callers at from f = CallsModule bound w cells callers at from f
 CallsInModule Tail bound w cells callers at from f = ReplacesModule bound w cells callers at from f
 
--- A call of what is at an address. The loop stops before one of a host function.
+-- A call of the function at an address. The loop stops before a call of a host function.
 abbrev pub Calls : (bound : ℕ) → World → (cells : List ℕ) → (callers : List Frame)
     → (at from : Position) → CallKind → (address : ℕ) → Callee → Type 0
 Calls bound w cells callers at from kind address (callee.InModule f) =
@@ -136,7 +136,7 @@ Calls bound w cells callers at from kind address (callee.InHost f) =
 
 -- ---- returns and ends
 
--- Where a frame goes on that waited for so many results, with a topmost operand.
+-- Where a frame that waited for that many results continues, with a topmost operand.
 abbrev pub position_resumed : Position → Frame → (results operand : ℕ) → Position
 position_resumed at frame results operand = record {
   instance = frame.instance;
@@ -147,7 +147,7 @@ position_resumed at frame results operand = record {
   fuel = at.fuel;
 }
 
--- The innermost frame is left with so many results, from a position for which the step was paid, where there was this fuel before.
+-- The innermost frame is left with that many results, from a position after the step was paid for. Before, there was this fuel.
 pub record Leaves (bound : ℕ) (w : World) (cells : List ℕ) (callers : List Frame) (at : Position)
     (fuel results : ℕ) : Type 0 where
   pub some : RunsSomeWhole bound (loop_at w cells callers (record at { fuel = fuel }))

@@ -1,4 +1,4 @@
--- What an operation leads to that may go on in another frame.
+-- What an operation leads to that may continue in another frame.
 use Rattle.std.specs.Prelude.{◌≡◌, ℕ, ◌<◌, List}
 use Rattle.interpreter.specs.Looping.{loop_at}
 use Rattle.interpreter.specs.Whole.{Loop, Ran, RunsWhole, StopsAt, SwitchesTo, Whole, left_to_do}
@@ -8,14 +8,14 @@ use Rattle.interpreter.specs.declared.machine.Frame.{Frame}
 use Rattle.interpreter.specs.declared.machine.Position.{Position}
 use Rattle.interpreter.specs.declared.machine.Stop.{Stop}
 
--- It goes on in a frame of code of the same instance.
+-- The loop continues in a frame of code of the same instance.
 abbrev pub GoesOn : (bound : ℕ) → Loop → (cells' : List ℕ) → (callers' : List Frame)
     → (to : Position) → Type 0
 GoesOn bound l cells' callers' to =
     Ran bound l (loop_at l.world cells' callers' to) × (to.instance ≡ l.number)
     × (left_to_do (loop_at l.world cells' callers' to) < left_to_do l)
 
--- With why it stops, if it does, and the cells, the callers and the position afterwards.
+-- Where the loop continues, or why it stops, with the cells, the callers and the position afterwards.
 abbrev pub Crosses : (bound : ℕ) → Loop → Crossing → (why : Stop) → (cells' : List ℕ)
     → (callers' : List Frame) → (to : Position) → Type 0
 Crosses bound l Goes why cells' callers' to = GoesOn bound l cells' callers' to

@@ -1,4 +1,4 @@
--- What the loop knows of a frame, and the configuration that runs there.
+-- What the loop keeps of a frame, and the configuration that runs there.
 use Rattle.std.specs.Prelude.{◌≡◌, ℕ, ◌+◌, ◌-◌, ◌<◌, ◌≤◌, List, length, take}
 use Rattle.core_types.specs.declared.outcome.Trap.{Trap}
 use Rattle.sidetable.specs.FlatModules.{operations_of}
@@ -6,8 +6,7 @@ use Rattle.simulation.specs.Runs.{Fails, Ghost, Lacks, Leads, Runs}
 use Rattle.interpreter.specs.Layout.{put_back}
 use Rattle.interpreter.specs.Worlds.{IsInstance, World, store_in}
 
--- Where the locals of the frame begin among the cells, the place in the code, where the topmost operand would lie among the cells,
--- and that operand.
+-- The cell of the frame's first local, the place in the code, the cell where the topmost operand would be, and that operand.
 pub record Machine : Type 0 where
   pub base : ℕ
   pub cells : List ℕ
@@ -15,7 +14,7 @@ pub record Machine : Type 0 where
   pub top : ℕ
   pub operand : ℕ
 
--- The frame's locals and operands, and how many of both there are.
+-- The frame's locals and operands, and the number of both.
 abbrev pub cells_in : Ghost → Machine → List ℕ
 cells_in g m = put_back g.code.locals m.base m.cells m.top m.operand
 
@@ -32,7 +31,7 @@ pub record RunsAt (w : World) (m : Machine) (g : Ghost) : Type 0 where
   pub number : g.instance ≡ w.number
   pub instance : IsInstance w
 
--- What runs leads, with this fuel, to what the machine runs then; the cells below the frame are as they were.
+-- The configuration leads, with this fuel, to what the machine runs then. The cells below the frame are unchanged.
 pub record GoesTo (g : Ghost) (m : Machine) (fuel : ℕ) (w' : World) (m' : Machine) (left : ℕ)
     : Type 0 where
   pub leads : Leads g fuel (store_in w') (cells_in g m') m'.place (height_in m') left
@@ -40,19 +39,19 @@ pub record GoesTo (g : Ghost) (m : Machine) (fuel : ℕ) (w' : World) (m' : Mach
   pub size : length m'.cells ≡ length m.cells
   pub below : take m.base m'.cells ≡ take m.base m.cells
 
--- For one unit of fuel.
+-- The same for one unit of fuel.
 abbrev pub Pays : Ghost → Machine → World → Machine → Type 0
 Pays g m w' m' = (fuel left : ℕ) → 1 ≤ fuel → left ≡ fuel - 1 → GoesTo g m fuel w' m' left
 
--- For nothing.
+-- The same at no cost.
 abbrev pub GoesFree : Ghost → Machine → World → Machine → Type 0
 GoesFree g m w' m' = (fuel : ℕ) → GoesTo g m fuel w' m' fuel
 
--- It lacks fuel where there is none.
+-- The configuration lacks fuel if there is none.
 abbrev pub IsDear : Ghost → Machine → Type 0
 IsDear g m = (fuel : ℕ) → fuel < 1 → Lacks g fuel (cells_in g m) m.place (height_in m) fuel
 
--- It traps, for one unit of fuel.
+-- The configuration traps, for one unit of fuel.
 abbrev pub Traps : Ghost → Machine → Trap → Type 0
 Traps g m trap =
     (fuel left : ℕ) → 1 ≤ fuel → left ≡ fuel - 1

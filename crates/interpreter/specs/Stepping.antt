@@ -11,7 +11,7 @@ use Rattle.interpreter.specs.declared.machine.Position.{Position}
 use Rattle.interpreter.specs.declared.machine.Stop.{Stop}
 use Rattle.interpreter.specs.declared.machine.Stop.TheVariants as stop
 
--- Behind an instruction, for one unit of fuel: with one operand more, and with the topmost one in the place of so many.
+-- The position after an instruction, for one unit of fuel: with one more operand, and with the topmost one in the place of that many.
 abbrev pub position_pushed : Position → (cell : ℕ) → Position
 position_pushed at cell =
     record at { place = at.place + 1; top = at.top + 1; operand = cell; fuel = at.fuel - 1 }
@@ -20,19 +20,19 @@ abbrev pub position_lowered : Position → (by cell : ℕ) → Position
 position_lowered at by cell =
     record at { place = at.place + 1; top = at.top - by; operand = cell; fuel = at.fuel - 1 }
 
--- It was paid for, or there was no fuel.
+-- The instruction was paid for, or there was no fuel.
 abbrev pub IsPaid : Position → Option Position → (why : Stop) → Position → Type 0
 IsPaid at (Some to) why there = (1 ≤ at.fuel) × (to ≡ there)
 IsPaid at None why there = (why ≡ stop.NoFuel) × (at.fuel ≡ 0)
 
--- With nothing changed, fuel is lacking, or the instruction is left to others.
+-- Nothing is changed, and fuel is lacking, or the instruction is left to others.
 abbrev pub StopsThere : Stop → World → Machine → (fuel : ℕ) → Ghost → Type 0
 StopsThere stop.NoFuel w m fuel g = Lacks g fuel (cells_in g m) m.place (height_in m) fuel
 StopsThere (stop.LeavesOther kind n) w m fuel g =
     IsLeft kind × StandsThere m g (Plain (other_op w.flat.tables kind n))
 StopsThere other w m fuel g = ⊥
 
--- It goes on with the next operation, in the same frame.
+-- The loop continues with the next operation, in the same frame.
 pub record StepsTo (w : World) (cells : List ℕ) (at : Position) (w' : World) (cells' : List ℕ)
     (to : Position) : Type 0 where
   pub there : to ≡ record at { place = at.place + 1; top = to.top; operand = to.operand; fuel = to.fuel }
@@ -47,7 +47,7 @@ pub record StopsBefore (w : World) (cells : List ℕ) (at : Position) (w' : Worl
   pub there : (g : Ghost) → RunsAt w (machine_at cells at) g
       → StopsThere s w (machine_at cells at) at.fuel g
 
--- It goes on, or it stops, and why.
+-- The loop continues, or it stops, and why.
 abbrev pub Steps : World → (cells : List ℕ) → Position → Option Position → (why : Stop)
     → (w' : World) → (cells' : List ℕ) → Type 0
 Steps w cells at (Some to) why w' cells' = StepsTo w cells at w' cells' to

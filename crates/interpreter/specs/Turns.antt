@@ -38,9 +38,9 @@ use Rattle.interpreter.specs.Worlds.{World}
 use Rattle.interpreter.specs.declared.machine.CallKind.{CallKind}
 use Rattle.interpreter.specs.declared.machine.CallKind.TheVariants.{Nested, Tail}
 
--- ---- machines behind an operation
+-- ---- machines after an operation
 
--- With one operand more.
+-- The machine with one more operand.
 abbrev pub pushed : Machine → (cell : ℕ) → Machine
 pushed m cell = record m {
   cells = set m.cells m.top m.operand;
@@ -49,23 +49,23 @@ pushed m cell = record m {
   operand = cell;
 }
 
--- With another topmost operand.
+-- The machine with another topmost operand.
 abbrev pub replaced : Machine → (cell : ℕ) → Machine
 replaced m cell = record m { place = m.place + 1; operand = cell }
 
--- With another one, so many lower.
+-- The machine with another topmost operand, that many lower.
 abbrev pub lowered : Machine → (by cell : ℕ) → Machine
 lowered m by cell = record (replaced m cell) { top = m.top - by }
 
--- With so many operands less.
+-- The machine with that many fewer operands.
 abbrev pub popped : Machine → (by : ℕ) → Machine
 popped m by = lowered m by (get_or m.cells (m.top - by) 0)
 
--- With the topmost operand in a local, too.
+-- The machine with the topmost operand also in a local.
 abbrev pub with_local : Machine → (x : ℕ) → Machine
 with_local m x = record m { cells = set m.cells (m.base + x) m.operand }
 
--- At a place, with the operands that an entry keeps moved down to its height.
+-- The machine at a place, with the operands that an entry keeps moved down to its height.
 abbrev pub landed : Machine → Entry → (cells' : List ℕ) → (operand' : ℕ) → Machine
 landed m e cells' operand' = record m {
   cells = cells';
@@ -91,11 +91,11 @@ global_address w x = get_or w.instance.addresses.globals.items x 0
 abbrev pub table_address : Instance → ℕ → ℕ
 table_address i x = get_or i.addresses.tables.items x 0
 
--- The type that it has under one.
+-- The type that the instance has under an index.
 abbrev pub type_of : Instance → ℕ → FuncType
 type_of i x = get_or i.loaded.value.source.types x (function_type [] [])
 
--- The entry at an offset of the table that it has under one.
+-- The entry at an offset of the table that the instance has under an index.
 abbrev pub entry_through : Instance → StateContents → (x offset : ℕ) → Option Val
 entry_through i state x offset = slice_get (table_of state (table_address i x)).entries offset
 
@@ -108,15 +108,15 @@ with_global_cell w address cell =
 
 -- ---- what an operation needs
 
--- So many operands are there, and there is room for one more.
+-- There are that many operands, and there is room for one more.
 abbrev pub HasOperands : Machine → (count : ℕ) → Type 0
 HasOperands m count = (m.base + count ≤ m.top) × (m.top < length m.cells)
 
--- The entry's operands lie below a place.
+-- The entry's operands are below a place.
 abbrev pub HasKept : Machine → (top : ℕ) → Entry → Type 0
 HasKept m top e = m.base + e.height + e.kept ≤ top
 
--- The type and the table of a pair of indices are there, and so is the offset of an entry.
+-- The type and the table of a pair of indices exist, and there is an operand for the offset of an entry.
 abbrev pub FitsTable : World → Machine → (number : ℕ) → Type 0
 FitsTable w m n =
     HasOperands m 1 × (n < length w.flat.tables.pairs.items)
@@ -124,7 +124,7 @@ FitsTable w m n =
     × ((pair_of w.flat.tables n).second < length w.instance.addresses.tables.items)
     × (table_address w.instance (pair_of w.flat.tables n).second < length w.state.contents.tables)
 
--- What a transfer names is there, and so are the operands that it takes and keeps.
+-- What a transfer names exists, and so do the operands that it takes and keeps.
 abbrev pub TransferFits : World → Machine → TransferInstruction → (number : ℕ) → Type 0
 TransferFits w m transfer.Jump n =
     (n < length w.flat.tables.entries.items) × (m.place < (entry_of_number w.flat.tables n).target)
@@ -143,7 +143,7 @@ TransferFits w m transfer.ReturnCall n = n < length w.instance.addresses.functio
 TransferFits w m transfer.ReturnCallIndirect n = FitsTable w m n
 TransferFits w m kind n = IsTransferWithin w.flat.tables kind n
 
--- The same of the others.
+-- The same for the other instructions.
 abbrev pub OtherFits : World → Machine → OtherInstruction → (number : ℕ) → Type 0
 OtherFits w m other.DropOperand n = HasOperands m 1
 OtherFits w m other.Select n = HasOperands m 3
@@ -189,23 +189,23 @@ Fits w m (op.Other kind n) = OtherFits w m kind n
 
 -- ---- what it leads to
 
--- For one unit of fuel to this machine.
+-- The operation leads to this machine, for one unit of fuel.
 abbrev pub Costs : World → Machine → Ghost → Machine → Type 0
 Costs w m g m' = Pays g m w m' × IsDear g m
 
--- To the machine for a result's number, or to a trap.
+-- The operation leads to the machine for a result's number, or to a trap.
 abbrev pub Answers : World → Machine → Ghost → (ℕ → Machine) → Result ℕ Trap → Type 0
 Answers w m g to (Ok n) = Pays g m w (to n)
 Answers w m g to (Err trap) = Traps g m trap
 
--- A branch, once its operands were moved.
+-- A branch, after its operands were moved.
 abbrev pub Lands : World → Machine → Ghost → (cells : List ℕ) → (top : ℕ) → Entry → Type 0
 Lands w m g cells top e =
     (cells' : List ℕ) (operand' : ℕ)
     → AreMoved cells top (m.base + e.height) e.kept cells' operand'
     → Pays g m w (landed m e cells' operand')
 
--- A load: the number that is read takes the address's place.
+-- A load: the number that is read replaces the address.
 abbrev pub Reads : World → Machine → Ghost → LoadOp → (offset : ℕ) → Type 0
 Reads w m g instruction offset =
     ((result : Result ℕ Trap)
@@ -213,7 +213,7 @@ Reads w m g instruction offset =
     → Answers w m g (replaced m) result)
     × IsDear g m
 
--- A store: the bytes are those of the memory then.
+-- A store: these are the bytes of the memory afterwards.
 abbrev pub IsWritten : World → Machine → Ghost → Result (List ℕ) Trap → Type 0
 IsWritten w m g (Ok bytes) = Pays g m (record w { bytes = bytes }) (popped m 2)
 IsWritten w m g (Err trap) = Traps g m trap
@@ -225,7 +225,7 @@ Writes w m g instruction offset =
     → IsWritten w m g result)
     × IsDear g m
 
--- A call of the function under an index: it is there, and its arguments are on top.
+-- A call of the function under an index. The function exists, and its arguments are on top.
 abbrev pub CallsByName : CallKind → World → Machine → Ghost → (x : ℕ) → Type 0
 CallsByName kind w m g x =
     (function : FunctionInstance)
@@ -245,7 +245,7 @@ CallsThrough kind w m g type x =
 abbrev pub CostsOne : Ghost → Machine → Type 0
 CostsOne g m = CostsAround g (cells_in g m) m.place (height_in m)
 
--- This operation stands there.
+-- This operation is at the machine's place.
 abbrev pub StandsThere : Machine → Ghost → FlatOp → Type 0
 StandsThere m g o = (more : List FlatOp) × (drop m.place g.code.operations ≡ o ∷ more)
 
@@ -267,7 +267,7 @@ TransferLeads w m g transfer.ReturnCall n = CallsByName Tail w m g n × CostsOne
 TransferLeads w m g transfer.ReturnCallIndirect n =
     CallsThrough Tail w m g (pair_of w.flat.tables n).first (pair_of w.flat.tables n).second × CostsOne g m
 
--- What the loop does not do itself: instructions on tables, bulk instructions and growth.
+-- The instructions that the loop does not execute: instructions on tables, bulk instructions and growth.
 abbrev pub IsLeft : OtherInstruction → Type 0
 IsLeft other.Nop = ⊥
 IsLeft other.DropOperand = ⊥
@@ -339,11 +339,11 @@ LeadsOn w m g (op.Store instruction offset) = Writes w m g (store_op instruction
 LeadsOn w m g (op.Transfer kind n) = TransferLeads w m g kind n
 LeadsOn w m g (op.Other kind n) = OtherLeads w m g kind n
 
--- Whatever runs there, it leads to that.
+-- Whatever runs there, it leads to this.
 abbrev pub Turns : World → Machine → PackedOp → Type 0
 Turns w m o = (g : Ghost) → RunsAt w m g → LeadsOn w m g o
 
--- An operation stands where the machine is, with what it needs, and leads to that.
+-- An operation is at the machine's place, has what it needs, and leads to this.
 abbrev pub OperationsTurn : Type 0
 OperationsTurn =
     (w : World) (m : Machine) (g : Ghost) → RunsAt w m g

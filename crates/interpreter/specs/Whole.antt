@@ -1,4 +1,4 @@
--- The loop with the frames that wait, and the whole configuration that runs there.
+-- The loop with the waiting frames, and the whole configuration that runs there.
 use Rattle.std.specs.Prelude.{◌≡◌, ℕ, suc, ◌+◌, ◌-◌, ◌*◌, ◌^◌, ◌<◌, ◌≤◌, List, [], length, reverse, drop, set, take}
 use Rattle.core_types.specs.declared.op.PlainOp.{PlainOp}
 use Rattle.core_types.specs.declared.outcome.Val.{Val}
@@ -32,8 +32,7 @@ use Rattle.interpreter.specs.declared.machine.Frame.{Frame}
 use Rattle.interpreter.specs.declared.machine.Stop.{Stop}
 use Rattle.interpreter.specs.declared.machine.Stop.TheVariants as stop
 
--- All that the loop knows: the store, the number of the instance whose code runs, the innermost frame, those that wait, and the
--- fuel.
+-- All that the loop keeps: the store, the number of the instance whose code runs, the innermost frame, the waiting frames, and the fuel.
 pub record Loop : Type 0 where
   pub world : World
   pub number : ℕ
@@ -41,14 +40,14 @@ pub record Loop : Type 0 where
   pub callers : List Frame
   pub fuel : ℕ
 
--- What is left to do: each operation takes fuel, or leaves a frame, or goes onward.
+-- The work that is left. Each operation takes fuel, leaves a frame, or moves forward.
 abbrev pub left_at : (fuel callers place : ℕ) → ℕ
 left_at fuel callers place = 2 ^ 64 * (2 ^ 64 * fuel + callers) + (2 ^ 64 - place)
 
 abbrev pub left_to_do : Loop → ℕ
 left_to_do l = left_at l.fuel (length l.callers) l.machine.place
 
--- What it knows nothing of: what runs in the innermost frame and in those that wait, and the types of the results of all.
+-- What the loop does not keep: what runs in the innermost frame and in the waiting ones, and the types of the results of all.
 pub record Whole : Type 0 where
   pub ghost : Ghost
   pub callers : List Caller
@@ -60,7 +59,7 @@ layers_of w = layers_around w.callers w.ghost.code.outermost.kept
 abbrev pub whole : Whole → Configuration
 whole w = plug (layers_of w) (frame_of w.ghost) (config_of w.ghost)
 
--- The loop runs the whole, with at most so many frames open.
+-- The loop runs the whole, with at most that many open frames.
 pub record RunsWhole (bound : ℕ) (l : Loop) (w : Whole) : Type 0 where
   pub runs : RunsAt l.world l.machine w.ghost
   pub number : l.number ≡ l.world.number
@@ -83,14 +82,14 @@ Leads bound l w l' c =
     Steps NoHosts bound no_frame (state (store_in l.world) l.fuel) (whole w)
     (state (store_in l'.world) l'.fuel) c
 
--- They lead to what the loop runs then.
+-- The steps lead to what the loop runs then.
 pub record Reaches (bound : ℕ) (l : Loop) (w : Whole) (l' : Loop) : Type 0 where
   pub new : Whole
   pub results : new.results ≡ w.results
   pub steps : Leads bound l w l' (whole new)
   pub runs : RunsWhole bound l' new
 
--- From whatever runs at the start, and no more is left to do.
+-- The same from whatever runs at the start, and the work that is left has not grown.
 pub record Ran (bound : ℕ) (l l' : Loop) : Type 0 where
   pub from : (w : Whole) → RunsWhole bound l w → Reaches bound l w l'
   pub falls : left_to_do l' ≤ left_to_do l
@@ -109,8 +108,8 @@ pub record AsksNext (bound : ℕ) (store : Store) (fuel : ℕ) (w : Whole) : Typ
   pub within : IsWithinBound bound (depth (whole w)) (next store no_frame (whole w))
   pub enough : price (next store no_frame (whole w)) ≤ fuel
 
--- The next step calls the host function at an address so, for which there is fuel. Its arguments are the topmost of the frame's cells
--- up to a height, and lie below a place: behind the locals the machine has one cell more.
+-- The next step calls the host function at an address, and there is fuel for it. Its arguments are the topmost of the frame's cells up to
+-- a height, and are below a place. After the locals the machine has one more cell.
 pub record CallsHostNext (fuel : ℕ) (m : Machine) (w : Whole) (kind : CallKind)
     (address behind : ℕ) : Type 0 where
   pub op : PlainOp
@@ -156,16 +155,16 @@ StopsBy bound (stop.LeavesOther kind n) world store fuel m w =
     IsLeft kind × StandsThere m w.ghost (Plain (other_op world.flat.tables kind n))
 StopsBy bound other world store fuel m w = Unit {0}
 
--- The loop with so much more fuel.
+-- The loop with that much more fuel.
 abbrev pub with_more_fuel : Loop → (more : ℕ) → Loop
 with_more_fuel l more = record l { fuel = l.fuel + more }
 
--- What a step that was paid for costs.
+-- The cost of a step that was paid for.
 abbrev pub paid_for : Stop → ℕ
 paid_for (stop.Traps trap) = 1
 paid_for other = 0
 
--- It reached where it stops.
+-- The loop reached where it stops.
 pub record StopsWhole (bound : ℕ) (l : Loop) (w : Whole) (s : Stop) (l' : Loop) : Type 0 where
   pub there : Reaches bound l w (with_more_fuel l' (paid_for s))
   pub by : StopsBy bound s l'.world (store_in l'.world) (l'.fuel + paid_for s) l'.machine
@@ -181,7 +180,7 @@ pub record HasResults (store : Store) (m : Machine) (results : List ValType) (va
   pub lie : take (length values) (drop (m.top + 1 - length values) (set m.cells m.top m.operand))
       ≡ cells_of values
 
--- The run is over, and its results lie on top.
+-- The run is over, and its results are on top.
 pub record IsOver (bound : ℕ) (l : Loop) (w : Whole) (l' : Loop) : Type 0 where
   pub values : List Val
   pub steps : Leads bound l w l' (Running values Empty)
@@ -191,7 +190,7 @@ pub record IsOver (bound : ℕ) (l : Loop) (w : Whole) (l' : Loop) : Type 0 wher
 abbrev pub IsSeenFrom : (number : ℕ) → World → World → Type 0
 IsSeenFrom number old new = Sees old.code (store_in old) number new
 
--- Code of another instance, which is there, is next.
+-- Code of another instance is next, and that instance exists.
 abbrev pub SwitchesTo : (bound : ℕ) → Loop → Whole → Loop → Type 0
 SwitchesTo bound l w l' =
     ((i : Instance) × IsLoaded l'.world.code l'.number i)
@@ -203,15 +202,14 @@ StopsFrom bound l w stop.Over l' = IsOver bound l w l'
 StopsFrom bound l w stop.Switches l' = SwitchesTo bound l w l'
 StopsFrom bound l w s l' = StopsWhole bound l w s l'
 
--- Less is left to do where code of another instance is next, and no more for want of
--- fuel or of cells.
+-- Less work is left if code of another instance is next, and no more if fuel or cells are lacking.
 abbrev pub FallsAt : Loop → Stop → Loop → Type 0
 FallsAt l stop.Switches l' = left_to_do l' < left_to_do l
 FallsAt l stop.NoFuel l' = left_to_do l' ≤ left_to_do l
 FallsAt l stop.NoRoom l' = left_to_do l' ≤ left_to_do l
 FallsAt l other l' = Unit {0}
 
--- It stops there, whatever runs at the start.
+-- The loop stops there, whatever runs at the start.
 pub record StopsAt (bound : ℕ) (l : Loop) (s : Stop) (l' : Loop) : Type 0 where
   pub from : (w : Whole) → RunsWhole bound l w → StopsFrom bound l w s l'
   pub falls : FallsAt l s l'

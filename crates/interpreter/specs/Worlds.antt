@@ -1,4 +1,4 @@
--- The store that a run of code is in, whose first memory was taken out of the state.
+-- The store of a run of code, whose first memory was taken out of the state.
 use Rattle.std.specs.Prelude.{◌≡◌, ℕ, List, Option, Some, None, slice_get}
 use Rattle.core_types.specs.declared.types.Limits.{Limits}
 use Rattle.meaning.specs.execution.Memories.{MemoryInstance}
@@ -8,8 +8,8 @@ use Rattle.store.specs.Contents.{Contents, IsLoaded, store_with}
 use Rattle.store.specs.State.{StateContents, put_memory}
 use Rattle.store.specs.declared.instances.Instance.{Instance}
 
--- The parts of a store while code of an instance runs: the instance, its module's flat code, the address of its memory, if it has
--- one, that memory's limits and bytes, and the state, in which another memory lies at that address.
+-- The parts of a store while code of an instance runs: the instance, its module's flat code, and the state. If the instance has a memory,
+-- also its address, its limits and its bytes. Meanwhile another memory is at that address in the state.
 pub record World : Type 0 where
   pub code : Contents
   pub state : StateContents
@@ -23,7 +23,7 @@ pub record World : Type 0 where
 abbrev pub memory_in : World → MemoryInstance
 memory_in w = record { limits = w.limits; bytes = w.bytes }
 
--- The state, once the memory is put back.
+-- The state, after the memory is put back.
 abbrev pub with_memory_back : StateContents → Option ℕ → MemoryInstance → StateContents
 with_memory_back s None memory = s
 with_memory_back s (Some address) memory = put_memory s address memory
@@ -31,7 +31,7 @@ with_memory_back s (Some address) memory = put_memory s address memory
 abbrev pub store_in : World → Store
 store_in w = store_with w.code (with_memory_back w.state w.address (memory_in w))
 
--- The instance is that of this number, has this flat code, and this memory.
+-- The instance has this number, this flat code, and this memory.
 pub record IsInstance (w : World) : Type 0 where
   pub loaded : IsLoaded w.code w.number w.instance
   pub flat : w.flat ≡ w.instance.loaded.value.flat

@@ -14,8 +14,8 @@ use effects::{compute_binary, load_cell, load_i32, low, store_cell};
 use sidetable::PackedOp;
 use store::State;
 
-/// A position in code of the instance that runs. Instead of the fuel, it has what is spare once all operations from here to the end of
-/// the list are paid for. A step to the next operation does not change that.
+/// A position in code of the instance that runs. Instead of the fuel, it has the spare fuel: the fuel left after all operations
+/// from here to the end of the list are paid for. A step to the next operation does not change the spare fuel.
 #[derive(Clone, Copy)]
 pub struct Ahead {
     pub base: usize,
@@ -25,7 +25,7 @@ pub struct Ahead {
     pub spare: u64,
 }
 
-// Returns the position with what is spare, if there is fuel for all operations from there to the end.
+// Returns the position with its spare fuel, if there is fuel for all operations from there to the end.
 #[inline(always)]
 fn ahead_of(at: Position, end: usize) -> Option<Ahead>
     requires before { at.place ≤ end }
@@ -58,8 +58,8 @@ fn add_rest(at: Ahead, to: Position, end: usize) -> Position
     left
 }
 
-// Returns what is spare at a place that was reached with one unit of the fuel, of which `left` is left. If more is spare than the number
-// of the place before, any place can be reached. The end is there for the contract alone.
+// Returns the spare fuel at a place that was reached with one unit of fuel, of which `left` is left. If the spare fuel before is
+// greater than the number of the place before, any place can be reached. Only the contract needs `end`.
 #[inline(always)]
 fn spare_at(at: Ahead, left: u64, place: usize, end: usize) -> u64
     requires enough { at.place < at.spare }
@@ -72,7 +72,7 @@ fn spare_at(at: Ahead, left: u64, place: usize, end: usize) -> u64
     at.spare - at.place as u64 - 1 + left + place as u64
 }
 
-// Returns the whole position so.
+// Returns the whole position with its spare fuel, as `spare_at` does for a place.
 #[inline(always)]
 fn ahead_at(at: Ahead, to: Position, end: usize) -> Ahead
     requires enough { at.place < at.spare }
@@ -91,7 +91,7 @@ fn ahead_at(at: Ahead, to: Position, end: usize) -> Ahead
     }
 }
 
-// Returns the position once its unit of the fuel is paid.
+// Returns the position after its unit of fuel is paid.
 #[inline(always)]
 fn paid(at: Position) -> Position
     ensures { result ≡ record at { fuel = 0 } }
@@ -101,7 +101,7 @@ fn paid(at: Position) -> Position
     behind
 }
 
-// Returns why the loop stops with more fuel: none if it lacked fuel, since with more it goes on.
+// Returns why the loop stops with more fuel. Returns none if it lacked fuel, since with more fuel it continues.
 #[inline(always)]
 fn with_more(why: Stop) -> Option<Stop>
     ensures { result ≡ stop_with_more why }
@@ -112,8 +112,8 @@ fn with_more(why: Stop) -> Option<Stop>
     }
 }
 
-// Does what `run` does while there is fuel for all operations from the next one to the end of the list. If there is too little, it stops
-// before an operation and returns none.
+// Does what `run` does while there is fuel for all operations from the next one to the end of the list. If there is too little,
+// it stops before an operation and returns none.
 #[inline(never)]
 fn run_ahead(
     around: Surroundings<'_>,
@@ -138,7 +138,7 @@ fn run_ahead(
     let mut at = start;
     let mut why = Stop::Over;
     loop {
-        // Each operation takes one unit of the fuel at most, so that is what it gets: `spare` is not touched by a plain one.
+        // Each operation takes at most one unit of fuel, so it gets one unit. A plain operation does not change `spare`.
         let here = Position {
             instance: around.number,
             base: at.base,
@@ -352,9 +352,9 @@ fn run_ahead(
     }
 }
 
-/// Runs code of one instance for as long as its operations are for this loop.
+/// Runs code of one instance as long as this loop executes its operations.
 ///
-/// The memory of the instance, if it has one, is `memory`; another one lies at its address meanwhile.
+/// The memory of the instance, if it has one, is `memory`. Meanwhile another memory is at its address.
 pub fn run(
     around: Surroundings<'_>,
     state: &mut State,

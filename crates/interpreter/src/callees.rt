@@ -13,7 +13,7 @@ pub struct Found<'a> {
     pub callee: Callee<'a>,
 }
 
-// The function to which an entry of a table refers, which has to be of this type.
+// Returns the function that an entry of a table refers to. The function must have this type.
 #[inline(always)]
 fn find_entry<'a>(code: &'a Code, wanted: &FuncType, entry: Option<Val>) -> Result<Found<'a>, Trap>
     requires { RefersToFunction code.now entry }
@@ -34,8 +34,9 @@ fn find_entry<'a>(code: &'a Code, wanted: &FuncType, entry: Option<Val>) -> Resu
     }
 }
 
-/// The function to which the entry at an offset of a table refers. The type that it has to be of, and the table, have these indices
-/// in the instance. Fails with the trap of a call where there is no entry, where it is null, and where the type is another one.
+/// Returns the function that the entry at an offset of a table refers to. The type that it must have and the table have these
+/// indices in the instance. Fails with the trap of a call if there is no entry, if the entry is null, or if the function has
+/// another type.
 #[inline(always)]
 pub fn find_through<'a>(
     code: &'a Code,

@@ -15,7 +15,7 @@ use core_types::Stack;
 use sidetable::PackedFunction;
 use store::{Callee, ModuleFunction, State};
 
-// Goes on in a frame of an instance: of that whose code runs, or of another one.
+// Continues in a frame of an instance: the one whose code runs, or another one.
 #[inline(always)]
 fn cross(around: Surroundings<'_>, instance: u32, at: &mut Position) -> Crossing
     requires { at.old.instance ≡ around.number }
@@ -81,7 +81,8 @@ fn open<'a>(
     cross(around, function.instance, at)
 }
 
-// Puts a frame for a function of a module in the place of the one at a position. Its arguments are on top at `from`, in the same frame.
+// Replaces the frame at a position with a frame for a function of a module. Its arguments are on top at `from`, in the same
+// frame.
 #[cold]
 #[inline(never)]
 fn replace<'a>(
@@ -121,7 +122,7 @@ fn replace<'a>(
     cross(around, function.instance, at)
 }
 
-// Calls a function of a module, once there is fuel for it. Its arguments are on top at `from`, in the same frame.
+// Calls a function of a module, after there is fuel for it. Its arguments are on top at `from`, in the same frame.
 #[inline(always)]
 fn enter_function<'a>(
     around: Surroundings<'a>,
@@ -166,7 +167,7 @@ fn enter_function<'a>(
     }
 }
 
-// Calls what was found, once there is fuel for it. Its arguments are on top at `from`, in the same frame.
+// Calls the function that was found, after there is fuel for it. Its arguments are on top at `from`, in the same frame.
 #[inline(always)]
 fn enter<'a>(
     around: Surroundings<'a>,
@@ -203,7 +204,7 @@ fn enter<'a>(
     }
 }
 
-// Does what `enter` does, out of the line of the loop.
+// Does what `enter` does, outside of the loop's own code.
 #[cold]
 #[inline(never)]
 fn enter_far<'a>(
@@ -233,7 +234,7 @@ fn enter_far<'a>(
     )
 }
 
-// Calls the function that the instance has under an index, by its address, once there is fuel for it.
+// Calls the function that the instance has under an index, by its address, after there is fuel for it.
 #[cold]
 #[inline(never)]
 fn call_imported<'a>(
@@ -268,7 +269,8 @@ fn call_imported<'a>(
     )
 }
 
-// Whether a nested call clears more than four cells. Such a call leaves the loop's line, which then keeps its values in registers.
+// Returns whether a nested call clears more than four cells. Such a call is not inlined in the loop, which then keeps its values
+// in registers.
 #[inline(always)]
 fn is_far(kind: CallKind, flat: &PackedFunction) -> bool {
     match kind {
@@ -277,7 +279,7 @@ fn is_far(kind: CallKind, flat: &PackedFunction) -> bool {
     }
 }
 
-/// Calls the function that the instance has under an index. One of its own module is found without its address.
+/// Calls the function that the instance has under an index. A function of its own module is found without its address.
 #[inline(always)]
 pub fn call<'a>(
     around: Surroundings<'a>,
@@ -339,7 +341,7 @@ pub fn call<'a>(
     )
 }
 
-// The same for a call of what was found.
+// Like `is_far`, for a call of a function that was found.
 #[inline(always)]
 fn is_found_far(kind: CallKind, callee: Callee<'_>) -> bool {
     match callee {
@@ -348,8 +350,8 @@ fn is_found_far(kind: CallKind, callee: Callee<'_>) -> bool {
     }
 }
 
-/// Calls the function to which an entry of a table refers, whose offset is the topmost operand. The type that it has to be of, and
-/// the table, have the indices of this number.
+/// Calls the function that an entry of a table refers to. The offset of the entry is the topmost operand. The type that the
+/// function must have and the table have the indices of this number.
 #[inline(always)]
 pub fn call_indirect<'a>(
     around: Surroundings<'a>,
@@ -402,7 +404,7 @@ pub fn call_indirect<'a>(
     }
 }
 
-/// Leaves the innermost frame with so many results, once that was paid for.
+/// Leaves the innermost frame with that many results, after the step was paid for.
 #[inline(always)]
 pub fn leave<'a>(
     around: Surroundings<'a>,

@@ -11,9 +11,9 @@ use effects::{compute_binary, load_cell, load_i32, low, store_cell};
 use sidetable::PackedOp;
 use store::State;
 
-/// Runs code of one instance for as long as its operations are for this loop.
+/// Runs code of one instance as long as this loop executes its operations.
 ///
-/// The memory of the instance, if it has one, is `memory`; another one lies at its address meanwhile.
+/// The memory of the instance, if it has one, is `memory`. Meanwhile another memory is at its address.
 #[inline(never)]
 pub fn run_exactly(
     around: Surroundings<'_>,

@@ -14,8 +14,8 @@ pub fn move_down(cells: &mut [u64], from: usize, to: usize, count: usize)
     cells.copy_within(from..from + count, to);
 }
 
-/// Moves the topmost operands down over the cell `to`, of which the last one lies at the top and is `operand`; answers the topmost
-/// one then.
+/// Moves the topmost operands down over the cell `to`, and returns the topmost one then. The last of them is at the top and is
+/// `operand`.
 #[inline(always)]
 pub fn land(cells: &mut [u64], top: usize, to: usize, kept: usize, operand: u64) -> u64
     requires low { to + kept ≤ top }
@@ -32,7 +32,7 @@ pub fn land(cells: &mut [u64], top: usize, to: usize, kept: usize, operand: u64)
     operand
 }
 
-/// As `land`, for results, of which there is one most often.
+/// Like `land`, for results, of which there is usually one.
 #[inline(always)]
 pub fn land_results(cells: &mut [u64], top: usize, to: usize, kept: usize, operand: u64) -> u64
     requires low { to + kept ≤ top }
@@ -57,7 +57,7 @@ fn clear_many(cells: &mut [u64], from: usize, count: usize)
     cells[from..from + count].fill(0);
 }
 
-// Clears cells, the first two by two writes.
+// Clears at least one cell. The first two are cleared by two writes.
 #[inline(always)]
 fn clear_more(cells: &mut [u64], from: usize, count: usize)
     requires some { 1 ≤ count }
@@ -72,7 +72,7 @@ fn clear_more(cells: &mut [u64], from: usize, count: usize)
     }
 }
 
-/// Clears cells, and may clear the one behind them: two at a time, as far as there are few.
+/// Clears cells, and may clear the cell after them. A few cells are cleared two at a time.
 #[inline(always)]
 pub fn clear(cells: &mut [u64], from: usize, count: usize)
     requires { from + count < length cells.old }

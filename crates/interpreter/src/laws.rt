@@ -3,7 +3,7 @@
 ghost use Rattle.interpreter.specs.Running.{OperandsFit};
 ghost use Rattle.interpreter.specs.Turns.{OperationsTurn};
 
-/// Law: an operation stands where the machine is, with what it needs, and leads to what the definitions say of it.
+/// Law: an operation is where the machine is, has what it needs, and leads to what the definitions state of it.
 pub fn operations_turn()
     ensures { OperationsTurn }
 {}

@@ -1,4 +1,4 @@
-//! The loop over flat code and cells, which is steps of the reduction.
+//! The loop over flat code and cells. Its turns are steps of the reduction.
 #![tactic(auto)]
 
 mod ahead;

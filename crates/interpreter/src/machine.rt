@@ -2,8 +2,7 @@ use core_types::{Limits, Trap};
 use sidetable::{FlatModule, OtherInstruction};
 use store::{Code, Instance};
 
-/// A frame that waits: where its locals begin among the cells, the place of the operation behind the call, and the number of its
-/// instance.
+/// A waiting frame: the cell of its first local, the place of the operation after the call, and the number of its instance.
 #[derive(Clone, Copy)]
 pub struct Frame {
     pub base: usize,
@@ -11,8 +10,10 @@ pub struct Frame {
     pub instance: u32,
 }
 
-/// Where a run is: the number of the instance whose code runs, where the locals of the innermost frame begin among the cells, the place
-/// of the next operation, where the topmost operand would lie among the cells, that operand, and the fuel that is left.
+/// The position of a run.
+///
+/// It has the number of the instance whose code runs, the cell of the first local of the innermost frame, and the place of the
+/// next operation. It also has the cell where the topmost operand would be, that operand, and the fuel left.
 #[derive(Clone, Copy)]
 pub struct Position {
     pub instance: u32,
@@ -23,8 +24,8 @@ pub struct Position {
     pub fuel: u64,
 }
 
-/// What stays while code of one instance runs: the store's code, the instance, its module's flat code and its number, the address of
-/// its memory, if it has one, and that memory's limits, and how many frames may be open.
+/// What stays while code of one instance runs: the store's code, the instance, its module's flat code and its number. It also
+/// has the address of the instance's memory, if it has one, that memory's limits, and the most frames that may be open.
 #[derive(Clone, Copy)]
 pub struct Surroundings<'a> {
     pub code: &'a Code,
@@ -46,33 +47,33 @@ pub enum CallKind {
 /// Why the loop stops.
 #[derive(Clone, Copy)]
 pub enum Stop {
-    /// The outermost frame is at its end, or returns, which was paid for.
+    /// The outermost frame is at its end, or returns, and the step was paid for.
     Over,
     /// The next step traps, and was paid for.
     Traps(Trap),
-    /// The next step costs more than is left.
+    /// The next step costs more than the fuel left.
     NoFuel,
-    /// The next step opens a frame more than may be open.
+    /// The next step would open more frames than the bound allows.
     NoDepth,
-    /// The next step opens a frame, or puts one in the place of another, for which there are not enough cells.
+    /// The next step opens or replaces a frame, for which there are not enough cells.
     NoRoom,
-    /// The next step opens a frame, for which there is no memory.
+    /// The next step opens a frame, for which an allocation failed.
     NoMemory,
     /// Code of another instance is next.
     Switches,
-    /// The next step calls the host function at an address so; its arguments lie below this place among the cells.
+    /// The next step calls the host function at an address. Its arguments are in the cells below this place.
     CallsHost(CallKind, u32, usize),
     /// The next operation is an instruction that the loop leaves to others.
     LeavesOther(OtherInstruction, u32),
 }
 
-/// Where the machine goes on, from the position that an operation led to, which may be in another frame.
+/// Where the machine continues, from the position that an operation led to. That position can be in another frame.
 #[derive(Clone, Copy)]
 pub enum Crossing {
     /// In code of the same instance.
     Goes,
     /// In code of another instance.
     Switches,
-    /// Nowhere. Why lies elsewhere, so that the loop carries no reason to stop from turn to turn.
+    /// The machine stops. The reason is stored elsewhere, so that the loop does not carry it from turn to turn.
     Stops,
 }

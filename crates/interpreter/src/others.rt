@@ -12,7 +12,7 @@ use effects::compute_unary;
 use sidetable::OtherInstruction;
 use store::State;
 
-// With one operand more.
+// Returns the position with one more operand.
 #[inline(always)]
 fn push(cells: &mut [u64], at: Position, cell: u64, why: &mut Stop) -> Option<Position>
     requires room { at.top < length cells.old }
@@ -30,7 +30,7 @@ fn push(cells: &mut [u64], at: Position, cell: u64, why: &mut Stop) -> Option<Po
     Some(to)
 }
 
-// With the topmost operand in the place of so many.
+// Returns the position with the topmost operand in the place of that many.
 #[inline(always)]
 fn lower(at: Position, by: usize, cell: u64, why: &mut Stop) -> Option<Position>
     requires enough { by ≤ at.top }
@@ -45,7 +45,7 @@ fn lower(at: Position, by: usize, cell: u64, why: &mut Stop) -> Option<Position>
     Some(to)
 }
 
-/// Does an instruction that is rarer, or leaves it to others.
+/// Executes a rarer instruction, or leaves it to others.
 #[inline(always)]
 pub fn step_other(
     around: Surroundings<'_>,

@@ -3,7 +3,7 @@ ghost use Rattle.interpreter.specs.declared.machine.Stop.TheVariants as stop;
 
 use crate::machine::Stop;
 
-/// The fuel that is left once a unit was paid. Without one, that is why the loop stops.
+/// Returns the fuel left after a unit is paid. If there is no unit, sets `why` to `NoFuel` and returns none.
 #[inline(always)]
 pub fn pay(fuel: u64, why: &mut Stop) -> Option<u64>
     ensures some { IfSome result (λ left. (1 ≤ fuel) × (left ≡ fuel - 1)) }

@@ -9,8 +9,8 @@ use crate::machine::{Position, Surroundings};
 use sidetable::{Entry, PackedOp, SideTables};
 use store::State;
 
-/// Returns the operation where the machine is. State, memory and cells are there for the contract alone, and so is all of the position
-/// but the place.
+/// Returns the operation at the machine's place. Only the contract needs the state, the memory, the cells, and the rest of the
+/// position.
 #[inline(always)]
 pub fn fetch<'a>(
     around: Surroundings<'a>,
@@ -33,7 +33,7 @@ pub fn fetch<'a>(
     &operations[at.place]
 }
 
-/// The entry of a number.
+/// Returns the entry of a number.
 #[inline(always)]
 pub fn entry(tables: &SideTables, number: u32) -> Entry
     requires { number < length tables.now.entries.items }

@@ -18,7 +18,7 @@ use core_types::{Stack, Trap};
 use sidetable::{Entry, SideTables, TransferInstruction};
 use store::State;
 
-// The entry that a branch by number chooses: that at the operand's place among its labels, or else the default one.
+// Returns the entry that a branch by number chooses: the one at the operand's place among its labels, or else the default one.
 #[inline(always)]
 fn chosen(tables: &SideTables, number: u32, operand: u64) -> Entry
     requires range { number < length tables.now.branch_ranges.items }
@@ -38,7 +38,7 @@ fn chosen(tables: &SideTables, number: u32, operand: u64) -> Entry
     }
 }
 
-// Moves the values that a branch keeps, and goes on at its target.
+// Moves the values that a branch keeps, and continues at its target.
 #[inline(always)]
 fn land_at(cells: &mut [u64], e: Entry, at: &mut Position)
     requires low { at.old.base + e.height + e.kept ≤ at.old.top }
@@ -69,8 +69,8 @@ fn land_far(cells: &mut [u64], e: Entry, at: &mut Position)
     land_at(cells, e, at);
 }
 
-/// Branches to an entry, once the branch is paid for. The topmost operand is in its cell, too. Most branches keep no value, and only those
-/// stay in the line of the loop, which then moves no register for them.
+/// Branches to an entry. The topmost operand must also be in the cell at the top, and the step must be paid for. Most branches keep no
+/// value. Only those stay in the line of the loop, which then moves no register for them.
 #[inline(always)]
 pub fn branch(cells: &mut [u64], e: Entry, at: &mut Position)
     requires low { at.old.base + e.height + e.kept ≤ at.old.top }
@@ -89,7 +89,7 @@ pub fn branch(cells: &mut [u64], e: Entry, at: &mut Position)
     }
 }
 
-/// Does an operation that does not go on with the next one, or calls, and is rarer.
+/// Executes a rarer operation that does not continue with the next one, or that calls.
 #[inline(always)]
 pub fn transfer<'a>(
     around: Surroundings<'a>,

@@ -1,4 +1,4 @@
--- What a rounded quotient leaves.
+-- The remainder of a rounded quotient.
 use Rattle.std.proofs.Common.{ℕ, ◌≡◌, ◌-◌, ◌*◌, ◌/◌, ◌%◌, ◌∙◌, ap, ap₂, false, arith}
 use Rattle.std.specs.Prelude.{ℤ, ◌-ℤ◌, ◌*ℤ◌, ◌==◌, int_div, int_rem, FitsSigned, Ok}
 use Rattle.std.specs.Int.{Width, cast_signed, cast_unsigned}

@@ -11,8 +11,8 @@ use crate::division::{
 };
 use core_types::{BinaryOp, Trap};
 
-/// What an operator gives from two integers of 32 bits, or why it traps: a division or a remainder by zero, or a signed
-/// quotient that 32 bits don't hold (Execution, Numerics, Integer Operations, iadd to irotr).
+/// Returns the result of an operator on two 32-bit integers, or its trap. It traps for a division or a remainder by zero, or for
+/// a signed quotient that does not fit in 32 bits (Execution, Numerics, Integer Operations, iadd to irotr).
 pub fn binary_32(op: BinaryOp, a: u32, b: u32) -> Result<u32, Trap>
     ensures { result ≡ binary_operator 32 op a b }
 {
@@ -35,8 +35,8 @@ pub fn binary_32(op: BinaryOp, a: u32, b: u32) -> Result<u32, Trap>
     }
 }
 
-/// What an operator gives from two integers of 64 bits, or why it traps: a division or a remainder by zero, or a signed
-/// quotient that 64 bits don't hold (Execution, Numerics, Integer Operations, iadd to irotr).
+/// Returns the result of an operator on two 64-bit integers, or its trap. It traps for a division or a remainder by zero, or for
+/// a signed quotient that does not fit in 64 bits (Execution, Numerics, Integer Operations, iadd to irotr).
 pub fn binary_64(op: BinaryOp, a: u64, b: u64) -> Result<u64, Trap>
     ensures { result ≡ binary_operator 64 op a b }
 {

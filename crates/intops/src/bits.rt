@@ -4,35 +4,35 @@ ghost use Rattle.meaning.specs.execution.Numerics.{integer, rotated_left, rotate
 
 use crate::signed::{integer_32, integer_64, signed_32, signed_64};
 
-// The bits of an integer of 32 bits, moved up; those above the highest place are lost.
+// Returns the bits of a 32-bit integer, moved up. Those above the highest place are lost.
 pub fn shift_left_32(a: u32, k: u32) -> u32
     ensures { result ≡ (a * 2 ^ (k % 32)) % 2 ^ 32 }
 {
     a << (k % 32)
 }
 
-// The bits of an integer of 64 bits, moved up; those above the highest place are lost.
+// Returns the bits of a 64-bit integer, moved up. Those above the highest place are lost.
 pub fn shift_left_64(a: u64, k: u64) -> u64
     ensures { result ≡ (a * 2 ^ (k % 64)) % 2 ^ 64 }
 {
     a << (k % 64)
 }
 
-// The bits of an integer of 32 bits, moved down, with zeros above them.
+// Returns the bits of a 32-bit integer, moved down, with zeros above them.
 pub fn shift_right_unsigned_32(a: u32, k: u32) -> u32
     ensures { result ≡ a / 2 ^ (k % 32) }
 {
     a >> (k % 32)
 }
 
-// The bits of an integer of 64 bits, moved down, with zeros above them.
+// Returns the bits of a 64-bit integer, moved down, with zeros above them.
 pub fn shift_right_unsigned_64(a: u64, k: u64) -> u64
     ensures { result ≡ a / 2 ^ (k % 64) }
 {
     a >> (k % 64)
 }
 
-// The bits of an integer of 32 bits, moved down, with its highest bit above them.
+// Returns the bits of a 32-bit integer, moved down, with its highest bit above them.
 #[tactic(auto, using(crate::proofs::Shifts::shifted_is))]
 pub fn shift_right_signed_32(a: u32, k: u32) -> u32
     ensures { result ≡ integer 32 (int_div_euclid (signed 32 a) (pos (2 ^ (k % 32)))) }
@@ -40,7 +40,7 @@ pub fn shift_right_signed_32(a: u32, k: u32) -> u32
     integer_32(signed_32(a) >> (k % 32))
 }
 
-// The bits of an integer of 64 bits, moved down, with its highest bit above them.
+// Returns the bits of a 64-bit integer, moved down, with its highest bit above them.
 #[tactic(auto, using(crate::proofs::Shifts::shifted_is))]
 pub fn shift_right_signed_64(a: u64, k: u64) -> u64
     ensures { result ≡ integer 64 (int_div_euclid (signed 64 a) (pos (2 ^ (k % 64)))) }
@@ -48,7 +48,7 @@ pub fn shift_right_signed_64(a: u64, k: u64) -> u64
     integer_64(signed_64(a) >> (k % 64))
 }
 
-// The bits of an integer of 32 bits, rotated up.
+// Returns the bits of a 32-bit integer, rotated up.
 #[tactic(auto, using(crate::proofs::Rotations::left_32_is))]
 pub fn rotate_left_32(a: u32, k: u32) -> u32
     ensures { result ≡ rotated_left 32 a (k % 32) }
@@ -56,7 +56,7 @@ pub fn rotate_left_32(a: u32, k: u32) -> u32
     a.rotate_left(k)
 }
 
-// The bits of an integer of 64 bits, rotated up.
+// Returns the bits of a 64-bit integer, rotated up.
 #[tactic(auto, using(crate::proofs::Rotations::left_64_is))]
 pub fn rotate_left_64(a: u64, k: u64) -> u64
     ensures { result ≡ rotated_left 64 a (k % 64) }
@@ -64,7 +64,7 @@ pub fn rotate_left_64(a: u64, k: u64) -> u64
     a.rotate_left((k % 64) as u32)
 }
 
-// The bits of an integer of 32 bits, rotated down.
+// Returns the bits of a 32-bit integer, rotated down.
 #[tactic(auto, using(crate::proofs::Rotations::right_32_is))]
 pub fn rotate_right_32(a: u32, k: u32) -> u32
     ensures { result ≡ rotated_right 32 a (k % 32) }
@@ -72,7 +72,7 @@ pub fn rotate_right_32(a: u32, k: u32) -> u32
     a.rotate_right(k)
 }
 
-// The bits of an integer of 64 bits, rotated down.
+// Returns the bits of a 64-bit integer, rotated down.
 #[tactic(auto, using(crate::proofs::Rotations::right_64_is))]
 pub fn rotate_right_64(a: u64, k: u64) -> u64
     ensures { result ≡ rotated_right 64 a (k % 64) }

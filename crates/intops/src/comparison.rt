@@ -4,14 +4,15 @@ ghost use Rattle.meaning.specs.execution.Numerics.{comparison_operator, eqz_oper
 use crate::signed::{signed_32, signed_64};
 use core_types::Comparison;
 
-// 1 for true, 0 for false.
+// Returns 1 for true and 0 for false.
 fn number_of(holds: bool) -> u32
     ensures { result ≡ truth holds }
 {
     if holds { 1 } else { 0 }
 }
 
-/// Whether two integers of 32 bits compare so: 1 if they do, and else 0 (Execution, Numerics, Integer Operations, ieq to ige_s).
+/// Returns 1 if two 32-bit integers satisfy a comparison, and otherwise 0 (Execution, Numerics, Integer Operations, ieq to
+/// ige_s).
 pub fn compare_32(op: Comparison, a: u32, b: u32) -> u32
     ensures { result ≡ comparison_operator 32 op a b }
 {
@@ -29,7 +30,8 @@ pub fn compare_32(op: Comparison, a: u32, b: u32) -> u32
     })
 }
 
-/// Whether two integers of 64 bits compare so: 1 if they do, and else 0 (Execution, Numerics, Integer Operations, ieq to ige_s).
+/// Returns 1 if two 64-bit integers satisfy a comparison, and otherwise 0 (Execution, Numerics, Integer Operations, ieq to
+/// ige_s).
 pub fn compare_64(op: Comparison, a: u64, b: u64) -> u32
     ensures { result ≡ comparison_operator 64 op a b }
 {
@@ -47,14 +49,14 @@ pub fn compare_64(op: Comparison, a: u64, b: u64) -> u32
     })
 }
 
-/// Whether an integer of 32 bits is zero: 1 if it is, and else 0 (Execution, Numerics, Integer Operations, ieqz).
+/// Returns 1 if a 32-bit integer is zero, and otherwise 0 (Execution, Numerics, Integer Operations, ieqz).
 pub fn eqz_32(a: u32) -> u32
     ensures { result ≡ eqz_operator a }
 {
     number_of(a == 0)
 }
 
-/// Whether an integer of 64 bits is zero: 1 if it is, and else 0 (Execution, Numerics, Integer Operations, ieqz).
+/// Returns 1 if a 64-bit integer is zero, and otherwise 0 (Execution, Numerics, Integer Operations, ieqz).
 pub fn eqz_64(a: u64) -> u32
     ensures { result ≡ eqz_operator a }
 {

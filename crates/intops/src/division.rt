@@ -4,7 +4,7 @@ ghost use Rattle.meaning.specs.execution.Numerics.{quotient_signed, quotient_uns
 use crate::signed::{integer_32, integer_64, signed_32, signed_64};
 use core_types::Trap;
 
-// The quotient of two integers of 32 bits.
+// Returns the quotient of two 32-bit integers.
 pub fn quotient_unsigned_32(a: u32, b: u32) -> Result<u32, Trap>
     ensures { result ≡ quotient_unsigned a b }
 {
@@ -15,7 +15,7 @@ pub fn quotient_unsigned_32(a: u32, b: u32) -> Result<u32, Trap>
     }
 }
 
-// The quotient of two integers of 64 bits.
+// Returns the quotient of two 64-bit integers.
 pub fn quotient_unsigned_64(a: u64, b: u64) -> Result<u64, Trap>
     ensures { result ≡ quotient_unsigned a b }
 {
@@ -26,7 +26,7 @@ pub fn quotient_unsigned_64(a: u64, b: u64) -> Result<u64, Trap>
     }
 }
 
-// The remainder of two integers of 32 bits.
+// Returns the remainder of two 32-bit integers.
 #[tactic(auto, using(crate::proofs::Quotients::remainder_is))]
 pub fn remainder_unsigned_32(a: u32, b: u32) -> Result<u32, Trap>
     ensures { result ≡ remainder_unsigned a b }
@@ -38,7 +38,7 @@ pub fn remainder_unsigned_32(a: u32, b: u32) -> Result<u32, Trap>
     }
 }
 
-// The remainder of two integers of 64 bits.
+// Returns the remainder of two 64-bit integers.
 #[tactic(auto, using(crate::proofs::Quotients::remainder_is))]
 pub fn remainder_unsigned_64(a: u64, b: u64) -> Result<u64, Trap>
     ensures { result ≡ remainder_unsigned a b }
@@ -50,7 +50,7 @@ pub fn remainder_unsigned_64(a: u64, b: u64) -> Result<u64, Trap>
     }
 }
 
-// The quotient of two integers of 32 bits, read as signed.
+// Returns the quotient of two 32-bit integers, read as signed.
 pub fn quotient_signed_32(a: u32, b: u32) -> Result<u32, Trap>
     ensures { result ≡ quotient_signed 32 a b }
 {
@@ -63,7 +63,7 @@ pub fn quotient_signed_32(a: u32, b: u32) -> Result<u32, Trap>
     }
 }
 
-// The quotient of two integers of 64 bits, read as signed.
+// Returns the quotient of two 64-bit integers, read as signed.
 pub fn quotient_signed_64(a: u64, b: u64) -> Result<u64, Trap>
     ensures { result ≡ quotient_signed 64 a b }
 {
@@ -76,7 +76,7 @@ pub fn quotient_signed_64(a: u64, b: u64) -> Result<u64, Trap>
     }
 }
 
-// The remainder of two integers of 32 bits, read as signed.
+// Returns the remainder of two 32-bit integers, read as signed.
 pub fn remainder_signed_32(a: u32, b: u32) -> Result<u32, Trap>
     ensures { result ≡ remainder_signed 32 a b }
 {
@@ -87,7 +87,7 @@ pub fn remainder_signed_32(a: u32, b: u32) -> Result<u32, Trap>
     }
 }
 
-// The remainder of two integers of 64 bits, read as signed.
+// Returns the remainder of two 64-bit integers, read as signed.
 pub fn remainder_signed_64(a: u64, b: u64) -> Result<u64, Trap>
     ensures { result ≡ remainder_signed 64 a b }
 {

@@ -1,7 +1,7 @@
 ghost use Rattle.std.specs.Prelude.{◌≡◌};
 ghost use Rattle.meaning.specs.execution.Numerics.{integer, signed};
 
-// The signed number that an integer of 8 bits represents.
+// Returns the signed number that an 8-bit integer represents.
 #[tactic(auto, using(crate::proofs::Casts::signed_8_is))]
 pub fn signed_8(a: u8) -> i8
     ensures { result ≡ signed 8 a }
@@ -9,7 +9,7 @@ pub fn signed_8(a: u8) -> i8
     a.cast_signed()
 }
 
-// The signed number that an integer of 16 bits represents.
+// Returns the signed number that a 16-bit integer represents.
 #[tactic(auto, using(crate::proofs::Casts::signed_16_is))]
 pub fn signed_16(a: u16) -> i16
     ensures { result ≡ signed 16 a }
@@ -17,7 +17,7 @@ pub fn signed_16(a: u16) -> i16
     a.cast_signed()
 }
 
-// The signed number that an integer of 32 bits represents.
+// Returns the signed number that a 32-bit integer represents.
 #[tactic(auto, using(crate::proofs::Casts::signed_32_is))]
 pub fn signed_32(a: u32) -> i32
     ensures { result ≡ signed 32 a }
@@ -25,7 +25,7 @@ pub fn signed_32(a: u32) -> i32
     a.cast_signed()
 }
 
-// The signed number that an integer of 64 bits represents.
+// Returns the signed number that a 64-bit integer represents.
 #[tactic(auto, using(crate::proofs::Casts::signed_64_is))]
 pub fn signed_64(a: u64) -> i64
     ensures { result ≡ signed 64 a }
@@ -33,7 +33,7 @@ pub fn signed_64(a: u64) -> i64
     a.cast_signed()
 }
 
-// The integer of 32 bits that represents a signed number.
+// Returns the 32-bit integer that represents a signed number.
 #[tactic(auto, using(crate::proofs::Casts::integer_32_is))]
 pub fn integer_32(z: i32) -> u32
     ensures { result ≡ integer 32 z }
@@ -41,7 +41,7 @@ pub fn integer_32(z: i32) -> u32
     z.cast_unsigned()
 }
 
-// The integer of 64 bits that represents a signed number.
+// Returns the 64-bit integer that represents a signed number.
 #[tactic(auto, using(crate::proofs::Casts::integer_64_is))]
 pub fn integer_64(z: i64) -> u64
     ensures { result ≡ integer 64 z }

@@ -4,35 +4,35 @@ ghost use Rattle.meaning.specs.execution.Numerics.{extended, unary_operator};
 use crate::signed::{integer_32, integer_64, signed_8, signed_16};
 use core_types::UnaryOp;
 
-// The low 8 bits, read as signed, in 32 bits.
+// Returns the low 8 bits, read as signed, in 32 bits.
 fn extended_8_to_32(a: u32) -> u32
     ensures { result ≡ extended 8 32 a }
 {
     integer_32(signed_8((a % 0x100) as u8) as i32)
 }
 
-// The low 16 bits, read as signed, in 32 bits.
+// Returns the low 16 bits, read as signed, in 32 bits.
 fn extended_16_to_32(a: u32) -> u32
     ensures { result ≡ extended 16 32 a }
 {
     integer_32(signed_16((a % 0x1_0000) as u16) as i32)
 }
 
-// The low 8 bits, read as signed, in 64 bits.
+// Returns the low 8 bits, read as signed, in 64 bits.
 fn extended_8_to_64(a: u64) -> u64
     ensures { result ≡ extended 8 64 a }
 {
     integer_64(signed_8((a % 0x100) as u8) as i64)
 }
 
-// The low 16 bits, read as signed, in 64 bits.
+// Returns the low 16 bits, read as signed, in 64 bits.
 fn extended_16_to_64(a: u64) -> u64
     ensures { result ≡ extended 16 64 a }
 {
     integer_64(signed_16((a % 0x1_0000) as u16) as i64)
 }
 
-/// What an operator gives from an integer of 32 bits (Execution, Numerics, Integer Operations, iclz to iextendM_s).
+/// Returns the result of an operator on a 32-bit integer (Execution, Numerics, Integer Operations, iclz to iextendM_s).
 #[tactic(auto, using(crate::proofs::Counts::leading_is, crate::proofs::Counts::trailing_is, crate::proofs::Counts::ones_are))]
 pub fn unary_32(op: UnaryOp, a: u32) -> u32
     ensures { result ≡ unary_operator 32 op a }
@@ -46,7 +46,7 @@ pub fn unary_32(op: UnaryOp, a: u32) -> u32
     }
 }
 
-/// What an operator gives from an integer of 64 bits (Execution, Numerics, Integer Operations, iclz to iextendM_s).
+/// Returns the result of an operator on a 64-bit integer (Execution, Numerics, Integer Operations, iclz to iextendM_s).
 #[tactic(auto, using(crate::proofs::Counts::leading_is, crate::proofs::Counts::trailing_is, crate::proofs::Counts::ones_are))]
 pub fn unary_64(op: UnaryOp, a: u64) -> u64
     ensures { result ≡ unary_operator 64 op a }

@@ -48,7 +48,7 @@ apart-other mine theirs apart = record {
   datas = λ address has too. apart.datas address too has;
 }
 
--- What lies in one of two regions that are apart is apart from what lies in the other.
+-- Parts of two regions that are apart are apart.
 apart-less : (mine theirs less less' : Region) → AreApart mine theirs → ((place : Place) → IsIn less place → IsIn mine place) → ((place : Place) → IsIn less' place → IsIn theirs place) → AreApart less less'
 apart-less mine theirs less less' apart first second = record {
   tables = λ address has too. apart.tables address (first (Table address) has) (second (Table address) too);
@@ -67,7 +67,7 @@ apart-both mine first second one other = record {
   datas = λ address has too. elim too [ inl a ↦ one.datas address has a | inr b ↦ other.datas address has b ];
 }
 
--- What is there lies apart from what is new.
+-- What exists is apart from what is new.
 apart-new : (mine theirs : Region) (store : Store) → IsThere mine store → AreApart mine theirs → AreApart mine (with_new theirs store)
 apart-new mine theirs store there apart = record {
   tables = λ address has. not-from theirs.tables (length store.tables) address (apart.tables address has) (there.tables address has);
@@ -77,7 +77,7 @@ apart-new mine theirs store there apart = record {
   datas = λ address has. not-from theirs.datas (length store.datas) address (apart.datas address has) (there.datas address has);
 }
 
--- The region, with the new addresses where a command links.
+-- The region, with the new addresses if a command links.
 abbrev grown : Region → Store → Command → Region
 grown region store (Load bytes) = region
 grown region store (Link number) = with_new region store
@@ -102,10 +102,10 @@ instance-grown region store instance has (Call number name arguments) = has
 instance-grown region store instance has (GetGlobal number name) = has
 instance-grown region store instance has (SetFuel fuel) = has
 
--- ---- what is reached from where
+-- ---- what is reached from which places
 
 module _ (store : Store) where
-  -- What is reached from less is reached from more.
+  -- What is reached from fewer places is reached from more.
   from-more : (Starts More : Place → Type 0) → ((place : Place) → Starts place → IsReached store More place) → (place : Place) → IsReached store Starts place → IsReached store More place
   from-more Starts More each place (start starts) = each place starts
   from-more Starts More each place (onward {from = before} reached leads) = onward (from-more Starts More each before reached) leads
@@ -146,7 +146,7 @@ module _ (store : Store) where
     datas = λ address has too. nothing-reached Starts nowhere (Data address) too;
   }
 
-  -- From functions of the host only host functions are reached.
+  -- From host functions only host functions are reached.
   abbrev IsHostPlace : Place → Type 0
   IsHostPlace (Function a) = IsOfHost store (value.Func a)
   IsHostPlace (Instance a) = ⊥
@@ -196,10 +196,10 @@ module _ {H : Type 0} (host_type : H → FuncType) (Answers : H → List Val →
   further region larger part at (GetGlobal number name) reaches = tt
   further region larger part at (SetFuel fuel) reaches = tt
 
-  -- ---- what a command reaches by which nothing is shared
+  -- ---- what a command that shares nothing reaches
 
   module _ (at : Embedding H) (all : (one other : ℕ) → (one ≡ other → ⊥) → AreApart (reach_from at one) (reach_from at other)) where
-    -- It is apart from each instance into which it does not call.
+    -- It is apart from each instance that the command does not call.
     reach-apart : (command : Command) (number : ℕ) → SharesNothing at command → DoesNotCall number command → AreApart (reach_from at number) (reach_of at command)
     reach-apart (Load bytes) number shares calls = apart-from-nothing at.state.store (reach_from at number) (StartsFrom at (Load bytes)) (λ place starts. starts)
     reach-apart (Link k) number shares calls = apart-from-hosts at.state.store (reach_from at number) (StartsFrom at (Link k)) imports
@@ -223,7 +223,7 @@ module _ {H : Type 0} (host_type : H → FuncType) (Answers : H → List Val →
     reach-apart (GetGlobal k name) number shares calls = apart-from-nothing at.state.store (reach_from at number) (StartsFrom at (GetGlobal k name)) (λ place starts. starts)
     reach-apart (SetFuel fuel) number shares calls = apart-from-nothing at.state.store (reach_from at number) (StartsFrom at (SetFuel fuel)) (λ place starts. starts)
 
-  -- A command is a call, or it calls into no instance.
+  -- A command is a call, or it calls no instance.
   calls-which : (one other : ℕ) (command : Command) → (DoesNotCall one command × DoesNotCall other command) ⊎ ((k : ℕ) × (name : List ℕ) × (arguments : List Val) × (command ≡ Call k name arguments))
   calls-which one other (Load bytes) = inl (tt, tt)
   calls-which one other (Link k) = inl (tt, tt)
@@ -297,9 +297,9 @@ module _ {H : Type 0} (host_type : H → FuncType) (Answers : H → List Val →
       | inr alone ↦ apart-other (reach_from new other) (reach_from new one) (apart-after other one alone (apart-other (reach_from old one) (reach_from old other) apart))
     ]
 
-    -- ---- a command by which nothing is shared
+    -- ---- a command that shares nothing
 
-    -- A command makes one instance at most.
+    -- A command makes at most one instance.
     makes-another : (one other : ℕ) → (one ≡ other → ⊥) → (r : Reply) → reply ≡ r → (reply ≡ Linked one → ⊥) ⊎ (reply ≡ Linked other → ⊥)
     makes-another one other differ (Loaded n) is = inl (λ made. let wrong : Loaded n ≡ Linked one = sym is ∙ made in cc)
     makes-another one other differ Done is = inl (λ made. let wrong : Done ≡ Linked one = sym is ∙ made in cc)
@@ -331,7 +331,7 @@ module _ {H : Type 0} (host_type : H → FuncType) (Answers : H → List Val →
 
   -- ---- runs
 
-  -- What is kept along a run: host functions give no references, numbered instances are there, and the store is valid.
+  -- What is kept along a run: host functions give no references, numbered instances exist, and the store is valid.
   record IsTidy (at : Embedding H) : Type 0 where
     free : NoFuncrefs host_type Answers at
     numbers : NumbersAreThere host_type Answers at
@@ -390,10 +390,10 @@ module _ {H : Type 0} (host_type : H → FuncType) (Answers : H → List Val →
     strangers-are-apart setup definitions fresh last commands replies one other few created bytes run shares =
         all-stay-apart run (goes-well setup definitions fresh created few read bytes run) (fresh-tidy setup definitions fresh created few read) shares (λ a b differ. fresh-apart setup definitions fresh created a b) one other
 
-  -- ---- names, where no instance is registered
+  -- ---- names, if no instance is registered
 
   module _ {T : Type 0} where
-    -- What is found under a name after one item was put under another is that item, or was there.
+    -- After one item was stored under a name, the item found under another name is that item, or was there before.
     put-finds : (items : List (List ℕ × T)) (name name' : List ℕ) (item x : T) → under (put_under items name item) name' ≡ Some x → (x ≡ item) ⊎ (under items name' ≡ Some x)
     put-finds [] name name' item x is = go (bytes_eq name' name) is
       where

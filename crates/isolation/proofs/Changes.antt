@@ -38,7 +38,7 @@ number-kept : {old new : List ℕ} (k : ℕ) {x : ℕ} → new ≡ old → slice
 number-kept k same is = ap (λ (is : List ℕ). slice_get is k) same ∙ is
 
 module _ {H : Type 0} (HostStep : List H → ℕ → Option ℕ → List Val → Store → Answer → Store → List H → Type 0) where
-  -- A command adds modules or names, sets the fuel, runs a call or a link, or leaves all as it is.
+  -- A command adds modules or names, sets the fuel, runs a call or a link, or changes nothing.
   pub data Change (old : Embedding H) (command : Command) (reply : Reply) (new : Embedding H) : Type 0 where
     nothing_done : IsNoLink reply → new ≡ old → Change old command reply new
     modules_loaded : {modules : List Module} → IsNoLink reply → new ≡ record old { modules = modules } → Change old command reply new
@@ -130,7 +130,7 @@ module _ {H : Type 0} (HostStep : List H → ℕ → Option ℕ → List Val →
         ]
     numbers-before (link_failed link r n) k x is = inl (number-kept k (sym (ap (λ (e : Embedding H). e.instances) n)) is)
 
-    -- Only a link is replied to by the number of an instance.
+    -- Only the reply to a link has the number of an instance.
     pub links-alone : Change old command reply new → ((number : ℕ) → command ≡ Link number → ⊥) → IsNoLink reply
     links-alone (nothing_done r n) other = r
     links-alone (modules_loaded r n) other = r

@@ -1,4 +1,4 @@
--- Commands keep to their reach, and others' commands change no answers.
+-- Commands keep to their reach, and commands to other instances change no replies.
 use Rattle.std.proofs.Common.{◌≡◌, ℕ, zero, suc, ◌<◌, ◌≤◌, List, [], ◌∷◌, bytes_eq, length, reverse, Option, Some, None, refl, ap, sym, subst, ◌∙◌, arith, slice_get, option_map, inl, inr, ◌^◌}
 use Rattle.std.proofs.lemmas.Option.{slice_get_within}
 use Rattle.std.specs.List.{All}
@@ -48,7 +48,7 @@ use Rattle.isolation.proofs.Within.{reverse-within}
 
 -- ---- exports
 
--- What is made of an item that is there.
+-- The result of a function for an item that exists.
 made-of : {A B : Type 0} (f : A → B) (found : Option A) (y : B) → option_map f found ≡ Some y → (x : A) × (found ≡ Some x) × (f x ≡ y)
 made-of f None y is = absurd cc
 made-of f (Some x) y is = (x, refl, cc)
@@ -318,7 +318,7 @@ module _ {H : Type 0} (host_type : H → FuncType) (Answers : H → List Val →
   keeps-to-its-reach setup definitions fresh {old} created run command reply new applies =
       command-reaches (reach_of old command) old new reply (list-free (fresh-free setup definitions fresh created) run) (reach-closed old.state.store (StartsFrom old command)) command (reaches-no-further old command) applies
 
-  -- ---- embeddings that seem alike to who speaks to an instance
+  -- ---- embeddings that look alike from an instance
 
   record SeemsAlike (region : Region) (number : ℕ) (a b : Embedding H) : Type 0 where
     instance : ℕ
@@ -393,7 +393,7 @@ module _ {H : Type 0} (host_type : H → FuncType) (Answers : H → List Val →
     free = free_b;
   }
 
-  -- ---- what is said to an instance
+  -- ---- commands to an instance
 
   module _ (region : Region) (number : ℕ) (a b a' : Embedding H) (reply : Reply) (alike : StaysAlike region number a b) where
     abbrev Answered : (Embedding H → Type 0) → Type 0
@@ -491,7 +491,7 @@ module _ {H : Type 0} (host_type : H → FuncType) (Answers : H → List Val →
       let (last', others) = conversation region number rest b' after (λ k d inside. said (suc k) d (omega (arith, inside))) in
       (last', machine.then_on does others)
 
-  -- ---- others' commands
+  -- ---- commands to other instances
 
   module _ (region theirs : Region) (old new : Store) (there : IsThere region old) (apart : AreApart region theirs) (code : KeepsCode old new) where
     kept-of-region : LeavesOutside theirs old new → AgreeWithin region old new

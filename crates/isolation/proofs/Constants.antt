@@ -24,12 +24,12 @@ use Rattle.soundness.proofs.Values.{All-at}
 use Rattle.isolation.specs.Regions.{AgreeWithin, ElementIsWithin, GlobalIsWithin, Has, InstanceIsWithin, IsClosed, Region, ValueIsWithin, ValuesAreWithin}
 use Rattle.isolation.proofs.Within.{null-within}
 
--- It holds of what there is, if there is something.
+-- The property holds for the item, if there is one.
 abbrev pub OfSome : {X : Type 0} → (X → Type 0) → Option X → Type 0
 OfSome P None = Unit {0}
 OfSome P (Some x) = P x
 
--- It holds of each item.
+-- The property holds for each item.
 abbrev pub OfEach : {X : Type 0} → (X → Type 0) → List X → Type 0
 OfEach P [] = Unit {0}
 OfEach P (x ∷ xs) = P x × OfEach P xs

@@ -126,7 +126,7 @@ module _ {H : Type 0} (HostStep : List H → ℕ → Option ℕ → List Val →
     command-less (GetGlobal number name) sets applies = inl (gets-less (as_global (export_at old number name)) applies)
     command-less (SetFuel fuel) sets applies = absurd sets
 
-  -- ---- commands in a row
+  -- ---- consecutive commands
 
   list-less : (less : ℕ) {with_more last : Embedding H} {commands : List Command} {replies : List Reply} → AppliesAll HostStep with_more commands replies last → (old : Embedding H) → with_more ≡ fuelled old less
       → All SetsNoFuel commands → SameUntilOutOfFuel HostStep less old commands replies last
@@ -140,7 +140,7 @@ module _ {H : Type 0} (HostStep : List H → ℕ → Option ℕ → List Val →
   pub lists-end-early : CommandListsEndEarly HostStep
   lists-end-early old last commands replies less sets run = list-less less run old refl sets
 
-  -- Where commands are functions, each list is cut so.
+  -- If commands are functions, each list ends early like this.
   module _ (agree : CommandsAreFunctions HostStep) where
     out-of-fuel-alone : (command : Command) (reply : Reply) → IsSameReply command (Ended OutOfFuel) reply → reply ≡ Ended OutOfFuel
     out-of-fuel-alone (Load bytes) reply (inl is) = sym is

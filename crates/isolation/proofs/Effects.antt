@@ -51,7 +51,7 @@ EffectsAgree region a b (Grown cost a' locals values) other =
 EffectsAgree region a b (Fails trap) other = other ≡ Fails trap
 EffectsAgree region a b Lacks other = other ≡ Lacks
 
--- What was looked for is at an address of these, if it was found.
+-- The item that was looked for is at one of these addresses, if it was found.
 abbrev pub Found : {X : Type 0} → (ℕ → Type 0) → List X → Option (ℕ × X) → Type 0
 Found addresses items None = Unit {0}
 Found addresses items (Some (address, x)) = Has addresses address × (slice_get items address ≡ Some x)

@@ -1,4 +1,4 @@
--- The laws, of the engine's own host functions.
+-- The laws for the engine's own host functions.
 use Rattle.std.proofs.Common.{◌≡◌, ℕ, List, ap, ap₂, subst, sym, ◌∙◌}
 use Rattle.std.specs.Global.{Global}
 use Rattle.std.specs.declared.dyn_box.DynBox.{DynBox}
@@ -29,7 +29,7 @@ use Rattle.isolation.proofs.Still.{list-still}
 use Rattle.isolation.proofs.Runs.{runs-cannot-tell, runs-keep-to}
 
 module _ {I : Type 0} {F : I → Type 0} (members : (i : I) → Ghosts (F i)) where
-  -- The relation of an object alone, where it is a function.
+  -- The relation of an object alone, if it is a function.
   abbrev Functional : HostObject I F → List Val → List ℕ → Answer → List ℕ → HostObject I F → Type 0
   Functional h arguments bytes answer bytes' h' = KindIsFunction members h.object.vtable × OwnAnswers members h arguments bytes answer bytes' h'
 

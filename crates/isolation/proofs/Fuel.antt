@@ -82,7 +82,7 @@ module _ {H : Type 0} (HostStep : List H → ℕ → Option ℕ → List Val →
 
     -- ---- the same with less fuel, or early
 
-    -- It ends the same from a state with less fuel, and that much less is left.
+    -- The run ends the same from a state with less fuel, and that much less is left.
     abbrev Fits : (old : State H) (first : Configuration) (ending : Ending) (last : State H) (less : ℕ) → Type 0
     Fits old first ending last less = (last' : State H) × Run HostStep bound outside old first ending last' × (last ≡ with_more last' less)
 

@@ -95,7 +95,7 @@ module _ (first second : Region) where
     hosts = λ number has. inr has;
   }
 
-  -- What each of two regions leads to lies in both.
+  -- What each of two regions leads to is in both.
   either-leads : {X : Type 0} (xs : List X) (a b : ℕ → Type 0) (P Q R : X → Type 0) → ((x : X) → P x → R x) → ((x : X) → Q x → R x) → EachLeads first a xs P → EachLeads second b xs Q
       → EachLeads (both first second) (λ (k : ℕ). a k ⊎ b k) xs R
   either-leads xs a b P Q R p q leads leads' k x has is = elim has [

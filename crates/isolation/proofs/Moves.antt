@@ -1,4 +1,4 @@
--- Two stores that agree within a region move alike: what one write within it leaves.
+-- Two stores that agree within a region change alike: the results of one write within it.
 use Rattle.std.proofs.Common.{ℕ, refl, ◌∙◌}
 use Rattle.meaning.specs.execution.Memories.{MemoryInstance}
 use Rattle.meaning.specs.execution.Store.{DataInstance, GlobalInstance, Store, with_data, with_elements, with_global, with_memory, with_table}
@@ -6,8 +6,8 @@ use Rattle.meaning.specs.execution.Tables.{ElementInstance, TableInstance}
 use Rattle.isolation.specs.Regions.{AgreeWithin, AllocatesNothing, ElementIsWithin, GlobalIsWithin, Has, IsClosed, LeavesOutside, Region, TableIsWithin}
 use Rattle.isolation.proofs.Within.{set-agrees, set-leads, set-outside}
 
--- From two stores that agree within a region to two others that do. It is closed then, and what is outside of it is in each what it
--- was.
+-- Two stores that agree within a region lead to two others that do. The region is closed then, and in each store what is outside of it is
+-- unchanged.
 pub record Moves (region : Region) (a b a' b' : Store) : Type 0 where
   pub closed : IsClosed region a'
   pub agree : AgreeWithin region a' b'

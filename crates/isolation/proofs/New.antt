@@ -21,7 +21,7 @@ module _ (addresses : ℕ → Type 0) (first address : ℕ) where
   neither not = (λ has. not (inl has), elim (cases_lt address first) [ inl less ↦ less | inr past ↦ absurd (not (inr past)) ])
 
 module _ {X : Type 0} where
-  -- What is found behind is among the items behind.
+  -- What is found in two joined lists is found in one of them.
   pub append-which : (xs ys : List X) (k : ℕ) (x : X) → slice_get (xs ++ ys) k ≡ Some x → (slice_get xs k ≡ Some x) ⊎ ((j : ℕ) × (slice_get ys j ≡ Some x))
   append-which [] ys k x is = inr (k, is)
   append-which (z ∷ xs) ys zero x is = inl is

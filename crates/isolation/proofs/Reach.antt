@@ -55,7 +55,7 @@ module _ (store : Store) (Starts : Place → Type 0) where
   global-reached a g reached is (FuncRef (Some x)) at = onward reached (g, is, at)
   global-reached a g reached is (ExternRef x) at = tt
 
-  -- It is closed.
+  -- What can be reached is closed.
   pub reach-closed : IsClosed all store
   reach-closed = record {
     functions = λ a f reached is. code-reached a f reached is f.implementation refl;
@@ -103,7 +103,7 @@ reach-is-least = record {
   least = λ store starts marks closed from place reached. least store (marked marks) closed (λ at. starts at ≡ true) from place reached;
 }
 
--- ---- what is there
+-- ---- what exists
 
 module _ (store : Store) (valid : StoreIsValid store) where
   leads-there : (from to : Place) → Leads store from to → IsPlaceIn store to
@@ -166,7 +166,7 @@ module _ {H : Type 0} (at : Embedding H) where
   reaches-no-further (GetGlobal number name) = tt
   reaches-no-further (SetFuel fuel) = tt
 
-  -- So does what is said to an instance.
+  -- The same for a command to an instance.
   pub said-within : (number : ℕ) (commands : List Command) (command : Command) → IsAmong commands command → Asks number command → AsksWithin (reach_when_asked at number commands) number command
   said-within number commands (Load bytes) among to = to
   said-within number commands (Link other) among to = to

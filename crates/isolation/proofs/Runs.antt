@@ -22,7 +22,7 @@ use Rattle.isolation.proofs.Moves.{AllocatesNothing-same, AllocatesNothing-throu
 use Rattle.isolation.proofs.Steps.{IsLentWithin, NextsAgree, nexts-agree}
 use Rattle.isolation.proofs.Within.{answered-within, reverse-within, set-agrees, set-outside}
 
--- ---- what is next
+-- ---- the next step
 
 module _ (region : Region) (a b : Store) where
   prices-agree : (n n' : Next) → NextsAgree region a b n n' → price n' ≡ price n
@@ -51,7 +51,7 @@ module _ (region : Region) (a b : Store) where
 
 -- ---- host functions
 
--- What a host function answers with, if it answers, is within the region.
+-- The answer of a host function, if there is one, is within the region.
 abbrev AnswerIsWithin : Region → Answer → Type 0
 AnswerIsWithin region (Results values) = ValuesAreWithin region values
 AnswerIsWithin region (HostTrap code) = Unit {0}
@@ -89,7 +89,7 @@ module _ {H : Type 0} (host_type : H → FuncType) (Answers : H → List Val →
   abbrev NoFuncrefs : List H → Type 0
   NoFuncrefs hosts = All (GivesNoFuncref host_type) hosts
 
-  -- A host function answers alike where it and the memory that it is lent are alike.
+  -- A host function answers alike if it and the memory that it borrows are alike.
   record ToldAlike (hosts_a hosts_b hosts_a' : List H) (number : ℕ) (lent : Option ℕ) (arguments : List Val) (a b a' : Store) (answer : Answer) : Type 0 where
     b' : Store
     hosts_b' : List H
@@ -156,7 +156,7 @@ module _ {H : Type 0} (host_type : H → FuncType) (Answers : H → List Val →
     hosts = hosts;
   }
 
-  -- Host functions that stay as they are.
+  -- Host functions that do not change.
   hosts-same : (hosts hosts' : List H) → hosts' ≡ hosts → StaysOutside region region.hosts hosts hosts'
   hosts-same hosts hosts' is = subst (StaysOutside region region.hosts hosts) (sym is) (λ number not. refl)
 
@@ -246,7 +246,7 @@ module _ {H : Type 0} (host_type : H → FuncType) (Answers : H → List Val →
         hosts = λ number not. refl;
       }
 
-      -- An end that leaves the state as it is.
+      -- An end that does not change the state.
       ends-here : {last : State H} {ending : Ending} → last ≡ a → IsEnd HostStep bound outside b c ending b → EndingIsWithin region ending → EndsAlike a b c ending last
       ends-here {last} {ending} is ends within = record {
         last' = b;

@@ -1,4 +1,4 @@
--- What is next in two stores that agree within a region is the same, within it.
+-- The next steps in two stores that agree within a region are the same, within it.
 use Rattle.std.proofs.Common.{◌≡◌, ℕ, zero, suc, List, ◌∷◌, ◌++◌, length, map, take, drop, Option, Some, None, Bool, true, false, refl, ap, sym, subst, ◌∙◌, slice_get}
 use Rattle.std.specs.Prelude.{nat_le, if◌then◌else◌}
 use Rattle.core_types.specs.declared.op.BlockType.{BlockType}
@@ -25,12 +25,12 @@ use Rattle.isolation.proofs.Effects.{EffectsAgree, Found, effects, instance-same
 use Rattle.isolation.proofs.Moves.{Moves, Moves-same}
 use Rattle.isolation.proofs.Within.{append-within, at-within, defaults-within, drop-within, reverse-within, take-within}
 
--- The memory that is lent, if one is, is of the region.
+-- The borrowed memory, if there is one, is in the region.
 abbrev pub IsLentWithin : Region → Option ℕ → Type 0
 IsLentWithin region None = Unit {0}
 IsLentWithin region (Some address) = Has region.memories address
 
--- The same is next in each of two stores, within the region.
+-- The next step is the same in each of two stores, within the region.
 abbrev pub NextsAgree : Region → (a b : Store) → Next → Next → Type 0
 NextsAgree region a b (Goes cost a' frame c) other =
     (b' : Store) × (other ≡ Goes cost b' frame c) × Moves region a b a' b' × FrameIsWithin region frame × ConfigurationIsWithin region c

@@ -1,4 +1,4 @@
--- Host functions that keep no state stay as they are, whatever runs.
+-- Host functions that keep no state do not change, whatever runs.
 use Rattle.std.proofs.Common.{◌≡◌, ℕ, zero, suc, List, [], ◌∷◌, Option, Some, ap, refl, subst, sym, ◌∙◌, slice_get, slice_set}
 use Rattle.std.specs.List.{All}
 use Rattle.core_types.specs.declared.module.Module.{Module}
@@ -16,7 +16,7 @@ use Rattle.meaning.specs.execution.Store.{ModuleInstance, Store}
 use Rattle.soundness.proofs.Values.{All-at}
 use Rattle.isolation.proofs.Changes.{Change, call_run, command-change, fuel_set, link_failed, link_made, modules_loaded, name_registered, nothing_done}
 
--- What is found, put back, changes nothing.
+-- Storing an item that was found back in its place changes nothing.
 set-back : {X : Type 0} (xs : List X) (k : ℕ) (x : X) → slice_get xs k ≡ Some x → slice_set xs k x ≡ xs
 set-back [] k x is = absurd cc
 set-back (y ∷ ys) zero x is = let same : y ≡ x = cc in ap (λ (z : _). z ∷ ys) (sym same)

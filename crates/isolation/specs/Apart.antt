@@ -134,8 +134,8 @@ module _ {H : Type 0} (host_type : H → FuncType)
       → (run : AppliesAll (IsHostStep host_type Answers) fresh commands replies last)
       → AllShareNothing (IsHostStep host_type Answers) run
 
-  -- If nothing was passed on, a command that does not call an instance, and leaves the host functions that it can reach as they
-  -- are, never changes its replies: after the command the same replies are possible as before, once the fuel is set.
+  -- If nothing was passed on, a command that does not call an instance, and does not change the host functions that it can reach, never
+  -- changes its replies. After the command, once the fuel is set, the same replies are possible as before.
   abbrev pub StrangersChangeNoAnswers : Type 0
   StrangersChangeNoAnswers = (setup : Setup) (definitions : List (HostDefinition H))
       (fresh old new : Embedding H) (before commands : List Command) (replied replies : List Reply)

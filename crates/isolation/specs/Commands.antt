@@ -63,8 +63,8 @@ module _ {H : Type 0} where
       → resolve_imports at.state.store at.names m.imports ≡ Some given
       → ExternsAreWithin region given
 
-  -- A command reaches no further than a region: it calls an instance of the region, with arguments that refer to no function
-  -- outside of it, or links a module whose imports are in it. Other commands reach nothing.
+  -- A command reaches no further than a region. It calls an instance of the region, with arguments that refer to no function outside of
+  -- it. Or it links a module whose imports are in it. Other commands reach nothing.
   abbrev pub ReachesNoFurther : Region → Embedding H → Command → Type 0
   ReachesNoFurther region at (Load bytes) = Unit {0}
   ReachesNoFurther region at (Link number) = HasImports region at number

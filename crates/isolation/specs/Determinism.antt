@@ -48,8 +48,8 @@ AreSameReplies commands others more = ⊥
 
 module _ {H : Type 0} (host_type : H → FuncType)
     (Answers : H → List Val → List ℕ → Answer → List ℕ → H → Type 0) where
-  -- What a host function answers and leaves is a function of its object, its arguments and the bytes that it borrows. Only
-  -- answers that leave its type count.
+  -- The answer and the effects of a host function are a function of its object, its arguments and the bytes that it borrows. Only answers
+  -- that leave its type count.
   abbrev pub HostsAreFunctions : Type 0
   HostsAreFunctions = (host : H) (arguments : List Val) (bytes : List ℕ) (a b : Answer)
       (bytes_a bytes_b : List ℕ) (host_a host_b : H)

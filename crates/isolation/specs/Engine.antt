@@ -1,4 +1,4 @@
--- The laws for the engine's host functions: objects in boxes, each of a kind that has a relation of its own.
+-- The laws for the engine's host functions: objects in boxes, each of a kind that has its own relation.
 use Rattle.std.specs.Prelude.{◌≡◌, ℕ, List}
 use Rattle.std.specs.List.{All}
 use Rattle.core_types.specs.declared.outcome.Val.{Val}
@@ -17,7 +17,7 @@ use Rattle.isolation.specs.Regions.{Marks, marked}
 use Rattle.isolation.specs.Isolation.{LinksCannotTell, LinksKeepTo, LinksWithoutStart, RunsCannotTell, RunsKeepTo}
 
 module _ {I : Type 0} {F : I → Type 0} (members : (i : I) → Ghosts (F i)) where
-  -- What an object of this kind answers and leaves is a function of it, its arguments and the bytes that it borrows.
+  -- The answer and the effects of an object of this kind are a function of it, its arguments and the bytes that it borrows.
   abbrev pub KindIsFunction : I → Type 0
   KindIsFunction i = (object : F i) (arguments : List Val) (bytes : List ℕ) (a b : Answer)
       (bytes_a bytes_b : List ℕ) (object_a object_b : F i)
@@ -31,7 +31,7 @@ module _ {I : Type 0} {F : I → Type 0} (members : (i : I) → Ghosts (F i)) wh
       (answer : Answer)
       → (members i).Answers object arguments bytes answer bytes' object' → object' ≡ object
 
-  -- The object declares the type that it was taken in with, and its kind is a function, or keeps nothing.
+  -- The object declares the type that it was defined with, and its kind is a function, or keeps nothing.
   abbrev pub IsFunction : HostObject I F → Type 0
   IsFunction h = KeepsItsType members h × KindIsFunction h.object.vtable
 
@@ -49,7 +49,7 @@ module _ {I : Type 0} {F : I → Type 0} (members : (i : I) → Ghosts (F i)) wh
       → All HadMemory replies_a → All HadMemory replies_b
       → AreSameReplies commands replies_a replies_b × (a ≡ b)
 
-  -- Host functions that keep nothing stay as they are, whatever commands are applied.
+  -- Host functions that keep nothing stay as they are, for any commands.
   abbrev pub HostsStay : Type 0
   HostsStay = (old last : Embedding (HostObject I F)) (commands : List Command)
       (replies : List Reply)

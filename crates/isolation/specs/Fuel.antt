@@ -140,7 +140,7 @@ module _ {H : Type 0} (HostStep : List H → ℕ → Option ℕ → List Val →
 
 module _ {H : Type 0} (HostStep : List H → ℕ → Option ℕ → List Val → Store → Answer → Store
     → List H → Type 0) where
-  -- A link that spends some of the fuel that it has more ends out of fuel without it.
+  -- A link that spends some of its additional fuel ends out of fuel without it.
   abbrev pub LinksEndEarly : Type 0
   LinksEndEarly = (bound : ℕ) (m : Module) (given : List Extern) (old last : State H)
       (ending : Ending) (less : ℕ)

@@ -1,4 +1,4 @@
--- Host functions of any kind: each object has a type, and a test says how it may answer.
+-- Host functions of any kind: each object has a type, and a test states how it may answer.
 use Rattle.std.specs.Prelude.{◌≡◌, ℕ, List, Option, Bool, true}
 use Rattle.core_types.specs.declared.outcome.Val.{Val}
 use Rattle.core_types.specs.declared.types.FuncType.{FuncType}

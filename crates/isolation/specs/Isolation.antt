@@ -63,8 +63,8 @@ module _ {H : Type 0} (host_type : H → FuncType)
       → Steps (IsHostStep host_type Answers) bound outside old configuration at reached
       → KeepsTo host_type region old at × ConfigurationIsWithin region reached
 
-  -- A run within a closed region cannot tell what is outside of it: from a state that looks the same within the region there is a
-  -- run with the same ending, to a state that looks the same.
+  -- A run within a closed region cannot tell what is outside of it. From a state that looks the same within the region, there is a run
+  -- with the same ending to a state that looks the same.
   abbrev pub RunsCannotTell : Region → Type 0
   RunsCannotTell region = (bound : ℕ) (outside : Frame) (a b last : State H)
       (configuration : Configuration) (ending : Ending)
@@ -86,8 +86,8 @@ module _ {H : Type 0} (host_type : H → FuncType)
 
 module _ {H : Type 0} (host_type : H → FuncType)
     (Answers : H → List Val → List ℕ → Answer → List ℕ → H → Type 0) where
-  -- What a link leaves whose imports are in the region: the region with what is new is closed, what was there and is not in the
-  -- region is as it was, and there are more instances.
+  -- The result of a link whose imports are in the region. The region with what is new is closed, what was there and is not in the region
+  -- is as it was, and there are more instances.
   pub record LinkKeepsTo (region : Region) (old new : State H) : Type 0 where
     pub closed : IsClosed (with_new region old.store) new.store
     pub no_funcrefs : All (GivesNoFuncref host_type) new.hosts

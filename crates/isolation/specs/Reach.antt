@@ -31,9 +31,8 @@ abbrev pub IsInstanceAt : Store → (address : ℕ) → (ModuleInstance → Type
 IsInstanceAt store address Is =
     (i : ModuleInstance) × (slice_get store.instances address ≡ Some i) × Is i
 
--- One place leads to another: a function with code to its instance, a host function to its object, an instance to everything that
--- it has, and a table, a global or an element segment to the functions that it refers to. Memories and data segments lead
--- nowhere.
+-- One place leads to another. A function with code leads to its instance, a host function to its object, and an instance to everything
+-- that it has. A table, a global or an element segment leads to the functions that it refers to. Memories and data segments lead nowhere.
 abbrev pub Leads : Store → Place → Place → Type 0
 Leads store (Function a) (Instance b) = (f : FunctionInstance) × (code : Code)
     × (slice_get store.functions a ≡ Some f) × (f.implementation ≡ InCode b code)
@@ -105,7 +104,7 @@ pub record ReachIsLeast : Type 0 where
       → ((place : Place) → starts place ≡ true → IsIn (marked marks) place)
       → (place : Place) → IsReached store (λ at. starts at ≡ true) place → IsIn (marked marks) place
 
--- In a valid store everything that is reached is there, if what is started from is.
+-- In a valid store everything that is reached exists, if the starting points exist.
 abbrev pub WhatIsReachedIsThere : Type 0
 WhatIsReachedIsThere = (store : Store) (starts : Place → Bool) → StoreIsValid store
     → ((place : Place) → starts place ≡ true → IsPlaceIn store place)

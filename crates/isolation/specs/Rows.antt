@@ -105,7 +105,7 @@ with_table = record of_two {
 abbrev pub first_with_table : Marks
 first_with_table = record (region_of is_zero) { tables = is_zero }
 
--- ---- a memory of both
+-- ---- a memory that both have
 
 -- The same store, in which the second instance has the memory of the first.
 abbrev pub with_shared_memory : Store
@@ -136,7 +136,7 @@ and_two only (suc (suc n)) = is_zero n
 abbrev pub region_with_host : (ℕ → Bool) → Marks
 region_with_host only = record (region_of only) { functions = and_two only; hosts = is_zero }
 
--- ---- what host functions answer
+-- ---- the answers of host functions
 
 abbrev pub type_of_none : Unit {0} → FuncType
 type_of_none host = function_type [] []

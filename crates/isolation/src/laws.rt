@@ -12,9 +12,11 @@ use binary::bytes_spell_one_module;
 use hostfunc::HostFn;
 use meaning::writing_is_read;
 
-/// Law: replies are a function of the commands. Where each host function's answer is a function of its object, its arguments and the
-/// bytes that it is lent, two runs of the same commands from one embedding, in neither of which a reply is for want of memory, have
-/// the same replies and the same last state.
+/// Law: replies are a function of the commands.
+///
+/// Assume that each host function's answer is a function of its object, its arguments and the bytes that it borrows. Two runs
+/// apply the same commands to one embedding, and neither has a reply that memory ran out. Then both have the same replies and
+/// the same last state.
 pub fn replies_are_a_function_of_the_commands<H>()
     ensures { RepliesAreFunctions H }
 {
@@ -36,25 +38,26 @@ pub fn what_is_outside_of_reach_stays<H>()
     ensures reads { WhatIsOutsideIsNotRead H }
 {}
 
-/// Law: in any run of commands on a fresh embedding, a call changes only what can be reached from its instance and its arguments, a
-/// link only what can be reached from what it is given, and no other command changes a store. A command that reaches nothing of an
-/// instance never changes what the instance answers.
+/// Law: in any run of commands on a fresh embedding, a call changes only what can be reached from its instance and its
+/// arguments. A link changes only what can be reached from what it is given. No other command changes a store. A command that
+/// reaches nothing of an instance never changes what the instance replies.
 pub fn calls_are_isolated<H>()
     ensures { CallsAreIsolated H }
 {
     writing_is_read();
 }
 
-/// Law: two instances are apart in tables, memories, globals and segments, until a command reaches what both can reach. So are any two
-/// where no instance is registered and no call passes references to functions, and then what is said to one never changes what the
-/// other answers.
+/// Law: two instances are apart in tables, memories, globals and segments, until a command reaches what both can reach.
+///
+/// Any two instances are apart if no instance is registered and no call passes references to functions. Then a command to one
+/// never changes what the other replies.
 pub fn links_are_apart<H>()
     ensures { InstancesAreApart H }
 {
     writing_is_read();
 }
 
-/// The laws, of the engine's own host functions, whatever kinds of objects they are.
+/// The laws for the engine's own host functions, of any kinds of objects.
 pub fn laws_of_the_engine(_host: &dyn HostFn)
     ensures replies { RepliesOfTheEngine ⟦<dyn HostFn as HostFn>⟧ }
     ensures calls { CallsOfTheEngine ⟦<dyn HostFn as HostFn>⟧ }
@@ -63,7 +66,7 @@ pub fn laws_of_the_engine(_host: &dyn HostFn)
     writing_is_read();
 }
 
-/// Law: what can be reached is the least closed region, and in a valid store it is there.
+/// Law: what can be reached is the least closed region. In a valid store it exists.
 pub fn what_can_be_reached_is_the_least_closed_region()
     ensures least { ReachIsLeast }
     ensures there { WhatIsReachedIsThere }

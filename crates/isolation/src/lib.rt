@@ -1,5 +1,5 @@
-//! What hosts of plug-ins want of an engine: that replies are a function of the commands, that fuel is only a bound, and that what a
-//! call cannot reach, it can neither change nor read. Definitions and laws, and no code that runs.
+//! What hosts of plug-ins require of an engine. Replies are a function of the commands, and fuel is only a bound. What a call
+//! cannot reach, it can neither change nor read. Definitions and laws. No code here runs.
 #![tactic(auto)]
 
 mod laws;

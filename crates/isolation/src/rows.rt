@@ -11,8 +11,8 @@ ghost use Rattle.meaning.specs.embedding.Commands.{Ended, Limit, Malformed, Refu
 ghost use Rattle.meaning.specs.embedding.Machine.{Embedding, IsDecoded, Loads};
 ghost use Rattle.meaning.specs.execution.Runs.{OutOfMemory};
 
-/// Worked row of the definitions: of a store with two instances, each with a function and a memory of its own, the region of the first
-/// is closed, and apart from that of the second. It is not closed without the memory. From the first instance its own memory can be
+/// Worked row of the definitions: a store with two instances, each with its own function and memory. The region of the first is
+/// closed, and apart from that of the second. It is not closed without the memory. From the first instance its own memory can be
 /// reached, and the other cannot.
 pub fn two_instances_are_apart()
     ensures closed { IsClosed (marked (region_of is_zero)) of_two }
@@ -23,8 +23,8 @@ pub fn two_instances_are_apart()
     ensures other { IsReached of_two FromFirst (Memory 1) → ⊥ }
 {}
 
-/// Worked row of the definitions: where the first instance has a table with a reference to the function of the second, its region is not
-/// closed, it can reach the memory of the second, and the two are not apart.
+/// Worked row of the definitions: the first instance has a table with a reference to the function of the second. Its region is
+/// not closed, it can reach the memory of the second, and the two are not apart.
 pub fn a_table_entry_leads_out()
     ensures open { IsClosed (marked first_with_table) with_table → ⊥ }
     ensures reached { IsReached with_table FromFirst (Memory 1) }
@@ -43,14 +43,15 @@ pub fn a_host_function_of_two_instances_is_shared()
     ensures apart { AreApart (reach with_host FromFirst) (reach with_host FromSecond) }
 {}
 
-/// Worked row of the definitions: a host function that may answer anything is no function of its call, and one that always traps is.
+/// Worked row of the definitions: a host function that can give any answer is not a function of its call. One that always traps
+/// is.
 pub fn a_host_function_may_answer_in_one_way()
     ensures anything { HostsAreFunctions type_of_none (AnswersBy answers_anything) → ⊥ }
     ensures trap { HostsAreFunctions type_of_none (AnswersBy always_traps) }
 {}
 
-/// Worked row of the definitions: bytes that spell no module within the limits may be refused as malformed, and as past a limit. That a
-/// run ended for want of memory is a reply for want of memory.
+/// Worked row of the definitions: bytes that encode no module within the limits may be refused as malformed, and as past a
+/// limit. The reply that a run ended because memory ran out is a reply that memory ran out.
 pub fn a_refusal_of_bytes_is_free<H>()
     ensures malformed { (at : Embedding H) (bytes : List ℕ) → ((m : Module) → IsDecoded bytes m → ⊥)
         → Loads at bytes (Refused Malformed) at }

@@ -1,15 +1,15 @@
--- What the bytes before the last one say of a spelling.
+-- What the bytes before the last one determine of an encoding.
 use Rattle.std.proofs.Common.{◌≡◌, ℕ, zero, suc, ◌+◌, ◌-◌, ◌*◌, ◌^◌, ◌≤◌, List, ◌∷◌, arith, drop, length, sym}
 use Rattle.std.proofs.lemmas.List.{drop_more}
 use native.Mathlib.Numerals.{unary_clauses}
 use Rattle.leb.specs.Fronts.{AreMore}
 use Rattle.meaning.specs.binary.Conventions.{NoFront}
 
--- Of integers of each width, whose spelling has seven bits in each byte before the last.
+-- The encoding of integers of each width has seven bits in each byte before the last.
 module _ {V : Type 0} (Spells : ℕ → List ℕ → V → Type 0)
     (goes_on : (bits byte : ℕ) (rest : List ℕ) → 2 ^ 7 ≤ byte → NoFront (Spells (bits - 7)) rest → NoFront (Spells bits) (byte ∷ rest))
     (bytes : List ℕ) where
-  -- Where nothing spells what is left behind some bytes, nothing spells the whole.
+  -- If nothing encodes the rest after some bytes, nothing encodes the whole.
   none_behind : (count start bits : ℕ) → start + count ≤ length bytes → AreMore bytes start (start + count)
       → NoFront (Spells (bits - 7 * count)) (drop (start + count) bytes) → NoFront (Spells bits) (drop start bytes)
   none_behind zero start bits within more none = simp unary_clauses at none

@@ -1,4 +1,4 @@
--- No spelling of an integer begins another one, and each spells one integer.
+-- No encoding of an integer begins another one, and each encodes one integer.
 use Rattle.std.proofs.Common.{◌≡◌, ℕ, ◌-◌, [], ◌∷◌, ◌++◌, ℤ, arith, ap, inl, inr, subst}
 use Rattle.std.proofs.lemmas.Int.{ints}
 use Rattle.meaning.specs.binary.Values.{EndsSigned, SpellsSigned, SpellsUnsigned}

@@ -1,6 +1,6 @@
--- The bytes of a spelling before the last.
+-- The bytes of an encoding before the last.
 use Rattle.std.specs.Prelude.{ℕ, ◌^◌, ◌<◌, ◌≤◌, List, slice_index}
 
--- A spelling goes on behind each byte from the first index up to the other one.
+-- An encoding continues after each byte from the first index up to the other one.
 abbrev pub AreMore : List ℕ → ℕ → ℕ → Type 0
 AreMore bytes start end = (k : ℕ) → start ≤ k → k < end → 2 ^ 7 ≤ slice_index bytes k

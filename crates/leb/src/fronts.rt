@@ -3,7 +3,7 @@ ghost use Rattle.leb.specs.Fronts.{AreMore};
 ghost use Rattle.meaning.specs.binary.Conventions.{NoFront};
 ghost use Rattle.meaning.specs.binary.Values.{SpellsSigned, SpellsUnsigned};
 
-// The last byte of a spelling, the offset of it, and how many of the bits are left for it.
+// The last byte of an encoding, its offset, and the number of bits left for it.
 #[derive(Clone, Copy)]
 pub struct LastByte {
     pub byte: u8,
@@ -11,7 +11,7 @@ pub struct LastByte {
     pub bits: u32,
 }
 
-// Finds the last byte of the spelling that begins at `at`, of an integer of `bits` bits.
+// Finds the last byte of the encoding of a `bits`-bit integer that begins at `at`.
 #[inline(always)]
 pub fn find_last(bytes: &[u8], at: usize, bits: u32) -> Option<LastByte>
     requires some_bits { 0 < bits }

@@ -1,4 +1,4 @@
-//! Reads the integers of the binary format, which are spelled with seven bits a byte (LEB128).
+//! Reads the integers of the binary format, which are encoded with seven bits per byte (LEB128).
 #![tactic(auto)]
 
 mod fronts;

@@ -7,7 +7,7 @@ ghost use Rattle.meaning.specs.binary.Conventions.{NoFront, Reads};
 use crate::fronts::{LastByte, find_last};
 use crate::width::is_within;
 
-// The signed integer of `bits` bits that a last byte represents.
+// Returns the `bits`-bit signed integer that a last byte represents.
 fn last_value(bits: u32, byte: u8) -> Option<i64>
     requires some_bits { 0 < bits }
     requires last { byte < 2 ^ 7 }
@@ -22,7 +22,7 @@ fn last_value(bits: u32, byte: u8) -> Option<i64>
     }
 }
 
-// A byte that is not the last, before what the rest represents.
+// Returns the number of a byte that is not the last, followed by the rest, which represents `high`.
 fn joined_value(bits: u32, byte: u8, high: i64) -> i64
     requires at_least { 7 < bits }
     requires at_most { bits ≤ 64 }
@@ -34,7 +34,7 @@ fn joined_value(bits: u32, byte: u8, high: i64) -> i64
     high * 0x80 + i64::from(byte - 0x80)
 }
 
-// The number that the bytes from `at` up to the last one spell, as one of `bits` bits, where the last one represents `high`.
+// Returns the number that the bytes from `at` up to the last one encode, as a `bits`-bit number. The last one represents `high`.
 #[inline(always)]
 fn signed_value(bytes: &[u8], at: usize, last: LastByte, high: i64, bits: u32) -> i64
     requires at_most { bits ≤ 64 }
@@ -59,7 +59,7 @@ fn signed_value(bytes: &[u8], at: usize, last: LastByte, high: i64, bits: u32) -
     value
 }
 
-// Reads the signed integer of `bits` bits whose spelling begins at `at`, and says at which offset the spelling ends.
+// Reads the `bits`-bit signed integer whose encoding begins at `at`, and returns it with the offset after the encoding.
 #[inline(always)]
 fn read_signed(bytes: &[u8], at: usize, bits: u32) -> Option<(i64, usize)>
     requires some_bits { 0 < bits }
@@ -77,7 +77,7 @@ fn read_signed(bytes: &[u8], at: usize, bits: u32) -> Option<(i64, usize)>
     Some((value, last.offset + 1))
 }
 
-// The signed integer that a last byte represents, where there are enough bits for each.
+// Returns the signed integer that a last byte represents, if there are enough bits for each.
 fn value_of_last(byte: u8) -> i32
     requires last { byte < 2 ^ 7 }
     ensures range { IsInRange 32 result }
@@ -90,7 +90,7 @@ fn value_of_last(byte: u8) -> i32
     }
 }
 
-// Reads the signed integer of 32 bits whose spelling begins at `at`, by more than one byte or none.
+// Reads the signed 32-bit integer whose encoding begins at `at`, if it has more than one byte or is missing.
 #[cold]
 #[inline(never)]
 fn read_long_s32(bytes: &[u8], at: usize) -> Option<(i32, usize)>
@@ -104,10 +104,10 @@ fn read_long_s32(bytes: &[u8], at: usize) -> Option<(i32, usize)>
     Some((value as i32, end))
 }
 
-/// Reads the signed integer of 32 bits whose spelling begins at `at`, and says at which offset the spelling ends.
+/// Reads the signed 32-bit integer whose encoding begins at `at`, and returns it with the offset after the encoding.
 ///
-/// `at` is at most the number of bytes. The answer is `None` where no spelling begins there: the bytes end too early, it
-/// would take more than five, or those spell a number beyond 32 bits (Binary Format, Values, Integers).
+/// `at` must be at most the number of bytes. Returns `None` if no encoding begins there: the bytes end too early, it would take
+/// more than five, or those encode a number beyond 32 bits (Binary Format, Values, Integers).
 #[inline(always)]
 pub fn read_s32(bytes: &[u8], at: usize) -> Option<(i32, usize)>
     requires { at ≤ length bytes.now }
@@ -122,10 +122,10 @@ pub fn read_s32(bytes: &[u8], at: usize) -> Option<(i32, usize)>
     read_long_s32(bytes, at)
 }
 
-/// Reads the signed integer of 33 bits whose spelling begins at `at`, and says at which offset the spelling ends.
+/// Reads the signed 33-bit integer whose encoding begins at `at`, and returns it with the offset after the encoding.
 ///
-/// `at` is at most the number of bytes. The answer is `None` where no spelling begins there: the bytes end too early, it
-/// would take more than five, or those spell a number beyond 33 bits (Binary Format, Values, Integers).
+/// `at` must be at most the number of bytes. Returns `None` if no encoding begins there: the bytes end too early, it would take
+/// more than five, or those encode a number beyond 33 bits (Binary Format, Values, Integers).
 pub fn read_s33(bytes: &[u8], at: usize) -> Option<(i64, usize)>
     requires { at ≤ length bytes.now }
     ensures within { IfSome result (λ f. (at < f.1) × (f.1 ≤ length bytes.now)) }
@@ -137,10 +137,10 @@ pub fn read_s33(bytes: &[u8], at: usize) -> Option<(i64, usize)>
     read_signed(bytes, at, 33)
 }
 
-/// Reads the signed integer of 64 bits whose spelling begins at `at`, and says at which offset the spelling ends.
+/// Reads the signed 64-bit integer whose encoding begins at `at`, and returns it with the offset after the encoding.
 ///
-/// `at` is at most the number of bytes. The answer is `None` where no spelling begins there: the bytes end too early, it
-/// would take more than ten, or those spell a number beyond 64 bits (Binary Format, Values, Integers).
+/// `at` must be at most the number of bytes. Returns `None` if no encoding begins there: the bytes end too early, it would take
+/// more than ten, or those encode a number beyond 64 bits (Binary Format, Values, Integers).
 pub fn read_s64(bytes: &[u8], at: usize) -> Option<(i64, usize)>
     requires { at ≤ length bytes.now }
     ensures within { IfSome result (λ f. (at < f.1) × (f.1 ≤ length bytes.now)) }

@@ -6,7 +6,7 @@ ghost use Rattle.meaning.specs.binary.Conventions.{NoFront, Reads};
 use crate::fronts::{LastByte, find_last};
 use crate::width::is_within;
 
-// The number that the bytes from `at` up to the last one spell, as one of `bits` bits.
+// Returns the number that the bytes from `at` up to the last one encode, as a `bits`-bit number.
 #[inline(always)]
 fn unsigned_value(bytes: &[u8], at: usize, last: LastByte, bits: u32) -> u64
     requires at_most { bits ≤ 64 }
@@ -29,7 +29,7 @@ fn unsigned_value(bytes: &[u8], at: usize, last: LastByte, bits: u32) -> u64
     value
 }
 
-// Reads the unsigned integer of `bits` bits whose spelling begins at `at`, and says at which offset the spelling ends.
+// Reads the `bits`-bit unsigned integer whose encoding begins at `at`, and returns it with the offset after the encoding.
 #[cold]
 #[inline(never)]
 fn read_unsigned(bytes: &[u8], at: usize, bits: u32) -> Option<(u64, usize)>
@@ -50,7 +50,7 @@ fn read_unsigned(bytes: &[u8], at: usize, bits: u32) -> Option<(u64, usize)>
     Some((value, last.offset + 1))
 }
 
-// Reads the unsigned integer of 32 bits whose spelling begins at `at`, by more than one byte or none.
+// Reads the unsigned 32-bit integer whose encoding begins at `at`, if it has more than one byte or is missing.
 #[inline(always)]
 fn read_long_u32(bytes: &[u8], at: usize) -> Option<(u32, usize)>
     requires { at ≤ length bytes.now }
@@ -63,10 +63,10 @@ fn read_long_u32(bytes: &[u8], at: usize) -> Option<(u32, usize)>
     Some((value as u32, end))
 }
 
-/// Reads the unsigned integer of 32 bits whose spelling begins at `at`, and says at which offset the spelling ends.
+/// Reads the unsigned 32-bit integer whose encoding begins at `at`, and returns it with the offset after the encoding.
 ///
-/// `at` is at most the number of bytes. The answer is `None` where no spelling begins there: the bytes end too early, it
-/// would take more than five, or those spell a number beyond 32 bits (Binary Format, Values, Integers).
+/// `at` must be at most the number of bytes. Returns `None` if no encoding begins there: the bytes end too early, it would take
+/// more than five, or those encode a number beyond 32 bits (Binary Format, Values, Integers).
 #[inline(always)]
 pub fn read_u32(bytes: &[u8], at: usize) -> Option<(u32, usize)>
     requires { at ≤ length bytes.now }

@@ -1,6 +1,6 @@
 ghost use Rattle.std.specs.Prelude.{◌^◌, ◌<◌, ◌↔◌, IsTrue};
 
-// Whether the number of seven bits is one of `bits` bits too.
+// Returns whether the 7-bit number also fits in `bits` bits.
 pub fn is_within(bits: u32, number: u8) -> bool
     requires { number < 2 ^ 7 }
     ensures { IsTrue result ↔ (number < 2 ^ bits) }

@@ -11,7 +11,7 @@ abbrev is_named : {Z : Type 0} → List ℕ → String Z → Bool
 is_named name k = bytes_eq name (string_bytes k)
 
 module _ {Z V W : Type 0} (f : V → W) where
-  -- A new item, or another in the place of one.
+  -- A new item, or another item in place of one.
   pub named-insert_entry : (entries : List (String Z × V)) (key : String Z) (item : V) → named f (insert_entry string_eq entries key item) ≡ put_under (named f entries) (string_bytes key) (f item)
   named-insert_entry [] key item = refl
   named-insert_entry (e ∷ es) key item =
@@ -26,7 +26,7 @@ module _ {Z V W : Type 0} (f : V → W) where
         elim (is_named name e.0) as (λ (b : Bool). cond b (Some (f e.1)) (under (named f es) name) ≡ option_map f (cond b (Some e.1) (lookup (is_named name) es)))
         [ true ↦ refl | false ↦ under-named es ]
 
-    -- Another item where there is one.
+    -- Another item in place of one that exists.
     pub named-set_value : (entries : List (String Z × V)) (old item : V) → lookup (is_named name) entries ≡ Some old → named f (set_value (is_named name) entries item) ≡ put_under (named f entries) name (f item)
     named-set_value [] old item there = absurd cc
     named-set_value (e ∷ es) old item there = by (is_named name e.0) there (named-set_value es old item)

@@ -1,4 +1,4 @@
--- What maps by name hold, in the terms of the definitions.
+-- The contents of maps by name, in the terms of the definitions.
 use Rattle.std.specs.Prelude.{ℕ, List, String, map, string_bytes}
 use Rattle.indexmap.specs.IndexMap.{IndexMap}
 use Rattle.meaning.specs.embedding.Names.{NamesContents}

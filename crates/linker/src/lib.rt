@@ -1,4 +1,4 @@
-//! Links modules: the names by which imports are found.
+//! The names by which imports are found when modules are linked.
 #![tactic(auto)]
 
 mod name_maps;

@@ -5,10 +5,10 @@ ghost use Rattle.linker.specs.Contents.{maps_in, numbers_in};
 use indexmap::IndexMap;
 use std::alloc::{AllocError, Global};
 
-/// Numbers under names.
+/// Numbers, by name.
 pub type Numbers = IndexMap<String, u32>;
 
-/// Puts a number under a name, in the place of the one that is there. Where memory runs out, the numbers are as before.
+/// Stores a number under a name, and replaces the number that is there. If memory runs out, the numbers are unchanged.
 pub fn put_number(
     alloc: Global,
     numbers: &mut Numbers,
@@ -24,7 +24,7 @@ pub fn put_number(
     Ok(())
 }
 
-// Numbers with this one alone.
+// Returns a map with this number alone.
 fn one_number(alloc: Global, name: &str, number: u32) -> Result<Numbers, AllocError>
     ensures { IfOk result (λ numbers. numbers_in numbers ≡ (name.now, number) ∷ []) }
 {
@@ -33,7 +33,7 @@ fn one_number(alloc: Global, name: &str, number: u32) -> Result<Numbers, AllocEr
     Ok(numbers)
 }
 
-// Adds a number under two names, of which the first has none. Where memory runs out, the maps are as before.
+// Adds a number under two names, of which the first has no map yet. If memory runs out, the maps are unchanged.
 fn add_map(
     alloc: Global,
     maps: &mut IndexMap<String, Numbers>,
@@ -51,7 +51,7 @@ fn add_map(
     Ok(())
 }
 
-/// Puts a number under two names. Where memory runs out, the maps are as before.
+/// Stores a number under two names. If memory runs out, the maps are unchanged.
 pub fn put_under_both(
     alloc: Global,
     maps: &mut IndexMap<String, Numbers>,

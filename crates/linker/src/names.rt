@@ -12,8 +12,8 @@ use std::alloc::Global;
 use std::marker::Model;
 use store::Store;
 
-/// The names by which imports are found: host functions under the name of a module and a name in it, and instances that are
-/// registered under names.
+/// The names by which imports are found: host functions under the name of a module and a name in it, and instances under the
+/// names that they are registered under.
 #[derive(Drop)]
 pub struct Names {
     alloc: Global,
@@ -31,7 +31,7 @@ impl Model for Names {
 }
 
 impl Names {
-    /// No names. Takes no memory.
+    /// Creates an empty set of names. Allocates nothing.
     pub fn new(alloc: Global) -> Names
         ensures { result ≡ no_names }
     {
@@ -42,14 +42,14 @@ impl Names {
         }
     }
 
-    // The host function under two names, if there is one.
+    // Returns the host function under two names, if there is one.
     fn host(&self, module_name: &str, name: &str) -> Option<u32>
         ensures { result ≡ host_of self.now module_name.now name.now }
     {
         self.hosts.get(module_name)?.get(name).copied()
     }
 
-    // Whether a host function is defined under this name of a module.
+    // Returns whether a host function is defined under this name of a module.
     fn has_hosts(&self, module_name: &str) -> bool
         ensures { IsTrue result ↔ HasHosts self.now module_name.now }
     {
@@ -58,8 +58,10 @@ impl Names {
 
     /// Defines the host function at an address under the name of a module and a name in it.
     ///
-    /// Answers `NameTaken` where a host function is defined under these two names, and `OutOfMemory` where there is no memory; then
-    /// the names are as before.
+    /// # Errors
+    ///
+    /// Fails with `NameTaken` if a host function is defined under these two names, and with `OutOfMemory` if an allocation
+    /// fails. After an error the names are unchanged.
     pub fn define_host(
         &mut self,
         module_name: &str,
@@ -79,10 +81,12 @@ impl Names {
         Ok(())
     }
 
-    /// Registers an instance under a name, in the place of the instance that is registered under it.
+    /// Registers an instance under a name, and replaces the instance that is registered under it.
     ///
-    /// Answers `NameTaken` where a host function is defined under this name of a module, and `OutOfMemory` where there is no memory;
-    /// then the names are as before.
+    /// # Errors
+    ///
+    /// Fails with `NameTaken` if a host function is defined under this name of a module, and with `OutOfMemory` if an allocation
+    /// fails. After an error the names are unchanged.
     pub fn register(&mut self, name: &str, instance: u32) -> Result<(), NameRefusal>
         ensures registered { OnOk result (self.new ≡ with_instance self.old name.now instance) }
         ensures taken { (result ≡ Err NameTaken) ↔ HasHosts self.old name.now }
@@ -95,14 +99,14 @@ impl Names {
         Ok(())
     }
 
-    // The instance that is registered under a name, if there is one.
+    // Returns the instance that is registered under a name, if there is one.
     fn instance(&self, name: &str) -> Option<u32>
         ensures { result ≡ under self.now.registered name.now }
     {
         self.registered.get(name).copied()
     }
 
-    // What the instance that is registered under the name of a module exports under a name.
+    // Returns what the instance that is registered under the name of a module exports under a name.
     fn exported(&self, store: &Store, module_name: &str, name: &str) -> Option<Extern>
         ensures { result ≡ registered_export (store_of store.now) self.now module_name.now
             name.now }
@@ -111,8 +115,9 @@ impl Names {
         store.code().export(instance, name)
     }
 
-    /// What the name of a module and a name in it stand for: the host function that is defined under them, or else what the instance
-    /// that is registered under the name of the module exports under the name. Nothing where there is neither. Takes no memory.
+    /// Returns what the name of a module and a name in it stand for. If a host function is defined under them, it is that
+    /// function. Otherwise it is what the instance that is registered under the name of the module exports under the name.
+    /// Returns none if there is neither. Allocates nothing.
     pub fn resolve(&self, store: &Store, module_name: &str, name: &str) -> Option<Extern>
         ensures { result ≡ resolve_name (store_of store.now) self.now module_name.now name.now }
     {

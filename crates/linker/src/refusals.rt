@@ -3,12 +3,12 @@ ghost use Rattle.linker.specs.declared.refusals.NameRefusal.TheVariants.{OutOfMe
 
 use std::alloc::AllocError;
 
-/// Why a name is not given.
+/// Why a name was not added.
 #[derive(Clone, Copy, PartialEq, Eq)]
 pub enum NameRefusal {
     /// A host function has the name already.
     NameTaken,
-    /// Out of memory.
+    /// An allocation failed.
     OutOfMemory,
 }
 

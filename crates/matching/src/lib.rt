@@ -1,4 +1,4 @@
-//! Import matching: which external types may be given where another is wanted.
+//! Import matching: whether an external value of one type can be imported as another type.
 #![tactic(auto)]
 
 ghost use Rattle.std.specs.Prelude.{◌≡◌, ◌↔◌, IsTrue};
@@ -6,7 +6,7 @@ ghost use Rattle.meaning.specs.validation.Matching.{LimitsMatch, Matches, Maxima
 
 use core_types::{ExternType, GlobalType, Limits, Mutability};
 
-// Whether a maximum is absent where none is wanted, or else at most the wanted one.
+// Returns whether a maximum is at most the wanted one. If no maximum is wanted, any maximum or none matches.
 fn maxima_match(given: Option<u32>, wanted: Option<u32>) -> bool
     ensures { IsTrue result ↔ MaximaMatch given wanted }
 {
@@ -17,14 +17,13 @@ fn maxima_match(given: Option<u32>, wanted: Option<u32>) -> bool
     }
 }
 
-// Whether limits are within others.
+// Returns whether limits are within others.
 fn limits_match(given: Limits, wanted: Limits) -> bool
     ensures { IsTrue result ↔ LimitsMatch given wanted }
 {
     wanted.min <= given.min && maxima_match(given.max, wanted.max)
 }
 
-// Whether globals are of one type.
 fn is_same_global(given: GlobalType, wanted: GlobalType) -> bool
     ensures { IsTrue result ↔ (given ≡ wanted) }
 {
@@ -35,7 +34,8 @@ fn is_same_global(given: GlobalType, wanted: GlobalType) -> bool
     given.value == wanted.value && is_same_mutability
 }
 
-/// Whether an external value of one type may be imported where another type is wanted (Validation, Types, Import Subtyping).
+/// Returns whether an external value of one type may be imported where another type is wanted (Validation, Types, Import
+/// Subtyping).
 ///
 /// The minimum of a given table or memory is its present size.
 pub fn matches(given: &ExternType, wanted: &ExternType) -> bool

@@ -9,8 +9,8 @@ ghost use Rattle.meaning.specs.embedding.Machine.{AppliesAll, with_fuel};
 ghost use Rattle.meaning.specs.embedding.Names.{host_of, no_names};
 ghost use Rattle.meaning.specs.execution.Runs.{NoHosts};
 
-/// Worked rows of commands: in a fresh embedding no number stands for a module or an instance, and such commands are refused and
-/// change nothing; the fuel is set.
+/// Worked rows of commands. In a fresh embedding no number stands for a module or an instance. Commands with such numbers are
+/// refused and change nothing. The fuel is set.
 pub fn fresh_embeddings_are_empty()
     ensures refused { AppliesAll NoHosts
         (fresh {H = ⊥} (λ h. absurd h) (record { fuel = 9; depth = 1; pages = 1; entries = 1 })
@@ -22,8 +22,9 @@ pub fn fresh_embeddings_are_empty()
         (record { fuel = 9; depth = 1; pages = 1; entries = 1 }) ([])) 5) }
 {}
 
-/// Worked rows of definitions of host functions, each of which is its type here: the second of one pair of names is refused, but for a
-/// result that is a funcref before that; and two of different names have the addresses 0 and 1, in order.
+/// Worked rows of definitions of host functions, each of which is its type here. If two have the same pair of names, the second
+/// is refused for its names, or before that for a funcref among its results. Two with different names have the addresses 0 and
+/// 1, in order.
 pub fn host_functions_are_defined_in_order()
     ensures taken { first_fault (λ (t : FuncType). t) no_names 0
         (record {

@@ -20,7 +20,8 @@ ghost use Rattle.meaning.specs.execution.Modules.{constant, constant_step, const
 ghost use Rattle.meaning.specs.execution.Store.{ModuleInstance, Store, instance_of};
 ghost use Rattle.meaning.specs.execution.Runs.{AsksForMemory, Ending, IsEnd, IsReady, IsWithinBound, NoHosts, OutOfDepth, OutOfFuel, OutOfMemory, Run, State, Steps, WithTrap, WithValues, price};
 
-/// Worked rows of runs: a function that adds its two arguments, called with 1 and 2 with fuel 10, 3 and 2, and with no depth.
+/// Worked rows of runs: a function that adds its two arguments. It is called with 1 and 2 with fuel 10, 3 and 2, and with no
+/// depth.
 pub fn adding_one_and_two_costs_three()
     ensures fuel_10 { Calls 1 adder (I32 2 ∷ I32 1 ∷ []) 10 (WithValues (I32 3 ∷ [])) 7 }
     ensures fuel_3 { Calls 1 adder (I32 2 ∷ I32 1 ∷ []) 3 (WithValues (I32 3 ∷ [])) 0 }
@@ -28,8 +29,8 @@ pub fn adding_one_and_two_costs_three()
     ensures depth_0 { Calls 0 adder (I32 2 ∷ I32 1 ∷ []) 10 OutOfDepth 10 }
 {}
 
-/// Worked rows of runs: a loop without end runs out of fuel; a branch keeps the topmost value; two results come in their order; an
-/// `if` goes by its operand; and a call one frame too deep ends for its depth, but first for its fuel.
+/// Worked rows of runs: a loop without end runs out of fuel. A branch keeps the topmost value. Two results are in their order.
+/// An `if` chooses by its operand. A call one frame too deep ends for its depth, but first for its fuel.
 pub fn control_keeps_its_order()
     ensures endless_loop { Calls 1 endless ([]) 3 OutOfFuel 0 }
     ensures branch { Calls 1 last_of_three ([]) 5 (WithValues (I32 9 ∷ [])) 0 }
@@ -40,9 +41,9 @@ pub fn control_keeps_its_order()
     ensures fuel_first { Calls 1 caller ([]) 0 OutOfFuel 0 }
 {}
 
-/// Worked rows of runs: a host function that counts its calls is called twice from code, which costs 1 each, and once from
-/// outside, which costs nothing; from code it is lent the memory of the caller's instance, from outside none; and one that traps
-/// is called with 1 and 2.
+/// Worked rows of runs: a host function that counts its calls, and one that traps if it is called with 1 and 2. The first is
+/// called twice from code, which costs 1 each, and once from outside, which costs nothing. From code it borrows the memory of
+/// the caller's instance, from outside none.
 pub fn hosts_answer_calls()
     ensures from_code { Run (CountsCalls (Some 6)) 1 no_frame (counting 0 10) (Invoking ([]) 0)
         (WithValues (I32 1 ∷ I32 2 ∷ [])) (counting 2 8) }
@@ -52,8 +53,9 @@ pub fn hosts_answer_calls()
         4)) (trapping 7) }
 {}
 
-/// Worked rows of runs on memories, data segments and globals: a fill of 128 bytes costs 3 and is done or not by the fuel; a byte of a segment is copied and
-/// read, and a global is set; a growth that is not allowed answers -1, and an access past the end traps.
+/// Worked rows of runs on memories, data segments and globals. A fill of 128 bytes costs 3 and is done or not by the fuel. A
+/// byte of a segment is copied and read, and a global is set. A growth that is not allowed returns -1, and an access past the
+/// end traps.
 pub fn memories_change_in_runs()
     ensures fill { Run NoHosts 1 no_frame (with_bytes_and_global fills (replicate 128 0) 5 6)
         (Invoking ([]) 0) (WithValues ([])) (with_bytes_and_global fills (replicate 128 7) 5 0) }
@@ -67,8 +69,11 @@ pub fn memories_change_in_runs()
         5) }
 {}
 
-/// Worked rows of runs on tables and element segments: a call through an entry, and its traps in their order; a fill of three entries, and one past
-/// the end; a copy from a segment, which is dropped; and a growth within the bound, and one past it.
+/// Worked rows of runs on tables and element segments:
+/// - a call through an entry, and its traps in their order
+/// - a fill of three entries, and one past the end
+/// - a copy from a segment, which is dropped
+/// - a growth within the bound, and one past it
 pub fn tables_change_in_runs()
     ensures call { CallsEntry 0 3 (WithValues (I32 10 ∷ [])) 0 }
     ensures other_type { CallsEntry 1 3 (WithTrap IndirectType) 1 }
@@ -91,9 +96,11 @@ pub fn tables_change_in_runs()
         ∷ null ∷ []) ([]) 0) }
 {}
 
-/// Worked rows of runs with tail calls, all with room for one frame: a function that calls itself last, with fuel and without; one whose
-/// last call is inside of blocks and above operands; a last call through an entry, and its traps in their order, whatever the depth; and
-/// one of a host function, which is lent the memory of the instance that calls it.
+/// Worked rows of runs with tail calls, all with room for one frame:
+/// - a function that calls itself last, with fuel and without
+/// - one whose last call is within blocks and above operands
+/// - a last call through an entry, and its traps in their order, whatever the depth
+/// - a last call of a host function, which is passed the memory of the instance that calls it
 pub fn tail_calls_replace_their_frame()
     ensures down { Calls 1 down (I32 1 ∷ []) 9 (WithValues (I32 9 ∷ [])) 0 }
     ensures no_fuel { Calls 1 down (I32 1 ∷ []) 5 OutOfFuel 0 }
@@ -107,8 +114,8 @@ pub fn tail_calls_replace_their_frame()
         (WithValues (I32 1 ∷ [])) (counting_last 1 8) }
 {}
 
-/// Worked rows of steps that ask for memory: the entry from outside, a call of code and of a host function, and a growth that is
-/// done, and a tail call of code and of a host function. A growth that answers -1, a constant and a trap ask for none.
+/// Worked rows of steps. These ask for memory: the entry from outside, a call and a tail call of code and of a host function,
+/// and a growth that is done. A growth that returns -1, a constant and a trap ask for none.
 pub fn some_steps_ask_for_memory()
     ensures entry { AsksForMemory (next (instance_of_two nothing nothing) no_frame
         (Invoking ([]) 0)) }
@@ -128,8 +135,8 @@ pub fn some_steps_ask_for_memory()
     ensures trap { Asks (store_with_pages 1) ([]) (alone (Control Unreachable)) → ⊥ }
 {}
 
-/// Law: a step that asks for memory is ready; a run ends out of memory only before such a step, and may do so before each that its fuel
-/// and the depth bound allow.
+/// Law: a step that asks for memory is ready. A run ends out of memory only before such a step, and may do so before each one
+/// that its fuel and the depth bound allow.
 pub fn memory_is_lacked_where_it_is_asked_for()
     ensures ready { (what : Next) → AsksForMemory what → IsReady what }
     ensures only { (bound : ℕ) (outside : Frame) (at last : State ⊥) (configuration : Configuration)
@@ -142,14 +149,14 @@ pub fn memory_is_lacked_where_it_is_asked_for()
         configuration OutOfMemory at }
 {}
 
-/// Law: without host functions two bounded runs from one start end alike, in one state, unless one of them ends out of memory.
+/// Law: without host functions, two bounded runs from one start end alike, in one state, unless one of them ends out of memory.
 pub fn runs_agree()
     ensures { (bound : ℕ) (outside : Frame) (at s t : State ⊥) (configuration : Configuration) (e f
         : Ending) → Run NoHosts bound outside at configuration e s → Run NoHosts bound outside at
         configuration f t → (e ≡ OutOfMemory) ⊎ ((f ≡ OutOfMemory) ⊎ ((e ≡ f) × (s ≡ t))) }
 {}
 
-/// Law: a run behind steps is a run from before them.
+/// Law: a run that follows steps is a run from before them.
 pub fn steps_lead_to_runs()
     ensures { (bound : ℕ) (outside : Frame) (old between last : State ⊥) (first second :
         Configuration) (ending : Ending) → Steps NoHosts bound outside old first between second →
@@ -157,8 +164,8 @@ pub fn steps_lead_to_runs()
         ending last }
 {}
 
-/// Law: what a constant instruction makes of the operands is what the reduction makes of them, in every frame of the instance; and an
-/// expression of one constant has its value.
+/// Law: a constant instruction changes the operands as the reduction changes them, in every frame of the instance. An expression
+/// of one constant has its value.
 pub fn constants_are_values()
     ensures step { (store : Store) (frame : Frame) (op : PlainOp) (operands after : List Val)
         → constant_step store (instance_of store frame.instance) op operands ≡ Some after

@@ -1,5 +1,5 @@
-//! What the numbers, modules and runs of WebAssembly are: definitions in specs/, laws on them in proofs/, and no code that
-//! runs. A function here has an empty body, and its contract is a law of the definitions.
+//! Definitions of the numbers, modules and runs of WebAssembly, in specs/, and laws of them, in proofs/. No code here runs. A
+//! function here has an empty body, and its contract is a law of the definitions.
 #![tactic(auto)]
 
 mod embedding;

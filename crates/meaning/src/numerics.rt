@@ -19,8 +19,8 @@ pub fn integers_stand_for_signed_numbers()
         1)) }
 {}
 
-/// Law: the words of the counts. A number is below 2 to the count of its binary digits, and below no lesser power of 2; it is
-/// an odd number times the power of 2 that is counted in it; and the sum of its bits has the bit of each place.
+/// Law: the meaning of the counts. A number is below 2 to the count of its binary digits, and below no lesser power of 2. It is
+/// an odd number times the power of 2 that is counted in it. The sum of its bits has the bit of each place.
 pub fn counts_are_of_digits_and_bits()
     ensures digits_suffice { (k a : ℕ) → a < 2 ^ k → a < 2 ^ digits k a }
     ensures no_fewer { (k a j : ℕ) → a < 2 ^ j → digits k a ≤ j }
@@ -31,7 +31,7 @@ pub fn counts_are_of_digits_and_bits()
     ensures one_more_bit { (k a : ℕ) → sum_of_bits (suc k) a ≡ sum_of_bits k a + bit_at a k }
 {}
 
-/// Law: `and`, `or` and `xor` go bit by bit, each on the two bits of one place.
+/// Law: `and`, `or` and `xor` work bit by bit, each on the two bits of one place.
 pub fn logic_goes_bit_by_bit()
     ensures conjunction { (bits a b i : ℕ) → IfOk (binary_operator bits And a b) (λ n. bit_at n i ≡
         min (bit_at a i) (bit_at b i)) }
@@ -41,7 +41,7 @@ pub fn logic_goes_bit_by_bit()
         (bit_at a i + bit_at b i) % 2) }
 {}
 
-/// Law: a rotation moves each bit by a number of places, upward or downward, round the ends.
+/// Law: a rotation moves each bit by a number of places, upward or downward, around the ends.
 pub fn rotations_move_each_bit()
     ensures left { (bits a b i : ℕ) → a < 2 ^ bits → i < bits → IfOk (binary_operator bits Rotl a b)
         (λ n. bit_at n ((i + b) % bits) ≡ bit_at a i) }
@@ -49,8 +49,8 @@ pub fn rotations_move_each_bit()
         b) (λ n. bit_at n i ≡ bit_at a ((i + b) % bits)) }
 {}
 
-/// Law: an operator on integers of a width gives one of the width, or a trap. A test or a comparison
-/// gives 0 or 1. A conversion gives an integer of the width that it leads to.
+/// Law: an operator on integers of a width returns one of the width, or a trap. A test or a comparison returns 0 or 1. A
+/// conversion returns an integer of the width that it leads to.
 pub fn results_have_their_width()
     ensures binary { (bits : ℕ) (op : BinaryOp) (a b : ℕ) → 0 < bits → a < 2 ^ bits → b < 2 ^ bits
         → IfOk (binary_operator bits op a b) (λ n. n < 2 ^ bits) }

@@ -8,9 +8,9 @@ ghost use Rattle.meaning.specs.scripts.Commands.{AssertReturn, Invoke, Module, P
 ghost use Rattle.meaning.specs.scripts.Dialogues.{Begins, Holds};
 ghost use Rattle.meaning.specs.scripts.Runner.{dialogue, meant, no_instances, start, with_current};
 
-/// Worked rows of scripts: a module is loaded and linked and its function returns what is expected; a command that is skipped asks
-/// for nothing, and an action without an instance asks for no more than the fuel, and fails; a name means its instance until a module
-/// command under that name fails; and a run stops where there was no memory.
+/// Worked rows of scripts. A module is loaded and linked, and its function returns what is expected. A skipped command asks for
+/// nothing. An action without an instance asks for no more than the fuel, and fails. A name means its instance until a module
+/// command under that name fails. A run stops if memory ran out.
 pub fn scripts_ask_and_count()
     ensures passes { Holds (dialogue 9 (files_in ((1 ∷ [], 5 ∷ []) ∷ []))
         (Tried 1 (Module (1 ∷ []) None) ∷ Tried 2 (AssertReturn (Invoke None (7 ∷ []) ([])) (I32 3

@@ -9,7 +9,7 @@ ghost use Rattle.core_types.specs.declared.outcome.Val.TheVariants.{I32, I64};
 ghost use Rattle.meaning.specs.execution.Storage.{bytes_of_number, number_of_bytes, overwrite};
 ghost use Rattle.meaning.specs.execution.Memories.{copy_bytes, fill_bytes, load_from};
 
-/// Law: the bytes of a number represent it, and writing bytes inside of others keeps their number.
+/// Law: the bytes of a number represent it, and writing bytes within others keeps their number.
 pub fn bytes_represent_numbers()
     ensures back { (count n : ℕ) → n < 256 ^ count → number_of_bytes (bytes_of_number count n) ≡ n }
     ensures count { (count n : ℕ) → length (bytes_of_number count n) ≡ count }
@@ -17,8 +17,12 @@ pub fn bytes_represent_numbers()
         → length (overwrite bytes offset new) ≡ length bytes }
 {}
 
-/// Worked rows of bytes: loads of few bytes as signed and as unsigned numbers, an access past the end, a copy over itself, a fill with the low
-/// byte of a value, and a fill of nothing at the end and past it.
+/// Worked rows of bytes:
+/// - loads of few bytes as signed and as unsigned numbers
+/// - an access past the end
+/// - a copy over itself
+/// - a fill with the low byte of a value
+/// - a fill of nothing at the end and past it
 pub fn bytes_are_read_and_written()
     ensures signed { load_from (load.Bits8 W32 Signed) (128 ∷ 255 ∷ []) 0 ≡ Ok (I32 4294967168) }
     ensures unsigned { load_from (load.Bits16 W32 Unsigned) (128 ∷ 255 ∷ []) 0 ≡ Ok (I32 65408) }

@@ -5,7 +5,7 @@ ghost use Rattle.core_types.specs.declared.op.Op.{Op};
 ghost use Rattle.core_types.specs.declared.op.Op.TheVariants.{End};
 ghost use Rattle.meaning.specs.structure.Bodies.{Body, body_of, rests, writing};
 
-/// Law: what is left of a body's writing is the body, down to its end, and behind the end lies what is left around it; a flat
+/// Law: the rest of a body's writing is the body, down to its end, and after the end is the rest of what surrounds it. A flat
 /// list is the writing of at most one tree.
 pub fn writing_is_read()
     ensures whole { (b : Body) → body_of (writing b) ≡ b }

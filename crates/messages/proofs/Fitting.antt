@@ -18,7 +18,7 @@ number_of-fits I64 = omega arith
 number_of-fits FuncRef = omega arith
 number_of-fits ExternRef = omega arith
 
--- Types have numbers of their own.
+-- Each type has a different number.
 pub number_of-injective : (s t : ValType) → number_of s ≡ number_of t → s ≡ t
 number_of-injective I32 I32 e = refl
 number_of-injective I64 I64 e = refl
@@ -37,11 +37,11 @@ pub length-value_bytes : (v : Val) → length (value_bytes v) ≡ 16
 length-value_bytes v =
     omega (arith, length-append (type_bytes (type_of v)) (number_bytes (cell_of v)), length-number_bytes (number_of (type_of v)), length-number_bytes (cell_of v))
 
--- Bytes that begin with a value begin with its type, and behind that with its cell.
+-- Bytes that begin with a value begin with its type, followed by its cell.
 pub value_in_parts : (v : Val) (rest bytes : List ℕ) → value_bytes v ++ rest ≡ bytes → type_bytes (type_of v) ++ (number_bytes (cell_of v) ++ rest) ≡ bytes
 value_in_parts v rest bytes e = sym (append_assoc (type_bytes (type_of v)) (number_bytes (cell_of v)) rest) ∙ e
 
--- Behind types stands one thing at most.
+-- If bytes begin with types, the bytes after the types are determined.
 pub same_behind_types : (ss ts : List ValType) (us vs : List ℕ) → length ss < 2 ^ 64 → length ts < 2 ^ 64 → types_bytes ss ++ us ≡ types_bytes ts ++ vs → us ≡ vs
 same_behind_types ss ts us vs h k e =
     let left = flat_map type_bytes ss in

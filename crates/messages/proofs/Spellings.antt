@@ -29,7 +29,7 @@ same_number m n us vs h k e =
     let parts = same_parts (number_bytes m) (number_bytes n) us vs (length-number_bytes m ∙ sym (length-number_bytes n)) e in
     (number_bytes-injective m n h k parts.0, parts.1)
 
--- Bytes that begin with a number are eight at least.
+-- Bytes that begin with a number are at least eight.
 pub number_is_long : (n : ℕ) (us bytes : List ℕ) → number_bytes n ++ us ≡ bytes → 8 ≤ length bytes
 number_is_long n us bytes e =
     let l = ap length e in
@@ -37,13 +37,13 @@ number_is_long n us bytes e =
     let b = length-number_bytes n in
     omega arith
 
--- Bytes that begin with a text begin with its length, and then have its bytes.
+-- Bytes that begin with a text begin with its length, followed by its bytes.
 pub same_text : (m : ℕ) (us text rest bytes : List ℕ) → m < 2 ^ 64 → length text < 2 ^ 64 → number_bytes m ++ us ≡ bytes → text_bytes text ++ rest ≡ bytes → (m ≡ length text) × (us ≡ text ++ rest)
 same_text m us text rest bytes h k e f =
     same_number m (length text) us (text ++ rest) h k (e ∙ sym f ∙ append_assoc (number_bytes (length text)) text rest)
 
 module _ {X : Type 0} (P : X → Type 0) (spelling : X → List ℕ) (k : ℕ) (width : (x : X) → length (spelling x) ≡ suc k) where
-  -- Where as many items are not yet all, another one is next.
+  -- If that many items are not all items, another one is next.
   pub next_item : (xs ys : List X) (us vs : List ℕ) → All P ys → length xs < length ys → flat_map spelling xs ++ us ≡ flat_map spelling ys ++ vs → (y : X) × (rest : List ℕ) × P y × (spelling y ++ rest ≡ us)
   next_item xs [] us vs all shorter e = absurd (omega (arith, shorter))
   next_item [] (y ∷ ys) us vs all shorter e =
@@ -52,7 +52,7 @@ module _ {X : Type 0} (P : X → Type 0) (spelling : X → List ℕ) (k : ℕ) (
       let same = sym (append_assoc (spelling x) (flat_map spelling xs) us) ∙ e ∙ append_assoc (spelling y) (flat_map spelling ys) vs in
       next_item xs ys us vs (λ i d h. all (suc i) d (omega arith)) (omega (arith, shorter)) (same_parts (spelling x) (spelling y) _ _ (width x ∙ sym (width y)) same).1
 
-  -- Where bytes are left, the items before them are not all.
+  -- If bytes are left, the items before them are not all.
   pub items_are_left : (xs ys : List X) (us : List ℕ) → 0 < length us → flat_map spelling xs ++ us ≡ flat_map spelling ys → length xs < length ys
   items_are_left [] [] us some e = absurd (omega (arith, some, ap length e))
   items_are_left [] (y ∷ ys) us some e = omega arith
@@ -63,7 +63,7 @@ module _ {X : Type 0} (P : X → Type 0) (spelling : X → List ℕ) (k : ℕ) (
       let fewer = items_are_left xs ys us some (same_parts (spelling x) (spelling y) _ _ (width x ∙ sym (width y)) same).1 in
       omega arith
 
--- Where nothing is left, the front is all.
+-- If nothing is left, the first part is all.
 pub front_is_all : (front rest bytes : List ℕ) → front ++ rest ≡ bytes → length bytes ≤ length front → front ≡ bytes
 front_is_all front [] bytes e h = sym (append-nil front) ∙ e
 front_is_all front (x ∷ rest) bytes e h = absurd (omega (arith, ap length e, length-append front (x ∷ rest)))
@@ -75,7 +75,7 @@ same_texts s t us vs h k e =
     same_parts s t us vs same.0 same.1
 
 module _ {X : Type 0} (spelling : X → List ℕ) (k : ℕ) (width : (x : X) → length (spelling x) ≡ k) where
-  -- Behind as many items stands the same.
+  -- After the same number of items, the rest is the same.
   pub same_behind : (xs ys : List X) (us vs : List ℕ) → length xs ≡ length ys → flat_map spelling xs ++ us ≡ flat_map spelling ys ++ vs → us ≡ vs
   same_behind [] [] us vs n e = e
   same_behind [] (y ∷ ys) us vs n e = absurd (omega (arith, n))

@@ -1,4 +1,4 @@
--- Numbers and texts in messages, which are this project's own.
+-- Numbers and texts in messages. Their encoding is specific to this project.
 use Rattle.std.specs.Prelude.{ℕ, List, ◌++◌, length}
 use Rattle.std.specs.Int.{w64, to_le_bytes}
 
@@ -6,6 +6,6 @@ use Rattle.std.specs.Int.{w64, to_le_bytes}
 unfoldable pub number_bytes : ℕ → List ℕ
 number_bytes n = to_le_bytes w64 n
 
--- A text stands behind its length.
+-- A text follows its length.
 abbrev pub text_bytes : List ℕ → List ℕ
 text_bytes text = number_bytes (length text) ++ text

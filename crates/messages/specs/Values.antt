@@ -1,4 +1,4 @@
--- Values in messages, which are this project's own.
+-- Values in messages. Their encoding is specific to this project.
 use Rattle.std.specs.Prelude.{ℕ, List, ◌++◌, flat_map}
 use Rattle.core_types.specs.declared.outcome.Val.{Val}
 use Rattle.meaning.specs.execution.Values.{type_of}
@@ -10,7 +10,7 @@ use Rattle.messages.specs.Types.{type_bytes}
 abbrev pub value_bytes : Val → List ℕ
 value_bytes v = type_bytes (type_of v) ++ number_bytes (cell_of v)
 
--- Values stand one behind the other.
+-- Values are in a row.
 abbrev pub values_bytes : List Val → List ℕ
 values_bytes vs = flat_map value_bytes vs
 

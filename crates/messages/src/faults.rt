@@ -1,11 +1,11 @@
 use std::alloc::{AllocError, AllocFailed};
 
-/// Why bytes are not read.
+/// Why bytes were not read.
 #[derive(Clone, Copy, PartialEq, Eq, Debug)]
 pub enum ReadFault {
-    /// They spell nothing of the kind.
+    /// They do not encode what was expected.
     NotSpelt,
-    /// There was no memory.
+    /// An allocation failed.
     OutOfMemory,
 }
 

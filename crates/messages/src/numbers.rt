@@ -10,7 +10,7 @@ pub fn push_number(out: &mut Vec<u8>, number: u64) -> Result<(), AllocError>
     out.extend_from_slice(&number.to_le_bytes())
 }
 
-/// Appends a text behind its length.
+/// Appends the length of a text, and then the text.
 pub fn push_text(out: &mut Vec<u8>, text: &str) -> Result<(), AllocError>
     ensures { OnOk result (out.new.items ≡ out.old.items ++ text_bytes text.now) }
 {
@@ -18,14 +18,14 @@ pub fn push_text(out: &mut Vec<u8>, text: &str) -> Result<(), AllocError>
     out.extend_from_slice(text.as_bytes())
 }
 
-// The number that eight bytes are.
+// Returns the number that eight bytes encode.
 fn read_number(bytes: &[u8; 8]) -> u64
     ensures { number_bytes result ≡ bytes.now }
 {
     u64::from_le_bytes(*bytes)
 }
 
-/// The number that bytes begin with, and the bytes behind it; none where they are fewer than eight.
+/// Splits bytes into the number at their start and the bytes after it. Returns none if there are fewer than eight bytes.
 pub fn split_number(bytes: &[u8]) -> Option<(u64, &[u8])>
     ensures found { IfSome result (λ r. number_bytes r.0 ++ r.1.now ≡ bytes.now) }
     ensures fits { IfSome result (λ r. r.0 < 2 ^ 64) }
@@ -35,7 +35,7 @@ pub fn split_number(bytes: &[u8]) -> Option<(u64, &[u8])>
     Some((read_number(front), behind))
 }
 
-/// The text that bytes begin with, and the bytes behind it; none where they begin with none.
+/// Splits bytes into the text at their start and the bytes after it. Returns none if they do not begin with a text.
 pub fn split_text(bytes: &[u8]) -> Option<(&str, &[u8])>
     ensures found { IfSome result (λ r. text_bytes r.0.now ++ r.1.now ≡ bytes.now) }
     ensures fits { IfSome result (λ r. length r.0.now < 2 ^ 64) }

@@ -5,36 +5,36 @@ use crate::numbers::{push_number, split_number};
 use io::{read_full, write_all};
 use std::alloc::AllocError;
 
-// How many bytes the head of a message takes.
+// The size of the head of a message, in bytes.
 const HEAD: usize = 16;
 
-// How much room is taken at least for bytes that come.
+// The least room that is reserved for bytes that arrive.
 const STEP: usize = 4_096;
 
 /// The head of a message.
 #[derive(Clone, Copy)]
 pub struct Head {
-    /// How many bytes its fields have.
+    /// The number of bytes of its fields.
     pub size: u64,
     /// Its kind.
     pub kind: u64,
 }
 
-/// Why there is no message.
+/// Why no message was read.
 #[derive(Clone, Copy)]
 pub enum StreamEnd {
-    /// The input ended before it began.
+    /// The input ended before the message began.
     Over,
-    /// The input ended inside of it.
+    /// The input ended within the message.
     CutShort,
 }
 
-/// Why the fields of a message are not there.
+/// Why the fields of a message were not read.
 #[derive(Clone, Copy)]
 pub enum FieldsFault {
-    /// The input ended inside of them.
+    /// The input ended within the fields.
     CutShort,
-    /// There was no memory for them. They are read to their end.
+    /// An allocation failed. The fields were skipped to their end.
     OutOfMemory,
 }
 
@@ -55,7 +55,7 @@ pub fn push_message(out: &mut Vec<u8>, kind: u64, fields: &[u8]) -> Result<(), A
     out.extend_from_slice(fields)
 }
 
-// The head that sixteen bytes are.
+// Returns the head that sixteen bytes encode.
 fn head_of(bytes: &[u8; 16]) -> Option<Head>
     ensures { IfSome result (λ head. head_spelling head.size head.kind ≡ bytes.now) }
 {
@@ -74,7 +74,7 @@ pub fn read_head(hear: i32) -> Result<Head, StreamEnd> {
     }
 }
 
-/// Reads a number from a descriptor; none where the input ends.
+/// Reads a number from a descriptor. Returns none if the input ends.
 pub fn read_number(hear: i32) -> Option<u64> {
     let mut bytes = [0u8; 8];
     if read_full(hear, &mut bytes) != bytes.len() {
@@ -83,13 +83,13 @@ pub fn read_number(hear: i32) -> Option<u64> {
     Some(u64::from_le_bytes(bytes))
 }
 
-/// Writes a message of a kind with these fields to a descriptor, and says whether it was taken.
+/// Writes a message of a kind with these fields to a descriptor. Returns whether it was written.
 pub fn write_message(ask: i32, kind: u64, fields: &[u8]) -> bool {
     let size = (fields.len() as u64).to_le_bytes();
     write_all(ask, &size) && write_all(ask, &kind.to_le_bytes()) && write_all(ask, fields)
 }
 
-/// Reads so many bytes from a descriptor, and keeps none. Whether they were there.
+/// Reads that many bytes from a descriptor and discards them. Returns whether there were that many.
 pub fn skip(hear: i32, count: u64) -> bool {
     let mut buffer = [0u8; STEP];
     let mut left = count;
@@ -103,7 +103,8 @@ pub fn skip(hear: i32, count: u64) -> bool {
     true
 }
 
-/// Reads so many bytes from a descriptor, in the place of those that were there. Room is taken as they come, at most twice as much.
+/// Reads that many bytes from a descriptor, and replaces those in `fields`. Room is reserved as they arrive, at most for twice
+/// that many.
 pub fn read_fields(hear: i32, size: u64, fields: &mut Vec<u8>) -> Result<(), FieldsFault> {
     fields.clear();
     let mut left = size;

@@ -7,7 +7,7 @@ use crate::numbers::{push_number, split_number};
 use core_types::ValType;
 use std::alloc::{AllocError, Global};
 
-/// The number of a type.
+/// Returns the number of a type.
 pub fn type_number(ty: ValType) -> u64
     ensures { result ≡ number_of ty }
 {
@@ -26,7 +26,7 @@ pub fn push_type(out: &mut Vec<u8>, ty: ValType) -> Result<(), AllocError>
     push_number(out, type_number(ty))
 }
 
-/// Appends types behind their count.
+/// Appends the count of types, and then the types.
 pub fn push_types(out: &mut Vec<u8>, types: &[ValType]) -> Result<(), AllocError>
     ensures { OnOk result (out.new.items ≡ out.old.items ++ types_bytes types.now) }
 {
@@ -37,7 +37,6 @@ pub fn push_types(out: &mut Vec<u8>, types: &[ValType]) -> Result<(), AllocError
     Ok(())
 }
 
-// The type of a number, if it has one.
 fn type_of_number(number: u64) -> Option<ValType>
     ensures found { IfSome result (λ ty. number_of ty ≡ number) }
     ensures none { IsNone result → (ty : AnyType) → number_of ty ≢ number }
@@ -51,7 +50,7 @@ fn type_of_number(number: u64) -> Option<ValType>
     }
 }
 
-/// The type that bytes begin with, and the bytes behind it; none where they begin with none.
+/// Splits bytes into the type at their start and the bytes after it. Returns none if they do not begin with a type.
 pub fn split_type(bytes: &[u8]) -> Option<(ValType, &[u8])>
     ensures found { IfSome result (λ r. type_bytes r.0 ++ r.1.now ≡ bytes.now) }
     ensures none { IsNone result → (ty : AnyType) (rest : List ℕ)
@@ -64,7 +63,8 @@ pub fn split_type(bytes: &[u8]) -> Option<(ValType, &[u8])>
     }
 }
 
-/// The types that bytes begin with, behind their count, and the bytes behind them. Room is taken as they are read.
+/// Splits bytes into the types at their start, which follow their count, and the bytes after them. Room is reserved as they are
+/// read.
 pub fn split_types(alloc: Global, bytes: &[u8]) -> Result<(Vec<ValType>, &[u8]), ReadFault>
     ensures read { IfOk result (λ r. types_bytes r.0.items ++ r.1.now ≡ bytes.now) }
     ensures fits { IfOk result (λ r. length r.0.items < 2 ^ 64) }

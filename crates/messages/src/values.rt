@@ -11,7 +11,6 @@ use cells::{cell_of, value_of};
 use core_types::{Val, ValType};
 use std::alloc::{AllocError, Global};
 
-// The type of a value.
 fn type_of(value: Val) -> ValType
     ensures { result ≡ type_of_value value }
 {
@@ -23,7 +22,7 @@ fn type_of(value: Val) -> ValType
     }
 }
 
-// Whether a number is the cell of a value of a type.
+// Returns whether a number is the cell of a value of a type.
 fn is_cell_of(ty: ValType, cell: u64) -> bool
     ensures { IsTrue result ↔ IsCellOf ty cell }
 {
@@ -42,7 +41,7 @@ pub fn push_value(out: &mut Vec<u8>, value: Val) -> Result<(), AllocError>
     push_number(out, cell_of(value))
 }
 
-/// Appends values, one behind the other.
+/// Appends values in a row.
 pub fn push_values(out: &mut Vec<u8>, values: &[Val]) -> Result<(), AllocError>
     ensures { OnOk result (out.new.items ≡ out.old.items ++ values_bytes values.now) }
 {
@@ -52,7 +51,7 @@ pub fn push_values(out: &mut Vec<u8>, values: &[Val]) -> Result<(), AllocError>
     Ok(())
 }
 
-/// The value that bytes begin with, and the bytes behind it; none where they begin with none.
+/// Splits bytes into the value at their start and the bytes after it. Returns none if they do not begin with a value.
 pub fn split_value(bytes: &[u8]) -> Option<(Val, &[u8])>
     ensures found { IfSome result (λ r. value_bytes r.0 ++ r.1.now ≡ bytes.now) }
     ensures none { IsNone result → (v : Value) (rest : List ℕ) → HasItsWidth v →
@@ -67,7 +66,7 @@ pub fn split_value(bytes: &[u8]) -> Option<(Val, &[u8])>
     }
 }
 
-/// The values that bytes spell. Room is taken as they are read.
+/// Reads the values that the bytes encode. Room is reserved as they are read.
 pub fn read_values(alloc: Global, bytes: &[u8]) -> Result<Vec<Val>, ReadFault>
     ensures read { IfOk result (λ values. values_bytes values.items ≡ bytes.now) }
     ensures not_spelt { result ≡ Err ReadFault.NotSpelt → (vs : List Value) → All HasItsWidth vs →

@@ -1,5 +1,5 @@
-//! A platform for contracts: each call buys fuel, and pays for what it spends of it, whether it ends with values, in a trap or in an
-//! exhaustion.
+//! A platform for contracts: each call buys fuel, and pays for the fuel that it spends, whether it ends with values, a trap or
+//! an exhaustion.
 #![tactic(auto)]
 
 use account::{Account, pay_for_call};
@@ -22,7 +22,7 @@ pub enum Fault {
     Start,
 }
 
-// What the caller may spend in all, and how much of it in one call.
+// The fuel that the caller may spend in all, and the limit for one call.
 const MONEY: u64 = 3_000;
 
 const LIMIT: u64 = 1_200;
@@ -42,13 +42,13 @@ static CALLS: [(&str, &[Val]); 11] = [
     ("add", &[Val::I32(1), Val::I32(2)]),
 ];
 
-// An embedding with the most fuel that a call may buy.
+// Creates an embedding with the most fuel that a call may buy.
 fn new_embedding(alloc: Global) -> Result<Embedding, Fault> {
     let config = Config::new(LIMIT, 16, 16, 100).ok_or(NewFault::OutOfMemory)?;
     Ok(Embedding::new(alloc, config, Vec::new(alloc))?)
 }
 
-// Links the contract that bytes spell.
+// Links the contract that the bytes encode.
 fn link(embedding: &mut Embedding, bytes: &[u8]) -> Result<InstanceNumber, Fault> {
     let loaded = embedding.load(bytes)?;
     match embedding.link(loaded)? {
@@ -85,7 +85,7 @@ fn call<W: Write>(
     writeln!(out)
 }
 
-// Makes the calls of a caller who has this money, and prints what each cost.
+// Makes the calls of a caller with this money, and prints what each one costs.
 fn make_calls<W: Write>(
     embedding: &mut Embedding,
     contract: InstanceNumber,
@@ -98,14 +98,14 @@ fn make_calls<W: Write>(
     Ok(())
 }
 
-// Links the contract that bytes spell in an embedding, and makes the calls.
+// Links the contract that the bytes encode in an embedding, and makes the calls.
 fn run<W: Write>(embedding: &mut Embedding, bytes: &[u8], out: &mut W) -> Result<(), Fault> {
     let contract = link(embedding, bytes)?;
     make_calls(embedding, contract, out)?;
     Ok(())
 }
 
-// Makes the calls to the contract that bytes spell.
+// Makes the calls to the contract that the bytes encode.
 fn run_contract<W: Write>(alloc: Global, bytes: &[u8], out: &mut W) -> Result<(), Fault> {
     match new_embedding(alloc) {
         Ok(mut embedding) => run(&mut embedding, bytes, out),

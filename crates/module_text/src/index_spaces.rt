@@ -1,7 +1,8 @@
 use core_types::{GlobalType, Import, ImportDesc, Limits, Module, TableType};
 use std::alloc::{AllocError, Global};
 
-/// What each index of a module names: what is imported, and then what is its own (Structure, Modules, Indices).
+/// What each index of a module refers to: the imports come first, and then the module's own definitions (Structure, Modules,
+/// Indices).
 #[derive(Drop)]
 pub struct IndexSpaces {
     /// The indices of the functions' types.
@@ -11,7 +12,7 @@ pub struct IndexSpaces {
     pub(crate) globals: Vec<GlobalType>,
 }
 
-// Appends what is imported.
+// Appends what an import provides.
 fn add_import(spaces: &mut IndexSpaces, import: &Import) -> Result<(), AllocError> {
     match import.desc {
         ImportDesc::Func(ty) => spaces.funcs.push(ty)?,
@@ -22,7 +23,6 @@ fn add_import(spaces: &mut IndexSpaces, import: &Import) -> Result<(), AllocErro
     Ok(())
 }
 
-// What these imports are.
 fn imported(alloc: Global, imports: &[Import]) -> Result<IndexSpaces, AllocError> {
     let mut spaces = IndexSpaces {
         funcs: Vec::new(alloc),
@@ -37,7 +37,7 @@ fn imported(alloc: Global, imports: &[Import]) -> Result<IndexSpaces, AllocError
 }
 
 impl IndexSpaces {
-    /// The index spaces of a module. Fails where there is no memory for them.
+    /// Creates the index spaces of a module. Fails if an allocation fails.
     pub fn new(alloc: Global, module: &Module) -> Result<IndexSpaces, AllocError> {
         let mut spaces = imported(alloc, module.imports.as_slice())?;
         spaces

@@ -1,4 +1,4 @@
-//! What a module has, and what a refusal is about, as text.
+//! The contents of a module, and the reason of a refusal, as text.
 #![tactic(auto)]
 
 mod index_spaces;

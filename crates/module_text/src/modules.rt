@@ -5,7 +5,7 @@ use core_types::{
 };
 use std::io::{self, Write};
 
-// The type of a function, by its index among the types.
+// Writes the type of a function, by its index in the list of types.
 fn write_func_at<W: Write>(out: &mut W, types: &[FuncType], index: u32) -> io::Result<()> {
     match types.get(index as usize) {
         Some(ty) => write_func(out, ty),
@@ -13,7 +13,7 @@ fn write_func_at<W: Write>(out: &mut W, types: &[FuncType], index: u32) -> io::R
     }
 }
 
-// A line for what is imported.
+// Writes a line for an import.
 fn write_import<W: Write>(out: &mut W, types: &[FuncType], import: &Import) -> io::Result<()> {
     write!(
         out,
@@ -30,7 +30,7 @@ fn write_import<W: Write>(out: &mut W, types: &[FuncType], import: &Import) -> i
     writeln!(out)
 }
 
-// The type of what an export names.
+// Writes the type of what an export refers to.
 fn write_exported<W: Write>(
     out: &mut W,
     types: &[FuncType],
@@ -57,7 +57,7 @@ fn write_exported<W: Write>(
     }
 }
 
-// A line for what is exported.
+// Writes a line for an export.
 fn write_export<W: Write>(
     out: &mut W,
     types: &[FuncType],
@@ -99,7 +99,7 @@ fn write_memories<W: Write>(out: &mut W, memories: &[Limits]) -> io::Result<()> 
     Ok(())
 }
 
-// The operations of all bodies, those that begin and end a body among them.
+// Returns the number of operations of all bodies, including those that begin and end a body.
 fn count_operations(funcs: &[Func]) -> u64 {
     let mut count: u64 = 0;
     for func in funcs {
@@ -116,7 +116,7 @@ fn count_bytes(datas: &[DataSegment]) -> u64 {
     count
 }
 
-// Lines for functions and globals.
+// Writes the lines for functions and globals.
 fn write_functions<W: Write>(out: &mut W, module: &Module) -> io::Result<()> {
     let count = module.funcs.len();
     let operations = count_operations(module.funcs.as_slice());
@@ -124,7 +124,7 @@ fn write_functions<W: Write>(out: &mut W, module: &Module) -> io::Result<()> {
     writeln!(out, "globals {}", module.globals.len())
 }
 
-// Lines for segments.
+// Writes the lines for segments.
 fn write_segments<W: Write>(out: &mut W, module: &Module) -> io::Result<()> {
     let count = module.datas.len();
     let bytes = count_bytes(module.datas.as_slice());
@@ -132,7 +132,7 @@ fn write_segments<W: Write>(out: &mut W, module: &Module) -> io::Result<()> {
     writeln!(out, "data segments {count}, bytes {bytes}")
 }
 
-// A line for the start function, if there is one.
+// Writes a line for the start function, if there is one.
 fn write_start<W: Write>(out: &mut W, module: &Module) -> io::Result<()> {
     match module.start {
         Some(index) => writeln!(out, "start function {index}"),
@@ -140,7 +140,7 @@ fn write_start<W: Write>(out: &mut W, module: &Module) -> io::Result<()> {
     }
 }
 
-// Lines for what is the module's own.
+// Writes the lines for the module's own definitions.
 fn write_sizes<W: Write>(out: &mut W, module: &Module) -> io::Result<()> {
     write_tables(out, module.tables.as_slice())?;
     write_memories(out, module.memories.as_slice())?;
@@ -149,7 +149,7 @@ fn write_sizes<W: Write>(out: &mut W, module: &Module) -> io::Result<()> {
     write_start(out, module)
 }
 
-/// Writes what a module imports, exports and has of its own, a line each, over its index spaces. Fails where the writer does.
+/// Writes what a module imports, exports and defines, one line each, with its index spaces. Fails if the writer fails.
 pub fn write_module<W: Write>(
     out: &mut W,
     module: &Module,

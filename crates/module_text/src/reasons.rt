@@ -1,7 +1,7 @@
-//! What a refusal is about, where the bytes or the place tell it.
+//! The reason of a refusal, if the bytes or the place determine it.
 
-/// What is not supported, by the bytes with which it begins. What is left out are value types and instructions on floats and vectors, and
-/// those of later proposals.
+/// Returns which feature is not supported, by the bytes at its start. Unsupported are value types and instructions of floats and
+/// vectors, and those of later proposals.
 pub fn unsupported(bytes: &[u8]) -> &'static str {
     match bytes {
         [0x7C | 0x7D, ..] => "a floating-point type",
@@ -16,7 +16,7 @@ pub fn unsupported(bytes: &[u8]) -> &'static str {
     }
 }
 
-/// The rules that a section may break.
+/// Returns the rules that a section can violate.
 pub fn rule(section: u8) -> &'static str {
     match section {
         2 => "an import names a type that is not there, or has limits out of order or too large",

@@ -1,4 +1,4 @@
-//! Types as the text format has them (Text Format, Types).
+//! Types in the text format (Text Format, Types).
 
 use core_types::{FuncType, GlobalType, Limits, Mutability, RefType, TableType, ValType};
 use std::io::{self, Write};
@@ -19,7 +19,7 @@ fn name_of_element(ty: RefType) -> &'static str {
     }
 }
 
-// Parameters or results, nothing where there are none.
+// Writes parameters or results, or nothing if there are none.
 fn write_types<W: Write>(out: &mut W, word: &str, types: &[ValType]) -> io::Result<()> {
     if types.is_empty() {
         return Ok(());

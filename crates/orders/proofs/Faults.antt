@@ -1,4 +1,4 @@
--- Faults that are handed on.
+-- Faults that are passed on.
 use Rattle.std.proofs.Common.{◌≡◌, Result, Err, sym, ◌∙◌}
 use Rattle.messages.specs.declared.faults.ReadFault.{ReadFault}
 

@@ -1,4 +1,4 @@
--- Orders to a server of an embedding, and how messages spell them, which are this project's own.
+-- Orders to a server of an embedding, and how messages encode them. The encoding is specific to this project.
 use Rattle.std.specs.Prelude.{◌≡◌, ◌⊎◌, ℕ, List, [], ◌++◌, ◌<◌, ◌^◌, length, IsUtf8, All}
 use Rattle.core_types.specs.declared.types.FuncType.{FuncType}
 use Rattle.meaning.specs.embedding.Commands.{Command, Load, Link, Register, Call, GetGlobal, SetFuel}
@@ -16,11 +16,11 @@ pub data Order : Type 0 where
   -- to keep a file for the next script
   Keep : (name bytes : List ℕ) → Order
   RunScript : (text : List ℕ) → Order
-  -- to define a host function under the name of a module and one in it
+  -- to define a host function under the name of a module and a name in it
   Define : (first second : List ℕ) (signature : FuncType) → Order
-  -- to make the embedding
+  -- to create the embedding
   Begin : (setup : Setup) → Order
-  -- to give the type of one export
+  -- to return the type of one export
   NamedExport : (instance : ℕ) (name : List ℕ) → Order
 
 -- The kind of an order's message.

@@ -1,4 +1,4 @@
--- What is read means as an order.
+-- What is read, as an order.
 use Rattle.meaning.specs.embedding.Commands as command
 use Rattle.orders.specs.Orders as order
 use Rattle.orders.specs.declared.order.Order.{Order}

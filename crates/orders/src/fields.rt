@@ -10,7 +10,7 @@ use core_types::{FuncType, Items, Val};
 use messages::{ReadFault, read_values, split_number, split_text, split_types};
 use std::alloc::Global;
 
-/// The number that fields are.
+/// Reads the fields of a message as a number.
 pub fn read_number(fields: &[u8]) -> Option<u64>
     ensures found { IfSome result (λ n. number_bytes n ≡ fields.now) }
     ensures none { IsNone result → (n : ℕ) → n < 2 ^ 64 → number_bytes n ≢ fields.now }
@@ -23,7 +23,7 @@ pub fn read_number(fields: &[u8]) -> Option<u64>
     }
 }
 
-/// The number and the name that fields are.
+/// Reads the fields of a message as a number and a name.
 pub fn read_number_and_name(fields: &[u8]) -> Option<(u64, &str)>
     ensures found { IfSome result (λ r. number_bytes r.0 ++ r.1.now ≡ fields.now) }
     ensures none { IsNone result → (n : ℕ) (name : List ℕ) → n < 2 ^ 64 → IsUtf8 name →
@@ -36,7 +36,7 @@ pub fn read_number_and_name(fields: &[u8]) -> Option<(u64, &str)>
     }
 }
 
-/// The number, the text and the values that fields are.
+/// Reads the fields of a message as a number, a text and values.
 pub fn read_call(alloc: Global, fields: &[u8]) -> Result<(u64, &str, Vec<Val>), ReadFault>
     ensures read { IfOk result (λ r. number_bytes r.0 ++ (text_bytes r.1.now
         ++ values_bytes r.2.items) ≡ fields.now) }
@@ -54,7 +54,7 @@ pub fn read_call(alloc: Global, fields: &[u8]) -> Result<(u64, &str, Vec<Val>), 
     Ok((number, name, values))
 }
 
-// The type that fields are.
+// Reads the fields of a message as a type.
 fn read_type(alloc: Global, fields: &[u8]) -> Result<FuncType, ReadFault>
     ensures read { IfOk result (λ t. types_bytes t.params ++ types_bytes t.results ≡ fields.now) }
     ensures not_spelt { result ≡ Err ReadFault.NotSpelt → (t : Signature) →
@@ -72,7 +72,7 @@ fn read_type(alloc: Global, fields: &[u8]) -> Result<FuncType, ReadFault>
     })
 }
 
-/// The two texts and the type that fields are.
+/// Reads the fields of a message as two texts and a type.
 pub fn read_definition(alloc: Global, fields: &[u8]) -> Result<(&str, &str, FuncType), ReadFault>
     ensures read { IfOk result (λ r. text_bytes r.0.now ++ (text_bytes r.1.now
         ++ (types_bytes r.2.params ++ types_bytes r.2.results)) ≡ fields.now) }
@@ -91,7 +91,7 @@ pub fn read_definition(alloc: Global, fields: &[u8]) -> Result<(&str, &str, Func
     Ok((first, second, ty))
 }
 
-/// The four numbers that fields are.
+/// Reads the fields of a message as four numbers.
 pub fn read_setup(fields: &[u8]) -> Option<(u64, u64, u64, u64)>
     ensures found { IfSome result (λ r. number_bytes r.0 ++ (number_bytes r.1
         ++ (number_bytes r.2 ++ number_bytes r.3)) ≡ fields.now) }

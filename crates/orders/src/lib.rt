@@ -1,4 +1,4 @@
-//! Orders to a server of an embedding, as messages spell them.
+//! Orders to a server of an embedding, and how messages encode them.
 #![tactic(auto)]
 
 mod fields;

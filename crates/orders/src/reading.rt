@@ -7,12 +7,12 @@ use crate::order::Order;
 use messages::{ReadFault, split_text};
 use std::alloc::Global;
 
-/// Reads the order that the kind and the fields of a message spell.
+/// Reads the order that the kind and the fields of a message encode.
 ///
 /// # Errors
 ///
-/// Fails with `NotSpelt` if they spell none, and with `OutOfMemory` only for a call or a definition, if memory for its arguments or types
-/// runs out.
+/// Fails with `NotSpelt` if they encode no order. Fails with `OutOfMemory` only for a call or a definition, if its arguments or
+/// types cannot be allocated.
 pub fn read_order(alloc: Global, kind: u64, fields: &[u8]) -> Result<Order<'_>, ReadFault>
     ensures kind { IfOk result (λ order. kind_of (order_of order) ≡ kind) }
     ensures fields { IfOk result (λ order. fields_of (order_of order) ≡ fields.now) }

@@ -1,4 +1,4 @@
-//! Host functions of the plug-in host: one counts its calls, and one takes a text out of the plug-in's memory.
+//! Host functions of the plug-in host. One counts its calls, and one copies a text out of the plug-in's memory.
 #![tactic(auto)]
 
 ghost use Rattle.std.specs.Prelude.{◌≡◌, ◌∷◌, []};
@@ -10,7 +10,7 @@ use embed::{FuncType, HostFault, HostFn, Rc, Val, bytes_at, no_results, one_resu
 use std::alloc::Global;
 use std::cell::RefCell;
 
-/// `count () -> i32`: how often it was called, this call with it.
+/// `count () -> i32`: returns the number of its calls, including this one.
 #[derive(Drop)]
 pub struct Counter {
     pub alloc: Global,
@@ -38,8 +38,8 @@ impl HostFn for Counter {
     }
 }
 
-/// `write (start: i32, length: i32)`: appends bytes of the plug-in's memory to a text that is shared with the host. Traps with the
-/// code 1 where they are not all there.
+/// `write (start: i32, length: i32)`: appends bytes of the plug-in's memory to a text that is shared with the host. Traps with
+/// the code 1 if the memory does not have all of them.
 #[derive(Drop)]
 pub struct Writer {
     pub alloc: Global,

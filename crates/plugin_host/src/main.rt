@@ -1,4 +1,4 @@
-//! A plug-in host: it calls the exports of a plug-in, each within a fuel, with two host functions.
+//! A plug-in host: it calls the exports of a plug-in, each with its own fuel, and provides two host functions.
 #![tactic(auto)]
 
 use embed::{
@@ -9,7 +9,7 @@ use plugin_functions::{Counter, Writer};
 use std::cell::RefCell;
 use std::io::{self, Write};
 
-// The exports that are called, with these arguments.
+// The exports to call, with their arguments.
 static CALLS: [(&str, &[Val]); 6] = [
     ("greet", &[]),
     ("greet", &[]),
@@ -19,7 +19,7 @@ static CALLS: [(&str, &[Val]); 6] = [
     ("nosuch", &[]),
 ];
 
-// Loads and links the plug-in that bytes spell.
+// Loads and links the plug-in that the bytes encode.
 fn link(embedding: &mut Embedding, bytes: &[u8]) -> Result<LinkOutcome, Refusal> {
     let loaded = embedding.load(bytes)?;
     embedding.link(loaded)
@@ -43,7 +43,7 @@ fn call_exports<W: Write>(
     Ok(())
 }
 
-// Runs the plug-in that bytes spell.
+// Runs the plug-in that the bytes encode.
 fn run<W: Write>(embedding: &mut Embedding, bytes: &[u8], out: &mut W) -> io::Result<()> {
     match link(embedding, bytes) {
         Ok(LinkOutcome::Linked(plugin)) => call_exports(embedding, plugin, out),
@@ -52,7 +52,7 @@ fn run<W: Write>(embedding: &mut Embedding, bytes: &[u8], out: &mut W) -> io::Re
     }
 }
 
-// Runs the plug-in in the file, with host functions of which one writes to this text.
+// Runs the plug-in in the file, with host functions. One of them writes to this text.
 fn run_file(rt: &HostRuntime, text: Rc<RefCell<Vec<u8>>>) -> io::Result<()> {
     let alloc = rt.alloc();
     let (calls, ty) = (0, func_type(alloc, &[], &[ValType::I32])?);

@@ -1,4 +1,4 @@
--- Lemmas, by what they speak of.
+-- Lemmas, by topic.
 pub mod Lists
 pub mod Numbers
 pub mod Names

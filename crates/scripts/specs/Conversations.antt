@@ -1,4 +1,4 @@
--- Dialogues that are held with an embedding.
+-- Dialogues with an embedding.
 use Rattle.std.specs.Prelude.{◌≡◌, ℕ, List, Option, Result, Ok, Err}
 use Rattle.core_types.specs.declared.outcome.Val.{Val}
 use Rattle.meaning.specs.embedding.Commands.{Command, Reply}
@@ -14,8 +14,8 @@ use Rattle.scripts.specs.declared.faults.ScriptFault.TheVariants.{OutOfMemory}
 
 module _ {H : Type 0} (HostStep : List H → ℕ → Option ℕ → List Val → Store → Answer → Store
     → List H → Type 0) where
-  -- From a dialogue and an embedding to what is left of the dialogue and the embedding then. Each command goes well, and no reply says
-  -- that there was no memory.
+  -- A dialogue and an embedding lead to this rest of the dialogue and this embedding. Each command goes well, and no reply states that
+  -- memory ran out.
   pub data Converses : Dialogue → Embedding H → Dialogue → Embedding H → Type 0 where
     nothing : {at : Dialogue} {embedding : Embedding H} → Converses at embedding at embedding
     asked : {command : Command} {next : Reply → Dialogue} (reply : Reply)
@@ -24,7 +24,7 @@ module _ {H : Type 0} (HostStep : List H → ℕ → Option ℕ → List Val →
         → Converses (next reply) between left new
         → Converses (Asks command next) old left new
 
-  -- A dialogue that is broken off for want of memory: the last reply says so, or the runner itself has none.
+  -- A dialogue that is broken off because memory ran out: the last reply states so, or the runner itself ran out.
   pub data BreaksOff : Dialogue → Embedding H → Embedding H → Type 0 where
     here : {at : Dialogue} {embedding : Embedding H} → BreaksOff at embedding embedding
     lacked : {command : Command} {next : Reply → Dialogue} (reply : Reply) {old new : Embedding H}
@@ -36,7 +36,7 @@ module _ {H : Type 0} (HostStep : List H → ℕ → Option ℕ → List Val →
         → BreaksOff (next reply) between new
         → BreaksOff (Asks command next) old new
 
-  -- A part of a dialogue, whose rest depends on what the part came to: it was held, or broken off.
+  -- A part of a dialogue, whose rest depends on the result of the part: it was held, or broken off.
   abbrev pub Holds : {T A : Type 0} → (T → A) → ((A → Dialogue) → Dialogue) → Embedding H
       → Result T ScriptFault → Embedding H → Type 0
   Holds see part old (Ok found) new =
@@ -44,7 +44,7 @@ module _ {H : Type 0} (HostStep : List H → ℕ → Option ℕ → List Val →
   Holds see part old (Err fault) new =
       (fault ≡ OutOfMemory) × ((next : _ → Dialogue) → BreaksOff (part next) old new)
 
--- A reply is taken, unless it says that there was no memory.
+-- A reply is taken, unless it states that memory ran out.
 abbrev pub TakesReply : GivenReply → Result GivenReply ScriptFault → Type 0
 TakesReply reply (Ok taken) = (taken ≡ reply) × (IsForMemory (reply_of reply) → ⊥)
 TakesReply reply (Err fault) = (fault ≡ OutOfMemory) × IsForMemory (reply_of reply)

@@ -1,4 +1,4 @@
--- Why a script is not read.
+-- Why a script was not read.
 use Rattle.std.specs.Prelude.{◌≡◌, ℕ, List, Result, Ok, Err, Some, None, Vec, map, IsUtf8}
 use Rattle.std.specs.declared.alloc.Global.{Global}
 use Rattle.serde_json.specs.Data.{Data}
@@ -19,7 +19,7 @@ fault_number (BadCommand index) = 16
 fault_number (MissingFile index) = 17
 fault_number OutOfMemory = number_of refusal.OutOfMemory
 
--- The commands are read, or the first at fault is named.
+-- The commands are read, or the first one at fault is named.
 abbrev pub ReadsCommands : Result (List script.ScriptCommand) ℕ
     → Result (Vec ScriptCommand Global) ScriptFault → Type 0
 ReadsCommands there (Ok commands) = there ≡ Ok (map command_view commands.items)
@@ -28,8 +28,8 @@ ReadsCommands there (Err OutOfMemory) = Unit {0}
 ReadsCommands there (Err NotJson) = ⊥
 ReadsCommands there (Err (MissingFile index)) = ⊥
 
--- The script is that of the JSON value that the bytes read as, or its first command at fault is named; it is no JSON only where the
--- bytes read as no value.
+-- The script is that of the JSON value that the bytes encode, or its first command at fault is named. It is refused as no JSON only if
+-- the bytes encode no value.
 abbrev pub ReadsScript : (bytes : List ℕ) → Result (List script.ScriptCommand) ScriptFault → Type 0
 ReadsScript bytes (Ok script) = (d : Data) × (read bytes ≡ Some d) × (script_of d ≡ Ok script)
 ReadsScript bytes (Err NotJson) = IsUtf8 bytes → read bytes ≡ None

@@ -5,7 +5,7 @@ use denote.Ref.{Bor}
 use Rattle.indexmap.specs.IndexMap.{IndexMap, get_by}
 use Rattle.meaning.specs.scripts.Commands.{Files}
 
--- The files, and behind them this one.
+-- The files, followed by this one.
 abbrev pub with_file : Files → (name bytes : List ℕ) → Files
 with_file files name bytes filename =
     option_or (files filename) (if bytes_eq filename name then Some bytes else None)

@@ -37,7 +37,7 @@ array_in key d = option_map data_in (option_and_then as_array (get key d))
 
 -- ---- numbers
 
--- The line of a command, which the value holds as a whole number of 32 bits.
+-- The line of a command, which is a whole number of 32 bits in the value.
 abbrev pub short_line : ℕ → Option ℕ
 short_line line = if nat_lt line (2 ^ 32) then Some line else None
 
@@ -45,7 +45,7 @@ abbrev pub line_of : Data → Option ℕ
 line_of d = option_and_then short_line
     (option_and_then as_u64 (option_and_then as_number (get (codes "line") d)))
 
--- The number that digits spell behind a number.
+-- The number that digits encode after the digits of a number.
 abbrev pub digits_behind : ℕ → List ℕ → ℕ
 digits_behind n [] = n
 digits_behind n (digit ∷ digits) = digits_behind (10 * n + (digit - 48)) digits
@@ -54,7 +54,7 @@ digits_behind n (digit ∷ digits) = digits_behind (10 * n + (digit - 48)) digit
 abbrev pub is_number : List ℕ → Bool
 is_number text = not (length text == 0) && list_all is_ascii_digit text
 
--- The number that a text spells, if it is below this one.
+-- The number that a text encodes, if it is below this bound.
 abbrev pub number_below : ℕ → List ℕ → Option ℕ
 number_below bound text =
     if is_number text && nat_lt (digits_behind 0 text) bound then Some (digits_behind 0 text)
@@ -69,7 +69,7 @@ abbrev pub reference_of : List ℕ → Option (Option ℕ)
 reference_of text =
     if is_null text then Some None else option_map (λ (n : ℕ). Some n) (number_below (2 ^ 32) text)
 
--- The value of a type that a text writes.
+-- The value of a type that a text represents.
 abbrev pub value_of_type : (ty text : List ℕ) → Option Val
 value_of_type ty text =
     if bytes_eq ty (codes "i32") then option_map I32 (number_below (2 ^ 32) text)
@@ -81,13 +81,13 @@ abbrev pub value_of : Data → Option Val
 value_of d = option_and_then (λ ty. option_and_then (value_of_type ty) (text_in (codes "value") d))
     (text_in (codes "type") d)
 
--- The values that the array in a field writes.
+-- The values in the array in a field.
 abbrev pub values_in : (key : List ℕ) → Data → Option (List Val)
 values_in key d = option_and_then (map_all value_of) (array_in key d)
 
 -- ---- commands that are skipped
 
--- A type of values that is left out.
+-- The name of an unsupported type of values.
 abbrev pub is_left_out_type : List ℕ → Bool
 is_left_out_type name =
     bytes_eq name (codes "f32") || bytes_eq name (codes "f64") || bytes_eq name (codes "v128")
@@ -104,11 +104,11 @@ abbrev pub any_left_out : Option (List Data) → Bool
 any_left_out None = false
 any_left_out (Some ds) = list_any is_left_out ds
 
--- Such an object stands in the array in a field.
+-- Such an object is in the array in a field.
 abbrev pub has_left_out_in : (key : List ℕ) → Data → Bool
 has_left_out_in key d = any_left_out (array_in key d)
 
--- Such an object stands in the arguments of the action, if there is one.
+-- Such an object is in the arguments of the action, if there is one.
 abbrev pub has_left_out_argument : Option Data → Bool
 has_left_out_argument None = false
 has_left_out_argument (Some action) = has_left_out_in (codes "args") action
@@ -191,7 +191,7 @@ task_of kind.AssertUninstantiable d = uninstantiable_of d
 abbrev pub kind_of : Data → Option Kind
 kind_of d = option_and_then kind_named (text_in (codes "type") d)
 
--- A command of a type and a line. Where it is skipped its other fields are not looked at.
+-- A command of a type and a line. If it is skipped, its other fields are ignored.
 abbrev pub command_at : Kind → (line : ℕ) → Data → Option ScriptCommand
 command_at kind line d =
     if is_skipped kind d then Some Skipped else option_map (Tried line) (task_of kind d)
@@ -200,14 +200,14 @@ abbrev pub command_of : Data → Option ScriptCommand
 command_of d = option_and_then
     (λ kind. option_and_then (λ line. command_at kind line d) (line_of d)) (kind_of d)
 
--- A command before those that there are, or the index of the first at fault.
+-- A command before the existing ones, or the index of the first one at fault.
 abbrev pub with_command : (index : ℕ) → Option ScriptCommand → Result (List ScriptCommand) ℕ
     → Result (List ScriptCommand) ℕ
 with_command index None rest = Err index
 with_command index (Some command) (Ok commands) = Ok (command ∷ commands)
 with_command index (Some command) (Err later) = Err later
 
--- All commands, or the index of the first at fault, where indices count from this one.
+-- All commands, or the index of the first one at fault. Indices count from this one.
 abbrev pub commands_in : (index : ℕ) → List Data → Result (List ScriptCommand) ℕ
 commands_in index [] = Ok []
 commands_in index (d ∷ ds) = with_command index (command_of d) (commands_in (index + 1) ds)
@@ -216,6 +216,6 @@ abbrev pub commands_or_none : Option (List Data) → Result (List ScriptCommand)
 commands_or_none None = Err 0
 commands_or_none (Some ds) = commands_in 0 ds
 
--- The script of a JSON value, or the index of the first command at fault; 0 where there is no array of commands.
+-- The script of a JSON value, or the index of the first command at fault. The index is 0 if there is no array of commands.
 abbrev pub script_of : Data → Result (List ScriptCommand) ℕ
 script_of d = commands_or_none (array_in (codes "commands") d)

@@ -1,4 +1,4 @@
--- What running a script answers and leaves.
+-- The result of running a script, and what it leaves.
 use Rattle.std.specs.Prelude.{◌≡◌, ℕ, List, Option, Some, None, Result, Ok, Err, map, string_bytes, String, Vec}
 use Rattle.std.specs.HashMap.{HashMap, get_by_text}
 use Rattle.std.specs.Option.{option_flatten}
@@ -34,7 +34,7 @@ report_view r = record {
   failures = r.failures.items;
 }
 
--- What a map says that names mean.
+-- The meanings of names in a map.
 abbrev pub named_in : {Z S : Type 0} → HashMap (String Z) (Option ℕ) S → (name : List ℕ) → Option ℕ
 named_in names name = option_flatten (get_by_text names name)
 
@@ -44,7 +44,7 @@ instances_view i = record { current = i.current; named = named_in i.named }
 abbrev pub progress_view : Progress → runner.Progress
 progress_view p = record { instances = instances_view p.instances; report = report_view p.report }
 
--- The files that are handed in, with their names.
+-- The files that are passed, with their names.
 abbrev pub files_view : List (String Global × Vec ℕ Global) → List (List ℕ × List ℕ)
 files_view files = map (λ (f : String Global × Vec ℕ Global). (string_bytes f.0, f.1.items)) files
 
@@ -60,7 +60,7 @@ module _ {H : Type 0} (HostStep : List H → ℕ → Option ℕ → List Val →
     pub applied : RunsWell HostStep old commands replies new
     pub held : Holds at commands replies report
 
-  -- They are a beginning of it.
+  -- They are a beginning of the dialogue.
   pub record IsBegun (at : Dialogue) (old new : Embedding H) : Type 0 where
     pub commands : List Command
     pub replies : List Reply
@@ -79,7 +79,7 @@ module _ {H : Type 0} (HostStep : List H → ℕ → Option ℕ → List Val →
   RunsScript script files old (Err NotJson) new = ⊥
   RunsScript script files old (Err (BadCommand index)) new = ⊥
 
--- ---- with the host functions that there are
+-- ---- with the existing host functions
 
 module _ {I : Type 0} {F : I → Type 0} (members : (i : I) → Ghosts (F i)) where
   abbrev pub HoldsPart : {T A : Type 0} → (T → A) → ((A → Dialogue) → Dialogue)

@@ -1,4 +1,4 @@
--- Commands of a script in the terms of the definitions.
+-- Commands of a script, in the terms of the definitions.
 use Rattle.std.specs.Prelude.{ℕ, List, Option, option_map, string_bytes}
 use Rattle.std.specs.declared.alloc.Global.{Global}
 use Rattle.std.specs.Prelude.{String}

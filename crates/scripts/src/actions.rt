@@ -10,7 +10,7 @@ use crate::values::read_values;
 use serde_json::Value;
 use std::alloc::Global;
 
-// A call.
+// Reads a call.
 fn read_invoke(alloc: Global, object: &Value) -> Result<Action, Unread>
     ensures { Reads action_view (invoke_of (view object.now)) result }
 {
@@ -24,7 +24,7 @@ fn read_invoke(alloc: Global, object: &Value) -> Result<Action, Unread>
     })
 }
 
-// The reading of a global.
+// Reads the reading of a global.
 fn read_get(alloc: Global, object: &Value) -> Result<Action, Unread>
     ensures { Reads action_view (get_of (view object.now)) result }
 {
@@ -33,7 +33,6 @@ fn read_get(alloc: Global, object: &Value) -> Result<Action, Unread>
     Ok(Action::Get { instance, field })
 }
 
-// The action that an object writes.
 fn read_action_object(alloc: Global, object: &Value) -> Result<Action, Unread>
     ensures { Reads action_view (action_of (view object.now)) result }
 {
@@ -44,7 +43,6 @@ fn read_action_object(alloc: Global, object: &Value) -> Result<Action, Unread>
     }
 }
 
-// The action of a command.
 pub fn read_action(alloc: Global, command: &Value) -> Result<Action, Unread>
     ensures { Reads action_view (action_in (view command.now)) result }
 {

@@ -21,7 +21,7 @@ use hostfunc::HostFn;
 use indexmap::IndexMap;
 use std::alloc::Global;
 
-// Whether a reply says that there was no memory.
+// Returns whether a reply states that memory ran out.
 fn lacks_memory(reply: &Reply) -> bool
     ensures { IsTrue result ↔ IsForMemory (reply_of reply.now) }
 {
@@ -31,7 +31,7 @@ fn lacks_memory(reply: &Reply) -> bool
     )
 }
 
-// A reply, unless it says that there was no memory.
+// Returns a reply, unless it states that memory ran out.
 fn take_reply(reply: Reply) -> Result<Reply, ScriptFault>
     ensures { TakesReply reply result }
 {
@@ -59,7 +59,7 @@ fn link(embedding: &mut Embedding, number: u64) -> Result<Reply, ScriptFault>
     take_reply(Reply::from(embedding.link(ModuleNumber(number))))
 }
 
-// Loads a module, and links it where it could be loaded.
+// Loads a module, and links it if it could be loaded.
 fn load_and_link(embedding: &mut Embedding, bytes: &[u8]) -> Result<Reply, ScriptFault>
     ensures { HoldsPart ⟦<dyn HostFn as HostFn>⟧ reply_of (loads_and_links bytes.now)
         (embedding_of embedding.old) result
@@ -92,7 +92,7 @@ fn call(
     }
 }
 
-// The reply with a value alone.
+// Returns the reply with a value alone.
 fn reply_with(alloc: Global, value: Val) -> Result<Reply, ScriptFault>
     ensures ok { IfOk result (λ reply. reply_of reply ≡ Ended (WithValues (value ∷ []))) }
     ensures err { IfErr result (λ fault. fault ≡ NoMemory) }
@@ -138,7 +138,7 @@ fn register(
     }
 }
 
-// Does an action.
+// Performs an action.
 fn act(
     alloc: Global,
     embedding: &mut Embedding,
@@ -166,7 +166,7 @@ fn act(
     }
 }
 
-// Asks for what a task needs, up to the reply by which it is judged.
+// Sends the commands of a task, up to the reply by which it is judged.
 pub fn ask_for_task(
     alloc: Global,
     files: &IndexMap<&str, &[u8]>,

@@ -4,19 +4,19 @@ ghost use Rattle.scripts.specs.declared.faults.ScriptFault.TheVariants.{OutOfMem
 use std::alloc::{AllocError, AllocFailed};
 use thiserror::Error;
 
-/// Why a script is not read, or not run to its end.
+/// Why a script was not read, or not run to its end.
 #[derive(Debug, Drop, Error)]
 pub enum ScriptFault {
     /// The bytes are not JSON, or JSON whose arrays and objects are nested more than 127 levels deep.
     #[error("not JSON, or nested more than 127 levels deep")]
     NotJson,
-    /// The command of this index, from 0, has not its form; 0 where there is no array of commands.
+    /// The command of this index, from 0, does not have its form. The index is 0 if there is no array of commands.
     #[error("command {0} has not its form")]
     BadCommand(u64),
-    /// The file that the command of this index, from 0, names was not handed in.
+    /// The file that the command of this index, from 0, names was not passed.
     #[error("the file of command {0} is missing")]
     MissingFile(u64),
-    /// Out of memory.
+    /// An allocation failed.
     #[error("out of memory")]
     OutOfMemory,
 }
@@ -24,7 +24,7 @@ pub enum ScriptFault {
 impl ScriptFault {
     ghost use Rattle.scripts.specs.Faults.{fault_number};
 
-    /// The number of the refusal.
+    /// Returns the number of the refusal.
     pub fn number(&self) -> u8
         ensures { result ≡ fault_number self.now }
     {

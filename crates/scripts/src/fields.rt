@@ -8,14 +8,14 @@ use crate::unread::Unread;
 use serde_json::Value;
 use std::alloc::Global;
 
-// The text in a field of an object.
+// Returns the text in a field of an object.
 pub fn text<'a>(object: &'a Value, key: &str) -> Option<&'a str>
     ensures { option_map (λ s. s.now) result ≡ text_in key.now (view object.now) }
 {
     object.get(key).and_then(Value::as_str)
 }
 
-// The items of the array in a field of an object.
+// Returns the items of the array in a field of an object.
 pub fn array<'a>(object: &'a Value, key: &str) -> Option<&'a [Value]>
     ensures { option_map (λ items. map view items.now) result ≡ array_in key.now
         (view object.now) }
@@ -25,7 +25,7 @@ pub fn array<'a>(object: &'a Value, key: &str) -> Option<&'a [Value]>
     Some(items.as_slice())
 }
 
-// The text in a field of an object, with its own memory.
+// Returns the text in a field of an object, as a new string.
 pub fn read_text(alloc: Global, object: &Value, key: &str) -> Result<String, Unread>
     ensures { Reads string_bytes (text_in key.now (view object.now)) result }
 {
@@ -35,7 +35,7 @@ pub fn read_text(alloc: Global, object: &Value, key: &str) -> Result<String, Unr
     }
 }
 
-// The text in a field that may be missing.
+// Returns the text in a field that may be missing.
 pub fn read_optional_text(
     alloc: Global,
     object: &Value,

@@ -8,7 +8,7 @@ use crate::script::ScriptCommand;
 use indexmap::IndexMap;
 use std::alloc::{AllocError, Global};
 
-// Adds a file behind the others.
+// Appends a file.
 fn add_file<'a>(
     kept: &mut IndexMap<&'a str, &'a [u8]>,
     name: &'a str,
@@ -24,7 +24,7 @@ fn add_file<'a>(
     Ok(())
 }
 
-// Files by name. Of two files with one name the first counts.
+// Returns the files by name. Of two files with one name, the first counts.
 pub fn files_by_name<'a>(
     alloc: Global,
     files: &'a [(String, Vec<u8>)],
@@ -39,7 +39,7 @@ pub fn files_by_name<'a>(
     Ok(kept)
 }
 
-// What the file of a name contains; nothing where there is none.
+// Returns the contents of the file of a name, or none if there is no such file.
 pub fn contents<'a>(files: &IndexMap<&'a str, &'a [u8]>, filename: &str) -> &'a [u8]
     ensures { result.now ≡ contents_of (files_kept files.now) filename.now }
 {
@@ -49,14 +49,14 @@ pub fn contents<'a>(files: &IndexMap<&'a str, &'a [u8]>, filename: &str) -> &'a 
     }
 }
 
-// Whether there is a file of a name.
+// Returns whether there is a file of a name.
 fn has_file<'a>(files: &IndexMap<&'a str, &'a [u8]>, filename: &str) -> bool
     ensures { result ≡ is_some (files_kept files.now filename.now) }
 {
     files.get(&filename).is_some()
 }
 
-// Whether the file is there that a command needs, if it needs one.
+// Returns whether the file that a command needs, if it needs one, is there.
 fn has_its_file<'a>(files: &IndexMap<&'a str, &'a [u8]>, command: &ScriptCommand) -> bool
     ensures { result ≡ is_there (files_kept files.now) (command_file (command_view command.now)) }
 {
@@ -66,7 +66,7 @@ fn has_its_file<'a>(files: &IndexMap<&'a str, &'a [u8]>, command: &ScriptCommand
     }
 }
 
-// The index of the first command whose file is missing, if one is.
+// Returns the index of the first command whose file is missing, if one is.
 pub fn missing<'a>(files: &IndexMap<&'a str, &'a [u8]>, commands: &[ScriptCommand]) -> Option<u64>
     ensures { result ≡ missing_from (files_kept files.now) 0 (map command_view commands.now) }
 {

@@ -6,7 +6,7 @@ use embed::Reply;
 use indexmap::IndexMap;
 use std::alloc::{AllocError, Global};
 
-// The current instance, and what the script's names mean: the number of an instance, or nothing.
+// The current instance, and the meanings of the script's names. A name means the number of an instance, or nothing.
 #[derive(Drop)]
 pub struct Instances {
     pub current: Option<u64>,
@@ -19,7 +19,7 @@ impl Instances {
     ghost use Rattle.scripts.specs.Runs.{instances_view};
     ghost use Rattle.scripts.specs.Views.{optional_bytes, task_view};
 
-    // No instances.
+    // Creates an empty map without a current instance.
     pub fn new(alloc: Global) -> Instances
         ensures { instances_view result ≡ no_instances }
     {
@@ -29,7 +29,7 @@ impl Instances {
         }
     }
 
-    // The instance that a name means; without a name the current one.
+    // Returns the instance that a name means. Without a name, returns the current one.
     pub fn meant(&self, name: &Option<String>) -> Option<u64>
         ensures { result ≡ meant (instances_view self.now) (optional_bytes name.now) }
     {
@@ -57,7 +57,7 @@ impl Instances {
         Ok(())
     }
 
-    // After a task with this last reply.
+    // Updates the instances after a task with this last reply.
     pub fn settle(&mut self, alloc: Global, task: &Task, reply: &Reply) -> Result<(), AllocError>
         ensures { OnOk result (instances_view self.new ≡ instances_after (instances_view self.old)
             (task_view task.now) (reply_of reply.now)) }

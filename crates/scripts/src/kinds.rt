@@ -16,7 +16,7 @@ pub enum Kind {
     AssertUninstantiable,
 }
 
-// The type of an assertion of a name, if there is one.
+// Returns the type of an assertion of a name, if there is one.
 fn assertion_of(name: &str) -> Option<Kind>
     ensures { result ≡ assertion_named name.now }
 {
@@ -32,7 +32,7 @@ fn assertion_of(name: &str) -> Option<Kind>
     }
 }
 
-// The type of a name, if there is one.
+// Returns the type of a name, if there is one.
 pub fn kind_of(name: &str) -> Option<Kind>
     ensures { result ≡ kind_named name.now }
 {
@@ -48,7 +48,7 @@ impl Kind {
     ghost use Rattle.std.specs.Prelude.{◌≡◌};
     ghost use Rattle.scripts.specs.Kinds.{has_action, has_expected};
 
-    // Whether commands of this type have an action.
+    // Returns whether commands of this type have an action.
     pub fn has_action(self) -> bool
         ensures { result ≡ has_action self }
     {
@@ -58,7 +58,7 @@ impl Kind {
         )
     }
 
-    // Whether commands of this type have expected values.
+    // Returns whether commands of this type have expected values.
     pub fn has_expected(self) -> bool
         ensures { result ≡ has_expected self }
     {

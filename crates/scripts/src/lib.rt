@@ -1,4 +1,4 @@
-//! Scripts: command files as wast2json writes them are read, and run on an embedding.
+//! Scripts: reads command files that wast2json writes, and runs them on an embedding.
 #![tactic(auto)]
 
 mod actions;

@@ -7,7 +7,7 @@ use crate::script::Task;
 use core_types::{Exhaustion, Val};
 use embed::{Refusal, Reply};
 
-// The instance that was linked, if one was.
+// Returns the instance that was linked, if one was.
 pub fn linked(reply: &Reply) -> Option<u64>
     ensures { result ≡ linked_instance (reply_of reply.now) }
 {
@@ -17,7 +17,6 @@ pub fn linked(reply: &Reply) -> Option<u64>
     }
 }
 
-// Whether two values are the same.
 fn is_same(value: Val, other: Val) -> bool
     ensures { result ≡ same_value value other }
 {
@@ -30,7 +29,7 @@ fn is_same(value: Val, other: Val) -> bool
     }
 }
 
-// Whether the values are the same, in the same order.
+// Returns whether the values are the same, in the same order.
 fn are_same(values: &[Val], others: &[Val]) -> bool
     ensures { result ≡ same_values values.now others.now }
 {
@@ -45,7 +44,7 @@ fn are_same(values: &[Val], others: &[Val]) -> bool
     true
 }
 
-// Whether a reply is these values.
+// Returns whether a reply is these values.
 fn returns(expected: &[Val], reply: &Reply) -> bool
     ensures { result ≡ returns_values expected.now (reply_of reply.now) }
 {
@@ -55,7 +54,7 @@ fn returns(expected: &[Val], reply: &Reply) -> bool
     }
 }
 
-// Whether a reply is a trap whose text is a beginning of this one.
+// Returns whether a reply is a trap whose text is a prefix of this one.
 fn traps(text: &str, reply: &Reply) -> bool
     ensures { result ≡ traps_for text.now (reply_of reply.now) }
 {
@@ -65,7 +64,7 @@ fn traps(text: &str, reply: &Reply) -> bool
     }
 }
 
-// Whether a reply says that fuel or depth ran out.
+// Returns whether a reply states that fuel or depth ran out.
 fn runs_out(reply: &Reply) -> bool
     ensures { result ≡ is_exhausted (reply_of reply.now) }
 {
@@ -75,7 +74,7 @@ fn runs_out(reply: &Reply) -> bool
     )
 }
 
-// Whether a reply says that bytes spell no module within the limits.
+// Returns whether a reply states that the bytes encode no module within the limits.
 fn is_malformed(reply: &Reply) -> bool
     ensures { result ≡ is_no_module (reply_of reply.now) }
 {
@@ -85,7 +84,7 @@ fn is_malformed(reply: &Reply) -> bool
     )
 }
 
-// Whether a reply says that an import is not there or does not match.
+// Returns whether a reply states that an import is unknown or does not match.
 fn is_unlinkable(reply: &Reply) -> bool
     ensures { result ≡ has_no_imports (reply_of reply.now) }
 {
@@ -95,7 +94,7 @@ fn is_unlinkable(reply: &Reply) -> bool
     )
 }
 
-// Whether a task passes with this last reply.
+// Returns whether a task passes with this last reply.
 pub fn passes(task: &Task, reply: &Reply) -> bool
     ensures { result ≡ passes_with (task_view task.now) (reply_of reply.now) }
 {

@@ -11,7 +11,7 @@ use hostfunc::HostFn;
 use indexmap::IndexMap;
 use std::alloc::Global;
 
-// Where a script is: its instances, and its report so far.
+// The progress of a script: its instances, and its report so far.
 #[derive(Drop)]
 pub struct Progress {
     pub instances: Instances,
@@ -26,7 +26,7 @@ impl Progress {
     ghost use Rattle.scripts.specs.Runs.{HoldsPart, progress_view};
     ghost use Rattle.scripts.specs.Views.{command_view, task_view};
 
-    // At the beginning of a script.
+    // Creates the progress at the beginning of a script.
     pub fn new(alloc: Global) -> Progress
         ensures { progress_view result ≡ start }
     {
@@ -66,7 +66,7 @@ impl Progress {
         Ok(())
     }
 
-    // Does one command, with this fuel.
+    // Performs one command, with this fuel.
     pub fn advance(
         &mut self,
         alloc: Global,

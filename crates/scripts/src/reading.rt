@@ -16,7 +16,6 @@ use crate::unread::Unread;
 use serde_json::Value;
 use std::alloc::{AllocError, Global};
 
-// The line of a command.
 fn line(command: &Value) -> Option<u64>
     ensures { result ≡ line_of (view command.now) }
 {
@@ -24,7 +23,6 @@ fn line(command: &Value) -> Option<u64>
     (number <= u64::from(u32::MAX)).then_some(number)
 }
 
-// A command.
 fn read_command(alloc: Global, command: &Value) -> Result<ScriptCommand, Unread>
     ensures { Reads command_view (command_of (view command.now)) result }
 {
@@ -40,7 +38,7 @@ fn read_command(alloc: Global, command: &Value) -> Result<ScriptCommand, Unread>
     Ok(ScriptCommand::Tried(line, read_task(alloc, kind, command)?))
 }
 
-// All commands, or the first at fault.
+// Reads all commands, or returns the first one at fault.
 fn read_commands(alloc: Global, items: &[Value]) -> Result<Vec<ScriptCommand>, ScriptFault>
     ensures { ReadsCommands (commands_in 0 (map view items.now)) result }
 {
@@ -55,7 +53,7 @@ fn read_commands(alloc: Global, items: &[Value]) -> Result<Vec<ScriptCommand>, S
     Ok(commands)
 }
 
-// Adds the name of the file that a command needs, if it needs one.
+// Appends the name of the file that a command needs, if it needs one.
 fn add_filename(
     alloc: Global,
     names: &mut Vec<String>,
@@ -74,7 +72,6 @@ fn add_filename(
     }
 }
 
-// The names of the files that commands need.
 fn files_needed(alloc: Global, commands: &[ScriptCommand]) -> Result<Vec<String>, AllocError>
     ensures { IfOk result (λ names. map string_bytes names.items ≡ files_of
         (map command_view commands.now)) }
@@ -88,8 +85,10 @@ fn files_needed(alloc: Global, commands: &[ScriptCommand]) -> Result<Vec<String>
 
 /// Reads a script.
 ///
-/// Answers `NotJson` where the bytes are no JSON text, `BadCommand` with the index of the first command that has not its form, or
-/// with 0 where there is no object with an array `commands`, and `OutOfMemory` where there is no memory.
+/// # Errors
+///
+/// Fails with `NotJson` if the bytes are not JSON text. Fails with `BadCommand` and the index of the first command that does not
+/// have its form, or with 0 if there is no object with an array `commands`. Fails with `OutOfMemory` if an allocation fails.
 pub fn read_script(alloc: Global, bytes: &[u8]) -> Result<Script, ScriptFault>
     ensures { ReadsScript bytes.now result }
 {

@@ -2,7 +2,7 @@ ghost use Rattle.std.specs.Prelude.{◌≡◌, ◌+◌, ◌<◌, ◌^◌, OnOk};
 
 use std::alloc::AllocError;
 
-/// What a script has come to.
+/// The result of a script.
 #[derive(Drop)]
 pub struct Report {
     /// How many commands passed.
@@ -19,7 +19,7 @@ impl Report {
     ghost use Rattle.meaning.specs.scripts.Runner.{counted, with_skipped, with_tried};
     ghost use Rattle.scripts.specs.Runs.{report_view};
 
-    // Counts a command that is skipped.
+    // Counts a skipped command.
     pub(crate) fn skip(&mut self)
         requires { counted (report_view self.old) + 1 < 2 ^ 64 }
         ensures { report_view self.new ≡ with_skipped (report_view self.old) }

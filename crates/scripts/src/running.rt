@@ -16,7 +16,7 @@ use hostfunc::HostFn;
 use indexmap::IndexMap;
 use std::alloc::Global;
 
-// Does all commands, each with this fuel.
+// Performs all commands, each with this fuel.
 fn run_commands(
     alloc: Global,
     fuel: u64,
@@ -39,10 +39,12 @@ fn run_commands(
     Ok(report)
 }
 
-/// Runs a script on an embedding, with the files that are handed in: each with its name, and of two with one name the first counts.
+/// Runs a script on an embedding, with these files and their names. Of two files with one name, the first counts.
 ///
-/// Answers `MissingFile` with the index of the first command whose file was not handed in; then nothing has changed. Answers
-/// `OutOfMemory` where the embedding or the runner has no memory; then the embedding is what the commands so far made.
+/// # Errors
+///
+/// Fails with `MissingFile` and the index of the first command whose file was not passed. Then nothing has changed. Fails with
+/// `OutOfMemory` if the embedding or the runner runs out of memory. Then the effects of the commands so far stay.
 pub fn run_script(
     alloc: Global,
     script: &Script,

@@ -1,7 +1,8 @@
 use core_types::Val;
 use std::marker::Model;
 
-// What is called or read: an export, of the instance that a name of the script means, or of the current one without a name.
+// An export that is called or read. Its instance is the one that a name of the script means, or the current one if there is no
+// name.
 #[derive(Drop)]
 pub enum Action {
     Invoke {
@@ -18,35 +19,35 @@ pub enum Action {
 // What a command tries.
 #[derive(Drop)]
 pub enum Task {
-    // To load and link the module in a file, and to give its instance a name of the script.
+    // Load and link the module in a file, and give its instance a name of the script.
     Module {
         filename: String,
         name: Option<String>,
     },
-    // To register an instance under a name.
+    // Register an instance under a name.
     Register {
         name: String,
         instance: Option<String>,
     },
-    // An action.
+    // Perform an action.
     Perform(Action),
-    // That an action returns these values.
+    // Assert that an action returns these values.
     AssertReturn(Action, Vec<Val>),
-    // That an action traps, for a reason whose text this one begins with.
+    // Assert that an action traps with a text that is a prefix of this one.
     AssertTrap(Action, String),
-    // That an action runs out of fuel or depth.
+    // Assert that an action runs out of fuel or depth.
     AssertExhaustion(Action),
-    // That the module in a file is not valid.
+    // Assert that the module in a file is not valid.
     AssertInvalid(String),
-    // That a file spells no module.
+    // Assert that a file encodes no module.
     AssertMalformed(String),
-    // That what the module in a file imports is not there, or does not match.
+    // Assert that an import of the module in a file is unknown or does not match.
     AssertUnlinkable(String),
-    // That the link of the module in a file traps, for a reason whose text this one begins with.
+    // Assert that the link of the module in a file traps with a text that is a prefix of this one.
     AssertUninstantiable(String, String),
 }
 
-// A command: one that is skipped, or a task with its line.
+// A command: a skipped one, or a task with its line.
 #[derive(Drop)]
 pub enum ScriptCommand {
     Skipped,
@@ -58,7 +59,7 @@ impl Task {
     ghost use Rattle.meaning.specs.scripts.Commands.{task_file};
     ghost use Rattle.scripts.specs.Views.{task_view};
 
-    // The name of the file that it needs, if it needs one.
+    // Returns the name of the file that the task needs, if it needs one.
     pub fn filename(&self) -> Option<&str>
         ensures { option_map (λ s. s.now) result ≡ task_file (task_view self.now) }
     {
@@ -78,7 +79,7 @@ impl ScriptCommand {
     ghost use Rattle.meaning.specs.scripts.Commands.{command_file};
     ghost use Rattle.scripts.specs.Views.{command_view};
 
-    // The name of the file that it needs, if it needs one.
+    // Returns the name of the file that the command needs, if it needs one.
     pub fn filename(&self) -> Option<&str>
         ensures { option_map (λ s. s.now) result ≡ command_file (command_view self.now) }
     {
@@ -89,7 +90,7 @@ impl ScriptCommand {
     }
 }
 
-/// A script: commands, in order.
+/// A script: commands in order.
 #[derive(Drop)]
 pub struct Script {
     commands: Vec<ScriptCommand>,
@@ -114,7 +115,7 @@ impl Script {
     ghost use Rattle.meaning.specs.scripts.Commands.{filenames as files_of};
     ghost use Rattle.scripts.specs.Views.{command_view};
 
-    // The script of these commands, which need these files.
+    // Returns the script of these commands, which need these files.
     pub(crate) fn of(commands: Vec<ScriptCommand>, filenames: Vec<String>) -> Script
         requires { map string_bytes filenames.items ≡ files_of (map command_view commands.items) }
         ensures { result ≡ map command_view commands.items }
@@ -125,14 +126,15 @@ impl Script {
         }
     }
 
-    // The commands, in order.
+    // Returns the commands, in order.
     pub(crate) fn commands(&self) -> &[ScriptCommand]
         ensures { map command_view result.now ≡ self.now }
     {
         &self.commands
     }
 
-    /// The names of the files that the commands need which are not skipped, in order, each as often as it is needed.
+    /// Returns the names of the files that the commands need, in order, without skipped commands. A name is repeated for each
+    /// command that needs it.
     pub fn filenames(&self) -> &[String]
         ensures { map string_bytes result.now ≡ files_of self.now }
     {

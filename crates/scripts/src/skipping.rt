@@ -7,14 +7,14 @@ use crate::fields::{array, text};
 use crate::kinds::Kind;
 use serde_json::Value;
 
-// Whether the name is that of a type of values that is left out.
+// Returns whether the name is that of an unsupported type of values.
 fn is_other_type(name: &str) -> bool
     ensures { result ≡ is_left_out_type name.now }
 {
     name == "f32" || name == "f64" || name == "v128"
 }
 
-// Whether an object writes a value of a type that is left out.
+// Returns whether an object is a value of an unsupported type.
 fn is_other_value(object: &Value) -> bool
     ensures { result ≡ is_left_out (view object.now) }
 {
@@ -24,14 +24,14 @@ fn is_other_value(object: &Value) -> bool
     }
 }
 
-// Whether such an object is among these.
+// Returns whether such an object is among these.
 fn any_other_value(items: &[Value]) -> bool
     ensures { result ≡ list_any (λ item. is_left_out (view item)) items.now }
 {
     items.iter().any(is_other_value)
 }
 
-// Whether such an object stands in the array in a field.
+// Returns whether such an object is in the array in a field.
 fn has_other_values(object: &Value, key: &str) -> bool
     ensures { result ≡ has_left_out_in key.now (view object.now) }
 {
@@ -41,7 +41,7 @@ fn has_other_values(object: &Value, key: &str) -> bool
     }
 }
 
-// Whether the module of a command is given as text.
+// Returns whether the module of a command is given as text.
 fn has_text_module(command: &Value) -> bool
     ensures { result ≡ is_text_module (view command.now) }
 {
@@ -51,7 +51,7 @@ fn has_text_module(command: &Value) -> bool
     }
 }
 
-// Whether a command is skipped: its module is given as text, or it has values of types that are left out.
+// Returns whether a command is skipped: its module is given as text, or it has values of unsupported types.
 pub fn skips(kind: Kind, command: &Value) -> bool
     ensures { result ≡ is_skipped kind (view command.now) }
 {

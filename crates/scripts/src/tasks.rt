@@ -52,7 +52,6 @@ fn read_uninstantiable(alloc: Global, command: &Value) -> Result<Task, Unread>
     Ok(Task::AssertUninstantiable(filename, text))
 }
 
-// The task of a command of a type.
 pub fn read_task(alloc: Global, kind: Kind, command: &Value) -> Result<Task, Unread>
     ensures { Reads task_view (task_of kind (view command.now)) result }
 {

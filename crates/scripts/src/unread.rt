@@ -3,12 +3,12 @@ ghost use Rattle.scripts.specs.declared.unread.Unread.TheVariants.{OutOfMemory};
 
 use std::alloc::{AllocError, AllocFailed};
 
-// Why a part of a command is not read.
+// Why a part of a command was not read.
 #[derive(Clone, Copy)]
 pub enum Unread {
-    // It is missing, or has not its form.
+    // It is missing, or does not have its form.
     BadForm,
-    // Out of memory.
+    // An allocation failed.
     OutOfMemory,
 }
 

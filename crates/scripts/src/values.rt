@@ -10,7 +10,7 @@ use core_types::Val;
 use serde_json::Value;
 use std::alloc::Global;
 
-// The reference that a text writes: a number of the host, or null.
+// Returns the reference that a text represents: a number of the host, or null.
 fn reference(text: &str) -> Option<Option<u32>>
     ensures { result ≡ reference_of text.now }
 {
@@ -20,7 +20,7 @@ fn reference(text: &str) -> Option<Option<u32>>
     Some(Some(short_number(text)?))
 }
 
-// The value of a type that a text writes.
+// Returns the value of a type that a text represents.
 fn typed_value(ty: &str, text: &str) -> Option<Val>
     ensures { result ≡ value_of_type ty.now text.now }
 {
@@ -33,14 +33,14 @@ fn typed_value(ty: &str, text: &str) -> Option<Val>
     }
 }
 
-// The value that an object writes.
+// Returns the value that an object represents.
 pub fn value(object: &Value) -> Option<Val>
     ensures { result ≡ value_of (view object.now) }
 {
     typed_value(text(object, "type")?, text(object, "value")?)
 }
 
-// The values that the array in a field writes.
+// Returns the values in the array in a field.
 pub fn read_values(alloc: Global, object: &Value, key: &str) -> Result<Vec<Val>, Unread>
     ensures { Reads items_in (values_in key.now (view object.now)) result }
 {

@@ -5,21 +5,21 @@ use io::write_all;
 use messages::{FieldsFault, Head, StreamEnd, read_fields, read_head, skip};
 use std::alloc::{AllocError, Global};
 
-// The room for a reply that is there from the start: that of most replies.
+// The room that is reserved for a reply from the start. Most replies fit.
 const REPLY: usize = 4_096;
 
-// The kind of an order to load a module, and the most bytes that a module has.
+// The kind of an order to load a module, and the most bytes that a module may have.
 const LOAD: u64 = 1;
 
 const MAX_MODULE_SIZE: u64 = 67_108_864;
 
-// What has come: an order of a kind whose fields are kept, or one that is refused without them.
+// What was received: an order of a kind whose fields are kept, or an order that is refused without its fields.
 enum Received {
     Order(u64),
     Refused(Refusal),
 }
 
-/// The other end: what it says is heard on one descriptor, and it is asked over another.
+/// The client: its messages are read from one descriptor, and messages to it are written to the other.
 #[derive(Drop)]
 pub struct Client {
     alloc: Global,
@@ -31,7 +31,8 @@ pub struct Client {
 }
 
 impl Client {
-    /// A client that is asked over one descriptor and heard on another. Fails where there is no memory for a reply.
+    /// Creates a client for these descriptors. Messages are written to `ask` and read from `hear`. Fails if an allocation fails
+    /// for a reply.
     pub fn new(alloc: Global, ask: i32, hear: i32) -> Result<Client, AllocError> {
         let fields = Vec::with_capacity(alloc, REPLY)?;
         let outgoing = Vec::with_capacity(alloc, REPLY)?;
@@ -45,7 +46,7 @@ impl Client {
         })
     }
 
-    /// The fields of the last message that was received.
+    /// Returns the fields of the last message received.
     pub fn fields(&self) -> &[u8] {
         self.incoming.as_slice()
     }
@@ -62,7 +63,7 @@ impl Client {
         Ok(())
     }
 
-    // Reads the fields of a message. A module that is too large is read to its end, and nothing of it is kept.
+    // Reads the fields of a message. A module that is too large is skipped to its end.
     fn receive_fields(&mut self, size: u64, kind: u64) -> Result<Received, Ending> {
         if kind == LOAD && size > MAX_MODULE_SIZE {
             return if skip(self.hear, size) {
@@ -87,8 +88,8 @@ impl Client {
         }
     }
 
-    /// Returns the kind of the next message, whose fields are kept until the one after it. A module that is too large, and a message for
-    /// which an allocation failed, are refused.
+    /// Returns the kind of the next message. Its fields are kept until the next one. A module that is too large is refused, and
+    /// so is a message for which an allocation fails.
     pub fn receive(&mut self) -> Result<u64, Ending> {
         for _ in 0..u64::MAX {
             match self.try_receive()? {

@@ -1,22 +1,22 @@
 /// How a server ended.
 #[derive(Clone, Copy, PartialEq, Eq, Debug)]
 pub enum Ending {
-    /// It was told to.
+    /// A client told it to end.
     Told,
     /// Its input ended before a message began.
     InputOver,
-    /// Its input ended inside of a message.
+    /// Its input ended within a message.
     CutShort,
-    /// It could not write.
+    /// A write failed.
     NotWritten,
-    /// It had no memory to begin with, or for a reply.
+    /// An allocation failed at the start or for a reply.
     OutOfMemory,
 }
 
 impl Ending {
     ghost use Rattle.std.specs.Prelude.{◌<◌};
 
-    /// The exit status of a program that ended so.
+    /// Returns the exit status of a program for this ending.
     pub fn status(self) -> u8
         ensures { result < 5 }
     {

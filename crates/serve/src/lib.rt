@@ -1,4 +1,4 @@
-//! A server of an embedding, which a client tells what to do over one descriptor and which replies over another.
+//! A server of an embedding. A client sends orders over one descriptor and gets replies over another.
 #![tactic(auto)]
 
 mod client;

@@ -19,20 +19,20 @@ struct Definition {
     ty: FuncType,
 }
 
-// What a message asks for before the embedding is there.
+// What a message requests before there is an embedding.
 #[derive(Drop)]
 enum Preparation {
-    // To define a host function.
+    // Define a host function.
     Define(Definition),
-    // To make the embedding.
+    // Create the embedding.
     Begin(Config),
-    // To end.
+    // End.
     End,
-    // Nothing that is done: this is the answer.
+    // Send only this answer.
     Answered(Answer),
 }
 
-// The answer to a message that is not read.
+// Returns the answer to a message that was not read.
 fn unread(fault: ReadFault) -> Answer {
     match fault {
         ReadFault::NotSpelt => Answer::NotSpelt,
@@ -40,7 +40,7 @@ fn unread(fault: ReadFault) -> Answer {
     }
 }
 
-// A definition with names of its own.
+// Creates a definition with its own names.
 fn make_definition(
     alloc: Global,
     module: &str,
@@ -52,7 +52,7 @@ fn make_definition(
     Ok(Definition { module, name, ty })
 }
 
-// The setup of four numbers, if each is in its range.
+// Returns the setup of four numbers, if each is in its range.
 fn make_config(fuel: u64, depth: u64, pages: u64, entries: u64) -> Option<Config> {
     let depth = u32::try_from(depth).ok()?;
     let pages = u32::try_from(pages).ok()?;
@@ -60,7 +60,7 @@ fn make_config(fuel: u64, depth: u64, pages: u64, entries: u64) -> Option<Config
     Config::new(fuel, depth, pages, entries)
 }
 
-// What an order asks for before the embedding is there.
+// Returns what an order requests before there is an embedding.
 fn prepare(alloc: Global, order: Order<'_>) -> Preparation {
     match order {
         Order::End => Preparation::End,
@@ -78,7 +78,7 @@ fn prepare(alloc: Global, order: Order<'_>) -> Preparation {
     }
 }
 
-// What the next message asks for before the embedding is there.
+// Returns what the next message requests before there is an embedding.
 fn next_preparation(alloc: Global, client: &mut Client) -> Result<Preparation, Ending> {
     let kind = client.receive()?;
     match read_order(alloc, kind, client.fields()) {
@@ -87,7 +87,7 @@ fn next_preparation(alloc: Global, client: &mut Client) -> Result<Preparation, E
     }
 }
 
-// Answers the last message, and whether it was the end.
+// Obeys the last message. Returns the answer, and whether the message was the end.
 fn answer_message(
     alloc: Global,
     kind: u64,
@@ -106,7 +106,7 @@ fn answer_message(
     }
 }
 
-// Answers messages until one is the end.
+// Answers messages until the end.
 fn serve_embedding(
     alloc: Global,
     client: &mut Client,
@@ -126,7 +126,7 @@ fn serve_embedding(
     Ok(())
 }
 
-// How it ended, once the last message was answered.
+// Returns how the server ended, after the last message was answered.
 fn ending_of(sent: Result<(), Ending>) -> Ending {
     match sent {
         Ok(()) => Ending::Told,
@@ -134,7 +134,7 @@ fn ending_of(sent: Result<(), Ending>) -> Ending {
     }
 }
 
-// Tells that the embedding is there, and answers messages until one is the end.
+// Replies that the embedding was created, and answers messages until the end.
 fn serve_new_embedding(
     alloc: Global,
     client: &mut Client,
@@ -146,7 +146,7 @@ fn serve_new_embedding(
     serve_embedding(alloc, client, embedding)
 }
 
-// Makes the embedding of these host functions, and serves it to its end.
+// Creates an embedding with these host functions, and serves it to its end.
 fn serve_host_functions(
     alloc: Global,
     client: &mut Client,
@@ -159,7 +159,7 @@ fn serve_host_functions(
     Ok(ending_of(serve_new_embedding(alloc, client, &mut embedding)))
 }
 
-// A host function that the client answers, with its names.
+// A host function that the client executes, with its names.
 #[derive(Drop)]
 struct ClientFunction {
     module: String,
@@ -167,7 +167,7 @@ struct ClientFunction {
     func: Box<Callback>,
 }
 
-// The host function of a definition, behind so many others.
+// Creates the host function of a definition, after that many others.
 fn make_function(
     alloc: Global,
     before: usize,
@@ -180,7 +180,7 @@ fn make_function(
     Ok(ClientFunction { module, name, func })
 }
 
-// The answer to a definition: it is done, or there was no memory for it.
+// Returns the answer to a definition: it is done, or memory ran out.
 fn answer_definition(is_defined: bool) -> Answer {
     if is_defined {
         Answer::Done
@@ -223,8 +223,8 @@ fn serve_client(alloc: Global, descriptors: (i32, i32), client: &mut Client) -> 
     Ending::InputOver
 }
 
-/// Serves a client that is asked over one descriptor and heard on another, until it says that this is the end: host functions are
-/// defined, an embedding is made of them, and orders are obeyed, each with one reply.
+/// Serves a client until it sends the end. Messages are written to the descriptor `ask` and read from `hear`. First host
+/// functions are defined, then an embedding is created with them, and then orders are obeyed. Each order gets one reply.
 pub fn serve(alloc: Global, ask: i32, hear: i32) -> Ending {
     match Client::new(alloc, ask, hear) {
         Ok(mut client) => serve_client(alloc, (ask, hear), &mut client),

@@ -25,7 +25,7 @@ use Rattle.sidetable.specs.declared.flattening.Flattening.{Flattening}
 use Rattle.sidetable.specs.declared.operations.PackedOp.{PackedOp}
 use Rattle.sidetable.specs.declared.operations.PackedOp.TheVariants as packed
 
--- The functions of some imports, and those of others behind them.
+-- The functions of some imports, followed by those of others.
 pub imported-append : (is js : List Import) → imported_functions (is ++ js) ≡ imported_functions is ++ imported_functions js
 imported-append [] js = refl
 imported-append (i ∷ is) js = first i.desc (imported_functions (is ++ js)) (imported_functions is) (imported_functions js) (imported-append is js)
@@ -38,7 +38,7 @@ imported-append (i ∷ is) js = first i.desc (imported_functions (is ++ js)) (im
     first (import.Memory l) xs ys zs e = e
     first (import.Global g) xs ys zs e = e
 
--- ---- operations behind others
+-- ---- operations after others
 
 inside : (n : ℕ) (xs front more : List FlatOp) (o : FlatOp) → drop n xs ≡ (front ++ (o ∷ [])) ++ more → n ≤ length xs
 inside n xs front more o e =
@@ -46,7 +46,7 @@ inside n xs front more o e =
     omega (arith, sizes, length-append front (o ∷ []))
 
 module _ (s : Signatures) (old new : List FlatOp) (continues : Continues old new) where
-  -- What begins at a place begins there, too, where more stands behind.
+  -- What begins at a place begins there even if more operations follow.
   flat-continued : (f : Func) (p : PackedFunction) → IsFlat s old f p → IsFlat s new f p
   flat-continued f p is = record {
     flat = λ body e.
@@ -66,7 +66,7 @@ module _ (s : Signatures) (old new : List FlatOp) (continues : Continues old new
   all-continued (f ∷ fs) [] are = absurd are
   all-continued (f ∷ fs) (p ∷ ps) are = (flat-continued f p are.0, all-continued fs ps are.1)
 
--- One function more.
+-- One more function.
 pub flat-more : (s : Signatures) (ops : List FlatOp) (fs : List Func) (ps : List PackedFunction) (f : Func) (p : PackedFunction) → AreFlat s ops fs ps → IsFlat s ops f p → AreFlat s ops (fs ++ (f ∷ [])) (ps ++ (p ∷ []))
 flat-more s ops [] [] f p are is = (is, tt {0})
 flat-more s ops [] (q ∷ ps) f p are is = absurd are
@@ -105,7 +105,7 @@ placed-behind s before tables p body b m made_so place_is ops_are tables_are = (
     there = ap (drop p.place) whole ∙ ap (λ (n : ℕ). drop n (made tables before ++ function_operations s p.locals p.results p.place body)) at ∙ drop-append_seam (made tables before) (function_operations s p.locals p.results p.place body)
         ∙ sym (append-nil (function_operations s p.locals p.results p.place body))
 
--- What it names by number is there.
+-- What it names by number exists.
 pub within-behind : (m : FlatModule) (b : Flattening) (results : ℕ) → All (IsWithin b.tables) b.operations.items → m.operations.items ≡ b.operations.items ++ (packed.Leave results ∷ []) → m.tables ≡ b.tables → AreWithin m
 within-behind m b results within ops_are tables_are =
     rw (ops_are, tables_are) (All-append (IsWithin b.tables) b.operations.items (packed.Leave results ∷ []) within (All-cons (IsWithin b.tables) (packed.Leave results) [] (tt {0}) (All-nil (IsWithin b.tables))))

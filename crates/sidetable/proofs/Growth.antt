@@ -61,10 +61,10 @@ grows-more t u v g h = record {
 }
 
 module _ (t u : SideTables) (g : Grows t u) where
-  pub entry-kept : (n : ℕ) → n < length t.entries.items → entry_of_number u n ≡ entry_of_number t n
+  entry-kept : (n : ℕ) → n < length t.entries.items → entry_of_number u n ≡ entry_of_number t n
   entry-kept n within = continued-item t.entries.items u.entries.items (record { target = 0; kept = 0; height = 0 }) n g.entries within
 
-  pub entry-within : (n : ℕ) → n < length t.entries.items → n < length u.entries.items
+  entry-within : (n : ℕ) → n < length t.entries.items → n < length u.entries.items
   entry-within n within = continued-within t.entries.items u.entries.items n g.entries within
 
   range-kept : (n : ℕ) → n < length t.branch_ranges.items → branch_range_of u n ≡ branch_range_of t n
@@ -163,7 +163,7 @@ module _ (t u : SideTables) (g : Grows t u) where
   other-within other.TableInit n within = continued-within t.pairs.items u.pairs.items n g.pairs within
   other-within other.ElemDrop n within = within
 
-  pub unpacked-kept : (p : PackedOp) → IsWithin t p → unpacked u p ≡ unpacked t p
+  unpacked-kept : (p : PackedOp) → IsWithin t p → unpacked u p ≡ unpacked t p
   unpacked-kept (packed.LocalGet x) within = refl
   unpacked-kept (packed.LocalSet x) within = refl
   unpacked-kept (packed.LocalTee x) within = refl
@@ -181,7 +181,7 @@ module _ (t u : SideTables) (g : Grows t u) where
   unpacked-kept (packed.Transfer op n) within = transfer-kept op n within
   unpacked-kept (packed.Other op n) within = rw (other-kept op n within) refl
 
-  pub within-kept : (p : PackedOp) → IsWithin t p → IsWithin u p
+  within-kept : (p : PackedOp) → IsWithin t p → IsWithin u p
   within-kept (packed.LocalGet x) within = within
   within-kept (packed.LocalSet x) within = within
   within-kept (packed.LocalTee x) within = within

@@ -1,4 +1,4 @@
--- No height that is reached is over the greatest.
+-- No reached height is greater than the greatest.
 use Rattle.std.proofs.Common.{inl, inr, ℕ, ◌≤◌, ap, arith}
 use Rattle.std.specs.Prelude.{Option}
 use Rattle.meaning.specs.structure.Bodies.{Body, IfKind, Empty, Then, Nested, IfElse}

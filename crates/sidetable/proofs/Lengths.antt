@@ -1,4 +1,4 @@
--- The operations of a body are as many as its size.
+-- The number of operations of a body is its size.
 use Rattle.std.proofs.Common.{◌≡◌, ℕ, suc, ◌+◌, List, ◌++◌, length, refl, ap, ap₂, ◌∙◌, length-append}
 use Rattle.std.specs.Prelude.{Option}
 use Rattle.meaning.specs.structure.Bodies.{Body, Empty, Then, Nested, IfElse}

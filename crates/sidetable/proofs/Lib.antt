@@ -1,4 +1,10 @@
+mod Adding
 mod Annotations
+mod Beginning
+mod Branches
+mod Completing
+mod CopiedEntries
+mod Ending
 mod Functions
 mod Growth
 mod Heights
@@ -6,8 +12,10 @@ mod LabelNumbers
 mod Left
 mod Lengths
 mod Making
-mod MeasuredRows
+mod Marks
 mod Passing
 mod PlainOps
 mod Shapes
+mod Targets
+mod TargetsLeft
 mod Wholes

@@ -1,4 +1,4 @@
--- The writing of a body closes what it opens, and an else comes in an if alone.
+-- The writing of a body closes what it opens, and an else occurs only in an if.
 use Rattle.std.proofs.Common.{◌≡◌, Bool, true, false, List, [], ◌∷◌, ◌++◌, refl, sym, subst, append_assoc}
 use Rattle.std.proofs.lemmas.List.{append-nil}
 use Rattle.std.specs.Prelude.{Option, None}
@@ -28,7 +28,7 @@ closes-more (IfElse type inner other rest) open_bodies ops h =
 pub closes-writing : (body : Body) → Closes (writing body) []
 closes-writing body = subst (λ (os : List Op). Closes os []) (append-nil (writing body)) (closes-more body [] [] (tt {0}))
 
--- ---- an else comes where it may
+-- ---- an else occurs only where it may
 
 abbrev AllowsElse : Bool → Option Body → Type 0
 AllowsElse true other = Unit {0}
@@ -55,6 +55,6 @@ elses-fit (Else ∷ ops) (true ∷ others) h = (tt {0}, (elses-fit ops (false �
 elses-fit (End ∷ ops) [] h = absurd h
 elses-fit (End ∷ ops) (open_body ∷ others) h = (allows-none open_body, elses-fit ops others h)
 
--- In a body behind which no else may follow, none does.
+-- In a body after which no else may follow, there is none.
 pub no-else : (ops : List Op) (others : List Bool) → Closes ops (false ∷ others) → (rests ops).here.other ≡ None
 no-else ops others h = (elses-fit ops (false ∷ others) h).0

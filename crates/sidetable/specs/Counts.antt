@@ -1,4 +1,4 @@
--- How many operands each instruction takes and gives, which is its type counted (Validation, Instructions).
+-- The numbers of operands that each instruction takes and gives, which count its type (Validation, Instructions).
 use Rattle.sidetable.specs.declared.counts.Counts.{Counts}
 use Rattle.std.specs.Prelude.{◌≡◌, ℕ, suc, ◌+◌, ◌-◌, List, length, Option, Some, None, slice_get}
 use Rattle.core_types.specs.declared.op.BlockType.{BlockType}
@@ -35,7 +35,7 @@ abbrev pub counts_of_type : Option FuncType → Counts
 counts_of_type None = counts 0 0
 counts_of_type (Some t) = counts (length t.params) (length t.results)
 
--- With one more operand, an i32 on top.
+-- The counts with one more operand, an i32 on top.
 abbrev pub with_i32_counts : Counts → Counts
 with_i32_counts c = counts (suc c.takes) c.gives
 
@@ -82,7 +82,8 @@ memory_counts memory.Copy = counts 3 0
 memory_counts (memory.Init segment) = counts 3 0
 memory_counts (memory.DataDrop segment) = counts 0 0
 
--- None where nothing goes on behind the instruction. A br_if takes its condition: what it hands to its label stays, too.
+-- The counts, or none if the next operation is never reached from the instruction. A br_if takes its condition. The operands that it
+-- passes to its label also stay.
 abbrev pub control_counts : Signatures → ControlOp → Option Counts
 control_counts s Unreachable = None
 control_counts s Nop = Some (counts 0 0)
@@ -107,18 +108,18 @@ counts_of s (Numeric op) = Some (numeric_counts op)
 counts_of s (I32Const n) = Some (counts 0 1)
 counts_of s (I64Const n) = Some (counts 0 1)
 
--- This is an instruction without a body, which takes and gives so many.
+-- This is an instruction without a body, which takes and gives that many operands.
 abbrev pub HasCounts : Signatures → Op → Option Counts → Type 0
 HasCounts s (op.Plain o) found = found ≡ counts_of s o
 HasCounts s o found = ⊥
 
--- How many parameters and results a block has.
+-- The number of parameters and the number of results of a block.
 abbrev pub block_counts : Signatures → BlockType → Counts
 block_counts s type = counts_of_type (block_type s.types type)
 
--- ---- heights: how many operands there are above the locals, none where nothing arrives
+-- ---- heights: the number of operands above the locals, or none if the place is never reached
 
--- Behind what takes and gives so many.
+-- The height after an instruction with these counts.
 abbrev pub changed : Counts → Option ℕ → Option ℕ
 changed c None = None
 changed c (Some h) = Some (h - c.takes + c.gives)
@@ -127,7 +128,7 @@ abbrev pub behind : Option Counts → Option ℕ → Option ℕ
 behind None h = None
 behind (Some c) h = changed c h
 
--- So many are taken off.
+-- The height with that many operands less.
 abbrev pub less : ℕ → Option ℕ → Option ℕ
 less n None = None
 less n (Some h) = Some (h - n)

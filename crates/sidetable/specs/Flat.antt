@@ -1,4 +1,4 @@
--- Flat code without marks: the operations of a tree in order, with an entry for whatever does not go on with the next one.
+-- Flat code without marks: the operations of a tree in order. Each operation that does not continue with the next one has an entry.
 use Rattle.sidetable.specs.declared.operations.Entry.{Entry}
 use Rattle.std.specs.Prelude.{ℕ, suc, ◌+◌, ◌-◌, List, [], ◌∷◌, ◌++◌, map, max, Option, Some, slice_get, unwrap_or}
 use Rattle.core_types.specs.declared.op.ControlOp.{ControlOp}
@@ -13,17 +13,17 @@ use Rattle.meaning.specs.structure.Bodies.{Kind, BlockKind, LoopKind, IfKind, Bo
 use Rattle.sidetable.specs.declared.counts.Counts.{Counts}
 use Rattle.sidetable.specs.Counts.{Signatures, block_counts, behind, counts_of, changed, less, height_or_zero}
 
--- Where it goes on, how many values are kept, and the height below them, which counts the locals too. A label is known by the
--- entry of the branches to it.
+-- Where the operation continues, how many values are kept, and the height below them, which also counts the locals. A label is known by
+-- the entry of the branches to it.
 abbrev pub entry_of : (target kept height : ℕ) → Entry
 entry_of target kept height = record { target = target; kept = kept; height = height }
 
 pub data FlatOp : Type 0 where
-  -- an instruction that goes on with the next operation, calls or traps
+  -- an instruction that continues with the next operation, calls or traps
   Plain : (op : PlainOp) → FlatOp
   -- the start of a block or a loop
   Enter : FlatOp
-  -- the start of an if, and where it goes on if the condition is zero
+  -- the start of an if, and where it continues if the condition is zero
   If : (entry : Entry) → FlatOp
   -- past the second body of an if
   Jump : (entry : Entry) → FlatOp
@@ -31,10 +31,10 @@ pub data FlatOp : Type 0 where
   BrIf : (entry : Entry) → FlatOp
   BrTable : (entries : List Entry) (default : Entry) → FlatOp
   Return : (entry : Entry) → FlatOp
-  -- behind the operations of a function: its frame is left with so many results
+  -- after the operations of a function: its frame is left with that many results
   Leave : (results : ℕ) → FlatOp
 
--- ---- what no run asks for: alignments, and the types of a select (Memory Instructions, Parametric Instructions)
+-- ---- what no run depends on: alignments, and the types of a select (Memory Instructions, Parametric Instructions)
 
 abbrev pub at_offset : ℕ → MemArg
 at_offset offset = record { align = 0; offset = offset }
@@ -49,7 +49,7 @@ without_annotations (plain.SelectTyped types) = plain.Parametric Select
 without_annotations (plain.Memory op) = plain.Memory (without_alignment op)
 without_annotations op = op
 
--- How many operations a body leaves.
+-- The number of operations that a body leaves.
 abbrev pub size : Body → ℕ
 size Empty = 0
 size (Then op rest) = suc (size rest)
@@ -60,7 +60,7 @@ size (IfElse type inner other rest) = suc (size inner + suc (size other + size r
 abbrev pub entry_at : Entry → List Entry → ℕ → Entry
 entry_at outermost labels label = unwrap_or (slice_get labels label) outermost
 
--- An instruction without a body, where these labels are around, of which the outermost is the function's.
+-- An instruction without a body, within these labels. The outermost label is the function's.
 abbrev pub flat_control : Entry → List Entry → ControlOp → FlatOp
 flat_control outermost labels (control.Br label) = Br (entry_at outermost labels label)
 flat_control outermost labels (control.BrIf label) = BrIf (entry_at outermost labels label)
@@ -75,19 +75,20 @@ flat_op outermost labels op = Plain (without_annotations op)
 
 -- ---- blocks
 
--- The operation at which a body of this kind begins: an if has the entry of what follows where the condition is zero.
+-- The operation at which a body of this kind begins. An if has the entry of what follows if the condition is zero.
 abbrev pub start_op : Kind → Entry → FlatOp
 start_op BlockKind second = Enter
 start_op LoopKind second = Enter
 start_op IfKind second = If second
 
--- What a branch to the label of a block keeps, and where it goes on: a loop begins anew at its start.
+-- What a branch to the label of a block keeps, and where it continues. A loop restarts at its start.
 abbrev pub label_entry : Kind → Counts → (start behind height : ℕ) → Entry
 label_entry BlockKind c start behind height = entry_of behind c.gives height
 label_entry LoopKind c start behind height = entry_of start c.takes height
 label_entry IfKind c start behind height = entry_of behind c.gives height
 
--- The height inside of a block of this kind at first, that below its parameters, and that behind it. An if takes its condition before its parameters.
+-- The height within a block of this kind at first, the height below its parameters, and the height after it. An if takes its condition
+-- before its parameters.
 abbrev pub inside_height : Kind → Option ℕ → Option ℕ
 inside_height BlockKind h = h
 inside_height LoopKind h = h
@@ -102,7 +103,7 @@ behind_height kind c h = changed c (inside_height kind h)
 -- ---- bodies
 
 module _ (s : Signatures) (outermost : Entry) where
-  -- The operations of a body, of which the first stands at a place, where these labels are around and the height is this.
+  -- The operations of a body, the first of which is at a place, within these labels and from this height.
   abbrev pub flat : (labels : List Entry) → (height : Option ℕ) → (at : ℕ) → Body → List FlatOp
   flat labels h at Empty = []
   flat labels h at (Then op rest) =
@@ -126,7 +127,7 @@ module _ (s : Signatures) (outermost : Entry) where
       ++ flat labels (behind_height IfKind (block_counts s type) h)
       (suc (suc at + size inner) + size other) rest)))
 
--- The greatest height at which something arrives.
+-- The greatest height of the places that are reached.
 abbrev pub greatest : Signatures → (height : Option ℕ) → Body → ℕ
 greatest s h Empty = height_or_zero h
 greatest s h (Then op rest) = max (height_or_zero h) (greatest s (behind (counts_of s op) h) rest)
@@ -140,7 +141,7 @@ greatest s h (IfElse type inner other rest) =
 
 -- ---- functions
 
--- The label around a function's body, which begins at a place: as a return it leaves the function, with the results.
+-- The label around a function's body, which begins at a place. Like a return, a branch to it leaves the function with the results.
 abbrev pub function_entry : (locals results at : ℕ) → Body → Entry
 function_entry locals results at body = entry_of (at + size body) results locals
 
@@ -151,6 +152,6 @@ function_operations s locals results at body =
     (Some locals) at body
     ++ Leave results ∷ []
 
--- The greatest height in its frame: the results may lie above all that its body reaches.
+-- The greatest height in its frame. The results may be above all heights of its body.
 abbrev pub function_greatest : Signatures → (locals results : ℕ) → Body → ℕ
 function_greatest s locals results body = max (locals + results) (greatest s (Some locals) body)

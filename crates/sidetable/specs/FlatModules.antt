@@ -1,4 +1,4 @@
--- The flat code of a module: that of its functions, one behind the other.
+-- The flat code of a module: that of its functions, one after the other.
 use Rattle.std.specs.Prelude.{◌≡◌, ◌+◌, ◌<◌, ◌^◌, List, [], ◌∷◌, ◌++◌, length, drop}
 use Rattle.std.specs.List.{All}
 use Rattle.core_types.specs.declared.module.Func.{Func}
@@ -15,7 +15,7 @@ use Rattle.sidetable.specs.declared.flat_module.PackedFunction.{PackedFunction}
 abbrev pub operations_of : FlatModule → List FlatOp
 operations_of m = made m.tables m.operations.items
 
--- What its operations name by number is there.
+-- What its operations name by number exists.
 abbrev pub AreWithin : FlatModule → Type 0
 AreWithin m = All (IsWithin m.tables) m.operations.items
 

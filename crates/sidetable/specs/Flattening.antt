@@ -1,128 +1,161 @@
 -- Flattening, from the first operation with its marks to the last.
-use Rattle.std.specs.Prelude.{Vec, ◌≡◌, ◌≢◌, ℕ, suc, ◌+◌, ◌<◌, ◌^◌, Bool, true, false, List, [], ◌∷◌, ◌++◌, length, max, Option, Some, None}
+use Rattle.std.specs.Prelude.{Vec, ◌≡◌, ◌≢◌, ℕ, suc, ◌+◌, ◌<◌, ◌^◌, Bool, true, false, List, [], ◌∷◌, ◌++◌, length, map, max, slice_get, Option, Some, None}
 use Rattle.std.specs.List.{All}
 use Rattle.std.specs.declared.alloc.Global.{Global}
 use Rattle.core_types.specs.declared.op.Op.{Op}
 use Rattle.core_types.specs.declared.op.Op.TheVariants.{Plain}
 use Rattle.core_types.specs.declared.op.PlainOp.{PlainOp}
 use Rattle.meaning.specs.structure.Bodies.{Body, Part, Rests, first_part, other_parts, rests}
+use Rattle.sidetable.specs.Completion.{AreCopies, Completes, IsLabelSince, ranges_since}
 use Rattle.sidetable.specs.Counts.{Signatures, height_or_zero}
 use Rattle.core_types.specs.declared.module.Func.{Func}
 use Rattle.sidetable.specs.Flat.{FlatOp, Jump, flat, function_entry, function_greatest, greatest, size}
 use Rattle.sidetable.specs.FlatModules.{AreFlat, AreWithin, IsFlat, operations_of}
-use Rattle.sidetable.specs.Labels.{AllStand, all_entries}
+use Rattle.sidetable.specs.Labels.{IsOpenLevel, OpenBody, all_entries, allows_else, open_bodies, targets_of}
 use Rattle.sidetable.specs.Packing.{IsWithin, made}
 use Rattle.sidetable.specs.Shapes.{Closes}
-use Rattle.sidetable.specs.SideTables.{Continues, Grows, SideTables}
+use Rattle.sidetable.specs.SideTables.{Continues, Grows, SideTables, entry_of_number}
 use Rattle.sidetable.specs.declared.flat_module.FlatModule.{FlatModule}
 use Rattle.sidetable.specs.declared.flat_module.PackedFunction.{PackedFunction}
-use Rattle.sidetable.specs.Sizes.{openings_of}
 use Rattle.sidetable.specs.declared.flattening.Flattening.{Flattening}
-use Rattle.sidetable.specs.declared.labels.Label.{Label}
 use Rattle.sidetable.specs.declared.operand_heights.Heights.{Heights}
 use Rattle.sidetable.specs.declared.labels.Level.{Level}
+use Rattle.sidetable.specs.declared.operations.Entry.{Entry}
 use Rattle.sidetable.specs.declared.operations.PackedOp.{PackedOp}
 
 -- ---- what is left
 
-module _ (s : Signatures) (outermost : Label) where
+module _ (s : Signatures) (outermost : Entry) where
   -- Behind the innermost body that is open, which ends at a place: its other body, if there is one, and what is left of each body
   -- around it.
-  abbrev pub left_around : List Level → Option Body → (at : ℕ) → List Part → List FlatOp
+  abbrev pub left_around : List OpenBody → Option Body → (at : ℕ) → List Part → List FlatOp
   left_around [] other at around = []
-  left_around (l ∷ ls) None at around =
-      flat s outermost.entry (all_entries outermost ls) l.after at (first_part around).body
-      ++ left_around ls (first_part around).other (at + size (first_part around).body)
+  left_around (b ∷ bs) None at around =
+      flat s outermost (all_entries outermost bs) b.after at (first_part around).body
+      ++ left_around bs (first_part around).other (at + size (first_part around).body)
       (other_parts around)
-  left_around (l ∷ ls) (Some other) at around =
-      Jump l.label.entry ∷
-      (flat s outermost.entry (l.label.entry ∷ all_entries outermost ls) l.inside (suc at) other
-      ++ (flat s outermost.entry (all_entries outermost ls) l.after (suc at + size other)
+  left_around (b ∷ bs) (Some other) at around =
+      Jump b.entry ∷
+      (flat s outermost (b.entry ∷ all_entries outermost bs) b.inside (suc at) other
+      ++ (flat s outermost (all_entries outermost bs) b.after (suc at + size other)
       (first_part around).body
-      ++ left_around ls (first_part around).other
+      ++ left_around bs (first_part around).other
       (suc at + size other + size (first_part around).body) (other_parts around)))
 
-  abbrev pub left : List Level → (height : Option ℕ) → (at : ℕ) → Rests → List FlatOp
-  left levels h at r =
-      flat s outermost.entry (all_entries outermost levels) h at r.here.body
-      ++ left_around levels r.here.other (at + size r.here.body) r.around
+  abbrev pub left : List OpenBody → (height : Option ℕ) → (at : ℕ) → Rests → List FlatOp
+  left bodies h at r =
+      flat s outermost (all_entries outermost bodies) h at r.here.body
+      ++ left_around bodies r.here.other (at + size r.here.body) r.around
 
 -- The greatest height of what is left.
-abbrev pub greatest_around : Signatures → List Level → Option Body → List Part → ℕ
+abbrev pub greatest_around : Signatures → List OpenBody → Option Body → List Part → ℕ
 greatest_around s [] other around = 0
-greatest_around s (l ∷ ls) None around =
-    max (greatest s l.after (first_part around).body)
-    (greatest_around s ls (first_part around).other (other_parts around))
-greatest_around s (l ∷ ls) (Some other) around =
-    max (greatest s l.inside other) (max (greatest s l.after (first_part around).body)
-    (greatest_around s ls (first_part around).other (other_parts around)))
+greatest_around s (b ∷ bs) None around =
+    max (greatest s b.after (first_part around).body)
+    (greatest_around s bs (first_part around).other (other_parts around))
+greatest_around s (b ∷ bs) (Some other) around =
+    max (greatest s b.inside other) (max (greatest s b.after (first_part around).body)
+    (greatest_around s bs (first_part around).other (other_parts around)))
 
-abbrev pub greatest_left : Signatures → List Level → (height : Option ℕ) → Rests → ℕ
-greatest_left s levels h r =
-    max (greatest s h r.here.body) (greatest_around s levels r.here.other r.around)
+abbrev pub greatest_left : Signatures → List OpenBody → (height : Option ℕ) → Rests → ℕ
+greatest_left s bodies h r =
+    max (greatest s h r.here.body) (greatest_around s bodies r.here.other r.around)
 
--- ---- what is made
+-- ---- targets that are left
 
--- With what was made, what is left of the operations makes this; they close the bodies that are open.
-pub record Makes (s : Signatures) (outermost : Label) (f : Flattening) (ops : List Op)
-    (whole : List FlatOp) (most : ℕ)
+module _ (outermost : ℕ) where
+  -- The targets that the open bodies still get, the innermost of which ends at a place, and that of the function's label.
+  abbrev pub targets_around : List Level → Option Body → (at : ℕ) → List Part → List (ℕ × ℕ)
+  targets_around [] other at around = (outermost, at) ∷ []
+  targets_around (l ∷ ls) None at around =
+      targets_of l.pending l.label at at
+      ++ targets_around ls (first_part around).other (at + size (first_part around).body)
+      (other_parts around)
+  targets_around (l ∷ ls) (Some other) at around =
+      targets_of l.pending l.label (suc at) (suc at + size other)
+      ++ targets_around ls (first_part around).other
+      (suc at + size other + size (first_part around).body) (other_parts around)
+
+  abbrev pub targets_left : List Level → (at : ℕ) → Rests → List (ℕ × ℕ)
+  targets_left levels at r =
+      targets_around levels r.here.other (at + size r.here.body) r.around
+
+-- ---- results
+
+-- A function is open, which began when the side tables were those before, and these operations are left of it.
+pub record IsOpen (before : SideTables) (outermost : ℕ) (f : Flattening) (ops : List Op)
     : Type 0 where
-  pub operations : made f.tables f.operations.items
-      ++ left s outermost f.levels f.height (length (made f.tables f.operations.items)) (rests ops)
+  pub grows : Grows before f.tables
+  pub copies : AreCopies (length before.entries.items) f.tables.entries.items
+      (ranges_since before f.tables)
+  pub outer : IsLabelSince before f.tables outermost
+  pub levels : All (IsOpenLevel before f.tables) f.levels
+  pub shape : Closes ops (map allows_else f.levels)
+
+-- If these operations are left, the side tables can end as these.
+abbrev pub EndsAs : (before : SideTables) → ℕ → Flattening → List Op → SideTables → Type 0
+EndsAs before outermost f ops final =
+    Completes before f.tables
+    (targets_left outermost f.levels (length f.operations.items) (rests ops)) final
+
+-- With what was made, what is left of the operations makes this, in the final side tables.
+pub record Makes (s : Signatures) (final : SideTables) (outermost : ℕ) (f : Flattening)
+    (ops : List Op) (whole : List FlatOp) (most : ℕ)
+    : Type 0 where
+  pub operations : made final f.operations.items
+      ++ left s (entry_of_number final outermost) (open_bodies final f.levels) f.height
+      (length f.operations.items) (rests ops)
       ≡ whole
-  pub heights : max f.greatest (greatest_left s f.levels f.height (rests ops)) ≡ most
-  pub openings : f.openings ≡ openings_of ops
-  pub shape : (open_bodies : List Bool) × (length open_bodies ≡ length f.levels)
-      × Closes ops open_bodies
-  pub stand : AllStand f.tables outermost f.levels
-  pub within : All (IsWithin f.tables) f.operations.items
+  pub heights : max f.greatest (greatest_left s (open_bodies final f.levels) f.height (rests ops))
+      ≡ most
+  pub within : All (IsWithin final) f.operations.items
 
--- Some operations, this one first, make something.
-abbrev pub CanMake : Signatures → Label → Flattening → Op → Type 0
-CanMake s outermost f op =
-    (ops : List Op) × (whole : List FlatOp) × (most : ℕ)
-    × Makes s outermost f (op ∷ ops) whole most
-
--- This operation is passed: what it and the others make, the others make then.
-pub record Passes (s : Signatures) (outermost : Label) (old : Flattening) (op : Op)
+-- The first of all operations, up to these, are passed.
+pub record PassesTo (s : Signatures) (outermost : ℕ) (old : Flattening) (all ops : List Op)
     (new : Flattening)
     : Type 0 where
-  pub grows : Grows old.tables new.tables
-  pub makes : (ops : List Op) (whole : List FlatOp) (most : ℕ)
-      → Makes s outermost old (op ∷ ops) whole most
-      → Makes s outermost new ops whole most
+  pub opens : (before : SideTables) → IsOpen before outermost old all
+      → IsOpen before outermost new ops
+  pub ends : (before final : SideTables) → IsOpen before outermost old all
+      → EndsAs before outermost new ops final → EndsAs before outermost old all final
+  pub makes : (before final : SideTables) (whole : List FlatOp) (most : ℕ)
+      → IsOpen before outermost old all → EndsAs before outermost new ops final
+      → Makes s final outermost old all whole most
+      → Makes s final outermost new ops whole most
 
--- The same for some operations, all of which are passed.
-abbrev pub CanMakeAll : Signatures → Label → Flattening → List Op → Type 0
-CanMakeAll s outermost f ops =
-    (whole : List FlatOp) × (most : ℕ) × Makes s outermost f ops whole most
+-- This operation is passed, whatever the others are.
+abbrev pub Passes : Signatures → (outermost : ℕ) → Flattening → Op → Flattening → Type 0
+Passes s outermost old op new = (ops : List Op) → PassesTo s outermost old (op ∷ ops) ops new
 
--- The first operations, up to these, are passed.
-pub record PassesTo (s : Signatures) (outermost : Label) (old : Flattening) (all ops : List Op)
-    (new : Flattening)
-    : Type 0 where
-  pub grows : Grows old.tables new.tables
-  pub makes : (whole : List FlatOp) (most : ℕ) → Makes s outermost old all whole most
-      → Makes s outermost new ops whole most
+-- A function is open, of which these operations are left.
+abbrev pub CanPassAll : (outermost : ℕ) → Flattening → List Op → Type 0
+CanPassAll outermost f ops = (before : SideTables) × IsOpen before outermost f ops
 
--- With heights that are kept apart.
+-- This operation is the first one that is left.
+abbrev pub CanPass : (outermost : ℕ) → Flattening → Op → Type 0
+CanPass outermost f op = (ops : List Op) × CanPassAll outermost f (op ∷ ops)
+
+-- With heights that are stored separately.
 abbrev pub with_heights : Flattening → Heights → Flattening
 with_heights f h = record {
   tables = f.tables;
   operations = f.operations;
   levels = f.levels;
-  openings = f.openings;
   height = h.here;
   greatest = h.greatest;
 }
 
+-- No instruction without a body is at this place.
+abbrev pub IsMarkAt : ℕ → List Op → Type 0
+IsMarkAt place ops = (plain : PlainOp) → slice_get ops place ≢ Some (Plain plain)
+
 -- The operation is passed, or it is a mark, and nothing changes.
-abbrev pub PassesUnlessMark : Signatures → Label → Flattening → Op → Flattening → Bool → Type 0
+abbrev pub PassesUnlessMark : Signatures → ℕ → Flattening → Op → Flattening → Bool → Type 0
 PassesUnlessMark s outermost old op new true = Passes s outermost old op new
 PassesUnlessMark s outermost old op new false =
     (new ≡ old) × ((plain : PlainOp) → op ≢ Plain plain)
 
--- An operation is put behind the others, at this height.
+-- An operation is appended, at this height.
 pub record Pushes (old : Flattening) (p : PackedOp) (after : Option ℕ) (new : Flattening)
     : Type 0 where
   pub operations : new.operations.items ≡ old.operations.items ++ p ∷ []
@@ -130,23 +163,10 @@ pub record Pushes (old : Flattening) (p : PackedOp) (after : Option ℕ) (new : 
   pub height : new.height ≡ after
   pub tables : new.tables ≡ old.tables
   pub levels : new.levels ≡ old.levels
-  pub openings : new.openings ≡ old.openings
-
--- ---- if
-
--- Where the second body of an if at a place begins, or what follows where there is none, with bodies of these sizes.
-abbrev pub if_second : (at here : ℕ) → (other : Option ℕ) → ℕ
-if_second at here None = at + 1 + here
-if_second at here (Some other) = at + 1 + here + 1
-
--- Where what follows begins.
-abbrev pub if_end : (at here : ℕ) → (other : Option ℕ) → ℕ
-if_end at here None = at + 1 + here
-if_end at here (Some other) = at + 1 + here + 1 + other
 
 -- ---- functions
 
--- The operations of a body were put behind others, and this is the greatest height in its function's frame.
+-- The operations of a body were appended, and this is the greatest height in its function's frame.
 pub record IsMade (s : Signatures) (before : List PackedOp) (tables : SideTables)
     (locals results : ℕ) (body : Body) (f : Flattening) (greatest : ℕ)
     : Type 0 where
@@ -156,11 +176,11 @@ pub record IsMade (s : Signatures) (before : List PackedOp) (tables : SideTables
   pub height : greatest ≡ function_greatest s locals results body
   pub within : All (IsWithin f.tables) f.operations.items
 
--- The functions so far, with what was made of their operations.
+-- The functions so far, with the result for their operations.
 abbrev pub module_of : Vec PackedFunction Global → Flattening → FlatModule
 module_of functions f = record { functions = functions; operations = f.operations; tables = f.tables }
 
--- One function more is there.
+-- There is one more function.
 pub record IsPushed (s : Signatures) (old : FlatModule) (f : Func) (new : FlatModule)
     : Type 0 where
   pub within : AreWithin new
@@ -170,7 +190,7 @@ pub record IsPushed (s : Signatures) (old : FlatModule) (f : Func) (new : FlatMo
   pub functions : new.functions.items ≡ old.functions.items ++ packed ∷ []
   pub flat : IsFlat s (operations_of new) f packed
 
--- These are all functions.
+-- These are all of the functions.
 pub record ArePushed (s : Signatures) (fs : List Func) (m : FlatModule) : Type 0 where
   pub within : AreWithin m
   pub few : length m.operations.items < 2 ^ 32

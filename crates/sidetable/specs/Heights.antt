@@ -4,7 +4,7 @@ use Rattle.meaning.specs.structure.Bodies.{Body, IfKind, Empty, Then, Nested, If
 use Rattle.sidetable.specs.Counts.{Signatures, behind, block_counts, counts_of}
 use Rattle.sidetable.specs.Flat.{behind_height, inside_height}
 
--- From this height, before an instruction of the body or at its end this one is reached.
+-- From this height, this one is reached before an instruction of the body or at its end.
 abbrev pub IsReached : Signatures → (height : Option ℕ) → Body → ℕ → Type 0
 IsReached s h Empty n = h ≡ Some n
 IsReached s h (Then op rest) n = (h ≡ Some n) ⊎ IsReached s (behind (counts_of s op) h) rest n

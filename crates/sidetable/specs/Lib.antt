@@ -1,3 +1,4 @@
+pub mod Completion
 pub mod Counts
 pub mod Flat
 pub mod FlatModules
@@ -9,4 +10,3 @@ pub mod Rows
 pub mod Shapes
 pub mod SideTables
 pub mod Signatures
-pub mod Sizes

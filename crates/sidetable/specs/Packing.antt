@@ -1,4 +1,4 @@
--- Packed operations, as the operations that they stand for.
+-- Packed operations, as the operations that they represent.
 use Rattle.std.specs.Prelude.{◌≡◌, ℕ, ◌+◌, ◌<◌, suc, List, map, take, drop, length}
 use Rattle.core_types.specs.declared.op.BinaryOp.TheVariants.{Add, Sub, Mul, DivS, DivU, RemS, RemU, And, Or, Xor, Shl, ShrS, ShrU, Rotl, Rotr}
 use Rattle.core_types.specs.declared.op.Comparison.TheVariants.{Eq, Ne, LtS, LtU, GtS, GtU, LeS, LeU, GeS, GeU}
@@ -141,7 +141,7 @@ store_op store.I64Store32 = into.Bits32
 abbrev pub branch_entries : SideTables → BranchRange → List Entry
 branch_entries t r = take r.count (drop r.first t.entries.items)
 
--- What does not go on with the next operation, and rarer calls: a number is that of an entry, of a range, of a function or of a
+-- A rarer call, or an operation that does not continue with the next one. A number is that of an entry, of a range, of a function or of a
 -- pair.
 abbrev pub transfer_op : SideTables → TransferInstruction → (number : ℕ) → FlatOp
 transfer_op t transfer.Unreachable n = Plain (plain.Control control.Unreachable)
@@ -208,7 +208,7 @@ unpacked t (packed.Other op n) = Plain (other_op t op n)
 
 -- ---- places in the side tables
 
--- The number is one of an entry, of a range whose entries are there, or of a pair, if the operation has one.
+-- The number is one of an entry, of a range whose entries exist, or of a pair, if the operation has one.
 abbrev pub IsTransferWithin : SideTables → TransferInstruction → (number : ℕ) → Type 0
 IsTransferWithin t transfer.Unreachable n = Unit {0}
 IsTransferWithin t transfer.Jump n = n < length t.entries.items
@@ -235,20 +235,20 @@ IsWithin t (packed.Transfer op n) = IsTransferWithin t op n
 IsWithin t (packed.Other op n) = IsOtherWithin t op n
 IsWithin t op = Unit {0}
 
--- The packed operation stands for this one.
+-- The packed operation represents this one.
 pub record Packs (t : SideTables) (p : PackedOp) (o : FlatOp) : Type 0 where
   pub same : unpacked t p ≡ o
   pub within : IsWithin t p
 
--- It stands for this instruction, whatever the side tables are.
+-- It represents this instruction, whatever the side tables are.
 abbrev pub PacksAlone : PackedOp → PlainOp → Type 0
 PacksAlone p op = (t : SideTables) → Packs t p (Plain op)
 
--- This is an instruction without a body, for which the packed operation stands where these labels are around.
+-- This is an instruction without a body, and the packed operation represents it within these labels.
 abbrev pub PacksPlain : SideTables → PackedOp → Entry → List Entry → Op → Type 0
 PacksPlain t p outermost entries (op.Plain o) = Packs t p (flat_op outermost entries o)
 PacksPlain t p outermost entries o = ⊥
 
--- Packed operations that stand for these.
+-- The operations that packed operations represent.
 abbrev pub made : SideTables → List PackedOp → List FlatOp
 made t ops = map (unpacked t) ops

@@ -1,4 +1,4 @@
--- Worked rows of flat code, and what each form of body leaves.
+-- Worked rows of flat code, and the operations that each form of body leaves.
 use Rattle.std.specs.Prelude.{◌≡◌, ℕ, ◌-◌, List, [], ◌∷◌}
 use Rattle.core_types.specs.declared.op.BinaryOp.TheVariants.{Add, Sub}
 use Rattle.core_types.specs.declared.op.BlockType.{BlockType}
@@ -34,13 +34,13 @@ local x = Variable (LocalGet x)
 abbrev three_constants : List PlainOp
 three_constants = I32Const 7 ∷ I32Const 8 ∷ I32Const 9 ∷ []
 
--- The code of a function with so many locals and results that begins at a place, and its greatest height.
+-- The code of a function with that many locals and results that begins at a place, and its greatest height.
 abbrev pub IsCode : (locals results at : ℕ) → Body → List FlatOp → (greatest : ℕ) → Type 0
 IsCode locals results at body ops greatest =
     (function_operations no_types locals results at body ≡ ops)
     × (function_greatest no_types locals results body ≡ greatest)
 
--- A block of one result, out of which a branch goes over three constants, in a function with two locals whose code begins at 7.
+-- A block of one result, with a branch out of it after three constants, in a function with two locals whose code begins at 7.
 abbrev pub BranchOverThree : Type 0
 BranchOverThree =
     IsCode 2 1 7
@@ -49,7 +49,7 @@ BranchOverThree =
     (Enter ∷ plain_ops three_constants (Br (entry_of 12 1 2) ∷ Leave 1 ∷ []))
     5
 
--- What a turn of the loop does before its branch: it adds the first local to the second, and counts the first one down.
+-- A turn of the loop before its branch: it adds the first local to the second, and subtracts one from the first.
 abbrev turn : List PlainOp
 turn = local 1 ∷ local 0 ∷ Numeric (Binary W32 Add) ∷ Variable (LocalSet 1) ∷ local 0 ∷ I32Const 1 ∷
     Numeric (Binary W32 Sub) ∷
@@ -65,7 +65,7 @@ Sum =
     (Enter ∷ plain_ops turn (BrIf (entry_of 0 0 2) ∷ Plain (local 1) ∷ Leave 1 ∷ []))
     4
 
--- An if of two constants, where three operations stand before it.
+-- An if of two constants, after three operations.
 abbrev pub SevenOrEight : Type 0
 SevenOrEight =
     IsCode 1 1 3
@@ -77,7 +77,7 @@ SevenOrEight =
     [])
     2
 
--- ---- what a form leaves, as the whole code of a module's first function, with so many locals and results
+-- ---- what a form leaves, as the whole code of a module's first function, with that many locals and results
 
 abbrev Leaves : Signatures → (locals results : ℕ) → Body → List FlatOp → Type 0
 Leaves s locals results body ops = function_operations s locals results 0 body ≡ ops
@@ -85,7 +85,7 @@ Leaves s locals results body ops = function_operations s locals results 0 body �
 abbrev branch : Body
 branch = Then (Control (control.Br 0)) Empty
 
--- A block leaves one operation and its inside; a branch out of it goes on behind it, with its results.
+-- A block leaves one operation and its inside. A branch out of it continues after it, with its results.
 abbrev pub BlockLeaves : Type 0
 BlockLeaves =
     (s : Signatures) (locals results : ℕ) (type : BlockType)
@@ -94,7 +94,7 @@ BlockLeaves =
     Leave results ∷
     [])
 
--- So does a loop; a branch to its label begins it anew, with its parameters.
+-- So does a loop. A branch to its label restarts it, with its parameters.
 abbrev pub LoopLeaves : Type 0
 LoopLeaves =
     (s : Signatures) (locals results : ℕ) (type : BlockType)
@@ -103,7 +103,7 @@ LoopLeaves =
     Leave results ∷
     [])
 
--- An if without else goes on behind it where the condition is zero, with its parameters.
+-- An if without else continues after it if the condition is zero, with its parameters.
 abbrev pub IfLeaves : Type 0
 IfLeaves =
     (s : Signatures) (locals results : ℕ) (type : BlockType)
@@ -113,7 +113,7 @@ IfLeaves =
     Leave results ∷
     [])
 
--- One with else goes on at its second body then, and an else leaves a jump past that, with the results.
+-- One with else continues at its second body then. An else leaves a jump past that, with the results.
 abbrev pub IfElseLeaves : Type 0
 IfElseLeaves =
     (s : Signatures) (locals results : ℕ) (type : BlockType)

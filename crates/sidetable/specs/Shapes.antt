@@ -1,14 +1,14 @@
--- The shape of what is left of a function's code: each body that is open is closed, and an else comes behind the first body of an if alone.
+-- The shape of the rest of a function's code: each open body is closed, and an else follows only the first body of an if.
 use Rattle.std.specs.Prelude.{Bool, true, false, List, [], ◌∷◌}
 use Rattle.core_types.specs.declared.op.Op.{Op}
 use Rattle.core_types.specs.declared.op.Op.TheVariants.{Plain, Block, Loop, If, Else, End}
 
--- Bodies that are open, from the inside out, each with whether an else may follow.
+-- Open bodies, from the inside out, each with whether an else may follow.
 abbrev pub IsNoneOpen : List Bool → Type 0
 IsNoneOpen [] = Unit {0}
 IsNoneOpen (open_body ∷ others) = ⊥
 
--- Behind an else the second body is open.
+-- After an else the second body is open.
 abbrev pub BehindElse : (List Bool → Type 0) → List Bool → Type 0
 BehindElse P [] = ⊥
 BehindElse P (false ∷ others) = ⊥
@@ -18,7 +18,7 @@ abbrev pub BehindEnd : (List Bool → Type 0) → List Bool → Type 0
 BehindEnd P [] = ⊥
 BehindEnd P (open_body ∷ others) = P others
 
--- These operations close the bodies that are open.
+-- These operations close the open bodies.
 abbrev pub Closes : List Op → List Bool → Type 0
 Closes [] open_bodies = IsNoneOpen open_bodies
 Closes (Plain op ∷ ops) open_bodies = Closes ops open_bodies

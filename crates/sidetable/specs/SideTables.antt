@@ -25,7 +25,7 @@ pair_of t n = get_or t.pairs.items n (record { first = 0; second = 0 })
 abbrev pub Continues : {X : Type 0} → List X → List X → Type 0
 Continues {X} old new = (more : List X) × (new ≡ old ++ more)
 
--- Nothing is taken away and nothing changes.
+-- Nothing is removed and nothing changes.
 pub record Grows (old new : SideTables) : Type 0 where
   pub entries : Continues old.entries.items new.entries.items
   pub branch_ranges : Continues old.branch_ranges.items new.branch_ranges.items

@@ -1,4 +1,4 @@
--- The types that a function's body refers to, as the code has them.
+-- The types that a function's body refers to, as they are in the code.
 use Rattle.std.specs.Prelude.{map}
 use Rattle.meaning.specs.validation.Modules.{type_at}
 use Rattle.sidetable.specs.Counts.{Signatures}

@@ -9,7 +9,7 @@ use core_types::{
     VariableOp,
 };
 
-/// How many operands an instruction takes and gives.
+/// The number of operands that an instruction takes, and the number of those that it gives.
 #[derive(Clone, Copy)]
 pub struct Counts {
     pub takes: usize,
@@ -23,7 +23,7 @@ pub struct ModuleTypes<'a> {
     pub functions: &'a [u32],
 }
 
-/// Of an instruction on references.
+/// Returns the counts of an instruction on references.
 pub fn reference_counts(op: ReferenceOp) -> Counts
     ensures { result ≡ reference_counts_of op }
 {
@@ -34,7 +34,7 @@ pub fn reference_counts(op: ReferenceOp) -> Counts
     }
 }
 
-/// Of an instruction on operands of any type.
+/// Returns the counts of an instruction on operands of any type.
 pub fn parametric_counts(op: ParametricOp) -> Counts
     ensures { result ≡ parametric_counts_of op }
 {
@@ -44,7 +44,7 @@ pub fn parametric_counts(op: ParametricOp) -> Counts
     }
 }
 
-/// Of an instruction on a local or a global.
+/// Returns the counts of an instruction on a local or a global.
 pub fn variable_counts(op: VariableOp) -> Counts
     ensures { result ≡ variable_counts_of op }
 {
@@ -55,7 +55,7 @@ pub fn variable_counts(op: VariableOp) -> Counts
     }
 }
 
-/// Of a numeric instruction.
+/// Returns the counts of a numeric instruction.
 pub fn numeric_counts(op: NumericOp) -> Counts
     ensures { result ≡ numeric_counts_of op }
 {
@@ -68,7 +68,7 @@ pub fn numeric_counts(op: NumericOp) -> Counts
     }
 }
 
-/// Of an instruction on a table or an element segment.
+/// Returns the counts of an instruction on a table or an element segment.
 pub fn table_counts(op: TableOp) -> Counts
     ensures { result ≡ table_counts_of op }
 {
@@ -84,7 +84,7 @@ pub fn table_counts(op: TableOp) -> Counts
     }
 }
 
-/// Of an instruction on the memory or a data segment.
+/// Returns the counts of an instruction on the memory or a data segment.
 pub fn memory_counts(op: MemoryOp) -> Counts
     ensures { result ≡ memory_counts_of op }
 {
@@ -98,7 +98,7 @@ pub fn memory_counts(op: MemoryOp) -> Counts
     }
 }
 
-// The counts of a function type, none where there is no such type.
+// Returns the counts of a function type, or zeros if there is no such type.
 fn of_type(found: Option<&FuncType>) -> Counts
     ensures some { MatchOption found.entry (result ≡ counts_of_type None)
         (λ t. result ≡ counts_of_type (Some t.now)) }
@@ -129,7 +129,7 @@ fn of_function(s: &ModuleTypes<'_>, index: u32) -> Counts
     }
 }
 
-// With one more operand, an i32 on top.
+// Returns the counts with one more operand, an i32 on top.
 fn with_i32(c: Counts) -> Counts
     requires { c.takes < 9223372036854775808 }
     ensures { result ≡ with_i32_counts c }
@@ -140,7 +140,8 @@ fn with_i32(c: Counts) -> Counts
     }
 }
 
-/// Of a control instruction without a body and without a list; none where nothing goes on behind it.
+/// Returns the counts of a control instruction without a body and without a list, or none if the next operation is never reached
+/// from it.
 pub fn control_counts(s: &ModuleTypes<'_>, op: ControlOp) -> Option<Counts>
     ensures { result ≡ control_counts_of (signatures_of s.now) op }
 {
@@ -157,7 +158,7 @@ pub fn control_counts(s: &ModuleTypes<'_>, op: ControlOp) -> Option<Counts>
     }
 }
 
-/// How many parameters and results a block has.
+/// Returns the number of parameters and the number of results of a block.
 pub fn counts_of_block(s: &ModuleTypes<'_>, ty: BlockType) -> Counts
     ensures { result ≡ block_counts (signatures_of s.now) ty }
 {

@@ -1,4 +1,4 @@
-ghost use Rattle.std.specs.Prelude.{◌<◌, length, IfOk, OnOk};
+ghost use Rattle.std.specs.Prelude.{◌≡◌, ◌<◌, ◌+◌, length, IfOk, OnOk};
 ghost use Rattle.std.specs.List.{All};
 ghost use Rattle.core_types.specs.declared.module.Func.{Func as AnyFunc};
 ghost use Rattle.sidetable.specs.FlatModules.{AreWithin, HasBody, IsFlatModule};
@@ -10,13 +10,12 @@ use crate::flattening::{Flattening, flatten_body};
 use crate::module_types::indices_of_types;
 use crate::operations::PackedOp;
 use crate::side_tables::{SideTables, number};
-use crate::sizes::{PartSize, sum};
-use core_types::{Func, Stack};
+use core_types::Func;
 use std::alloc::{AllocError, Global};
 use validator::ValidModule;
 
-/// A function of a module: the place of its first operation, how many parameters, locals with these, and results it has, and the
-/// greatest height in its frame, which counts the locals.
+/// A function of a module: the place of its first operation, the numbers of its parameters, locals and results, and the greatest
+/// height in its frame. The locals include the parameters, and the height counts the locals.
 #[derive(Clone, Copy)]
 pub struct PackedFunction {
     pub place: u32,
@@ -26,8 +25,8 @@ pub struct PackedFunction {
     pub greatest: u64,
 }
 
-/// The flat code of a module: its functions, in their order, the operations of all, each function's with one behind them that leaves
-/// its frame, and what they name by number.
+/// The flat code of a module: its functions, in their order, the operations of all, and what they name by number. The operations
+/// of each function are followed by one that leaves its frame.
 #[derive(Drop)]
 pub struct FlatModule {
     pub functions: Vec<PackedFunction>,
@@ -35,13 +34,21 @@ pub struct FlatModule {
     pub tables: SideTables,
 }
 
+// A sum. Fails if it has more bits than a size.
+fn sum(a: usize, b: usize) -> Result<usize, AllocError>
+    ensures { IfOk result (λ n. n ≡ a + b) }
+{
+    match a.checked_add(b) {
+        Some(n) => Ok(n),
+        None => Err(AllocError),
+    }
+}
+
 // Flattens one function more, which has a body and whose type there is.
 fn flatten_function(
-    alloc: Global,
     s: &ModuleTypes<'_>,
     functions: &mut Vec<PackedFunction>,
     f: &mut Flattening,
-    around: &mut Stack<PartSize>,
     func: &Func,
 ) -> Result<(), AllocError>
     requires body { HasBody func.now }
@@ -55,7 +62,7 @@ fn flatten_function(
     let results = number(ty.results.len())?;
     let locals = number(sum(ty.params.len(), func.locals.len() as usize)?)?;
     let place = number(f.operations.len())?;
-    let greatest = flatten_body(alloc, s, f, around, locals, results, &func.body)?;
+    let greatest = flatten_body(s, f, locals, results, &func.body)?;
     f.operations.push(PackedOp::Leave(results))?;
     number(f.operations.len())?;
     functions.push(PackedFunction {
@@ -68,7 +75,7 @@ fn flatten_function(
     Ok(())
 }
 
-// Flattens functions, which have bodies and whose types there are.
+// Flattens functions, which have bodies and whose types exist.
 fn flatten_functions(
     alloc: Global,
     s: &ModuleTypes<'_>,
@@ -80,9 +87,8 @@ fn flatten_functions(
 {
     let mut functions = Vec::new(alloc);
     let mut f = Flattening::new(alloc);
-    let mut around = Stack::new(alloc);
     for index in 0..funcs.len() {
-        flatten_function(alloc, s, &mut functions, &mut f, &mut around, &funcs[index])?;
+        flatten_function(s, &mut functions, &mut f, &funcs[index])?;
     }
     Ok(FlatModule {
         functions,
@@ -91,12 +97,14 @@ fn flatten_functions(
     })
 }
 
-/// Flattens a valid module: each function's operations, in their order and without marks, with what a branch, a return, an `if` and
-/// a jump need, and the greatest height of its operands.
+/// Flattens a valid module. The result has each function's operations, in their order and without marks, what a branch, a
+/// return, an `if` and a jump need, and the greatest height of its operands.
 ///
-/// Fails where there is no memory, where a function has more than 2^32 - 1 locals, its parameters among them, or results, where all
-/// bodies together have more than 2^32 - 1 operations, entries, branches by number, 64-bit constants or pairs of indices, and where a
-/// height has more than 64 bits.
+/// # Errors
+///
+/// Fails if an allocation fails, if a function has more than 2^32 - 1 locals, including its parameters, or results, or if a
+/// height has more than 64 bits. Fails if all bodies together have more than 2^32 - 1 operations, entries, branches by number,
+/// 64-bit constants or pairs of indices.
 pub fn flatten(alloc: Global, validated: &ValidModule) -> Result<FlatModule, AllocError>
     ensures { IfOk result (IsFlatModule validated.now) }
 {

@@ -1,46 +1,42 @@
-//! The body of a function is flattened: what its marks leave, and its operations in order.
+//! Flattens the body of a function: the operations that its marks leave, and its other operations, in order.
 
 mod rows;
 
-ghost use Rattle.std.specs.Prelude.{◌≡◌, ◌<◌, ◌+◌, ◌∷◌, [], List, drop, length, IfOk, OnOk};
+ghost use Rattle.std.specs.Prelude.{◌≡◌, ◌<◌, ◌+◌, ◌++◌, ◌∷◌, [], drop, length, IfOk, OnOk};
 ghost use Rattle.std.specs.List.{All};
 ghost use Rattle.core_types.specs.Expressions.{mark_op};
 ghost use Rattle.core_types.specs.declared.op.Op.TheVariants.{Block, Else, End, If, Loop};
 ghost use Rattle.meaning.specs.structure.Bodies.{Body, writing};
-ghost use Rattle.sidetable.specs.Counts.{changed as changed_height};
-ghost use Rattle.sidetable.specs.Flattening.{CanMake, CanMakeAll, IsMade, Passes, PassesTo, Pushes, if_end, if_second};
+ghost use Rattle.sidetable.specs.Completion.{ChangesEntries, with_targets};
+ghost use Rattle.sidetable.specs.Flattening.{CanPass, CanPassAll, IsMade, IsMarkAt, Passes, PassesTo, Pushes};
+ghost use Rattle.sidetable.specs.Labels.{IfSecond, second_targets, targets_of};
 ghost use Rattle.sidetable.specs.Packing.{IsWithin};
 ghost use Rattle.sidetable.specs.Signatures.{signatures_of};
-ghost use Rattle.sidetable.specs.Sizes.{IsMarkAt};
-ghost use Rattle.sidetable.specs.declared.sizes.PartSize.{PartSize as AnySize};
 
-use crate::counts::{Counts, ModuleTypes, counts_of_block};
+use crate::copies::copy_all_labels;
+use crate::counts::{ModuleTypes, counts_of_block};
 use crate::flattening::rows::pass_row;
-use crate::labels::{Label, Level, push_label};
+use crate::labels::{Level, Pending};
 use crate::operand_heights::{base, changed, known, less_one};
 use crate::operations::{Entry, PackedOp, TransferInstruction};
 use crate::side_tables::{SideTables, number};
-use crate::sizes::{PartSize, measure, sum};
 use core_types::{BlockType, Expression, Mark, Stack, append, mark_of};
 use meaning::writing_is_read;
 use std::alloc::{AllocError, Global};
-use std::mem;
 
-/// What was made of the operations so far: the side tables and the operations, those of the functions before among them; the bodies
-/// that are open, the sizes of what lies behind the marks to come, the height here, and the greatest height so far. The stacks keep
-/// their room for the next function.
+/// What was made of the operations so far: the side tables and the operations, with those of earlier functions; the open bodies, the
+/// height here, and the greatest height so far. The stack keeps its memory for the next function.
 #[derive(Drop)]
 pub struct Flattening {
     pub tables: SideTables,
     pub operations: Vec<PackedOp>,
     levels: Stack<Level>,
-    openings: Stack<PartSize>,
     height: Option<u64>,
     greatest: u64,
 }
 
 impl Flattening {
-    /// Nothing made. Takes no memory.
+    /// Creates an empty result. Allocates nothing.
     pub fn new(alloc: Global) -> Flattening
         ensures { result.operations.items ≡ [] }
     {
@@ -48,7 +44,6 @@ impl Flattening {
             tables: SideTables::new(alloc),
             operations: Vec::new(alloc),
             levels: Stack::new(alloc),
-            openings: Stack::new(alloc),
             height: None,
             greatest: 0,
         }
@@ -57,7 +52,7 @@ impl Flattening {
 
 // ---- operations
 
-// Puts an operation behind the others, behind which the height is this.
+// Appends an operation, after which the height is this.
 #[inline(always)]
 fn push_operation(f: &mut Flattening, op: PackedOp, after: Option<u64>) -> Result<(), AllocError>
     ensures { OnOk result (Pushes f.old op after f.new) }
@@ -69,195 +64,165 @@ fn push_operation(f: &mut Flattening, op: PackedOp, after: Option<u64>) -> Resul
 
 // ---- marks
 
-// The sizes of what lies behind the mark that was reached.
-fn take_opening(openings: &mut Stack<PartSize>) -> PartSize
-    requires { (part : AnySize) × (others : List AnySize) × (openings.old ≡ part ∷ others) }
-    ensures { openings.old ≡ result ∷ openings.new }
+// Pushes an entry that has no target yet, and returns its number.
+fn push_pending(tables: &mut SideTables, kept: u32, height: u64) -> Result<u32, AllocError>
+    ensures entries { OnOk result (ChangesEntries tables.old tables.new
+        (tables.old.entries.items ++ (record { target = 0; kept = kept; height = height }) ∷ [])) }
+    ensures number { IfOk result (λ n. n ≡ length tables.old.entries.items) }
 {
-    match openings.pop() {
-        Some(part) => part,
-        None => unreachable!(),
-    }
-}
-
-// A body that begins here: its level.
-fn make_level(c: Counts, label: Label, inside: Option<u64>) -> Result<Level, AllocError>
-    ensures { IfOk result (λ l. (l.label ≡ label) × (l.inside ≡ inside)
-        × (l.after ≡ changed_height c inside)) }
-{
-    let after = changed(c, inside)?;
-    Ok(Level {
-        label,
-        inside,
-        after,
+    tables.push_entry(Entry {
+        target: 0,
+        kept,
+        height,
     })
-}
-
-// The place behind an operation at a place and so many others.
-fn place_behind(at: usize, size: usize) -> Result<usize, AllocError>
-    ensures { IfOk result (λ n. n ≡ at + 1 + size) }
-{
-    let first = sum(at, 1)?;
-    let place = sum(first, size)?;
-    Ok(place)
 }
 
 // A block: a branch to its label goes on behind it, with its results.
 fn step_block(
     s: &ModuleTypes<'_>,
-    outermost: Label,
+    outermost: u32,
     f: &mut Flattening,
     ty: BlockType,
 ) -> Result<(), AllocError>
-    requires can { CanMake (signatures_of s.now) outermost f.old (Block ty) }
+    requires { CanPass outermost f.old (Block ty) }
     ensures { OnOk result (Passes (signatures_of s.now) outermost f.old (Block ty) f.new) }
 {
-    let part = take_opening(&mut f.openings);
     let c = counts_of_block(s, ty);
-    let end = place_behind(f.operations.len(), part.here)?;
-    let label = push_label(
-        &mut f.tables,
-        Entry {
-            target: number(end)?,
-            kept: number(c.gives)?,
-            height: base(c, f.height),
-        },
-    )?;
-    let level = make_level(c, label, f.height)?;
-    push_operation(f, PackedOp::Enter, level.inside)?;
-    f.levels.push(level)?;
+    let inside = f.height;
+    let after = changed(c, inside)?;
+    let label = push_pending(&mut f.tables, number(c.gives)?, base(c, inside))?;
+    push_operation(f, PackedOp::Enter, inside)?;
+    f.levels.push(Level {
+        label,
+        pending: Pending::End,
+        inside,
+        after,
+    })?;
     Ok(())
 }
 
-// A loop: a branch to its label begins it anew, with its parameters.
+// Flattens the beginning of a loop. A branch to its label restarts the loop, with its parameters.
 fn step_loop(
     s: &ModuleTypes<'_>,
-    outermost: Label,
+    outermost: u32,
     f: &mut Flattening,
     ty: BlockType,
 ) -> Result<(), AllocError>
-    requires can { CanMake (signatures_of s.now) outermost f.old (Loop ty) }
+    requires { CanPass outermost f.old (Loop ty) }
     ensures { OnOk result (Passes (signatures_of s.now) outermost f.old (Loop ty) f.new) }
 {
-    let _part = take_opening(&mut f.openings);
     let c = counts_of_block(s, ty);
-    let start = f.operations.len();
-    let height = base(c, f.height);
-    let label = push_label(
-        &mut f.tables,
-        Entry {
-            target: number(start)?,
-            kept: number(c.takes)?,
-            height,
-        },
-    )?;
-    let level = make_level(c, label, f.height)?;
-    push_operation(f, PackedOp::Enter, level.inside)?;
-    f.levels.push(level)?;
+    let inside = f.height;
+    let after = changed(c, inside)?;
+    let label = f.tables.push_entry(Entry {
+        target: number(f.operations.len())?,
+        kept: number(c.takes)?,
+        height: base(c, inside),
+    })?;
+    push_operation(f, PackedOp::Enter, inside)?;
+    f.levels.push(Level {
+        label,
+        pending: Pending::Nothing,
+        inside,
+        after,
+    })?;
     Ok(())
-}
-
-// Where the second body of an `if` begins, or what follows where there is none, and where what follows begins.
-#[derive(Clone, Copy)]
-struct IfPlaces {
-    second: usize,
-    end: usize,
-}
-
-// The places of an `if` at a place, with bodies of these sizes.
-fn places_of_if(at: usize, part: PartSize) -> Result<IfPlaces, AllocError>
-    ensures second { IfOk result (λ places. places.second ≡ if_second at part.here part.other) }
-    ensures end { IfOk result (λ places. places.end ≡ if_end at part.here part.other) }
-{
-    let first_end = place_behind(at, part.here)?;
-    match part.other {
-        Some(other) => {
-            let second = sum(first_end, 1)?;
-            let end = sum(second, other)?;
-            Ok(IfPlaces { second, end })
-        }
-        None => Ok(IfPlaces {
-            second: first_end,
-            end: first_end,
-        }),
-    }
 }
 
 // An `if`: where the condition is zero it goes on with its second body, or behind it.
 fn step_if(
     s: &ModuleTypes<'_>,
-    outermost: Label,
+    outermost: u32,
     f: &mut Flattening,
     ty: BlockType,
 ) -> Result<(), AllocError>
-    requires can { CanMake (signatures_of s.now) outermost f.old (If ty) }
+    requires { CanPass outermost f.old (If ty) }
     ensures { OnOk result (Passes (signatures_of s.now) outermost f.old (If ty) f.new) }
 {
-    let part = take_opening(&mut f.openings);
     let c = counts_of_block(s, ty);
-    let places = places_of_if(f.operations.len(), part)?;
     let inside = less_one(f.height);
+    let after = changed(c, inside)?;
     let height = base(c, inside);
-    let label = push_label(
-        &mut f.tables,
-        Entry {
-            target: number(places.end)?,
-            kept: number(c.gives)?,
-            height,
-        },
-    )?;
-    let second = push_label(
-        &mut f.tables,
-        Entry {
-            target: number(places.second)?,
-            kept: number(c.takes)?,
-            height,
-        },
-    )?;
-    let level = make_level(c, label, inside)?;
-    push_operation(f, PackedOp::If(second.number), level.inside)?;
-    f.levels.push(level)?;
+    let label = push_pending(&mut f.tables, number(c.gives)?, height)?;
+    let second = push_pending(&mut f.tables, number(c.takes)?, height)?;
+    push_operation(f, PackedOp::If(second), inside)?;
+    f.levels.push(Level {
+        label,
+        pending: Pending::SecondAndEnd(second),
+        inside,
+        after,
+    })?;
     Ok(())
+}
+
+// Sets the target of the second entry of an `if`, unless it has one.
+fn complete_second(tables: &mut SideTables, level: Level, place: u32)
+    requires { IfSecond (λ number. number < length tables.old.entries.items) level.pending }
+    ensures { ChangesEntries tables.old tables.new
+        (with_targets tables.old.entries.items (second_targets level.pending place)) }
+{
+    match level.pending {
+        Pending::Nothing | Pending::End => {}
+        Pending::SecondAndEnd(second) => tables.set_target(second, place),
+    }
 }
 
 // An else: the first body goes on behind the `if`, with its results.
-fn step_else(s: &ModuleTypes<'_>, outermost: Label, f: &mut Flattening) -> Result<(), AllocError>
-    requires can { CanMake (signatures_of s.now) outermost f.old Else }
+fn step_else(s: &ModuleTypes<'_>, outermost: u32, f: &mut Flattening) -> Result<(), AllocError>
+    requires { CanPass outermost f.old Else }
     ensures { OnOk result (Passes (signatures_of s.now) outermost f.old Else f.new) }
-{
-    let _part = take_opening(&mut f.openings);
-    let Some(level) = f.levels.top() else {
-        unreachable!()
-    };
-    push_operation(
-        f,
-        PackedOp::Transfer(TransferInstruction::Jump, level.label.number),
-        level.inside,
-    )?;
-    Ok(())
-}
-
-// An end, which leaves nothing.
-fn step_end(s: &ModuleTypes<'_>, outermost: Label, f: &mut Flattening)
-    requires can { CanMake (signatures_of s.now) outermost f.old End }
-    ensures { Passes (signatures_of s.now) outermost f.old End f.new }
 {
     let Some(level) = f.levels.pop() else {
         unreachable!()
     };
-    f.greatest = f.greatest.max(known(f.height));
-    f.height = level.after;
+    let jump = PackedOp::Transfer(TransferInstruction::Jump, level.label);
+    push_operation(f, jump, level.inside)?;
+    complete_second(&mut f.tables, level, number(f.operations.len())?);
+    f.levels.push(Level {
+        label: level.label,
+        pending: Pending::End,
+        inside: level.inside,
+        after: level.after,
+    })?;
+    Ok(())
 }
 
-// One mark more.
+// Sets the targets that are known when a body ends.
+fn complete_level(tables: &mut SideTables, level: Level, end: u32)
+    requires second { IfSecond (λ number. number < length tables.old.entries.items) level.pending }
+    requires label { level.label < length tables.old.entries.items }
+    ensures { ChangesEntries tables.old tables.new
+        (with_targets tables.old.entries.items (targets_of level.pending level.label end end)) }
+{
+    complete_second(tables, level, end);
+    match level.pending {
+        Pending::Nothing => {}
+        Pending::End | Pending::SecondAndEnd(_) => tables.set_target(level.label, end),
+    }
+}
+
+// An end, which leaves no operation.
+fn step_end(s: &ModuleTypes<'_>, outermost: u32, f: &mut Flattening) -> Result<(), AllocError>
+    requires { CanPass outermost f.old End }
+    ensures { OnOk result (Passes (signatures_of s.now) outermost f.old End f.new) }
+{
+    let Some(level) = f.levels.pop() else {
+        unreachable!()
+    };
+    complete_level(&mut f.tables, level, number(f.operations.len())?);
+    f.greatest = f.greatest.max(known(f.height));
+    f.height = level.after;
+    Ok(())
+}
+
 #[inline(always)]
 fn step_mark(
     s: &ModuleTypes<'_>,
-    outermost: Label,
+    outermost: u32,
     f: &mut Flattening,
     mark: Mark,
 ) -> Result<(), AllocError>
-    requires { CanMake (signatures_of s.now) outermost f.old (mark_op mark) }
+    requires { CanPass outermost f.old (mark_op mark) }
     ensures { OnOk result (Passes (signatures_of s.now) outermost f.old (mark_op mark) f.new) }
 {
     match mark {
@@ -265,25 +230,24 @@ fn step_mark(
         Mark::Loop(ty) => step_loop(s, outermost, f, ty)?,
         Mark::If(ty) => step_if(s, outermost, f, ty)?,
         Mark::Else => step_else(s, outermost, f)?,
-        Mark::End => step_end(s, outermost, f),
+        Mark::End => step_end(s, outermost, f)?,
     }
     Ok(())
 }
 
 // ---- all operations
 
-// The mark at a position.
 #[inline(never)]
 fn pass_mark(
     s: &ModuleTypes<'_>,
-    outermost: Label,
+    outermost: u32,
     f: &mut Flattening,
     code: &Expression,
     position: usize,
 ) -> Result<(), AllocError>
     requires within { position < length code.now }
     requires mark { IsMarkAt position code.now }
-    requires can { CanMakeAll (signatures_of s.now) outermost f.old (drop position code.now) }
+    requires can { CanPassAll outermost f.old (drop position code.now) }
     ensures { OnOk result (PassesTo (signatures_of s.now) outermost f.old
         (drop position code.now) (drop (position + 1) code.now) f.new) }
 {
@@ -293,15 +257,15 @@ fn pass_mark(
     step_mark(s, outermost, f, mark)
 }
 
-// All operations.
+// Flattens all operations.
 #[inline(never)]
 fn run(
     s: &ModuleTypes<'_>,
-    outermost: Label,
+    outermost: u32,
     f: &mut Flattening,
     code: &Expression,
 ) -> Result<(), AllocError>
-    requires can { CanMakeAll (signatures_of s.now) outermost f.old code.now }
+    requires can { CanPassAll outermost f.old code.now }
     ensures { OnOk result (PassesTo (signatures_of s.now) outermost f.old code.now ([]) f.new) }
 {
     let mut position = 0;
@@ -315,13 +279,11 @@ fn run(
     Ok(())
 }
 
-/// Flattens a body, whose operations are put behind others, with the room of the stack around; answers the greatest height in the
-/// function's frame. Its function has so many locals, with its parameters, and results.
+/// Flattens a body and appends its operations. Returns the greatest height in the frame of its function, which has this many locals,
+/// parameters included, and results.
 pub fn flatten_body(
-    alloc: Global,
     s: &ModuleTypes<'_>,
     f: &mut Flattening,
-    around: &mut Stack<PartSize>,
     locals: u32,
     results: u32,
     code: &Expression,
@@ -333,22 +295,13 @@ pub fn flatten_body(
         f.new greatest) }
 {
     writing_is_read();
-    let openings = mem::replace(&mut f.openings, Stack::new(alloc));
-    let measured = measure(mem::replace(around, Stack::new(alloc)), openings, code)?;
-    *around = measured.around;
-    f.openings = measured.openings;
     f.levels.clear();
-    let end = sum(f.operations.len(), measured.size)?;
-    let outermost = push_label(
-        &mut f.tables,
-        Entry {
-            target: number(end)?,
-            kept: results,
-            height: locals as u64,
-        },
-    )?;
+    let first_range = f.tables.branch_ranges.len();
+    let outermost = push_pending(&mut f.tables, results, locals as u64)?;
     f.height = Some(locals as u64);
     f.greatest = locals as u64 + results as u64;
     run(s, outermost, f, code)?;
+    f.tables.set_target(outermost, number(f.operations.len())?);
+    copy_all_labels(&mut f.tables, first_range);
     Ok(f.greatest.max(known(f.height)))
 }

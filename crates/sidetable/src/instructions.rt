@@ -6,17 +6,18 @@ ghost use Rattle.core_types.specs.declared.op.PlainOp.TheVariants as plain_op;
 ghost use Rattle.core_types.specs.declared.op.PlainOp.TheVariants.{I64Const};
 ghost use Rattle.core_types.specs.declared.op.MemoryOp.TheVariants as memory_op;
 ghost use Rattle.sidetable.specs.Counts.{HasCounts, counts as counts_of_numbers, counts_of, memory_counts as memory_counts_of, reference_counts as reference_counts_of, variable_counts as variable_counts_of};
-ghost use Rattle.sidetable.specs.Flat.{BrTable, Plain, at_offset, entry_at, flat_control, without_alignment};
-ghost use Rattle.sidetable.specs.Labels.{AllStand, all_entries};
+ghost use Rattle.sidetable.specs.Completion.{Adds, HasAdded};
+ghost use Rattle.sidetable.specs.Flat.{Plain, at_offset, flat_control, flat_op, without_alignment};
+ghost use Rattle.sidetable.specs.Labels.{HaveEntries, label_entries};
 ghost use Rattle.sidetable.specs.Packing.{Packs, PacksAlone, PacksPlain};
-ghost use Rattle.sidetable.specs.SideTables.{Grows};
+ghost use Rattle.sidetable.specs.SideTables.{SideTables as AnyTables, entry_of_number};
 ghost use Rattle.sidetable.specs.Signatures.{signatures_of};
 
 use crate::counts::{
     Counts, ModuleTypes, control_counts, memory_counts, numeric_counts, parametric_counts,
     reference_counts, table_counts, variable_counts,
 };
-use crate::labels::{Label, Level, label_at, push_branch};
+use crate::labels::{Level, label_at, push_branch};
 use crate::operations::{OtherInstruction, PackedOp, TransferInstruction};
 use crate::packing::{load, memory, numeric, parametric, reference, store, table, variable};
 use crate::side_tables::SideTables;
@@ -28,26 +29,28 @@ use std::alloc::AllocError;
 
 // Packs a control instruction that has neither a body nor a list.
 #[inline(always)]
+#[tactic(auto, using(crate::proofs::Adding::adds_nothing))]
 fn control(
     tables: &mut SideTables,
-    outermost: Label,
+    outermost: u32,
     levels: &Stack<Level>,
     op: ControlOp,
 ) -> Result<PackedOp, AllocError>
-    requires { AllStand tables.old outermost levels.now }
-    ensures grows { OnOk result (Grows tables.old tables.new) }
-    ensures packs { IfOk result (λ p. Packs tables.new p
-        (flat_control outermost.entry (all_entries outermost levels.now) op)) }
+    requires { HaveEntries tables.old outermost levels.now }
+    ensures adds { OnOk result (Adds tables.old tables.new) }
+    ensures packs { IfOk result (λ p. (final : AnyTables) → HasAdded tables.old tables.new final
+        → Packs final p (flat_control (entry_of_number final outermost)
+        (label_entries final outermost levels.now) op)) }
 {
     let packed = match op {
         ControlOp::Unreachable => PackedOp::Transfer(TransferInstruction::Unreachable, 0),
         ControlOp::Nop => PackedOp::Other(OtherInstruction::Nop, 0),
         ControlOp::Br(index) => {
-            let label = label_at(tables, outermost, levels, index);
-            PackedOp::Transfer(TransferInstruction::Br, label.number)
+            let label = label_at(outermost, levels, index);
+            PackedOp::Transfer(TransferInstruction::Br, label)
         }
-        ControlOp::BrIf(index) => PackedOp::BrIf(label_at(tables, outermost, levels, index).number),
-        ControlOp::Return => PackedOp::Transfer(TransferInstruction::Return, outermost.number),
+        ControlOp::BrIf(index) => PackedOp::BrIf(label_at(outermost, levels, index)),
+        ControlOp::Return => PackedOp::Transfer(TransferInstruction::Return, outermost),
         ControlOp::Call(function) => PackedOp::Call(function),
         ControlOp::CallIndirect { ty, table } => {
             PackedOp::Transfer(
@@ -71,16 +74,15 @@ fn control(
 // Packs a branch by number.
 fn branch_table(
     tables: &mut SideTables,
-    outermost: Label,
+    outermost: u32,
     levels: &Stack<Level>,
     branch: &BranchTable,
 ) -> Result<PackedOp, AllocError>
-    requires { AllStand tables.old outermost levels.now }
-    ensures grows { OnOk result (Grows tables.old tables.new) }
-    ensures packs { IfOk result (λ p. Packs tables.new p
-        (BrTable
-        (map (entry_at outermost.entry (all_entries outermost levels.now)) branch.now.labels)
-        (entry_at outermost.entry (all_entries outermost levels.now) branch.now.default))) }
+    requires { HaveEntries tables.old outermost levels.now }
+    ensures adds { OnOk result (Adds tables.old tables.new) }
+    ensures packs { IfOk result (λ p. (final : AnyTables) → HasAdded tables.old tables.new final
+        → Packs final p (flat_op (entry_of_number final outermost)
+        (label_entries final outermost levels.now) (plain_op.BrTable branch.now))) }
 {
     let range = push_branch(tables, outermost, levels, branch)?;
     Ok(PackedOp::Transfer(TransferInstruction::BrTable, range))
@@ -88,21 +90,22 @@ fn branch_table(
 
 // Packs a 64-bit constant.
 fn constant(tables: &mut SideTables, n: u64) -> Result<PackedOp, AllocError>
-    ensures grows { OnOk result (Grows tables.old tables.new) }
-    ensures packs { IfOk result (λ p. Packs tables.new p (Plain (I64Const n))) }
+    ensures adds { OnOk result (Adds tables.old tables.new) }
+    ensures packs { IfOk result (λ p. (final : AnyTables) → HasAdded tables.old tables.new final
+        → Packs final p (Plain (I64Const n))) }
 {
     let number = tables.push_constant(n)?;
     Ok(PackedOp::Other(OtherInstruction::I64Const, number))
 }
 
-/// An instruction without a body, packed, and how many operands it takes and gives; none where nothing goes on behind it.
+/// A packed instruction without a body, and its counts. It has no counts if the next operation is never reached from it.
 #[derive(Clone, Copy)]
 pub struct PackedInstruction {
     pub op: PackedOp,
     pub counts: Option<Counts>,
 }
 
-// An instruction that goes on with the next one.
+// Creates an instruction after which the next one is executed.
 fn with_counts(op: PackedOp, counts: Counts) -> PackedInstruction
     ensures op { result.op ≡ op }
     ensures counts { result.counts ≡ Some counts }
@@ -118,14 +121,15 @@ fn with_counts(op: PackedOp, counts: Counts) -> PackedInstruction
 fn pack_control(
     s: &ModuleTypes<'_>,
     tables: &mut SideTables,
-    outermost: Label,
+    outermost: u32,
     levels: &Stack<Level>,
     op: ControlOp,
 ) -> Result<PackedInstruction, AllocError>
-    requires { AllStand tables.old outermost levels.now }
-    ensures grows { OnOk result (Grows tables.old tables.new) }
-    ensures packs { IfOk result (λ p. Packs tables.new p.op
-        (flat_control outermost.entry (all_entries outermost levels.now) op)) }
+    requires { HaveEntries tables.old outermost levels.now }
+    ensures adds { OnOk result (Adds tables.old tables.new) }
+    ensures packs { IfOk result (λ p. (final : AnyTables) → HasAdded tables.old tables.new final
+        → Packs final p.op (flat_control (entry_of_number final outermost)
+        (label_entries final outermost levels.now) op)) }
     ensures counts { IfOk result (λ p. p.counts ≡ counts_of (signatures_of s.now)
         (plain_op.Control op)) }
 {
@@ -139,16 +143,15 @@ fn pack_control(
 // Packs a branch by number.
 fn pack_branch_table(
     tables: &mut SideTables,
-    outermost: Label,
+    outermost: u32,
     levels: &Stack<Level>,
     branch: &BranchTable,
 ) -> Result<PackedInstruction, AllocError>
-    requires { AllStand tables.old outermost levels.now }
-    ensures grows { OnOk result (Grows tables.old tables.new) }
-    ensures packs { IfOk result (λ p. Packs tables.new p.op
-        (BrTable
-        (map (entry_at outermost.entry (all_entries outermost levels.now)) branch.now.labels)
-        (entry_at outermost.entry (all_entries outermost levels.now) branch.now.default))) }
+    requires { HaveEntries tables.old outermost levels.now }
+    ensures adds { OnOk result (Adds tables.old tables.new) }
+    ensures packs { IfOk result (λ p. (final : AnyTables) → HasAdded tables.old tables.new final
+        → Packs final p.op (flat_op (entry_of_number final outermost)
+        (label_entries final outermost levels.now) (plain_op.BrTable branch.now))) }
     ensures counts { IfOk result (λ p. p.counts ≡ None) }
 {
     let packed = branch_table(tables, outermost, levels, branch)?;
@@ -158,19 +161,22 @@ fn pack_branch_table(
     })
 }
 
-// Packs an instruction without a body that takes more than eight bytes, or any other. As `pack`.
+// Packs an instruction without a body that takes more than eight bytes, or any other one, as `pack` does.
 #[inline(always)]
+#[tactic(auto, using(crate::proofs::Adding::adds_nothing))]
 fn pack_other(
     s: &ModuleTypes<'_>,
     tables: &mut SideTables,
-    outermost: Label,
+    outermost: u32,
     levels: &Stack<Level>,
     op: &Op,
 ) -> Result<Option<PackedInstruction>, AllocError>
-    requires { AllStand tables.old outermost levels.now }
-    ensures grows { OnOk result (Grows tables.old tables.new) }
-    ensures packs { IfOk result (λ found. IfSome found (λ p. PacksPlain tables.new p.op
-        outermost.entry (all_entries outermost levels.now) op.now)) }
+    requires { HaveEntries tables.old outermost levels.now }
+    ensures adds { OnOk result (Adds tables.old tables.new) }
+    ensures packs { IfOk result (λ found. IfSome found (λ p. (final : AnyTables)
+        → HasAdded tables.old tables.new final
+        → PacksPlain final p.op (entry_of_number final outermost)
+        (label_entries final outermost levels.now) op.now)) }
     ensures counts { IfOk result (λ found. IfSome found (λ p. HasCounts (signatures_of s.now)
         op.now p.counts)) }
     ensures mark { IfOk result (λ found. IfNone found ((tables.new ≡ tables.old)
@@ -204,7 +210,7 @@ fn pack_other(
     Ok(Some(packed))
 }
 
-// A reference.
+// Creates an instruction on references.
 #[inline(always)]
 fn with_reference(op: ReferenceOp) -> PackedInstruction
     ensures op { PacksAlone result.op (plain_op.Reference op) }
@@ -213,7 +219,7 @@ fn with_reference(op: ReferenceOp) -> PackedInstruction
     with_counts(reference(op), reference_counts(op))
 }
 
-// An instruction on a local or a global.
+// Creates an instruction on a local or a global.
 #[inline(always)]
 fn with_variable(op: VariableOp) -> PackedInstruction
     ensures op { PacksAlone result.op (plain_op.Variable op) }
@@ -222,7 +228,7 @@ fn with_variable(op: VariableOp) -> PackedInstruction
     with_counts(variable(op), variable_counts(op))
 }
 
-// A load from an offset.
+// Creates a load from an offset.
 #[inline(always)]
 fn with_load(op: LoadOp, offset: u32) -> PackedInstruction
     ensures op { PacksAlone result.op (plain_op.Memory (memory_op.Load op (at_offset offset))) }
@@ -231,7 +237,7 @@ fn with_load(op: LoadOp, offset: u32) -> PackedInstruction
     with_counts(load(op, offset), Counts { takes: 1, gives: 1 })
 }
 
-// A store to an offset.
+// Creates a store to an offset.
 #[inline(always)]
 fn with_store(op: StoreOp, offset: u32) -> PackedInstruction
     ensures op { PacksAlone result.op (plain_op.Memory (memory_op.Store op (at_offset offset))) }
@@ -240,7 +246,7 @@ fn with_store(op: StoreOp, offset: u32) -> PackedInstruction
     with_counts(store(op, offset), Counts { takes: 2, gives: 0 })
 }
 
-// An instruction on the memory that has no offset.
+// Creates an instruction on the memory that has no offset.
 #[inline(always)]
 fn with_memory(op: MemoryOp) -> PackedInstruction
     ensures op { PacksAlone result.op (plain_op.Memory (without_alignment op)) }
@@ -249,20 +255,23 @@ fn with_memory(op: MemoryOp) -> PackedInstruction
     with_counts(memory(op), memory_counts(op))
 }
 
-/// Packs an instruction without a body, where these labels are around; answers none for a mark. Fails where there is no memory for
-/// what it names by number.
+/// Packs an instruction without a body, within these labels. Returns none for a mark. Fails if an allocation fails for what it
+/// names by number.
 #[inline(always)]
+#[tactic(auto, using(crate::proofs::Adding::adds_nothing))]
 pub fn pack(
     s: &ModuleTypes<'_>,
     tables: &mut SideTables,
-    outermost: Label,
+    outermost: u32,
     levels: &Stack<Level>,
     op: LentOp<'_>,
 ) -> Result<Option<PackedInstruction>, AllocError>
-    requires { AllStand tables.old outermost levels.now }
-    ensures grows { OnOk result (Grows tables.old tables.new) }
-    ensures packs { IfOk result (λ found. IfSome found (λ p. PacksPlain tables.new p.op
-        outermost.entry (all_entries outermost levels.now) (lent_op op.entry))) }
+    requires { HaveEntries tables.old outermost levels.now }
+    ensures adds { OnOk result (Adds tables.old tables.new) }
+    ensures packs { IfOk result (λ found. IfSome found (λ p. (final : AnyTables)
+        → HasAdded tables.old tables.new final
+        → PacksPlain final p.op (entry_of_number final outermost)
+        (label_entries final outermost levels.now) (lent_op op.entry))) }
     ensures counts { IfOk result (λ found. IfSome found (λ p. HasCounts (signatures_of s.now)
         (lent_op op.entry) p.counts)) }
     ensures mark { IfOk result (λ found. IfNone found ((tables.new ≡ tables.old)

@@ -20,7 +20,7 @@ pub fn bodies_are_flattened()
     ensures choice { SevenOrEight }
 {}
 
-/// Law: what each form of body leaves, and where its entries go on.
+/// Law: the operations that each form of body leaves, and where its entries continue.
 pub fn each_form_leaves_its_operations()
     ensures block { BlockLeaves }
     ensures loops { LoopLeaves }
@@ -30,13 +30,13 @@ pub fn each_form_leaves_its_operations()
     ensures returns { ReturnLeaves }
 {}
 
-/// Law: operations stand one for one; an end leaves none, and one more leaves the frame.
+/// Law: each operation leaves one operation, except that an end leaves none. One more operation leaves the frame.
 pub fn operations_are_as_many_as_the_size()
     ensures { (s : Signatures) (locals results at : ℕ) (body : Body)
         → length (function_operations s locals results at body) ≡ size body + 1 }
 {}
 
-/// Law: the greatest height of a function is at least that of its results, and no height that is reached is over it.
+/// Law: the greatest height of a function is at least that of its results, and no reached height is greater.
 pub fn no_height_is_over_the_greatest()
     ensures results { (s : Signatures) (locals results : ℕ) (body : Body)
         → locals + results ≤ function_greatest s locals results body }
@@ -45,7 +45,7 @@ pub fn no_height_is_over_the_greatest()
         → height ≤ function_greatest s locals results body }
 {}
 
-/// Law: an alignment and the types of a select change nothing of what an instruction does.
+/// Law: an alignment and the types of a select do not change the effect of an instruction.
 pub fn annotations_change_nothing()
     ensures { (store : Store) (frame : Frame) (op : AnyPlainOp) (values : List Val)
         → effect store frame (without_annotations op) values ≡ effect store frame op values }

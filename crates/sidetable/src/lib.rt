@@ -1,6 +1,7 @@
 //! Flat code without marks, in packed operations with side tables.
 #![tactic(auto)]
 
+mod copies;
 mod counts;
 mod flat_module;
 mod flattening;
@@ -12,7 +13,6 @@ mod operand_heights;
 mod operations;
 mod packing;
 mod side_tables;
-mod sizes;
 
 pub use flat_module::{FlatModule, PackedFunction, flatten};
 pub use laws::{

@@ -5,7 +5,7 @@ ghost use Rattle.meaning.specs.validation.Modules.{function_indices, imported_fu
 use core_types::{Func, Import, ImportDesc, Module};
 use std::alloc::{AllocError, Global};
 
-// Puts the type index of an imported function behind the others, if the import is one.
+// Appends the type index of an imported function, if the import is one.
 fn push_imported(functions: &mut Vec<u32>, import: &Import) -> Result<(), AllocError>
     ensures { OnOk result (functions.new.items ≡ functions.old.items
         ++ imported_functions (import.now ∷ [])) }
@@ -17,7 +17,7 @@ fn push_imported(functions: &mut Vec<u32>, import: &Import) -> Result<(), AllocE
     Ok(())
 }
 
-// The type index of each imported function.
+// Returns the type index of each imported function.
 fn imported(alloc: Global, imports: &[Import]) -> Result<Vec<u32>, AllocError>
     ensures { IfOk result (λ functions. functions.items ≡ imported_functions imports.now) }
 {
@@ -28,7 +28,7 @@ fn imported(alloc: Global, imports: &[Import]) -> Result<Vec<u32>, AllocError>
     Ok(functions)
 }
 
-// Puts the type index of each function behind the others.
+// Appends the type index of each function.
 fn push_declared(functions: &mut Vec<u32>, funcs: &[Func]) -> Result<(), AllocError>
     ensures { OnOk result (functions.new.items ≡ functions.old.items
         ++ map (λ (f : AnyFunc). f.ty) funcs.now) }
@@ -39,7 +39,7 @@ fn push_declared(functions: &mut Vec<u32>, funcs: &[Func]) -> Result<(), AllocEr
     Ok(())
 }
 
-/// The type index of each function of a module, imports first.
+/// Returns the type index of each function of a module, imports first.
 pub fn indices_of_types(alloc: Global, m: &Module) -> Result<Vec<u32>, AllocError>
     ensures { IfOk result (λ functions. functions.items ≡ function_indices m.now) }
 {

@@ -4,7 +4,7 @@ ghost use Rattle.sidetable.specs.Counts.{behind as behind_counts, changed as cha
 use crate::counts::Counts;
 use std::alloc::AllocError;
 
-/// One operand less.
+/// Returns the height with one operand less.
 pub fn less_one(height: Option<u64>) -> Option<u64>
     ensures { result ≡ less_by 1 height }
 {
@@ -14,7 +14,7 @@ pub fn less_one(height: Option<u64>) -> Option<u64>
     }
 }
 
-/// The height behind what takes and gives so many.
+/// Returns the height after an instruction with these counts.
 pub fn changed(c: Counts, height: Option<u64>) -> Result<Option<u64>, AllocError>
     ensures { IfOk result (λ h. h ≡ changed_height c height) }
 {
@@ -34,7 +34,7 @@ pub struct Heights {
     pub greatest: u64,
 }
 
-/// The heights behind an instruction.
+/// Returns the heights after an instruction.
 #[inline(always)]
 pub fn heights_behind(c: Option<Counts>, before: Heights) -> Result<Heights, AllocError>
     ensures here { IfOk result (λ h. h.here ≡ behind_counts c before.here) }
@@ -52,7 +52,7 @@ pub fn heights_behind(c: Option<Counts>, before: Heights) -> Result<Heights, All
     Ok(Heights { here, greatest })
 }
 
-/// The height, or 0 where nothing arrives.
+/// Returns the height, or 0 if the place is never reached.
 pub fn known(height: Option<u64>) -> u64
     ensures { result ≡ known_or_zero height }
 {
@@ -62,7 +62,7 @@ pub fn known(height: Option<u64>) -> u64
     }
 }
 
-/// The height below the parameters of a block.
+/// Returns the height below the parameters of a block.
 pub fn base(c: Counts, inside: Option<u64>) -> u64
     ensures { result ≡ known_or_zero inside - c.takes }
 {

@@ -1,5 +1,5 @@
-/// Where a branch, a return, an `if` whose condition is zero or a jump goes on: the place of the next operation, how many operands
-/// are kept, and the height of those below them.
+/// Where a branch, a return, an `if` whose condition is zero or a jump continues. It has the place of the next operation, the
+/// number of operands that are kept, and the height of those below them.
 #[derive(Clone, Copy)]
 pub struct Entry {
     pub target: u32,
@@ -7,7 +7,7 @@ pub struct Entry {
     pub height: u64,
 }
 
-/// An instruction on two integers: all but `i32.add`.
+/// An instruction on two integers, except `i32.add`.
 #[derive(Clone, Copy)]
 pub enum BinaryInstruction {
     I32Sub,
@@ -82,7 +82,7 @@ pub enum UnaryInstruction {
     I64Extend32S,
 }
 
-/// A load: all but `i32.load`.
+/// A load, except `i32.load`.
 #[derive(Clone, Copy)]
 pub enum LoadInstruction {
     I64Load,
@@ -110,7 +110,7 @@ pub enum StoreInstruction {
     I64Store32,
 }
 
-/// An operation that does not go on with the next one, or calls, and is rarer.
+/// A rarer operation that does not continue with the next one, or that calls.
 #[derive(Clone, Copy)]
 pub enum TransferInstruction {
     Unreachable,
@@ -123,7 +123,7 @@ pub enum TransferInstruction {
     ReturnCallIndirect,
 }
 
-/// An instruction that is rarer.
+/// A rarer instruction.
 #[derive(Clone, Copy)]
 pub enum OtherInstruction {
     Nop,
@@ -153,8 +153,8 @@ pub enum OtherInstruction {
     ElemDrop,
 }
 
-/// An operation, packed into eight bytes: of the sixteen kinds the frequent instructions are one each, and the others share one. A
-/// number is an index, a constant, an offset, or a place in a side table.
+/// An operation, packed into eight bytes. There are sixteen kinds: each frequent instruction has its own, and the others share
+/// one. A number is an index, a constant, an offset, or a place in a side table.
 #[derive(Clone, Copy)]
 pub enum PackedOp {
     LocalGet(u32),
@@ -166,7 +166,7 @@ pub enum PackedOp {
     If(u32),
     BrIf(u32),
     Call(u32),
-    /// Behind the last operation of a function: the frame is left with so many results.
+    /// The operation after the last one of a function. It leaves the frame with that many results.
     Leave(u32),
     I32Load(u32),
     Binary(BinaryInstruction),

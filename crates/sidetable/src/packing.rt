@@ -3,9 +3,10 @@ ghost use Rattle.core_types.specs.declared.op.NumericOp.TheVariants.{Binary, Com
 ghost use Rattle.core_types.specs.declared.op.PlainOp.TheVariants as plain;
 ghost use Rattle.core_types.specs.declared.op.MemoryOp.TheVariants.{Load, Store};
 ghost use Rattle.core_types.specs.declared.op.Width.TheVariants.{W32, W64};
+ghost use Rattle.sidetable.specs.Completion.{Adds, HasAdded};
 ghost use Rattle.sidetable.specs.Flat.{Plain, at_offset, without_alignment};
 ghost use Rattle.sidetable.specs.Packing.{Packs, PacksAlone, unary_op};
-ghost use Rattle.sidetable.specs.SideTables.{Grows};
+ghost use Rattle.sidetable.specs.SideTables.{SideTables as AnyTables};
 
 use crate::operations::{
     BinaryInstruction, LoadInstruction, OtherInstruction, PackedOp, StoreInstruction,
@@ -18,7 +19,7 @@ use core_types::{
 };
 use std::alloc::AllocError;
 
-// An operator on two 32-bit integers.
+// Returns an operator on two 32-bit integers.
 fn i32_binary(op: BinaryOp) -> PackedOp
     ensures { PacksAlone result (plain.Numeric (Binary W32 op)) }
 {
@@ -41,7 +42,7 @@ fn i32_binary(op: BinaryOp) -> PackedOp
     }
 }
 
-// An operator on two 64-bit integers.
+// Returns an operator on two 64-bit integers.
 fn i64_binary(op: BinaryOp) -> PackedOp
     ensures { PacksAlone result (plain.Numeric (Binary W64 op)) }
 {
@@ -64,7 +65,7 @@ fn i64_binary(op: BinaryOp) -> PackedOp
     }
 }
 
-// A comparison of two 32-bit integers.
+// Returns a comparison of two 32-bit integers.
 fn i32_comparison(op: Comparison) -> PackedOp
     ensures { PacksAlone result (plain.Numeric (Compare W32 op)) }
 {
@@ -82,7 +83,7 @@ fn i32_comparison(op: Comparison) -> PackedOp
     }
 }
 
-// A comparison of two 64-bit integers.
+// Returns a comparison of two 64-bit integers.
 fn i64_comparison(op: Comparison) -> PackedOp
     ensures { PacksAlone result (plain.Numeric (Compare W64 op)) }
 {
@@ -100,7 +101,7 @@ fn i64_comparison(op: Comparison) -> PackedOp
     }
 }
 
-// An operator on a 32-bit integer.
+// Returns an operator on a 32-bit integer.
 fn i32_unary(op: UnaryOp) -> UnaryInstruction
     ensures { unary_op result ≡ (Unary W32 op) }
 {
@@ -113,7 +114,7 @@ fn i32_unary(op: UnaryOp) -> UnaryInstruction
     }
 }
 
-// An operator on a 64-bit integer.
+// Returns an operator on a 64-bit integer.
 fn i64_unary(op: UnaryOp) -> UnaryInstruction
     ensures { unary_op result ≡ (Unary W64 op) }
 {
@@ -126,7 +127,7 @@ fn i64_unary(op: UnaryOp) -> UnaryInstruction
     }
 }
 
-// An operator on an integer that exists for one width alone.
+// Returns an operator on an integer that exists for one width only.
 fn conversion(op: Conversion) -> UnaryInstruction
     ensures { unary_op result ≡ (Convert op) }
 {
@@ -138,7 +139,7 @@ fn conversion(op: Conversion) -> UnaryInstruction
     }
 }
 
-// A test on an integer.
+// Returns a test on an integer.
 fn eqz(width: Width) -> UnaryInstruction
     ensures { unary_op result ≡ (Eqz width) }
 {
@@ -148,7 +149,6 @@ fn eqz(width: Width) -> UnaryInstruction
     }
 }
 
-// A comparison.
 fn compare(width: Width, op: Comparison) -> PackedOp
     ensures { PacksAlone result (plain.Numeric (Compare width op)) }
 {
@@ -158,7 +158,7 @@ fn compare(width: Width, op: Comparison) -> PackedOp
     }
 }
 
-// An operator on one integer.
+// Returns an operator on one integer.
 fn unary(width: Width, op: UnaryOp) -> UnaryInstruction
     ensures { unary_op result ≡ (Unary width op) }
 {
@@ -168,7 +168,7 @@ fn unary(width: Width, op: UnaryOp) -> UnaryInstruction
     }
 }
 
-// An operator on two integers.
+// Returns an operator on two integers.
 fn binary(width: Width, op: BinaryOp) -> PackedOp
     ensures { PacksAlone result (plain.Numeric (Binary width op)) }
 {
@@ -178,7 +178,7 @@ fn binary(width: Width, op: BinaryOp) -> PackedOp
     }
 }
 
-// An instruction on one integer.
+// Returns an instruction on one integer.
 fn on_one(instruction: UnaryInstruction) -> PackedOp
     ensures { PacksAlone result (plain.Numeric (unary_op instruction)) }
 {
@@ -198,7 +198,7 @@ pub fn numeric(op: NumericOp) -> PackedOp
     }
 }
 
-// A load from an offset.
+// Returns a load from an offset.
 pub fn load(op: LoadOp, offset: u32) -> PackedOp
     ensures { PacksAlone result (plain.Memory (Load op (at_offset offset))) }
 {
@@ -242,7 +242,7 @@ pub fn load(op: LoadOp, offset: u32) -> PackedOp
     }
 }
 
-// A store at an offset.
+// Returns a store at an offset.
 pub fn store(op: StoreOp, offset: u32) -> PackedOp
     ensures { PacksAlone result (plain.Memory (Store op (at_offset offset))) }
 {
@@ -312,9 +312,11 @@ pub fn variable(op: VariableOp) -> PackedOp
 }
 
 /// Packs an instruction on a table or an element segment. Fails where there is no memory for a pair of indices.
+#[tactic(auto, using(crate::proofs::Adding::adds_nothing))]
 pub fn table(tables: &mut SideTables, op: TableOp) -> Result<PackedOp, AllocError>
-    ensures grows { OnOk result (Grows tables.old tables.new) }
-    ensures packs { IfOk result (λ p. Packs tables.new p (Plain (plain.Table op))) }
+    ensures adds { OnOk result (Adds tables.old tables.new) }
+    ensures packs { IfOk result (λ p. (final : AnyTables) → HasAdded tables.old tables.new final
+        → Packs final p (Plain (plain.Table op))) }
 {
     let packed = match op {
         TableOp::Get(table) => PackedOp::Other(OtherInstruction::TableGet, table),

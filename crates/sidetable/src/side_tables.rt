@@ -1,10 +1,12 @@
 ghost use Rattle.std.specs.Prelude.{◌≡◌, ◌<◌, ◌++◌, ◌∷◌, [], length, IfOk, OnOk};
-ghost use Rattle.sidetable.specs.SideTables.{Grows, branch_range_of, constant_of, entry_of_number, pair_of};
+ghost use Rattle.sidetable.specs.Completion.{Adds, ChangesEntries, with_target};
+ghost use Rattle.sidetable.specs.SideTables.{constant_of, pair_of};
 
 use crate::operations::Entry;
 use std::alloc::{AllocError, Global};
 
-/// The labels of a branch by number: how many entries from the first on, and the number of the entry for all further numbers.
+/// The labels of a branch by number: the number of the first entry, the number of entries, and the number of the entry for all
+/// larger numbers.
 #[derive(Clone, Copy)]
 pub struct BranchRange {
     pub first: u32,
@@ -12,14 +14,14 @@ pub struct BranchRange {
     pub default: u32,
 }
 
-/// The two indices of an instruction that has two, in the order in which it names them.
+/// The two indices of an instruction that has two, in the order of the instruction.
 #[derive(Clone, Copy)]
 pub struct IndexPair {
     pub first: u32,
     pub second: u32,
 }
 
-/// What the operations of a module name by number, as eight bytes have no room for it.
+/// What the operations of a module name by number, because it does not fit in eight bytes.
 #[derive(Drop)]
 pub struct SideTables {
     pub entries: Vec<Entry>,
@@ -28,7 +30,7 @@ pub struct SideTables {
     pub pairs: Vec<IndexPair>,
 }
 
-/// A count as a number of 32 bits. Fails where it has more, as operations and entries are numbered so.
+/// Returns a count as a 32-bit number, by which operations and entries are numbered. Fails if it has more bits.
 pub fn number(count: usize) -> Result<u32, AllocError>
     ensures { IfOk result (λ n. n ≡ count) }
 {
@@ -39,7 +41,7 @@ pub fn number(count: usize) -> Result<u32, AllocError>
 }
 
 impl SideTables {
-    /// Empty side tables. Takes no memory.
+    /// Creates empty side tables. Allocates nothing.
     pub(crate) fn new(alloc: Global) -> SideTables {
         SideTables {
             entries: Vec::new(alloc),
@@ -49,34 +51,43 @@ impl SideTables {
         }
     }
 
-    /// Puts an entry behind the others, and answers its number.
+    /// Pushes an entry and returns its number.
     pub(crate) fn push_entry(&mut self, entry: Entry) -> Result<u32, AllocError>
-        ensures grows { OnOk result (Grows self.old self.new) }
-        ensures entries { OnOk result (self.new.entries.items ≡ self.old.entries.items
-            ++ entry ∷ []) }
-        ensures within { IfOk result (λ n. n < length self.new.entries.items) }
-        ensures entry { IfOk result (λ n. entry_of_number self.new n ≡ entry) }
+        ensures entries { OnOk result (ChangesEntries self.old self.new
+            (self.old.entries.items ++ entry ∷ [])) }
+        ensures number { IfOk result (λ n. n ≡ length self.old.entries.items) }
     {
         let place = number(self.entries.len())?;
         self.entries.push(entry)?;
         Ok(place)
     }
 
-    /// Puts a branch's range behind the others, and answers its number.
+    /// Sets the target of the entry with this number.
+    pub(crate) fn set_target(&mut self, number: u32, target: u32)
+        requires { number < length self.old.entries.items }
+        ensures { ChangesEntries self.old self.new
+            (with_target self.old.entries.items number target) }
+    {
+        self.entries[number as usize].target = target;
+    }
+
+    /// Pushes the range of a branch and returns its number.
     pub(crate) fn push_branch_range(&mut self, range: BranchRange) -> Result<u32, AllocError>
-        ensures grows { OnOk result (Grows self.old self.new) }
-        ensures entries { self.new.entries.items ≡ self.old.entries.items }
-        ensures within { IfOk result (λ n. n < length self.new.branch_ranges.items) }
-        ensures range { IfOk result (λ n. branch_range_of self.new n ≡ range) }
+        ensures ranges { OnOk result (self.new.branch_ranges.items
+            ≡ self.old.branch_ranges.items ++ range ∷ []) }
+        ensures entries { self.new.entries ≡ self.old.entries }
+        ensures constants { self.new.constants ≡ self.old.constants }
+        ensures pairs { self.new.pairs ≡ self.old.pairs }
+        ensures number { IfOk result (λ n. n ≡ length self.old.branch_ranges.items) }
     {
         let place = number(self.branch_ranges.len())?;
         self.branch_ranges.push(range)?;
         Ok(place)
     }
 
-    /// Puts a constant behind the others, and answers its number.
+    /// Appends a constant, and returns its number.
     pub(crate) fn push_constant(&mut self, constant: u64) -> Result<u32, AllocError>
-        ensures grows { OnOk result (Grows self.old self.new) }
+        ensures adds { OnOk result (Adds self.old self.new) }
         ensures within { IfOk result (λ n. n < length self.new.constants.items) }
         ensures constant { IfOk result (λ n. constant_of self.new n ≡ constant) }
     {
@@ -85,9 +96,9 @@ impl SideTables {
         Ok(place)
     }
 
-    /// Puts a pair of indices behind the others, and answers its number.
+    /// Appends a pair of indices, and returns its number.
     pub(crate) fn push_pair(&mut self, first: u32, second: u32) -> Result<u32, AllocError>
-        ensures grows { OnOk result (Grows self.old self.new) }
+        ensures adds { OnOk result (Adds self.old self.new) }
         ensures within { IfOk result (λ n. n < length self.new.pairs.items) }
         ensures pair { IfOk result (λ n. ((pair_of self.new n).first ≡ first)
             × ((pair_of self.new n).second ≡ second)) }

@@ -1,4 +1,4 @@
--- Steps of instructions, once their operands were taken off.
+-- Steps of instructions, after their operands were popped.
 use Rattle.std.proofs.Common.{◌≡◌, ℕ, suc, ◌<◌, List, [], ◌∷◌, ◌++◌, length, map, take, refl, sym, subst, ◌∙◌, arith, inl}
 use Rattle.std.specs.Prelude.{Some, Result, Ok, Err}
 use Rattle.core_types.specs.declared.op.PlainOp.{PlainOp}
@@ -22,7 +22,7 @@ use Rattle.simulation.proofs.Operands.{Popped, none-popped}
 use Rattle.simulation.proofs.Plain.{AtPlain, CostsOne, advance, at-plain, dear-here, fails-here, high-then}
 
 module _ (op : PlainOp) (g : Ghost) (cells : List ℕ) (at top : ℕ) (p : AtPlain op g cells at top) where
-  -- Where the step goes on, it costs one unit of fuel.
+  -- If the step continues, it costs one unit of fuel.
   pub dear-goes : (store' : Store) (locals values : List Val) → step_instruction g.store (frame_of g) op p.values p.rest ≡ Goes 1 store' (record { instance = Some g.instance; locals = locals }) (Running values p.rest) → IsDear g cells at top
   dear-goes store' locals values goes = dear-here op g cells at top p (subst CostsOne (sym goes) refl)
 
@@ -38,7 +38,7 @@ module _ (op : PlainOp) (g : Ghost) (cells : List ℕ) (at top : ℕ) (p : AtPla
         advance op g cells at top p 1 g.store g.locals (v ∷ w.others) (inl goes) refl (counts n 1) counted (omega (arith, count)) refl cells' at' top' fuel left size at_is (omega (arith, top_new, top_is, count, low_is))
         (rw top_new (pile-push cells (map cell_of g.locals) low v (w.others ++ values_under p.labels) w.held cells' (suc low) put')) enough left_is
 
-    -- Nothing in their place.
+    -- No value in their place.
     pub goes-on : (store' : Store) → store'.instances ≡ g.store.instances → counts_of g.code.signatures op ≡ Some (counts n 0)
         → step_instruction g.store (frame_of g) op p.values p.rest ≡ Goes 1 store' (frame_of g) (Running w.others p.rest) → IsKept g store' cells at low
     goes-on store' instances counted goes cells' at' top' fuel left kept size at_is top_new enough left_is =

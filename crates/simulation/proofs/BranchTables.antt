@@ -32,7 +32,7 @@ use Rattle.simulation.proofs.Typed.{Inner, Settled, inner, on, settled, with_lab
 fits-same : (given : List OperandType) (types others : List ValType) → given ≡ known types → AllFit given (known others) → others ≡ types
 fits-same given types others is fits = known-same others types (known-fits types (known others) (rw is at fits))
 
--- The label that is chosen fits.
+-- The selected label fits.
 chosen-fits : (context : Context) (given : List OperandType) (t : BranchTable) (n : ℕ) → All (FitsLabel context given) t.labels → FitsLabel context given t.default → FitsLabel context given (get_or t.labels n t.default)
 chosen-fits context given t n all last = elim (slice_get_cases t.labels n).1 [
   | inl w ↦ all n t.default w.1

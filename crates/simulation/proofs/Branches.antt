@@ -36,7 +36,7 @@ use Rattle.simulation.proofs.Typed.{Arities, Inner, Settled, all-length, inner, 
 
 -- ---- labels
 
--- The label of a number carries as many values as its arity says.
+-- The label of a number carries as many values as its arity.
 arity-at : (labels : List Label) (carried : List (List ValType)) → Arities labels carried → (l : ℕ) (types : List ValType) → slice_get carried l ≡ Some types → (suc l ≤ length labels) × ((inner : List Label) (label : Label) (outer : List Label) → labels ≡ inner ++ (label ∷ outer) → length inner ≡ l → label.arity ≡ length types)
 arity-at [] [] arities l types is = absurd cc
 arity-at [] (c ∷ cs) arities l types is = absurd arities
@@ -63,7 +63,7 @@ sum-joined [] outer = omega arith
 sum-joined (label ∷ inner) outer = let further = sum-joined inner outer in omega arith
 
 module _ (store : Store) (frame : Frame) (kept : List Val) (label : Label) (outer : List Label) (le : label.arity ≤ length kept) where
-  -- A branch goes through the labels inside of the one that it is to, and lands.
+  -- A branch leaves the labels within its target, and lands.
   branch-through : (inner : List Label) (x : Configuration) → next store frame x ≡ Branches (length inner) kept
       → next store frame (inside_labels (inner ++ (label ∷ outer)) x) ≡ Goes 1 store frame (in_frame (take label.arity kept ++ label.values) outer (continue_with label.continuation label.rest))
   branch-through [] x e = labels-go store frame outer 1 store frame (InLabel label x) _ (ap (step_in_label store frame label) e ∙ if-at-most label.arity (length kept) _ NotReady le)
@@ -72,7 +72,7 @@ module _ (store : Store) (frame : Frame) (kept : List Val) (label : Label) (oute
 -- ---- landing
 
 module _ (g : Ghost) (cells : List ℕ) (at top : ℕ) where
-  -- Where a branch with this entry, over the cells up to a height, leads once the values kept were moved.
+  -- Where a branch with this entry leads, with the cells up to a height, after the kept values were moved.
   abbrev pub LandsBy : (above : ℕ) → Entry → Type 0
   LandsBy = IsLanded g cells at top
 
@@ -130,7 +130,7 @@ module _ (g : Ghost) (cells : List ℕ) (at top : ℕ) where
       subst (λ (x : Entry). LandsBy top x) (ap (λ (es : List Entry). entry_at g.code.outermost es l) same_entries ∙ sym entry)
       (lands s.values s.labels (Then (plain.Control (control.Br l)) rest) r leaves s.values top r.holds.held r.holds.top_is (top-within _ cells at top r) l refl f.carried f.arities types label (omega arith))
 
-  -- br_if: the cell is there, and what zero and another number lead to.
+  -- br_if: the cell exists, and what zero and another number lead to.
   pub branches-if : (e : Entry) → IsBefore (BrIf e) g cells at top
       → (1 ≤ top) × (top ≤ length cells) × (get_or cells (top - 1) 0 ≡ 0 → Charged g cells at top (suc at) (top - 1)) × ((get_or cells (top - 1) 0 ≡ 0 → ⊥) → LandsBy (top - 1) e)
   branches-if e b =

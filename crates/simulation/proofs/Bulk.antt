@@ -49,9 +49,9 @@ module _ (store : Store) (frame : Frame) (count address : ℕ) (m : MemoryInstan
   grow-effect true values = refl
   grow-effect false values = refl
 
--- ---- what is there
+-- ---- what exists
 
--- The data segment that the context has is there.
+-- The data segment of the context exists.
 data-there : (g : Ghost) → StoreIsValid g.store → (carried : List (List ValType)) (x : ℕ) → x < (context_at g.store (with_labels (place_of g) carried)).datas → (address : ℕ) × (d : DataInstance) × HasData g x address d
 data-there g valid carried x inside =
     let addresses = (instance_of g.store (Some g.instance)).datas in

@@ -46,7 +46,7 @@ implementation-costs store lent t values rest typed (InHost number) =
     let same : are_same_types (map type_of (topmost t.params values)) t.params ≡ true = types_decided true (map type_of (topmost t.params values)) t.params (λ yes. types-of-values store (topmost t.params values) t.params typed, λ e. refl) in
     rw same refl
 
--- A call in place costs as much.
+-- A call in place costs the same.
 in-place-costs : (outer : Frame) (n : Next) → CostsOne n → price (in_place outer n) ≡ 1
 in-place-costs outer (Goes cost store frame c) costs = costs
 in-place-costs outer (Grows cost store frame c) costs = costs
@@ -55,7 +55,7 @@ in-place-costs outer (CallsHost cost number lent arguments c) costs = costs
 in-place-costs outer (Traps cost trap) costs = costs
 in-place-costs outer other costs = absurd costs
 
--- What costs one unit in a frame costs one around it.
+-- A step that costs one unit in a frame costs one unit around it.
 frame-costs : (store : Store) (outer own : Frame) (activation : Activation) (n : Next) → CostsOne n → price (step_in_frame store outer activation own n) ≡ 1
 frame-costs store outer own activation (Goes cost store' frame' c) costs = costs
 frame-costs store outer own activation (Grows cost store' frame' c) costs = costs
@@ -91,7 +91,7 @@ module _ (op : PlainOp) (g : Ghost) (cells : List ℕ) (at top : ℕ) (p : AtPla
   module _ (address : ℕ) (function : FunctionInstance) (there : slice_get g.store.functions address ≡ Some function)
       (values : List Val) (height over : ℕ) (top_is : top ≡ height + over) (holds : Holds (record (here op g cells at top p) { values = values }) cells height)
       (below : List ValType) (typed : ValuesHaveTypes g.store values (reverse function.ty.params ++ below)) where
-    -- The arguments lie up to the height.
+    -- The arguments are below the height.
     pub arguments-fit : HasOperands (here op g cells at top p) cells height function.ty.params
     arguments-fit =
         let within = top-within _ cells at top p.runs in
@@ -135,7 +135,7 @@ module _ (op : PlainOp) (g : Ghost) (cells : List ℕ) (at top : ℕ) (p : AtPla
     module _ (counted : counts_of g.code.signatures op ≡ Some (counts (over + length function.ty.params) (length function.ty.results)))
         (f : Inner (here op g cells at top p)) (runs : RunsOn g.store (with_labels (place_of g) f.carried) p.rest (reverse function.ty.results ++ below) f.given)
         (step : step_instruction g.store (frame_of g) op p.values p.rest ≡ call_function 1 g.store (lent_memory g.store (frame_of g)) (Some function) values p.rest) where
-      -- With results on what lies below the arguments, what is left is typed.
+      -- With results on what is below the arguments, the rest is typed.
       pub goes-behind : (results : List Val) → ValuesHaveTypes g.store results function.ty.results
           → ConfigurationHasType g.store (place_of g) (in_frame (reverse results ++ drop (length function.ty.params) values) p.labels p.rest) g.results
       goes-behind results fit =
@@ -159,7 +159,7 @@ module _ (op : PlainOp) (g : Ghost) (cells : List ℕ) (at top : ℕ) (p : AtPla
       abbrev pub tail-calling : IsTailCalling op address function g cells at top height
       tail-calling = record { reached = reaching; results = results; step = step }
 
-      -- It costs one at its frame.
+      -- The tail call costs one unit at its frame.
       pub tail-call-around : Around
       tail-call-around outer activation =
           let few = enough g.store p.runs.typed.valid outermost function.ty values below typed in
@@ -172,7 +172,7 @@ module _ (op : PlainOp) (g : Ghost) (cells : List ℕ) (at top : ℕ) (p : AtPla
 -- ---- by name
 
 module _ (g : Ghost) (cells : List ℕ) (at top x : ℕ) (p : AtPlain (plain.Control (control.Call x)) g cells at top) where
-  -- The function is there, and the call is of it.
+  -- The function exists, and the call is of it.
   record Named : Type 0 where
     pub inside : Inner (here (plain.Control (control.Call x)) g cells at top p)
     pub address : ℕ
@@ -221,10 +221,10 @@ calls-by-name g cells at top x b =
     let n : Named g cells at top x p = find-named g cells at top x p in
     ((n.address, n.function, n.named, named-call g cells at top x p n), named-around g cells at top x p n)
 
--- ---- by name, last
+-- ---- by name, as a tail call
 
 module _ (g : Ghost) (cells : List ℕ) (at top x : ℕ) (p : AtPlain (plain.Control (control.ReturnCall x)) g cells at top) where
-  -- The function is there, and the tail call is of it.
+  -- The function exists, and the tail call is of it.
   record NamedLast : Type 0 where
     pub address : ℕ
     pub function : FunctionInstance

@@ -1,4 +1,4 @@
--- Frames over frames.
+-- Frames above frames.
 use Rattle.std.proofs.Common.{◌≡◌, ℕ, ◌≤◌, List, [], ◌∷◌, ◌++◌, length, map, reverse, take, drop, refl, ap, sym, ◌∙◌, arith, length-append}
 use Rattle.std.proofs.lemmas.List.{drop_at, length-take-le, take_at}
 use Rattle.std.specs.Prelude.{Option, Some}
@@ -74,7 +74,7 @@ module _ (store : Store) (layers : List Layer) (outer own : Frame) (arity : ℕ)
 
 -- ---- tail calls
 
--- The arguments on what was under a frame.
+-- The arguments on what was below a frame.
 abbrev pub arguments_on : FuncType → (others under : List Val) → List Val
 arguments_on t others under = take (length t.params) others ++ under
 

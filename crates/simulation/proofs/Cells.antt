@@ -18,7 +18,7 @@ use Rattle.simulation.specs.Piles.{cells_of}
 pub cells-length : (values : List Val) → length (cells_of values) ≡ length values
 cells-length values = length-reverse (map cell_of values) ∙ length-map values cell_of
 
--- One more on top.
+-- One more value on top.
 pub cells-push : (v : Val) (values : List Val) → cells_of (v ∷ values) ≡ cells_of values ++ (cell_of v ∷ [])
 cells-push v values = reverse-append (cell_of v ∷ []) (map cell_of values)
 
@@ -28,7 +28,7 @@ cells-joined first second = ap reverse (map-append cell_of first second) ∙ rev
 -- ---- a pile of cells over others
 
 module _ (cells base : List ℕ) (top : ℕ) where
-  -- The first cells are these, and those of values.
+  -- The cells are these first ones, followed by those of values.
   abbrev pub Piled : List Val → Type 0
   Piled all = take top cells ≡ base ++ cells_of all
 
@@ -61,7 +61,7 @@ module _ (cells base : List ℕ) (top : ℕ) where
   pub pile-base : (all : List Val) (x : ℕ) → Piled all → x < length base → x < top → get_or cells x 0 ≡ get_or base x 0
   pile-base all x held inside lower = sym (get_or-take top cells x 0 lower) ∙ ap (λ (z : List ℕ). get_or z x 0) held ∙ get_or_append_left base (cells_of all) 0 x inside
 
-  -- So many values stay on top of those at a height.
+  -- That many values stay on top of those at a height.
   pub pile-land : (kept : ℕ) (own gone lower : List Val) → Piled (own ++ (gone ++ lower)) → kept ≤ length own → top ≡ length base + (length own + (length gone + length lower)) → top ≤ length cells
       → (to : ℕ) → to ≡ length base + length lower → (cells' : List ℕ) → take (to + kept) cells' ≡ take to cells ++ take kept (drop (top - kept) cells)
       → take (to + kept) cells' ≡ base ++ cells_of (take kept own ++ lower)

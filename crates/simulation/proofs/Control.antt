@@ -45,7 +45,7 @@ module _ (g : Ghost) (cells : List ℕ) (at top : ℕ) (values : List Val) (labe
         typed = typed-then (on g g.locals values labels rest) r.typed cost g.store g.locals values' labels' rest' refl (inl goes);
       })
 
-  -- Without fuel for it.
+  -- Without fuel for the step.
   pub dear : (cost : ℕ) (c : Configuration) (frame : Frame) → next g.store (frame_of g) (in_frame values labels rest) ≡ Goes cost g.store frame c → (fuel : ℕ) → fuel < cost → Lacks g fuel cells at top fuel
   dear cost c frame goes fuel few = record {
     leads = record {
@@ -77,7 +77,7 @@ enter-goes : (store : Store) (frame : Frame) (kind : Kind) (type : BlockType) (t
 enter-goes store frame kind type t inside rest values le = if-at-most (length t.params) (length values) _ NotReady le
 
 module _ (g : Ghost) (cells : List ℕ) (at top : ℕ) where
-  -- Inside of a new label, which takes its parameters.
+  -- Within a new label, which takes its parameters.
   pub label-entered : (values₀ : List Val) (rest₀ : Body) (labels : List Label) (r : Runs (on g g.locals values₀ labels rest₀) cells at top) (leaves : LeavesTo g.store (frame_of g) (config_of g) (in_frame values₀ labels rest₀))
       → (kind : Kind) (type : BlockType) (t : FuncType) (inside rest : Body) (values : List Val) → length t.params ≤ length values
       → next g.store (frame_of g) (Running values₀ rest₀) ≡ enter_label g.store (frame_of g) kind type (Some t) inside values rest
@@ -98,7 +98,7 @@ module _ (g : Ghost) (cells : List ℕ) (at top : ℕ) where
   label-dear values₀ rest₀ labels r leaves kind type t inside rest values le is fuel few =
       dear g cells at top values₀ labels rest₀ r leaves 1 _ _ (labels-go g.store (frame_of g) labels 1 g.store (frame_of g) (Running values₀ rest₀) _ (is ∙ enter-goes g.store (frame_of g) kind type t inside rest values le)) fuel few
 
-  -- What an operation that costs 1 does.
+  -- The step of an operation that costs 1.
   abbrev pub Charged : (at' top' : ℕ) → Type 0
   Charged = IsCharged g cells at top
 

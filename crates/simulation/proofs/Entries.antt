@@ -1,4 +1,4 @@
--- A call of code: the callee's machine, whose locals begin at the arguments where they lie.
+-- A call of code: the callee's machine, whose locals begin with the arguments in their cells.
 use Rattle.std.proofs.Common.{◌≡◌, ℕ, ◌+◌, ◌-◌, ◌≤◌, List, [], ◌++◌, length, map, reverse, take, drop, replicate, refl, ap, sym, ◌∙◌, arith, length-append}
 use Rattle.std.specs.Prelude.{Some}
 use Rattle.std.proofs.lemmas.List.{append-nil, length-map, length-reverse, length-take-le, map-append, reverse-reverse, take-append-le}
@@ -54,7 +54,7 @@ module _ (g : Ghost) (cells : List ℕ) (top : ℕ) (valid : StoreIsValid g.stor
     functions = functions;
   }
 
-  -- The callee's frame begins at the arguments, and its other locals are zero.
+  -- The callee's frame begins with the arguments, and its other locals are zero.
   pub call-enters : (cells' : List ℕ) → take (length t.params + length code.locals) cells' ≡ take (length t.params) (drop (top - length t.params) cells) ++ replicate (length code.locals) 0
       → new.code.greatest ≤ length cells' → Runs new cells' at (length t.params + length code.locals)
   call-enters cells' filled room = record {

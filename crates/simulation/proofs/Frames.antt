@@ -1,4 +1,4 @@
--- Frames: how their code is entered, and what steps in them are for the whole.
+-- Frames: how their code is entered, and what steps in them mean for the whole.
 use Rattle.std.proofs.Common.{◌≡◌, ℕ, suc, ◌+◌, ◌-◌, ◌≤◌, List, [], ◌∷◌, ◌++◌, length, drop, refl, subst, ◌∙◌, arith, append_assoc, length-append, inl, inr}
 use Rattle.std.proofs.lemmas.List.{length-map}
 use Rattle.std.specs.Prelude.{Option, Some}
@@ -25,7 +25,7 @@ use Rattle.simulation.proofs.Heights.{last-typed}
 use Rattle.simulation.proofs.Places.{past-flat}
 use Rattle.simulation.proofs.Steps.{advanced, entered}
 
--- The code of a function is entered inside of its label, behind which its frame is left.
+-- The code of a function is entered within its label, after which its frame is left.
 pub functions-entered : (context : Context) (s : Signatures) → context.types ≡ s.types → context.functions ≡ s.functions → (t : FuncType) (body : Body)
     → HasType context body [] (known t.results) → (ops : List FlatOp) (locals at : ℕ) → BeginsAt s ops locals (length t.results) at body
     → StandsIn (code_at s ops locals (length t.results) at body) at [] (function_label (length t.results) ∷ []) body
@@ -63,7 +63,7 @@ functions-entered context s types functions t body typed ops locals at (more, pl
     here : StandsAt f (e ∷ []) locals at body (at + size body) (locals + n)
     here = record { more = Leave n ∷ more; placed = behind; ends = refl; lasts = lasts; room = omega arith }
 
--- With whatever host functions there are.
+-- With any host functions.
 module _ {H : Type 0} (HostStep : List H → ℕ → Option ℕ → List Val → Store → Answer → Store → List H → Type 0) (hosts : List H) (bound : ℕ) (layers : List Layer) (outside : (f : Frame) → outermost layers f ≡ no_frame) where
   abbrev state : Store → (fuel : ℕ) → State H
   state store fuel = record { store = store; hosts = hosts; fuel = fuel }

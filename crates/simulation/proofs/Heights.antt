@@ -30,13 +30,13 @@ use Rattle.sidetable.specs.declared.counts.Counts.{Counts}
 use Rattle.sidetable.specs.Flat.{behind_height, inside_height}
 use Rattle.simulation.specs.Standing.{EndsAt, conditions, last_height}
 
--- An instruction of these counts may take the operands and give the results.
+-- An instruction with these counts can take the operands and give the results.
 abbrev pub Counted : Option Counts → List OperandType → List OperandType → Type 0
 Counted None operands results = Unit {0}
 Counted (Some c) operands results = (c.takes ≤ length operands) × (length operands - c.takes + c.gives ≡ length results)
 
 module _ (operands results : List OperandType) where
-  -- Of exactly this many.
+  -- Exactly this many.
   exactly : (takes gives : ℕ) → length operands ≡ takes → length results ≡ gives → (takes ≤ length operands) × (length operands - takes + gives ≡ length results)
   exactly takes gives first second = (omega arith, omega arith)
 
@@ -140,7 +140,7 @@ last-none s (Nested LoopKind type inner rest) = last-none s rest
 last-none s (Nested IfKind type inner rest) = last-none s rest
 last-none s (IfElse type inner other rest) = last-none s rest
 
--- The height inside of a block that is reached, and behind it.
+-- The height within a block that is reached, and after it.
 pub inside-known : (kind : Kind) (h : ℕ) → inside_height kind (Some h) ≡ Some (h - conditions kind)
 inside-known BlockKind h = let same : h ≡ h - 0 = omega arith in ap Some same
 inside-known LoopKind h = let same : h ≡ h - 0 = omega arith in ap Some same
@@ -162,7 +162,7 @@ module _ (context : Context) (s : Signatures) (types : context.types ≡ s.types
     ap length frame.after_is ∙ length-append frame.below results,
   )
 
-  -- Behind an instruction.
+  -- After an instruction.
   behind-counts : (u : ℕ) (operands results before between : List OperandType) (c : Option Counts) → Counted c operands results → TakesAndGives operands results before between
       → (goal : Option ℕ → Type 0) → goal None → ((h : ℕ) → h ≡ u + length between → goal (Some h)) → (h : ℕ) → h ≡ u + length before → goal (behind c (Some h))
   behind-counts u operands results before between None counted frame goal none some h is = none

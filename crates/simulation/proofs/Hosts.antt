@@ -1,4 +1,4 @@
--- Calls of functions of the host.
+-- Calls of host functions.
 use Rattle.std.proofs.Common.{◌≡◌, ℕ, suc, ◌+◌, ◌-◌, ◌≤◌, List, [], ◌∷◌, ◌++◌, true, length, map, take, drop, reverse, refl, ap, sym, subst, ◌∙◌, arith, append_assoc, length-append, take-append-drop}
 use Rattle.std.proofs.lemmas.List.{length-drop, length-map, length-reverse, reverse-reverse, take-append-le, take-take}
 use Rattle.std.proofs.Math.Seq.{take-append_seam}

@@ -36,7 +36,7 @@ positive zero never = absurd (never refl)
 positive (suc m) never = (m, refl)
 
 module _ (g : Ghost) (cells : List ℕ) (at top : ℕ) where
-  -- What the cell of a condition says.
+  -- What the cell of a condition determines.
   pub record Conditioned (values₀ : List Val) (labels : List Label) : Type 0 where
     pub n : ℕ
     pub values : List Val
@@ -66,7 +66,7 @@ module _ (g : Ghost) (cells : List ℕ) (at top : ℕ) where
         top_is = omega arith;
       }
 
-  -- The cell is there, and what zero and another number lead to.
+  -- The cell exists, and what zero and another number lead to.
   abbrev pub Chooses : (e : Entry) → Type 0
   Chooses e = IsChosen cells top (IsCharged g cells at top e.target (top - 1)) (IsCharged g cells at top (suc at) (top - 1))
 
@@ -175,7 +175,7 @@ module _ (g : Ghost) (cells : List ℕ) (at top : ℕ) where
           (runs₀.holds.held ∙ ap (λ (vs : List Val). map cell_of g.locals ++ cells_of vs) (sym (append_assoc s.values label.values (values_under outer))))
           (omega arith) (omega arith) (omega arith)
 
-  -- A jump goes onward.
+  -- A jump moves forward.
   pub jump-later : (e : Entry) → IsBefore (Jump e) g cells at top → at < e.target
   jump-later e b =
       let s : Settled g cells at top = settled g cells at top b.runs in

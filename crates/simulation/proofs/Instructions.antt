@@ -1,4 +1,4 @@
--- Instructions that name nothing of the store, but for functions: on values, and on their cells.
+-- Instructions that name nothing of the store except functions: on values, and on their cells.
 use Rattle.std.proofs.Common.{◌≡◌, ◌⊎◌, ℕ, zero, suc, ◌+◌, ◌-◌, ◌≤◌, List, [], ◌∷◌, get_or, refl, ap, sym, subst, ◌∙◌, arith, inl, inr}
 use Rattle.std.specs.Prelude.{Some}
 use Rattle.core_types.specs.declared.op.ControlOp.TheVariants.{Nop, Unreachable}
@@ -56,7 +56,7 @@ always-fails g cells at top b =
 
 -- ---- parametric instructions
 
--- The type of an operand that is taken off known types is known.
+-- The type of an operand that is popped from known types is known.
 first-known : (stack : List ValType) (operands results between : List OperandType) → TakesAndGives operands results (known stack) between → (t : OperandType) (others : List OperandType) → operands ≡ t ∷ others → (u : ValType) × (t ≡ Known u)
 first-known stack operands results between frames t others is =
     let (below, given, parts, known_are, after) = taken operands results stack between frames in by given (sym is ∙ known_are)
@@ -82,7 +82,7 @@ written-select (plain.Parametric o) is = inl (sym is)
 written-select (plain.SelectTyped types) is = inr (types, refl)
 written-select other is = absurd cc
 
--- Whatever the topmost cell is, a step.
+-- A step for any topmost cell.
 select-costs : (store : Store) (frame : Frame) (n : ℕ) (second first : Val) (values : List Val) (rest : Body) → CostsOne (continue_after frame (select_operand store frame (I32 n ∷ (second ∷ (first ∷ values)))) rest)
 select-costs store frame zero second first values rest = refl
 select-costs store frame (suc n) second first values rest = refl

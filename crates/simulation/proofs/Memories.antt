@@ -35,11 +35,11 @@ use Rattle.simulation.proofs.Operands.{Operands, Popped, operands-here}
 use Rattle.simulation.proofs.Plain.{AtPlain, CostsOne, at-plain, at-written, dear-here, fails-here, found, here}
 use Rattle.simulation.proofs.Typed.{Inner, with_labels}
 
--- ---- what is written
+-- ---- how it was written
 
 module _ (offset : ℕ) where
   module _ (op : LoadOp) where
-    -- A load was written with any alignment.
+    -- A load may have been written with any alignment.
     abbrev IsLoad : PlainOp → Type 0
     IsLoad written = (argument : MemArg) × (written ≡ plain.Memory (memory.Load op argument)) × (argument.offset ≡ offset)
 
@@ -51,7 +51,7 @@ module _ (offset : ℕ) where
     written-load other is = absurd cc
 
   module _ (op : StoreOp) where
-    -- So was a store.
+    -- So may a store.
     abbrev IsStore : PlainOp → Type 0
     IsStore written = (argument : MemArg) × (written ≡ plain.Memory (memory.Store op argument)) × (argument.offset ≡ offset)
 
@@ -64,7 +64,7 @@ module _ (offset : ℕ) where
 
 -- ---- the memory
 
--- The memory that the context has is there.
+-- The memory of the context exists.
 pub memory-there : (g : Ghost) → StoreIsValid g.store → (carried : List (List ValType)) → HasMemoryType (context_at g.store (with_labels (place_of g) carried)) → (address : ℕ) × (m : MemoryInstance) × HasMemory g address m
 memory-there g valid carried (limits, has) =
     let (address, m, is, there, same) = types-found _ _ g.store.memories (instance_of g.store (Some g.instance)).memories 0 limits (instance-valid g.store valid (Some g.instance)).memories has in

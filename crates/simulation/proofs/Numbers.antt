@@ -38,7 +38,7 @@ puts-i64 n = puts-one (I64Const n) (tt {0}) n (I64 n) refl (λ s. refl) (λ stor
 
 -- ---- operators
 
--- As many operands and results as its type has.
+-- The numbers of operands and results are those of its type.
 numeric-counted : (op : NumericOp) → numeric_counts op ≡ counts (length (numeric_instruction_type op).params) (length (numeric_instruction_type op).results)
 numeric-counted (Eqz width) = refl
 numeric-counted (Compare width op) = refl
@@ -54,7 +54,7 @@ module _ (store : Store) (frame : Frame) (rest : Body) where
   result-costs integer (Ok n) values = refl
   result-costs integer (Err trap) values = refl
 
-  -- On values of its types it goes on or traps.
+  -- On values of its types it continues or traps.
   numeric-costs : (op : NumericOp) (cells : List ℕ) (top : ℕ) (others : List Val)
       → CostsOne (continue_after frame (numeric_effect store frame op (operands_of cells top 0 (reverse (numeric_instruction_type op).params) ++ others)) rest)
   numeric-costs (Eqz W32) cells top others = refl
@@ -72,7 +72,7 @@ module _ (store : Store) (frame : Frame) (rest : Body) where
 
 module _ (g : Ghost) (cells : List ℕ) (at top : ℕ) (op : NumericOp) (ts : List ValType) (r : ValType) (params : reverse (numeric_instruction_type op).params ≡ ts) (many : length (numeric_instruction_type op).params ≡ length ts)
     (results_are : (numeric_instruction_type op).results ≡ r ∷ []) (b : IsBefore (Plain (Numeric op)) g cells at top) where
-  -- The result of an operator on operands of these types, the top first, whatever lies below them.
+  -- The result of an operator on operands of these types, the top first, whatever is below them.
   computes : (length ts ≤ top) × (top ≤ length cells) × AreOperands cells top 0 ts
       × ((result : Result ℕ Trap) → ((values : List Val) → numeric_effect g.store (frame_of g) op (operands_of cells top 0 ts ++ values) ≡ push_result g.store (frame_of g) (value_of r) result values)
       → IsAnswered g cells at top (top - length ts) result)

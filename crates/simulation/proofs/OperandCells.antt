@@ -33,7 +33,7 @@ module _ (cells : List ℕ) (top : ℕ) where
       let same : suc read + k ≡ read + suc k = omega arith in
       subst (λ (n : ℕ). IsCellOf (get_or ts k t) (get_or cells (top - suc n) 0)) same (each-fits (suc read) ts fits.1 k t (omega (arith, less)))
 
-  -- How many were read before the lowest one.
+  -- The number of operands that were read before the lowest one.
   last-read : (t : ValType) (types : List ValType) → suc (0 + length (reverse types)) ≡ suc (length types)
   last-read t types = let same = length-reverse types in omega arith
 

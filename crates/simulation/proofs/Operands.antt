@@ -32,12 +32,12 @@ cell-fits store few (ExternRef (Some x)) t typed = rw typed.0 (omega (arith, typ
 
 -- ---- cells in a row
 
--- The values of these types, the top first, whose cells lie below a height of which so many cells were read.
+-- The values of these types, the top first. Their cells are below a height, and that many of them were read.
 abbrev pub operands_of : List ℕ → (top read : ℕ) → List ValType → List Val
 operands_of cells top read [] = []
 operands_of cells top read (t ∷ ts) = value_of t (get_or cells (top - suc read) 0) ∷ operands_of cells top (suc read) ts
 
--- These cells are of the types.
+-- These cells have the types.
 abbrev pub AreOperands : List ℕ → (top read : ℕ) → List ValType → Type 0
 AreOperands cells top read [] = Unit {0}
 AreOperands cells top read (t ∷ ts) = IsCellOf t (get_or cells (top - suc read) 0) × AreOperands cells top (suc read) ts
@@ -74,7 +74,7 @@ module _ (store : Store) (few : length store.functions < 2 ^ 32) (cells base : L
 -- ---- operands of an instruction
 
 module _ (op : PlainOp) (g : Ghost) (cells : List ℕ) (at top : ℕ) (p : AtPlain op g cells at top) where
-  -- So many values are taken off, down to a height.
+  -- That many values are popped, down to a height.
   pub record Popped (n low : ℕ) : Type 0 where
     pub others : List Val
     pub count : length p.values ≡ n + length others

@@ -1,4 +1,4 @@
--- Outcomes of instructions: once their operands were taken off, and by their rules.
+-- Outcomes of instructions: after their operands were popped, and by their rules.
 use Rattle.std.proofs.Common.{◌≡◌, ℕ, ◌+◌, ◌-◌, ◌≤◌, List, [], ◌∷◌, ◌++◌, length, map, reverse, get_or, slice_get, refl, ap, sym, subst, ◌∙◌, arith, append_assoc, length-append, inl, inr}
 use Rattle.std.proofs.lemmas.List.{length-reverse}
 use Rattle.std.specs.Prelude.{Some}
@@ -78,7 +78,7 @@ step-on store frame (Table op) values rest is = refl
 step-on store frame (Memory op) values rest is = refl
 step-on store frame op values rest is = absurd is
 
--- As many operands and results as its type has.
+-- The numbers of operands and results are those of its type.
 counted-on : (s : Signatures) (g : Ghost) (op : PlainOp) → IsOnStore op → counts_of s op ≡ Some (counts (length (instruction_type g op).params) (length (instruction_type g op).results))
 counted-on s g (Table (table.Get x)) is = refl
 counted-on s g (Table (table.Set x)) is = refl
@@ -98,7 +98,7 @@ counted-on s g (Memory (memory.Init segment)) is = refl
 counted-on s g (Memory (memory.DataDrop segment)) is = refl
 counted-on s g op is = absurd is
 
--- The table that the frame's context has is there.
+-- The table of the frame's context exists.
 pub table-there : (g : Ghost) → StoreIsValid g.store → (carried : List (List ValType)) (x : ℕ) (t : RefType) → IsTable (context_at g.store (with_labels (place_of g) carried)) x t
     → (address : ℕ) × (held : TableInstance) × (table_at g.store (frame_of g) x ≡ Some (address, held)) × (held.ty.element ≡ t) × (slice_get g.store.tables address ≡ Some held)
 table-there g valid carried x t (ty, is, element) =
@@ -151,7 +151,7 @@ module _ (op : PlainOp) (is : IsOnStore op) (g : Ghost) (cells : List ℕ) (at t
       let (takes, gives, between, rule, frames, runs) = f.runs in
       (f.carried, takes, gives, rule)
 
-  -- Where it has this type it acts on its operands, read one by one from the top.
+  -- If it has this type, it acts on its operands, read one by one from the top.
   pub acts-by : (s : FuncType) → instruction_type g op ≡ s
       → HasOperands g cells top s.params
       × (top - length s.params + length s.results ≤ length cells)
@@ -179,7 +179,7 @@ module _ (op : PlainOp) (is : IsOnStore op) (g : Ghost) (cells : List ℕ) (at t
             ∙ ap (λ (e : Effect). continue_after (frame_of g) e stands-on.rest) (effect_is w.popped.others))),
       )
 
-  -- By each result of a function on them there is an outcome.
+  -- For each result of a function on them there is an outcome.
   pub answers-by : {T : Type 0} (s : FuncType) → instruction_type g op ≡ s → (held : T) (outcome : T → Outcome) → ((result : T) → IsOutcome g.store (length s.results) (outcome result))
       → ((result : T) (values : List Val) → held ≡ result → effect g.store (frame_of g) op (operands_of cells top 0 (reverse s.params) ++ values) ≡ effect_of (outcome result) g.locals values)
       → Answers g cells at top s.params held outcome

@@ -1,4 +1,4 @@
--- Where an instruction without a body stands, and its step: on values, and on their cells.
+-- Where an instruction without a body is, and its step: on values, and on their cells.
 use Rattle.std.proofs.Common.{◌≡◌, ℕ, suc, ◌+◌, ◌-◌, ◌<◌, ◌≤◌, List, [], ◌∷◌, ◌++◌, length, map, take, refl, ap, subst, ◌∙◌, arith}
 use Rattle.std.proofs.lemmas.List.{length-map}
 use Rattle.std.specs.Prelude.{Some}
@@ -26,7 +26,7 @@ use Rattle.simulation.proofs.Typed.{Inner, Settled, all-length, inner, leads-the
 
 -- ---- what a step costs
 
--- It goes on, calls or traps for so many units of fuel.
+-- The step continues, calls or traps for that many units of fuel.
 abbrev pub Costs : (units : ℕ) → Next → Type 0
 Costs units (Goes cost store frame c) = cost ≡ units
 Costs units (Grows cost store frame c) = cost ≡ units
@@ -35,7 +35,7 @@ Costs units (CallsHost cost number lent arguments c) = cost ≡ units
 Costs units (Traps cost trap) = cost ≡ units
 Costs units other = ⊥
 
--- For one unit.
+-- The same for one unit.
 abbrev pub CostsOne : Next → Type 0
 CostsOne = Costs 1
 
@@ -60,14 +60,14 @@ module _ (units : ℕ) where
   labels-cost store frame [] x costs = costs
   labels-cost store frame (label ∷ labels) x costs = labels-cost store frame labels (InLabel label x) (label-costs store frame label (next store frame x) costs)
 
--- A trap goes through labels.
+-- A trap leaves labels.
 labels-trap : (store : Store) (frame : Frame) (trap : Trap) (labels : List Label) (x : Configuration) → next store frame x ≡ Traps 1 trap → next store frame (inside_labels labels x) ≡ Traps 1 trap
 labels-trap store frame trap [] x e = e
 labels-trap store frame trap (label ∷ labels) x e = labels-trap store frame trap labels (InLabel label x) (ap (step_in_label store frame label) e)
 
--- ---- where an instruction stands
+-- ---- where an instruction is
 
--- The machine at an instruction, once labels were left.
+-- The machine at an instruction, after labels were left.
 pub record AtPlain (op : PlainOp) (g : Ghost) (cells : List ℕ) (at top : ℕ) : Type 0 where
   pub values : List Val
   pub labels : List Label
@@ -86,7 +86,7 @@ pub at-body-in : (g : Ghost) (cells : List ℕ) (at top : ℕ) (s : Settled g ce
 at-body-in g cells at top s body is =
     subst (λ (b : Body). (r : Runs (on g g.locals s.values s.labels b) cells at top) × LeavesTo g.store (frame_of g) (config_of g) (in_frame s.values s.labels b) × (r.stands.entries ≡ s.runs.stands.entries)) is (s.runs, s.leaves, refl)
 
--- The instruction that was written where this one stands.
+-- The instruction that was written where this one is.
 pub at-written : (op : PlainOp) (g : Ghost) (cells : List ℕ) (at top : ℕ) → IsBefore (Plain op) g cells at top → (written : PlainOp) × (op ≡ without_annotations written) × AtPlain written g cells at top
 at-written op g cells at top b =
     let s : Settled g cells at top = settled g cells at top b.runs in
@@ -117,7 +117,7 @@ module _ (g : Ghost) (cells : List ℕ) (at top : ℕ) (r : Runs g cells at top)
 -- ---- a step
 
 module _ (op : PlainOp) (g : Ghost) (cells : List ℕ) (at top : ℕ) (p : AtPlain op g cells at top) where
-  -- The machine before it, and what is typed there.
+  -- The machine before the instruction, and what is typed there.
   abbrev pub here : Ghost
   here = on g g.locals p.values p.labels (Then op p.rest)
 
@@ -145,11 +145,11 @@ module _ (op : PlainOp) (g : Ghost) (cells : List ℕ) (at top : ℕ) (p : AtPla
           typed = typed-then here p.runs.typed cost store' locals values p.labels p.rest instances goes_here;
         })
 
-  -- The height behind it is within the room.
+  -- The height after it is within the room.
   pub high-then : (c : Counts) → counts_of g.code.signatures op ≡ Some c → g.code.locals + (length p.values + under p.labels) - c.takes + c.gives ≤ g.code.greatest
   high-then c is = within g.code p.runs.stands.entries _ (suc at) p.rest p.runs.stands.end p.runs.stands.last (advanced g.code p.runs.stands.entries _ at op p.rest p.runs.stands.end p.runs.stands.last c is p.runs.stands.here)
 
-  -- It leads there for nothing.
+  -- The machine arrives there at no cost.
   abbrev leads-here : (fuel : ℕ) → Leads g fuel g.store cells at top fuel
   leads-here fuel = record {
     new = here;
@@ -159,7 +159,7 @@ module _ (op : PlainOp) (g : Ghost) (cells : List ℕ) (at top : ℕ) (p : AtPla
     runs = p.runs;
   }
 
-  -- Without fuel for it.
+  -- Without fuel for the step.
   pub lacks-here : (units : ℕ) → Costs units (step_instruction g.store (frame_of g) op p.values p.rest) → (fuel : ℕ) → fuel < units → Lacks g fuel cells at top fuel
   lacks-here units costs fuel few = record {
     leads = leads-here fuel;
@@ -169,7 +169,7 @@ module _ (op : PlainOp) (g : Ghost) (cells : List ℕ) (at top : ℕ) (p : AtPla
   pub dear-here : CostsOne (step_instruction g.store (frame_of g) op p.values p.rest) → IsDear g cells at top
   dear-here = lacks-here 1
 
-  -- Where a table or a memory grows.
+  -- If a table or a memory grows.
   pub asks-here : (cost : ℕ) (store' : Store) (frame' : Frame) (y : Configuration) → step_instruction g.store (frame_of g) op p.values p.rest ≡ Grows cost store' frame' y → (fuel : ℕ) → AsksToGrow g fuel cells at top cost
   asks-here cost store' frame' y grows fuel = record {
     leads = leads-here fuel;
@@ -179,7 +179,7 @@ module _ (op : PlainOp) (g : Ghost) (cells : List ℕ) (at top : ℕ) (p : AtPla
     grows = labels-grow g.store (frame_of g) p.labels cost store' frame' (Running p.values (Then op p.rest)) y grows;
   }
 
-  -- Where it traps.
+  -- If it traps.
   pub fails-here : (trap : Trap) → step_instruction g.store (frame_of g) op p.values p.rest ≡ Traps 1 trap → IsTrapped g cells at top trap
   fails-here trap traps fuel left enough left_is =
       let same : fuel ≡ left + 1 = omega arith in record {

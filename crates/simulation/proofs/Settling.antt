@@ -1,4 +1,4 @@
--- Labels that are left where the code is, and what stands there then.
+-- Labels that are left where the code is, and what is there then.
 use Rattle.std.proofs.Common.{◌≡◌, ℕ, ◌<◌, List, [], ◌∷◌, ◌++◌, length, drop, refl, ap, sym, subst, ◌∙◌, arith, append_assoc, inl, inr}
 use Rattle.core_types.specs.declared.op.ControlOp.{ControlOp}
 use Rattle.core_types.specs.declared.op.ControlOp.TheVariants as control
@@ -66,7 +66,7 @@ module _ (store : Store) (frame : Frame) where
         settled = record { onward = onward; later = later; kept = kept; height = height; more = more; placed = placed; stands = stands };
       }
 
--- ---- what stands there
+-- ---- what is there
 
 module _ (outermost : Entry) (entries : List Entry) (at : ℕ) (rest : Body) where
   of-control : (op : ControlOp) → BeginsWith outermost entries at (flat_op outermost entries (plain.Control op)) (Then (plain.Control op) rest)
@@ -93,7 +93,7 @@ module _ (outermost : Entry) (entries : List Entry) (at : ℕ) (rest : Body) whe
   of-op (plain.I32Const n) = (plain.I32Const n, rest, refl, refl)
   of-op (plain.I64Const n) = (plain.I64Const n, rest, refl, refl)
 
--- An instruction without annotations is written as it is.
+-- An instruction without annotations is written as itself.
 pub written-so : (op written : PlainOp) → op ≡ without_annotations written → HasNoAnnotations op → written ≡ op
 written-so op (plain.Control o) is h = sym is
 written-so op (plain.BrTable t) is h = sym is
@@ -118,7 +118,7 @@ written-so op (plain.I64Const n) is h = sym is
 firsts : (x y : FlatOp) (xs ys : List FlatOp) → x ∷ xs ≡ y ∷ ys → x ≡ y
 firsts x y xs ys e = cc
 
--- Where no label and nothing of the body is left.
+-- If no label and nothing of the body is left.
 pub at-leave : (f : FrameCode) (at : ℕ) (values : List Val) (s : StandsIn f at values [] Empty) → IsAtEnd f at
 at-leave f at values s =
     let end = s.here.ends in

@@ -1,4 +1,4 @@
--- What a step of a configuration does to where the code stands.
+-- The effect of a step of a configuration on the place of the code.
 use Rattle.std.proofs.Common.{◌≡◌, ℕ, zero, suc, ◌+◌, ◌-◌, ◌≤◌, max, List, [], ◌∷◌, ◌++◌, length, take, drop, refl, ap, subst, ◌∙◌, arith, append_assoc, length-append, length-take, length-drop, inl, inr}
 use Rattle.std.specs.Prelude.{Option, Some, slice_get}
 use Rattle.core_types.specs.declared.op.BlockType.{BlockType}
@@ -61,7 +61,7 @@ module _ (f : FrameCode) where
         subst (λ (x : Option ℕ). drop (suc at) f.operations ≡ flat f.signatures f.outermost (entry_for kind type h at after ∷ entries) x (suc at) inner ++ (flat f.signatures f.outermost entries (behind_height kind c (Some h)) after rest ++ s.more)) (inside-known kind h)
         (drop-next at f.operations _ _ s.placed ∙ append_assoc _ _ s.more)
 
-    -- Behind it.
+    -- After it.
     pub block-rest : StandsAt f entries (h - conditions kind - c.takes + c.gives) after rest end last
     block-rest = record {
       more = s.more;
@@ -72,7 +72,7 @@ module _ (f : FrameCode) where
       room = subst (λ (x : Option ℕ). greatest f.signatures x rest ≤ f.greatest) (behind-known kind c h) (max-second (greatest f.signatures (inside_height kind (Some h)) inner) _ f.greatest (max-second h _ f.greatest s.room));
     }
 
-    -- Inside of it.
+    -- Within it.
     pub block-inside : (inner_last : ℕ) → EndsAt (last_height f.signatures (Some (h - conditions kind)) inner) inner_last
         → StandsAt f (entry_for kind type h at after ∷ entries) (h - conditions kind) (suc at) inner after inner_last
     block-inside inner_last lasts = record {
@@ -95,7 +95,7 @@ module _ (f : FrameCode) where
     abbrev past : ℕ
     past = second + size other
 
-    -- Behind the first body.
+    -- After the first body.
     abbrev first_more : List FlatOp
     first_more = Jump (entry_of past d.gives (base_height IfKind d (Some h))) ∷
         (flat f.signatures f.outermost (entry_for IfKind type h at past ∷ entries) (Some (h - 1)) second other ++ flat f.signatures f.outermost entries (behind_height IfKind d (Some h)) past rest)
@@ -149,7 +149,7 @@ module _ (f : FrameCode) where
   at-height : (entries : List Entry) (h h' at : ℕ) (body : Body) (end last : ℕ) → h ≡ h' → StandsAt f entries h at body end last → StandsAt f entries h' at body end last
   at-height entries h h' at body end last e s = subst (λ (n : ℕ). StandsAt f entries n at body end last) e s
 
-  -- What a label is entered with.
+  -- The label, its values and its body at the entry.
   pub entered : (entry : Entry) (label : Label) (labels : List Label) (entries : List Entry) (at inside_end onward until end last : ℕ) (values : List Val) (body : Body)
       → entry.kept ≡ label.arity → entry.height ≡ f.locals + (length label.values + under labels) → GoesOnAt f inside_end onward
       → StandsAt f entries until onward label.rest end last
@@ -182,7 +182,7 @@ module _ (f : FrameCode) where
   split-length n values le = (length-take n values ∙ omega (arith, le), length-drop n values)
 
   module _ (at : ℕ) (values : List Val) (labels : List Label) (type : BlockType) (t : FuncType) (is : block_type f.signatures.types type ≡ Some t) (enough : length t.params ≤ length values) where
-    -- The height inside, under the conditions.
+    -- The height within the block, without the conditions.
     abbrev high : ℕ
     high = f.locals + (length values + under labels)
 
@@ -208,7 +208,7 @@ module _ (f : FrameCode) where
           s.around
           (at-height _ _ _ _ inner _ _ (omega arith) inside)
 
-      -- A loop, to whose start a branch goes.
+      -- A loop. A branch goes to its start.
       pub loop-entered : (typed : EndsAt (last_height f.signatures (Some high) inner) (high - length t.params + length t.results))
           → StandsIn f at values labels (Nested LoopKind type inner rest)
           → StandsIn f (suc at) (take (length t.params) values) (label_of LoopKind type t inner values rest ∷ labels) inner
@@ -245,7 +245,7 @@ module _ (f : FrameCode) where
             s.around
             (at-height _ _ _ _ inner _ _ (omega arith) inside)
 
-        -- Past it: the empty second body stands behind the first.
+        -- Past it: the empty second body follows the first.
         pub if-passed : (same : length t.params ≡ length t.results)
             → StandsIn f at (v ∷ values) labels (Nested IfKind type inner rest)
             → StandsIn f (suc at + size inner) (take (length t.params) values) (label_of IfKind type t Empty values rest ∷ labels) Empty
@@ -271,7 +271,7 @@ module _ (f : FrameCode) where
           from' : StandsAt f s.entries (base' + length t.results) past' rest s.end s.last
           from' = rw counted at (if-rest s.entries (f.locals + (suc (length values) + under labels)) at type inner other rest s.end s.last s.here)
 
-          -- The first body of an if with a second one, behind which a jump stands.
+          -- The first body of an if with a second one, followed by a jump.
           pub first-entered : (typed : EndsAt (last_height f.signatures (Some high) inner) (high - length t.params + length t.results))
               → StandsIn f (suc at) (take (length t.params) values) (label_of IfKind type t inner values rest ∷ labels) inner
           first-entered typed =
@@ -321,7 +321,7 @@ module _ (f : FrameCode) where
         },
       )
 
-  -- A label that is so many labels outward.
+  -- A label that is that many labels outward.
   pub record Reaches (l : ℕ) (labels : List Label) (entries : List Entry) : Type 0 where
     pub inner : List Label
     pub label : Label
@@ -374,7 +374,7 @@ module _ (f : FrameCode) where
         around = further.around;
       }
 
-  -- A branch to it lands.
+  -- A branch to the label lands.
   pub landed : (l : ℕ) (labels : List Label) (entries : List Entry) (to : Reaches l labels entries) (values : List Val) → to.entry.kept ≤ length values
       → StandsIn f to.entry.target (take to.label.arity values ++ to.label.values) to.outer (continue_with to.label.continuation to.label.rest)
   landed l labels entries to values le =

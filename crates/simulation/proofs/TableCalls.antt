@@ -48,7 +48,7 @@ use Rattle.simulation.proofs.Outcomes.{table-there}
 use Rattle.simulation.proofs.Plain.{AtPlain, CostsOne, at-plain, fails-here, found, here, pile-high, top-within}
 use Rattle.simulation.proofs.Typed.{Inner, with_labels}
 
--- What an instruction through a table does with a function and the values below the offset.
+-- The call of an instruction through a table, given a function and the values below the offset.
 abbrev Calling : Type 0
 Calling = Store → Frame → Body → List Val → FunctionInstance → Next
 
@@ -96,7 +96,7 @@ module _ (op : PlainOp) (type x : ℕ) (call : Calling)
       }
 
   module _ (wanted : FuncType) (below : List ValType) (t : Through wanted below) where
-    -- By the entry.
+    -- The step by the entry.
     entered : step_here ≡ call_entry g.store (call g.store (frame_of g) p.rest t.values) wanted (slice_get t.table.entries (get_or cells (top - 1) 0))
     entered =
         through g.store (frame_of g) p.values p.rest
@@ -135,7 +135,7 @@ module _ (op : PlainOp) (type x : ℕ) (call : Calling)
 
       module _ (address : ℕ) (function : FunctionInstance) (there : slice_get g.store.functions address ≡ Some function)
           (step : step_here ≡ call_of_type (call g.store (frame_of g) p.rest t.values) wanted (Some function)) where
-        -- By the type of the function.
+        -- The step by the type of the function.
         stepped : (b : Bool) → is_same_function_type function.ty wanted ≡ b → step_here ≡ (if b then call g.store (frame_of g) p.rest t.values function else Traps 1 IndirectType)
         stepped b is = step ∙ ap (λ (c : Bool). if c then call g.store (frame_of g) p.rest t.values function else Traps 1 IndirectType) is
 

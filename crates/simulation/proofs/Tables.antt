@@ -61,9 +61,9 @@ module _ (store : Store) (frame : Frame) where
     grow-effect true values = refl
     grow-effect false values = refl
 
--- ---- what is there
+-- ---- what exists
 
--- The element segment that the context has is there.
+-- The element segment of the context exists.
 elements-there : (g : Ghost) → StoreIsValid g.store → (carried : List (List ValType)) (x : ℕ) (t : RefType) → IsElement (context_at g.store (with_labels (place_of g) carried)) x t → (address : ℕ) × (e : ElementInstance) × HasElements g x address e
 elements-there g valid carried x t is =
     let (address, e, at_address, there, same) = types-found _ _ g.store.elements (instance_of g.store (Some g.instance)).elements x t (instance-valid g.store valid (Some g.instance)).elements is in

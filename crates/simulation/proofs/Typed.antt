@@ -46,7 +46,7 @@ module _ (g : Ghost) (t : IsTyped g) where
   good-then cost store' frame' c (inl e) = is-good _ e
   good-then cost store' frame' c (inr e) = is-good _ e
 
-  -- A step keeps it. Instances stay, and so do functions.
+  -- A step keeps the types. Instances stay, and so do functions.
   pub typed-then : (cost : ℕ) (store' : Store) (locals values : List Val) (labels : List Label) (rest : Body) → store'.instances ≡ g.store.instances
       → GoesOn (next g.store (frame_of g) (config_of g)) cost store' (record { instance = Some g.instance; locals = locals }) (in_frame values labels rest)
       → IsTyped (over g store' locals values labels rest)
@@ -60,7 +60,7 @@ module _ (g : Ghost) (t : IsTyped g) where
         functions = rw (same, more.functions) t.functions;
       }
 
--- Labels that are left keep it, too.
+-- Labels that are left keep the types, too.
 pub config-typed : (store : Store) (place : Place) (frame : Frame) (results : List ValType) (c d : Configuration) → StoreIsValid store → FrameHasPlace store frame place → LeavesTo store frame c d
     → ConfigurationHasType store place c results → ConfigurationHasType store place d results
 config-typed store place frame results c d valid own stay typed = typed
@@ -74,7 +74,7 @@ leaves-steps store frame c d fuel (leave {d = between} e further) =
     let same : fuel - 0 ≡ fuel = omega arith in
     then (inl e) (omega arith) (rw same (leaves-steps store frame between d fuel further))
 
--- ---- inside of labels
+-- ---- within labels
 
 -- A label's arity is the number of values that it carries.
 abbrev pub Arities : List Label → List (List ValType) → Type 0
@@ -100,7 +100,7 @@ labels-typed store place empty (label ∷ labels) x results typed =
     let (carried, given, arities, (stack, inner_given, own, arity, values, inner, onward, again), filled) = labels-typed store place empty labels (InLabel label x) results typed in
     (own ∷ carried, inner_given, (arity, arities), inner, λ y other. filled (InLabel label y) (stack, inner_given, own, arity, values, other, onward, again))
 
--- The types of the values, and the typing of what is left; and of what may take its place inside of the labels.
+-- The types of the values, the typing of the rest, and the typing of what may replace it within the labels.
 pub record Inner (g : Ghost) : Type 0 where
   pub carried : List (List ValType)
   pub given : List ValType
@@ -127,7 +127,7 @@ all-length values labels = length-append values (values_under labels) ∙ ap (λ
 pub same-frame : (g : Ghost) (store' : Store) (locals values : List Val) (labels : List Label) (rest : Body) → IsSameFrame g (over g store' locals values labels rest)
 same-frame g store' locals values labels rest = record { code = refl; instance = refl; types = refl; results = refl }
 
--- Where no label can be left.
+-- The state in which no label can be left.
 pub record Settled (g : Ghost) (cells : List ℕ) (at top : ℕ) : Type 0 where
   pub values : List Val
   pub labels : List Label

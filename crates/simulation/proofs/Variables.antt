@@ -54,7 +54,7 @@ gets-local g cells at top x b =
     let (more, put, dear) = pushes op g cells at top p (get_or cells x 0) v (sym read) refl (rw there refl) in
     (inside, omega (arith, inside, room), more, put, dear)
 
--- The cells of the frame once a local's was written.
+-- The cells of the frame after a local's cell was written.
 written-cells : (cells : List ℕ) (locals all : List Val) (x low c : ℕ) (v : Val) → take low cells ≡ map cell_of locals ++ cells_of all → x < length locals → x < low → cell_of v ≡ c
     → take low (set cells x c) ≡ map cell_of (set locals x v) ++ cells_of all
 written-cells cells locals all x low c v held inside lower is =
@@ -76,7 +76,7 @@ module _ (op : PlainOp) (g : Ghost) (cells : List ℕ) (at top : ℕ) (p : AtPla
       (rw top_new (kept ∙ written-cells cells g.locals (values ++ values_under p.labels) x low c v held inside (omega (arith, inside, low_is)) is)) enough left_is
 
 module _ (op : PlainOp) (g : Ghost) (cells : List ℕ) (at top : ℕ) (p : AtPlain op g cells at top) (x : ℕ) (t : ValType) (local : slice_get g.types x ≡ Some t) (w : Operands op g cells at top p (t ∷ [])) where
-  -- The local is there, below the operand.
+  -- The local exists, below the operand.
   local-there : (x < length g.locals) × (x < top - 1)
   local-there =
       let (old, there, fits) = values-at g.store g.locals g.types x t p.runs.typed.own local in

@@ -1,4 +1,4 @@
--- What growth, bulk instructions on the memory and data.drop lead to, in a frame.
+-- The steps of growth, bulk instructions on the memory and data.drop, in a frame.
 use Rattle.std.specs.Prelude.{◌≡◌, ℕ, ◌-◌, List, [], ◌∷◌, get_or, Some, slice_get, Bool, true, false, Result, Ok, Err}
 use Rattle.core_types.specs.declared.op.MemoryOp.TheVariants.{Copy, DataDrop, Fill, Grow, Init}
 use Rattle.core_types.specs.declared.op.PlainOp.TheVariants.{Memory}
@@ -22,7 +22,7 @@ HasData g x address d =
 
 -- ---- outcomes
 
--- By the bytes after a write, as many as the topmost cell says, into the memory at an address.
+-- The outcome of a write of bytes into the memory at an address. The topmost cell is the number of bytes.
 abbrev pub written_memory : Store → (count address : ℕ) → MemoryInstance → Result (List ℕ) Trap
     → Outcome
 written_memory store count address m (Ok bytes) =
@@ -30,7 +30,7 @@ written_memory store count address m (Ok bytes) =
     (with_memory store address (record { limits = m.limits; bytes = bytes })) []
 written_memory store count address m (Err trap) = failed trap
 
--- By whether it may grow by so many pages: the size before, or -1.
+-- The outcome of a growth by that many pages: the size before, or -1 if it may not grow.
 abbrev pub grown_memory : Store → (address : ℕ) → MemoryInstance → (pages : ℕ) → Bool → Outcome
 grown_memory store address m pages true =
     grown (growth_cost pages) (with_memory store address (grow_by m pages))
@@ -39,7 +39,7 @@ grown_memory store address m pages false = made 1 store (value.I32 4294967295 �
 
 -- ---- instructions
 
--- memory.grow: by as many pages as the topmost cell says.
+-- memory.grow: the topmost cell is the number of pages.
 abbrev pub GrowsMemory : Type 0
 GrowsMemory =
     (g : Ghost) (cells : List ℕ) (at top : ℕ) → IsBefore (Plain (Memory Grow)) g cells at top
@@ -48,7 +48,7 @@ GrowsMemory =
     (can_grow g.store.pages most_pages m.limits (get_or cells (top - 1) 0))
     (grown_memory g.store address m (get_or cells (top - 1) 0))
 
--- memory.fill: from the lowest cell on, with the second one, as many as the topmost one says.
+-- memory.fill: from the lowest cell on, with the second one. The topmost one is the number of bytes.
 abbrev pub FillsMemory : Type 0
 FillsMemory =
     (g : Ghost) (cells : List ℕ) (at top : ℕ) → IsBefore (Plain (Memory Fill)) g cells at top
@@ -58,7 +58,7 @@ FillsMemory =
     (get_or cells (top - 1) 0))
     (written_memory g.store (get_or cells (top - 1) 0) address m)
 
--- From the second cell on in a source to the lowest one, as many as the topmost one says.
+-- From the second cell on in a source to the lowest one. The topmost one is the number of bytes.
 abbrev pub CopiesBytes : Ghost → List ℕ → (at top address : ℕ) → MemoryInstance
     → (source : List ℕ) → Type 0
 CopiesBytes g cells at top address m source =

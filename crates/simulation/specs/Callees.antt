@@ -1,4 +1,4 @@
--- What calls find, by an index or through a table, and what calls of host functions lead to.
+-- What calls find, by an index or through a table, and the steps of calls of host functions.
 use Rattle.std.specs.Prelude.{◌≡◌, ℕ, suc, ◌+◌, ◌-◌, ◌≤◌, List, [], ◌∷◌, ◌++◌, length, map, reverse, take, drop, get_or, Option, Some, None, slice_get, true, false}
 use Rattle.core_types.specs.declared.op.ControlOp.TheVariants.{Call, CallIndirect, ReturnCall, ReturnCallIndirect}
 use Rattle.core_types.specs.declared.op.PlainOp.{PlainOp}
@@ -31,7 +31,8 @@ use Rattle.simulation.specs.Tables.{HasTable}
 
 -- ---- a call
 
--- Before a call, once labels were left: the function is there, and its arguments lie below a height, other operands above it.
+-- The state before a call, after labels were left. The function exists, and its arguments are on top below a height. Other operands are
+-- above the height.
 pub record ReachesCall (op : PlainOp) (address : ℕ) (function : FunctionInstance) (g : Ghost)
     (cells : List ℕ) (at top height : ℕ) : Type 0 where
   pub new : Ghost
@@ -54,19 +55,19 @@ pub record ReachesCall (op : PlainOp) (address : ℕ) (function : FunctionInstan
   pub enough : length function.ty.params ≤ length values
   pub operands : HasOperands new cells height function.ty.params
 
--- The call opens a frame above this one, or its results take the place of its arguments.
+-- The call opens a frame above this one, or its results replace its arguments.
 pub record IsCalling (op : PlainOp) (address : ℕ) (function : FunctionInstance) (g : Ghost)
     (cells : List ℕ) (at top height : ℕ) : Type 0 where
   pub reached : ReachesCall op address function g cells at top height
   pub counted : counts_of reached.new.code.signatures op ≡
       Some (counts (reached.over + length function.ty.params) (length function.ty.results))
-  -- with results of the function's type it goes on behind the instruction
+  -- with results of the function's type, the code continues after the instruction
   pub goes_on : (results : List Val)
       → ValuesHaveTypes reached.new.store results function.ty.results
       → ConfigurationHasType reached.new.store (place_of reached.new)
       (in_frame (reverse results ++ drop (length function.ty.params) reached.values)
       reached.new.labels reached.rest) reached.new.results
-  -- what it does is the call
+  -- the step is the call
   pub step : step_instruction reached.new.store (frame_of reached.new) op reached.new.values
       reached.rest
       ≡ call_function 1 reached.new.store (lent_memory reached.new.store (frame_of reached.new))
@@ -83,7 +84,7 @@ pub record IsTailCalling (op : PlainOp) (address : ℕ) (function : FunctionInst
 
 -- ---- what is called
 
--- Whatever waits around the frame, the next step costs one unit of fuel, once labels were left.
+-- Whatever waits around the frame, the next step costs one unit of fuel, after labels were left.
 pub record CostsAround (g : Ghost) (cells : List ℕ) (at top : ℕ) : Type 0 where
   pub new : Ghost
   pub same : IsSameFrame g new
@@ -94,7 +95,7 @@ pub record CostsAround (g : Ghost) (cells : List ℕ) (at top : ℕ) : Type 0 wh
   pub price_is : (outer : Frame) (activation : Activation)
       → price (next new.store outer (InFrame activation (frame_of new) (config_of new))) ≡ 1
 
--- The function under an index is there.
+-- The function under an index exists.
 abbrev pub FindsFunction : Ghost → (x : ℕ) → (Called : (address : ℕ) → FunctionInstance → Type 0)
     → Type 0
 FindsFunction g x Called =
@@ -133,8 +134,7 @@ CallsEntry g cells at top Called wanted (Some (FuncRef (Some address))) =
     → (function.ty ≡ wanted) × Called address function)
 CallsEntry g cells at top Called wanted (Some v) = ⊥
 
--- The table, and the type that the function has to be of, are there. The topmost cell is the offset of the entry, above the
--- arguments.
+-- The table exists, and so does the type that the function must have. The topmost cell is the offset of the entry, above the arguments.
 abbrev pub FindsTable : Ghost → List ℕ → (at top type x : ℕ)
     → (Called : (address : ℕ) → FunctionInstance → Type 0)
     → Type 0
@@ -168,7 +168,7 @@ TailCallsThroughTables =
 
 -- ---- host functions
 
--- What runs behind a call that was answered with results, in a store.
+-- What runs after a call that returned results, in a store.
 abbrev pub behind_call : {op : PlainOp} → {address : ℕ} → {function : FunctionInstance}
     → {g : Ghost} → {cells : List ℕ} → {at top height : ℕ}
     → IsCalling op address function g cells at top height → Store → (results : List Val) → Ghost
@@ -178,7 +178,7 @@ behind_call {function = function} c store results = record c.reached.new {
   rest = c.reached.rest;
 }
 
--- The call of a host function: its arguments are cells, and so are its results in their place.
+-- The call of a host function. Its arguments are cells, and its results replace them.
 pub record IsHostCall (op : PlainOp) (address : ℕ) (function : FunctionInstance) (g : Ghost)
     (cells : List ℕ) (at top height number : ℕ)
     (c : IsCalling op address function g cells at top height) : Type 0 where
@@ -191,7 +191,7 @@ pub record IsHostCall (op : PlainOp) (address : ℕ) (function : FunctionInstanc
       → answered results
       (in_frame (drop (length function.ty.params) c.reached.values) c.reached.new.labels c.reached.rest) ≡
       config_of (behind_call c store' results)
-  -- it goes on at the next place, in a store that follows
+  -- the code continues at the next place, in a store that follows
   pub goes_on : (store' : Store) (results : List Val) → StoreIsValid store'
       → Follows c.reached.new.store store' → store'.instances ≡ c.reached.new.store.instances
       → ValuesHaveTypes c.reached.new.store results function.ty.results
@@ -211,7 +211,7 @@ CallsReachHosts =
     → function.implementation ≡ InHost number
     → IsHostCall op address function g cells at top height number c
 
--- A tail call of one takes its arguments from the cells, too, whatever waits around the frame. Its results take the frame's place.
+-- A tail call of a host function also takes its arguments from the cells, whatever waits around the frame. Its results replace the frame.
 abbrev pub TailCallsReachHosts : Type 0
 TailCallsReachHosts =
     (op : PlainOp) (address : ℕ) (function : FunctionInstance) (g : Ghost) (cells : List ℕ)
@@ -224,7 +224,7 @@ TailCallsReachHosts =
     (values_of function.ty.params (operand_cells cells height (length function.ty.params)))
     (Running activation.values activation.rest)
 
--- Other bytes where a host function is lent some leave functions and instances as they are.
+-- Other bytes in the memory that a host function borrows leave functions and instances unchanged.
 abbrev pub ChangesLentBytes : Type 0
 ChangesLentBytes =
     (store : Store) (lent : Option ℕ) (bytes : List ℕ)

@@ -18,8 +18,7 @@ use Rattle.simulation.specs.Runs.{Ghost, Holds, Runs}
 use Rattle.simulation.specs.Settling.{IsSettled}
 use Rattle.simulation.specs.Standing.{FrameCode, StandsIn}
 
--- What runs in the frame of a function that is called with the topmost of these values, and whose code begins at a place among
--- operations.
+-- What runs in the frame of a function that is called with the topmost of these values. Its code begins at a place among operations.
 abbrev pub callee : Ghost → Signatures → List FlatOp → (at : ℕ) → FuncType → (instance : ℕ) → Code
     → List Val → Ghost
 callee g s ops at t instance code values = record {
@@ -34,7 +33,7 @@ callee g s ops at t instance code values = record {
   rest = code.body;
 }
 
--- A callee's frame begins at the arguments where they lie, behind which its other locals are zero.
+-- A callee's frame begins at the cells of the arguments. The other locals after them are zero.
 abbrev pub CalleesAreEntered : Type 0
 CalleesAreEntered =
     (g : Ghost) (cells : List ℕ) (top : ℕ) → StoreIsValid g.store → Holds g cells top
@@ -53,7 +52,7 @@ CalleesAreEntered =
     → Runs (callee g s ops at t instance code g.values) cells' at
     (length t.params + length code.locals)
 
--- Where a frame is left, once labels were left, the results alone are left.
+-- Where a frame is left, after labels were left, only the results are left.
 abbrev pub CodeEnds : Type 0
 CodeEnds =
     (f : FrameCode) (at results : ℕ) (more : List FlatOp)

@@ -1,4 +1,4 @@
--- What instructions without control lead to, in a frame.
+-- The steps of instructions without control, in a frame.
 use Rattle.std.specs.Prelude.{◌≡◌, ℕ, suc, ◌+◌, ◌-◌, ◌<◌, ◌≤◌, List, [], ◌∷◌, ◌++◌, length, take, get_or, Some, slice_get, Result, Ok, Err}
 use Rattle.core_types.specs.declared.op.ControlOp.TheVariants.{Nop, Unreachable}
 use Rattle.core_types.specs.declared.op.ParametricOp.TheVariants.{DropOperand, Select}
@@ -15,9 +15,9 @@ use Rattle.sidetable.specs.Flat.{Plain}
 use Rattle.simulation.specs.Operations.{IsCharged, IsChosen, IsDear}
 use Rattle.simulation.specs.Runs.{Fails, Ghost, IsBefore, Leads}
 
--- ---- what is led to
+-- ---- results of steps
 
--- Over these cells up to a height, with this store, it goes on with the next operation.
+-- With these cells up to a height, and this store, the code continues with the next operation.
 abbrev pub IsKept : Ghost → Store → List ℕ → (at below : ℕ) → Type 0
 IsKept g store' cells at below =
     (cells' : List ℕ) (next_at next_top fuel left : ℕ)
@@ -25,7 +25,7 @@ IsKept g store' cells at below =
     → next_at ≡ suc at → next_top ≡ below → 1 ≤ fuel → left ≡ fuel - 1
     → Leads g fuel store' cells' next_at next_top left
 
--- The cell at a height is written, and it goes on with the next operation.
+-- The cell at a height is written, and the code continues with the next operation.
 abbrev pub IsPut : Ghost → List ℕ → (at : ℕ) → (cell below : ℕ) → Type 0
 IsPut g cells at cell below =
     (cells' : List ℕ) (next_at next_top fuel left : ℕ)
@@ -33,17 +33,17 @@ IsPut g cells at cell below =
     → length cells' ≡ length cells → next_at ≡ suc at → next_top ≡ suc below → 1 ≤ fuel
     → left ≡ fuel - 1 → Leads g fuel g.store cells' next_at next_top left
 
--- It fails with a trap.
+-- The code fails with a trap.
 abbrev pub IsTrapped : Ghost → List ℕ → (at top : ℕ) → Trap → Type 0
 IsTrapped g cells at top trap =
     (fuel left : ℕ) → 1 ≤ fuel → left ≡ fuel - 1 → Fails g fuel cells at top left trap
 
--- A result's number is put at a height, or it fails with the result's trap.
+-- A result's number is written at a height, or the code fails with the result's trap.
 abbrev pub IsAnswered : Ghost → List ℕ → (at top below : ℕ) → Result ℕ Trap → Type 0
 IsAnswered g cells at top below (Ok n) = IsPut g cells at n below
 IsAnswered g cells at top below (Err trap) = IsTrapped g cells at top trap
 
--- An instruction on no operands puts a cell for one unit of fuel.
+-- An instruction on no operands writes a cell for one unit of fuel.
 abbrev pub PutsOne : PlainOp → (cell : ℕ) → Type 0
 PutsOne op cell =
     (g : Ghost) (cells : List ℕ) (at top : ℕ) → IsBefore (Plain op) g cells at top
@@ -51,13 +51,13 @@ PutsOne op cell =
 
 -- ---- control and parametric instructions
 
--- nop: it goes on with the same cells.
+-- nop: the code continues with the same cells.
 abbrev pub DoesNothing : Type 0
 DoesNothing =
     (g : Ghost) (cells : List ℕ) (at top : ℕ) → IsBefore (Plain (Control Nop)) g cells at top
     → IsCharged g cells at top (suc at) top
 
--- unreachable: it fails.
+-- unreachable: the code fails.
 abbrev pub AlwaysFails : Type 0
 AlwaysFails =
     (g : Ghost) (cells : List ℕ) (at top : ℕ)
@@ -72,7 +72,7 @@ Drops =
     → (1 ≤ top) × (top ≤ length cells) × IsKept g g.store cells at (top - 1)
     × IsDear g cells at top
 
--- select: the second of two cells where the topmost one is zero, and else the first.
+-- select: the second of two cells if the topmost one is zero, and otherwise the first.
 abbrev pub Selects : Type 0
 Selects =
     (g : Ghost) (cells : List ℕ) (at top : ℕ)
@@ -88,7 +88,7 @@ Selects =
 abbrev pub PutsNull : Type 0
 PutsNull = (t : RefType) → PutsOne (Reference (Null t)) 0
 
--- ref.is_null: one where the topmost cell is zero, and else zero.
+-- ref.is_null: one if the topmost cell is zero, and otherwise zero.
 abbrev pub TestsNull : Type 0
 TestsNull =
     (g : Ghost) (cells : List ℕ) (at top : ℕ)
@@ -96,7 +96,7 @@ TestsNull =
     → IsChosen cells top (IsPut g cells at 1 (top - 1)) (IsPut g cells at 0 (top - 1))
     × IsDear g cells at top
 
--- ref.func: the number behind the function's address.
+-- ref.func: one more than the function's address.
 abbrev pub RefersToFunction : Type 0
 RefersToFunction =
     (g : Ghost) (cells : List ℕ) (at top : ℕ) (x : ℕ)

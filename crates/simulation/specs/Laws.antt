@@ -1,4 +1,4 @@
--- Laws of where code stands.
+-- Laws of where code is.
 use Rattle.std.specs.Prelude.{◌≡◌, ℕ, suc, ◌+◌, ◌-◌, ◌≤◌, List, [], ◌∷◌, ◌++◌, length, map, take, drop, replicate, Some}
 use Rattle.core_types.specs.declared.op.PlainOp.{PlainOp}
 use Rattle.core_types.specs.declared.outcome.Val.{Val}
@@ -27,7 +27,7 @@ pub record HasSignatures (context : Context) (s : Signatures) : Type 0 where
   pub types : context.types ≡ s.types
   pub functions : context.functions ≡ s.functions
 
--- A body that leads from operands to others ends as many operands higher, if its end is reached.
+-- If a body leads from operands to others and its end is reached, the height changes by the difference of their numbers.
 abbrev pub EndsTyped : Type 0
 EndsTyped =
     (context : Context) (s : Signatures) → HasSignatures context s
@@ -35,12 +35,12 @@ EndsTyped =
     → HasType context body before after → (h : ℕ) → h ≡ under + length before
     → EndsAt (last_height s (Some h) body) (under + length after)
 
--- The label around the body of a function with so many results.
+-- The label around the body of a function with that many results.
 abbrev pub function_label : (results : ℕ) → Label
 function_label results =
     record { arity = results; continuation = Onward; values = []; rest = Empty }
 
--- The code of a function with so many locals and results, which begins at a place among operations.
+-- The code of a function with that many locals and results, which begins at a place among operations.
 abbrev pub code_at : Signatures → List FlatOp → (locals results at : ℕ) → Body → FrameCode
 code_at s ops locals results at body = record {
   signatures = s;
@@ -50,12 +50,12 @@ code_at s ops locals results at body = record {
   greatest = function_greatest s locals results body;
 }
 
--- It does begin there.
+-- The code begins there.
 abbrev pub BeginsAt : Signatures → List FlatOp → (locals results at : ℕ) → Body → Type 0
 BeginsAt s ops locals results at body =
     (more : List FlatOp) × (drop at ops ≡ function_operations s locals results at body ++ more)
 
--- A typed body's flat code stands at its first place, inside of the function's label, when its frame is opened.
+-- A typed body's flat code is at its first place, within the function's label, when its frame is opened.
 abbrev pub FunctionsAreEntered : Type 0
 FunctionsAreEntered =
     (context : Context) (s : Signatures) → HasSignatures context s → (t : FuncType) (body : Body)
@@ -68,7 +68,7 @@ FunctionsAreEntered =
 abbrev with_fuel : Store → (fuel : ℕ) → State ⊥
 with_fuel store fuel = record { store = store; hosts = []; fuel = fuel }
 
--- Steps in a frame are steps of it inside of layers, with nothing outside of these.
+-- Steps in a frame are steps of it within layers, with nothing outside of these.
 abbrev pub StepsAreLifted : Type 0
 StepsAreLifted =
     (store store' : Store) (bound : ℕ) (layers : List Layer) (frame frame' : Frame)
@@ -79,7 +79,7 @@ StepsAreLifted =
     → Steps NoHosts bound no_frame (with_fuel store fuel) (plug layers frame c)
     (with_fuel store' left) (plug layers frame' d)
 
--- Behind an instruction with these counts, with its results on what was under its operands, the code stands at the next place.
+-- After an instruction with these counts, with its results on what was below its operands, the code is at the next place.
 abbrev pub CallersGoOn : Type 0
 CallersGoOn =
     (f : FrameCode) (at : ℕ) (values others results : List Val) (labels : List Label)
@@ -94,9 +94,9 @@ pub record CellsAreValues : Type 0 where
   -- a cell, read at the type of its value, is the value
   pub read : (store : Store) (v : Val) (t : ValType) → ValueHasType store v t
       → value_of t (cell_of v) ≡ v
-  -- that of a type's first value is zero
+  -- the cell of a type's first value is zero
   pub firsts : (ts : List ValType) → map cell_of (map default_of ts) ≡ replicate (length ts) 0
-  -- the arguments of a call are the first locals of the callee, where they lie
+  -- the arguments of a call are the first locals of the callee, in the same cells
   pub arguments : (cells below : List ℕ) (top : ℕ) (params : List ValType) (values : List Val)
       → take top cells ≡ below ++ cells_of values → length params ≤ length values
       → top ≡ length below + length values → top ≤ length cells

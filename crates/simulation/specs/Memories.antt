@@ -1,4 +1,4 @@
--- What loads, stores and the size of a memory lead to, in a frame.
+-- The steps of loads, stores and the size of a memory, in a frame.
 use Rattle.std.specs.Prelude.{◌≡◌, ℕ, ◌+◌, ◌-◌, ◌<◌, ◌≤◌, List, length, get_or, Some, slice_get, Result, Ok, Err}
 use Rattle.core_types.specs.declared.op.LoadOp.{LoadOp}
 use Rattle.core_types.specs.declared.op.MemoryOp.TheVariants.{Load, Size, Store as StoreNumber}
@@ -21,7 +21,7 @@ HasMemory g address m =
     locate g.store.memories (slice_get (instance_of g.store (Some g.instance)).memories 0)
     ≡ Some (address, m)
 
--- A load at an offset from the topmost cell: the number read takes its place, or it fails.
+-- A load at an offset from the topmost cell. The number read replaces that cell, or the load fails.
 abbrev pub LoadsNumber : Type 0
 LoadsNumber =
     (g : Ghost) (cells : List ℕ) (at top : ℕ) (op : LoadOp) (offset : ℕ)
@@ -34,7 +34,7 @@ LoadsNumber =
     → IsAnswered g cells at top (top - 1) result)
     × IsDear g cells at top
 
--- With a result's bytes in the memory it goes on two operands lower; or it fails with the trap.
+-- With a result's bytes in the memory, the code continues two operands lower. Otherwise it fails with the trap.
 abbrev pub IsStored : Ghost → (address : ℕ) → MemoryInstance → List ℕ → (at top : ℕ)
     → Result (List ℕ) Trap → Type 0
 IsStored g address m cells at top (Ok bytes) =
@@ -57,7 +57,7 @@ StoresNumber =
     → IsStored g address m cells at top result)
     × IsDear g cells at top
 
--- memory.size: its pages.
+-- memory.size: the number of its pages.
 abbrev pub MeasuresMemory : Type 0
 MeasuresMemory =
     (g : Ghost) (cells : List ℕ) (at top : ℕ) → IsBefore (Plain (Memory Size)) g cells at top

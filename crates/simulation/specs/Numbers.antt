@@ -1,4 +1,4 @@
--- What constants and operators lead to, in a frame.
+-- The steps of constants and operators, in a frame.
 use Rattle.std.specs.Prelude.{◌≡◌, ℕ, ◌-◌, ◌≤◌, List, [], ◌∷◌, length, get_or, Result}
 use Rattle.core_types.specs.declared.op.NumericOp.{NumericOp}
 use Rattle.core_types.specs.declared.op.PlainOp.TheVariants.{I32Const, I64Const, Numeric}
@@ -25,7 +25,7 @@ PutsI64 = (n : ℕ) → PutsOne (I64Const n) n
 
 -- ---- operators
 
--- An operator on one operand: its result, whatever lies below the operand.
+-- An operator on one operand: its result, whatever is below the operand.
 abbrev pub ComputesFromOne : Type 0
 ComputesFromOne =
     (g : Ghost) (cells : List ℕ) (at top : ℕ) (op : NumericOp) (t r : ValType)
@@ -40,7 +40,7 @@ ComputesFromOne =
     → IsAnswered g cells at top (top - 1) result)
     × IsDear g cells at top
 
--- The same of two operands, the first below the second.
+-- The same for two operands, the first below the second.
 abbrev pub ComputesFromTwo : Type 0
 ComputesFromTwo =
     (g : Ghost) (cells : List ℕ) (at top : ℕ) (op : NumericOp) (t u r : ValType)

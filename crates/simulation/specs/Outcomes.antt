@@ -1,4 +1,4 @@
--- What instructions on tables, memories and segments lead to, in a frame.
+-- The steps of instructions on tables, memories and segments, in a frame.
 use Rattle.std.specs.Prelude.{◌≡◌, ℕ, suc, ◌+◌, ◌-◌, ◌<◌, ◌≤◌, List, [], ◌∷◌, ◌++◌, length, reverse, take, drop, get_or, Option, Some, None}
 use Rattle.core_types.specs.declared.op.MemoryOp.{MemoryOp}
 use Rattle.core_types.specs.declared.op.MemoryOp.TheVariants as memory
@@ -27,7 +27,7 @@ use Rattle.simulation.specs.Settling.{HasNoAlignment}
 
 -- ---- outcomes
 
--- At a cost a store and results, the topmost first; the same where something grows; or a trap.
+-- A store and results at a cost, the topmost first; the same if something grows; or a trap.
 pub data Outcome : Type 0 where
   made : (cost : ℕ) (store : Store) (results : List Val) → Outcome
   grown : (cost : ℕ) (store : Store) (results : List Val) → Outcome
@@ -39,7 +39,7 @@ effect_of (made cost store results) locals values = Done cost store locals (resu
 effect_of (grown cost store results) locals values = Grown cost store locals (results ++ values)
 effect_of (failed trap) locals values = Fails trap
 
--- It has so many results, and the instances of the store.
+-- The outcome has that many results, and the instances of the store.
 abbrev pub IsOutcome : Store → (many : ℕ) → Outcome → Type 0
 IsOutcome old many (made cost store results) =
     (length results ≡ many) × (store.instances ≡ old.instances)
@@ -47,9 +47,9 @@ IsOutcome old many (grown cost store results) =
     (length results ≡ many) × (store.instances ≡ old.instances)
 IsOutcome old many (failed trap) = Unit {0}
 
--- ---- what is led to
+-- ---- results of steps
 
--- At a cost, with this store and these results at a height, it goes on with the next operation.
+-- At a cost, with this store and these results at a height, the code continues with the next operation.
 abbrev pub IsMade : Ghost → (cost : ℕ) → Store → List ℕ → (at below : ℕ) → List Val → Type 0
 IsMade g cost store' cells at below results =
     (cells' : List ℕ) (next_at next_top fuel left : ℕ)
@@ -57,11 +57,11 @@ IsMade g cost store' cells at below results =
     → next_at ≡ suc at → next_top ≡ below + length results → cost ≤ fuel → left ≡ fuel - cost
     → Leads g fuel store' cells' next_at next_top left
 
--- Without fuel for the cost it lacks fuel.
+-- Without fuel for the cost, the code lacks fuel.
 abbrev pub IsDearAt : Ghost → (cost : ℕ) → List ℕ → (at top : ℕ) → Type 0
 IsDearAt g cost cells at top = (fuel : ℕ) → fuel < cost → Lacks g fuel cells at top fuel
 
--- The outcome, over the cells up to a height. A growth is asked for first, at no cost.
+-- The outcome, over the cells up to a height. A growth is first asked for, at no cost.
 abbrev pub HasOutcome : Ghost → List ℕ → (at top below : ℕ) → Outcome → Type 0
 HasOutcome g cells at top below (made cost store results) =
     IsMade g cost store cells at below results × IsDearAt g cost cells at top
@@ -73,11 +73,11 @@ HasOutcome g cells at top below (failed trap) =
 
 -- ---- operands
 
--- The topmost cells, so many of them, the lowest first.
+-- The topmost cells, that many of them, the lowest first.
 abbrev pub operand_cells : List ℕ → (top many : ℕ) → List ℕ
 operand_cells cells top many = take many (drop (top - many) cells)
 
--- They lie above the locals, and are of these types: in a row, and one by one from the top.
+-- The operands are above the locals and have these types: in a row, and one by one from the top.
 pub record HasOperands (g : Ghost) (cells : List ℕ) (top : ℕ) (types : List ValType) : Type 0 where
   pub above : length g.locals + length types ≤ top
   pub inside : top ≤ length cells
@@ -89,7 +89,7 @@ pub record HasOperands (g : Ghost) (cells : List ℕ) (top : ℕ) (types : List 
 abbrev pub operands : List ValType → List ℕ → (top : ℕ) → List Val
 operands types cells top = reverse (values_of types (operand_cells cells top (length types)))
 
--- Operands of these types lie on top, and by each result of a function on them there is an outcome.
+-- Operands of these types are on top, and for each result of a function on them there is an outcome.
 abbrev pub Answers : {T : Type 0} → Ghost → List ℕ → (at top : ℕ) → List ValType → T
     → (T → Outcome) → Type 0
 Answers {T} g cells at top types found outcome =
@@ -99,7 +99,7 @@ Answers {T} g cells at top types found outcome =
 
 -- ---- types of instructions
 
--- The type of the entries of a table, if it is there.
+-- The type of the entries of a table, if it exists.
 abbrev pub entry_type : Option (ℕ × TableInstance) → ValType
 entry_type None = reference_type FuncRef
 entry_type (Some (address, t)) = reference_type t.ty.element
@@ -125,7 +125,7 @@ memory_instruction_type memory.Copy = function_type (I32 ∷ I32 ∷ I32 ∷ [])
 memory_instruction_type (memory.Init segment) = function_type (I32 ∷ I32 ∷ I32 ∷ []) []
 memory_instruction_type (memory.DataDrop segment) = function_type [] []
 
--- An instruction on tables, the memory or segments that is no load and no store.
+-- An instruction on tables, the memory or segments that is not a load or a store.
 abbrev pub IsOnStore : PlainOp → Type 0
 IsOnStore (Table op) = Unit {0}
 IsOnStore (Memory op) = HasNoAlignment op
@@ -140,7 +140,7 @@ instruction_type g op = function_type [] []
 
 -- ---- all of them
 
--- Its operands are there, and room for its results. It has the outcome that its effect on them is.
+-- The operands of the instruction exist, and there is room for its results. Its outcome is its effect on the operands.
 abbrev pub ActsOnStore : Type 0
 ActsOnStore =
     (g : Ghost) (cells : List ℕ) (at top : ℕ) (op : PlainOp) → IsOnStore op

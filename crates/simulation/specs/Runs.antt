@@ -18,7 +18,7 @@ use Rattle.simulation.specs.Piles.{cells_of}
 use Rattle.simulation.specs.Settling.{in_frame}
 use Rattle.simulation.specs.Standing.{FrameCode, StandsIn, under, values_under}
 
--- What a machine knows nothing of: the store, the frame, its types, and what runs in it.
+-- What a machine does not keep: the store, the frame, its types, and what runs in it.
 pub record Ghost : Type 0 where
   pub code : FrameCode
   pub store : Store
@@ -39,7 +39,7 @@ place_of g = inside_frame (Some g.instance) g.types g.results
 abbrev pub config_of : Ghost → Configuration
 config_of g = in_frame g.values g.labels g.rest
 
--- What runs is typed, in a valid store, in whose context the code's signatures are.
+-- What runs is typed, in a valid store whose context has the code's signatures.
 pub record IsTyped (g : Ghost) : Type 0 where
   pub valid : StoreIsValid g.store
   pub own : ValuesHaveTypes g.store g.locals g.types
@@ -47,7 +47,7 @@ pub record IsTyped (g : Ghost) : Type 0 where
   pub types : (context_at g.store (place_of g)).types ≡ g.code.signatures.types
   pub functions : (context_at g.store (place_of g)).functions ≡ g.code.signatures.functions
 
--- The cells of the frame hold the locals, and then the values from the bottom to the top.
+-- The cells of the frame are the locals, followed by the values from the bottom to the top.
 pub record Holds (g : Ghost) (cells : List ℕ) (top : ℕ) : Type 0 where
   pub held : take top cells ≡
       map cell_of g.locals ++ cells_of (g.values ++ values_under g.labels)
@@ -61,13 +61,13 @@ pub record Runs (g : Ghost) (cells : List ℕ) (at top : ℕ) : Type 0 where
   pub holds : Holds g cells top
   pub typed : IsTyped g
 
--- Before this operation.
+-- The machine is before this operation.
 pub record IsBefore (o : FlatOp) (g : Ghost) (cells : List ℕ) (at top : ℕ) : Type 0 where
   pub runs : Runs g cells at top
   pub more : List FlatOp
   pub there : drop at g.code.operations ≡ o ∷ more
 
--- What is next goes on, at this cost; for it a table or a memory may grow.
+-- The next step continues, at this cost. A table or a memory may grow for it.
 abbrev pub GoesOn : Next → (cost : ℕ) → Store → Frame → Configuration → Type 0
 GoesOn n cost store frame c = (n ≡ Goes cost store frame c) ⊎ (n ≡ Grows cost store frame c)
 
@@ -99,18 +99,18 @@ pub record Leads (g : Ghost) (fuel : ℕ) (store' : Store) (cells : List ℕ) (a
       left
   pub runs : Runs new cells at top
 
--- It leads, with the store as it is, to where the next step costs more than is left.
+-- It leads, with the store unchanged, to where the next step costs more than the fuel left.
 pub record Lacks (g : Ghost) (fuel : ℕ) (cells : List ℕ) (at top left : ℕ) : Type 0 where
   pub leads : Leads g fuel g.store cells at top left
   pub dear : left < price (next leads.new.store (frame_of leads.new) (config_of leads.new))
 
--- It leads, with the store as it is, to where the next step traps, for one unit of fuel.
+-- It leads, with the store unchanged, to where the next step traps, for one unit of fuel.
 pub record Fails (g : Ghost) (fuel : ℕ) (cells : List ℕ) (at top left : ℕ) (trap : Trap)
     : Type 0 where
   pub leads : Leads g fuel g.store cells at top (left + 1)
   pub traps : next leads.new.store (frame_of leads.new) (config_of leads.new) ≡ Traps 1 trap
 
--- It leads, with the store as it is, to where next a table or a memory grows, at this cost.
+-- It leads, with the store unchanged, to where a table or a memory grows next, at this cost.
 pub record AsksToGrow (g : Ghost) (fuel : ℕ) (cells : List ℕ) (at top cost : ℕ) : Type 0 where
   pub leads : Leads g fuel g.store cells at top fuel
   pub grown : Store

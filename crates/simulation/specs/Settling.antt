@@ -1,4 +1,4 @@
--- Labels that are left, at cost 0, while the code stays where it is.
+-- Labels that are left, at cost 0, while the code stays at its place.
 use Rattle.std.specs.Prelude.{◌≡◌, ◌⊎◌, ℕ, suc, ◌+◌, ◌<◌, List, [], ◌∷◌, ◌++◌, drop, map}
 use Rattle.core_types.specs.declared.op.BlockType.{BlockType}
 use Rattle.core_types.specs.declared.op.BranchTable.{BranchTable}
@@ -17,7 +17,7 @@ use Rattle.sidetable.specs.Flat.{without_annotations, FlatOp, Plain, Enter, If, 
 use Rattle.sidetable.specs.declared.operations.Entry.{Entry}
 use Rattle.simulation.specs.Standing.{FrameCode, StandsIn, values_under}
 
--- A configuration inside of labels, the innermost first.
+-- A configuration within labels, the innermost first.
 abbrev pub inside_labels : List Label → Configuration → Configuration
 inside_labels [] x = x
 inside_labels (label ∷ labels) x = inside_labels labels (InLabel label x)
@@ -26,13 +26,13 @@ inside_labels (label ∷ labels) x = inside_labels labels (InLabel label x)
 abbrev pub in_frame : List Val → List Label → Body → Configuration
 in_frame values labels rest = inside_labels labels (Running values rest)
 
--- By leaving labels.
+-- The steps leave labels only.
 pub data LeavesTo (store : Store) (frame : Frame) : Configuration → Configuration → Type 0 where
   stay : {c : Configuration} → LeavesTo store frame c c
   leave : {c d e : Configuration} → next store frame c ≡ Goes 0 store frame d
       → LeavesTo store frame d e → LeavesTo store frame c e
 
--- A jump stands there, behind which the rest of a label stands.
+-- There is a jump at this place, and the rest of a label is after it.
 pub record IsAtJump (f : FrameCode) (at : ℕ) (values : List Val) (label : Label)
     (labels : List Label)
     : Type 0 where
@@ -44,7 +44,7 @@ pub record IsAtJump (f : FrameCode) (at : ℕ) (values : List Val) (label : Labe
   pub placed : drop at f.operations ≡ Jump (entry_of onward kept height) ∷ more
   pub stands : StandsIn f onward (values ++ label.values) labels label.rest
 
--- No label can be left where the code is.
+-- No label can be left at this place.
 abbrev pub IsSettled : FrameCode → ℕ → List Val → List Label → Body → Type 0
 IsSettled f at values [] Empty = Unit {0}
 IsSettled f at values (label ∷ labels) Empty = IsAtJump f at values label labels
@@ -52,7 +52,7 @@ IsSettled f at values labels (Then op rest) = Unit {0}
 IsSettled f at values labels (Nested kind type inner rest) = Unit {0}
 IsSettled f at values labels (IfElse type inner other rest) = Unit {0}
 
--- What is left where the code is, once labels were left.
+-- What is left at this place, after labels were left.
 pub record Settles (store : Store) (frame : Frame) (f : FrameCode) (at : ℕ) (values : List Val)
     (labels : List Label) (rest : Body)
     : Type 0 where
@@ -64,7 +64,7 @@ pub record Settles (store : Store) (frame : Frame) (f : FrameCode) (at : ℕ) (v
   pub same : values' ++ values_under labels' ≡ values ++ values_under labels
   pub settled : IsSettled f at values' labels' rest'
 
--- What the body begins with, where this operation stands.
+-- How the body begins, if this operation is here.
 abbrev pub BeginsWith : Entry → List Entry → (at : ℕ) → FlatOp → Body → Type 0
 BeginsWith outermost entries at (Plain op) body =
     (written : PlainOp) × (rest : Body) × (body ≡ Then written rest)
@@ -94,13 +94,13 @@ BeginsWith outermost entries at (Return e) body =
 
 -- ---- annotations
 
--- A memory instruction that is no load and no store has no alignment.
+-- A memory instruction that is not a load or a store has no alignment.
 abbrev pub HasNoAlignment : MemoryOp → Type 0
 HasNoAlignment (memory.Load op argument) = ⊥
 HasNoAlignment (memory.Store op argument) = ⊥
 HasNoAlignment op = Unit {0}
 
--- An instruction that may stand for no other one that was written, with an alignment or with types.
+-- An instruction that represents only itself, and no other one that was written with an alignment or with types.
 abbrev pub HasNoAnnotations : PlainOp → Type 0
 HasNoAnnotations (plain.SelectTyped types) = ⊥
 HasNoAnnotations (plain.Parametric Select) = ⊥

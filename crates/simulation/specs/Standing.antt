@@ -1,4 +1,4 @@
--- Where code stands, seen from a configuration: bodies at places of flat code, and the labels around them.
+-- Where code is, seen from a configuration: bodies at places of flat code, and the labels around them.
 use Rattle.std.specs.Prelude.{◌≡◌, ◌⊎◌, ℕ, ◌+◌, ◌<◌, ◌≤◌, List, [], ◌∷◌, ◌++◌, length, drop, Option, Some, None}
 use Rattle.core_types.specs.declared.outcome.Val.{Val}
 use Rattle.meaning.specs.structure.Bodies.{Body, Kind, BlockKind, LoopKind, IfKind, Empty, Then, Nested, IfElse}
@@ -7,8 +7,8 @@ use Rattle.sidetable.specs.Counts.{Signatures, behind, block_counts, counts_of}
 use Rattle.sidetable.specs.Flat.{FlatOp, Jump, Leave, behind_height, entry_of, flat, greatest, size}
 use Rattle.sidetable.specs.declared.operations.Entry.{Entry}
 
--- The code of a function: what its body refers to, the operations among which it is, the entry of the label around its body, how
--- many locals it has, and its greatest height.
+-- The code of a function. It has what its body refers to, the operations that contain it, and the entry of the label around its body. It
+-- also has the number of its locals, and its greatest height.
 pub record FrameCode : Type 0 where
   pub signatures : Signatures
   pub operations : List FlatOp
@@ -25,18 +25,18 @@ last_height s h (Nested kind type inner rest) =
 last_height s h (IfElse type inner other rest) =
     last_height s (behind_height IfKind (block_counts s type) h) rest
 
--- How many operands a body of this kind takes off before its parameters: an if its condition.
+-- The number of operands that a body of this kind takes before its parameters: an if takes its condition.
 abbrev pub conditions : Kind → ℕ
 conditions BlockKind = 0
 conditions LoopKind = 0
 conditions IfKind = 1
 
--- If it is reached, it is this.
+-- If the height is reached, it is this.
 abbrev pub EndsAt : Option ℕ → ℕ → Type 0
 EndsAt None last = Unit {0}
 EndsAt (Some h) last = h ≡ last
 
--- A body stands at a place, where these labels are around and the height is this; it ends at a place, with that height.
+-- A body is at a place, within these labels and from this height. It ends at a place, with that height.
 pub record StandsAt (f : FrameCode) (labels : List Entry) (height at : ℕ) (body : Body)
     (end last : ℕ)
     : Type 0 where
@@ -47,13 +47,13 @@ pub record StandsAt (f : FrameCode) (labels : List Entry) (height at : ℕ) (bod
   pub lasts : EndsAt (last_height f.signatures (Some height) body) last
   pub room : greatest f.signatures (Some height) body ≤ f.greatest
 
--- What ends at a place goes on at that one: it is the same, or a jump stands there.
+-- What ends at a place continues at that one. Both are the same, or there is a jump.
 abbrev pub GoesOnAt : FrameCode → (at onward : ℕ) → Type 0
 GoesOnAt f at onward =
     (onward ≡ at) ⊎ ((at < onward) × (kept height : ℕ) × (more : List FlatOp)
     × (drop at f.operations ≡ Jump (entry_of onward kept height) ∷ more))
 
--- How many values there are under labels, from the inside out.
+-- The number of values under labels, from the inside out.
 abbrev pub under : List Label → ℕ
 under [] = 0
 under (label ∷ labels) = length label.values + under labels
@@ -82,11 +82,11 @@ pub record LabelStands (f : FrameCode) (label : Label) (outer : List Label) (ent
       (continue_with label.continuation label.rest) end outer_last
   pub further : Further others end outer_last
 
--- What stands where the code of a function is at its end: there its frame is left with its results.
+-- The code of a function is at its end: there its frame is left with its results.
 abbrev pub IsAtEnd : FrameCode → (at : ℕ) → Type 0
 IsAtEnd f at = (more : List FlatOp) × (drop at f.operations ≡ Leave f.outermost.kept ∷ more)
 
--- The labels around what ends at a place with a height, from the inside out. Behind the outermost one the code is at its end.
+-- The labels around what ends at a place with a height, from the inside out. After the outermost one, the code is at its end.
 abbrev pub LabelsStand : FrameCode → List Label → List Entry → (at last : ℕ) → Type 0
 LabelsStand f [] entries at last =
     IsAtEnd f at × (last ≡ f.locals + f.outermost.kept)
@@ -94,7 +94,7 @@ LabelsStand f (label ∷ labels) entries at last =
     LabelStands f label labels entries at last
     (λ others end outer_last. LabelsStand f labels others end outer_last)
 
--- In a frame: at a place, with these values, inside of these labels, this is left.
+-- The state in a frame: at a place, with these values, within these labels, this is left.
 pub record StandsIn (f : FrameCode) (at : ℕ) (values : List Val) (labels : List Label) (rest : Body)
     : Type 0 where
   pub entries : List Entry

@@ -1,4 +1,4 @@
--- What instructions on tables and element segments lead to, in a frame.
+-- The steps of instructions on tables and element segments, in a frame.
 use Rattle.std.specs.Prelude.{◌≡◌, ℕ, ◌-◌, ◌<◌, List, [], ◌∷◌, length, get_or, Some, slice_get, Bool, true, false, Result, Ok, Err}
 use Rattle.core_types.specs.declared.op.PlainOp.TheVariants.{Table}
 use Rattle.core_types.specs.declared.op.TableOp.TheVariants.{Copy, ElemDrop, Fill, Get, Grow, Init, Set, Size}
@@ -17,7 +17,7 @@ use Rattle.sidetable.specs.Flat.{Plain}
 use Rattle.simulation.specs.Outcomes.{Answers, HasOutcome, Outcome, failed, grown, made}
 use Rattle.simulation.specs.Runs.{Ghost, IsBefore}
 
--- ---- what is there
+-- ---- what exists
 
 -- The table that the frame's instance has under an index, and its address.
 abbrev pub HasTable : Ghost → (x address : ℕ) → TableInstance → Type 0
@@ -25,7 +25,7 @@ HasTable g x address t =
     locate g.store.tables (slice_get (instance_of g.store (Some g.instance)).tables x)
     ≡ Some (address, t)
 
--- The element segment.
+-- The element segment that the frame's instance has under an index, and its address.
 abbrev pub HasElements : Ghost → (x address : ℕ) → ElementInstance → Type 0
 HasElements g x address e =
     locate g.store.elements (slice_get (instance_of g.store (Some g.instance)).elements x)
@@ -37,19 +37,19 @@ entry_of t = reference_type t.ty.element
 
 -- ---- outcomes
 
--- By what was read.
+-- The outcome of a read.
 abbrev pub read_outcome : Store → Result Val Trap → Outcome
 read_outcome store (Ok v) = made 1 store (v ∷ [])
 read_outcome store (Err trap) = failed trap
 
--- By the entries after a write, at a cost, into the table at an address.
+-- The outcome of a write of entries, at a cost, into the table at an address.
 abbrev pub written_table : Store → (cost address : ℕ) → TableInstance → Result (List Val) Trap
     → Outcome
 written_table store cost address t (Ok entries) =
     made cost (with_table store address (record { ty = t.ty; entries = entries })) []
 written_table store cost address t (Err trap) = failed trap
 
--- By whether it may grow by so many entries of a value: the size before, or -1.
+-- The outcome of a growth by that many entries of a value: the size before, or -1 if it may not grow.
 abbrev pub grown_table : Store → (address : ℕ) → TableInstance → Val → (count : ℕ) → Bool → Outcome
 grown_table store address t v count true =
     grown (entries_cost count) (with_table store address (grow_entries t v count))
@@ -76,14 +76,14 @@ SetsEntry =
     (value_of (entry_of t) (get_or cells (top - 1) 0)))
     (written_table g.store 1 address t)
 
--- table.size: how many entries.
+-- table.size: the number of entries.
 abbrev pub MeasuresTable : Type 0
 MeasuresTable =
     (g : Ghost) (cells : List ℕ) (at top x : ℕ) → IsBefore (Plain (Table (Size x))) g cells at top
     → (address : ℕ) × (t : TableInstance) × HasTable g x address t × (top < length cells)
     × HasOutcome g cells at top top (made 1 g.store (value.I32 t.ty.limits.min ∷ []))
 
--- table.grow: by as many entries as the topmost cell says, of the second one.
+-- table.grow: the topmost cell is the number of entries, which get the value of the second one.
 abbrev pub GrowsTable : Type 0
 GrowsTable =
     (g : Ghost) (cells : List ℕ) (at top x : ℕ) → IsBefore (Plain (Table (Grow x))) g cells at top
@@ -93,7 +93,7 @@ GrowsTable =
     (grown_table g.store address t (value_of (entry_of t) (get_or cells (top - 2) 0))
     (get_or cells (top - 1) 0))
 
--- table.fill: from the lowest cell on, with the second one, as many as the topmost one says.
+-- table.fill: from the lowest cell on, with the second one. The topmost one is the number of entries.
 abbrev pub FillsTable : Type 0
 FillsTable =
     (g : Ghost) (cells : List ℕ) (at top x : ℕ) → IsBefore (Plain (Table (Fill x))) g cells at top
@@ -105,7 +105,7 @@ FillsTable =
 
 -- ---- from one object to another
 
--- From the second cell on in a source to the lowest one, as many as the topmost one says.
+-- From the second cell on in a source to the lowest one. The topmost one is the number of entries.
 abbrev pub CopiesEntries : Ghost → List ℕ → (at top address : ℕ) → TableInstance
     → (source : List Val) → Type 0
 CopiesEntries g cells at top address t source =

@@ -1,4 +1,4 @@
--- What instructions on locals and globals lead to, in a frame.
+-- The steps of instructions on locals and globals, in a frame.
 use Rattle.std.specs.Prelude.{◌≡◌, ℕ, ◌-◌, ◌<◌, ◌≤◌, List, length, set, get_or, Some, slice_get}
 use Rattle.core_types.specs.declared.op.PlainOp.{PlainOp}
 use Rattle.core_types.specs.declared.op.PlainOp.TheVariants.{Variable}
@@ -21,7 +21,7 @@ GetsLocal =
     → (x < length g.locals) × (x < length cells) × (top < length cells)
     × IsPut g cells at (get_or cells x 0) top × IsDear g cells at top
 
--- The topmost cell is written to the local's. It goes on over the cells below this height.
+-- The topmost cell is written to the local's. The code continues with the cells below this height.
 abbrev pub WritesLocal : PlainOp → (x : ℕ) → (below : ℕ → ℕ) → Type 0
 WritesLocal op x below =
     (g : Ghost) (cells : List ℕ) (at top : ℕ) → IsBefore (Plain op) g cells at top
@@ -29,11 +29,11 @@ WritesLocal op x below =
     × IsKept g g.store (set cells x (get_or cells (top - 1) 0)) at (below top)
     × IsDear g cells at top
 
--- local.set: the topmost cell is taken off.
+-- local.set: the topmost cell is popped.
 abbrev pub SetsLocal : Type 0
 SetsLocal = (x : ℕ) → WritesLocal (Variable (LocalSet x)) x (λ top. top - 1)
 
--- local.tee: it stays.
+-- local.tee: the topmost cell stays.
 abbrev pub TeesLocal : Type 0
 TeesLocal = (x : ℕ) → WritesLocal (Variable (LocalTee x)) x (λ top. top)
 

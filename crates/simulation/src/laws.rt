@@ -13,12 +13,13 @@ ghost use Rattle.simulation.specs.Outcomes.{ActsOnStore};
 ghost use Rattle.simulation.specs.Tables.{CopiesTable, DropsElements, FillsTable, GetsEntry, GrowsTable, InitializesTable, MeasuresTable, SetsEntry};
 ghost use Rattle.simulation.specs.Variables.{GetsGlobal, GetsLocal, SetsGlobal, SetsLocal, TeesLocal};
 
-/// Law: a typed body that leads from operands to others ends as many operands higher, if its end is reached.
+/// Law: if a typed body leads from operands to others and its end is reached, the height changes by the difference of their
+/// numbers.
 pub fn ends_typed()
     ensures { EndsTyped }
 {}
 
-/// Law: the flat code of a typed body stands at its first place when a frame is opened for it.
+/// Law: the flat code of a typed body is at its first place when a frame is opened for it.
 pub fn functions_are_entered()
     ensures { FunctionsAreEntered }
 {}
@@ -28,23 +29,23 @@ pub fn steps_are_lifted()
     ensures { StepsAreLifted }
 {}
 
-/// Law: behind an instruction, with its results on what was under its operands, flat code stands at the next place.
+/// Law: after an instruction, with its results on what was below its operands, flat code is at the next place.
 pub fn callers_go_on()
     ensures { CallersGoOn }
 {}
 
-/// Law: a cell, read at its value's type, is the value; that of a type's first value is zero; and arguments are the first locals
-/// of the callee where they lie.
+/// Law: a cell, read at its value's type, is the value. The cell of a type's first value is zero. The arguments are the first
+/// locals of the callee, in the same cells.
 pub fn cells_are_values()
     ensures { CellsAreValues }
 {}
 
-/// Law: what calls, returns and the end of a function's code do to the frames.
+/// Law: the effects of calls, returns and the end of a function's code on the frames.
 pub fn frames_come_and_go()
     ensures { FramesComeAndGo }
 {}
 
-/// Law: control operations are steps of the reduction in their frame, at one unit of fuel; a jump is steps that cost nothing.
+/// Law: control operations are steps of the reduction in their frame, at one unit of fuel. A jump is steps that cost nothing.
 pub fn control_operations_are_steps()
     ensures enters { Enters }
     ensures chooses { Chooses }
@@ -54,7 +55,7 @@ pub fn control_operations_are_steps()
     ensures branches_by_table { BranchesByTable }
 {}
 
-/// Law: so are nop, drop and select, whatever types it was written with; an unreachable fails.
+/// Law: so are nop, drop and select, with any types. An unreachable fails.
 pub fn simple_instructions_are_steps()
     ensures does_nothing { DoesNothing }
     ensures always_fails { AlwaysFails }
@@ -78,7 +79,7 @@ pub fn variables_are_steps()
     ensures sets_global { SetsGlobal }
 {}
 
-/// Law: so are constants and operators, by whatever result the operator has.
+/// Law: so are constants and operators, by any result of the operator.
 pub fn numbers_are_steps()
     ensures puts_i32 { PutsI32 }
     ensures puts_i64 { PutsI64 }
@@ -86,20 +87,20 @@ pub fn numbers_are_steps()
     ensures computes_from_two { ComputesFromTwo }
 {}
 
-/// Law: so are loads and stores, whatever alignment they were written with, and the size of a memory.
+/// Law: so are loads and stores, with any alignment, and the size of a memory.
 pub fn memories_are_steps()
     ensures loads_number { LoadsNumber }
     ensures stores_number { StoresNumber }
     ensures measures_memory { MeasuresMemory }
 {}
 
-/// Law: so are the other instructions on tables, the memory and segments, by whatever outcome their effect has on their operands;
-/// one that grows a table or the memory asks for it first.
+/// Law: so are the other instructions on tables, the memory and segments, by any outcome of their effect on their operands. An
+/// instruction that grows a table or the memory first asks for it.
 pub fn store_instructions_are_steps()
     ensures { ActsOnStore }
 {}
 
-/// Law: what those on tables and element segments are, by what is found there.
+/// Law: the steps of the instructions on tables and element segments, by what is found there.
 pub fn tables_are_steps()
     ensures gets_entry { GetsEntry }
     ensures sets_entry { SetsEntry }
@@ -111,7 +112,7 @@ pub fn tables_are_steps()
     ensures drops_elements { DropsElements }
 {}
 
-/// Law: what those on the memory and data segments are.
+/// Law: the steps of the instructions on the memory and data segments.
 pub fn bulk_instructions_are_steps()
     ensures grows_memory { GrowsMemory }
     ensures fills_memory { FillsMemory }
@@ -120,9 +121,9 @@ pub fn bulk_instructions_are_steps()
     ensures drops_data { DropsData }
 {}
 
-/// Law: before a call, by an index or through a table, the function is there and valid, of host functions, too, and its arguments are on
-/// top; through a table a call fails where it finds no function of the wanted type. So it is for tail calls, whose function gives the
-/// results of the frame.
+/// Law: before a call, by an index or through a table, the function exists and is valid, and its arguments are on top. This
+/// includes host functions. A call through a table fails if it finds no function of the wanted type. The same holds for tail
+/// calls, whose function gives the results of the frame.
 pub fn callees_are_found()
     ensures by_name { CallsByName }
     ensures through_tables { CallsThroughTables }
@@ -130,20 +131,20 @@ pub fn callees_are_found()
     ensures through_tables_last { TailCallsThroughTables }
 {}
 
-/// Law: a call of a host function takes its arguments from the cells, and with its results the code goes on behind it; a tail call takes
-/// them so, too.
+/// Law: a call of a host function takes its arguments from the cells, and the code continues after it with its results. A tail
+/// call also takes them from the cells.
 pub fn hosts_are_called()
     ensures calls_reach_hosts { CallsReachHosts }
     ensures tail_calls_reach_hosts { TailCallsReachHosts }
     ensures changes_lent_bytes { ChangesLentBytes }
 {}
 
-/// Law: the frame of a function that is called begins at the arguments where they lie.
+/// Law: the frame of a called function begins at the cells of the arguments.
 pub fn callees_are_entered()
     ensures { CalleesAreEntered }
 {}
 
-/// Law: behind the last operation the results alone are left.
+/// Law: after the last operation, only the results are left.
 pub fn code_ends()
     ensures { CodeEnds }
 {}

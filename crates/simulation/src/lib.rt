@@ -1,4 +1,4 @@
-//! How flat code over cells stands for configurations of the reduction: definitions and laws, without code that runs.
+//! How flat code over cells represents configurations of the reduction. Definitions and laws. No code here runs.
 #![tactic(auto)]
 
 mod laws;

@@ -1,4 +1,4 @@
--- A valid module whose imports are given is allocated in a valid store: the store is valid then, and extends the one before.
+-- A valid module whose imports are given is allocated in a valid store. The new store is valid, and extends the one before.
 use Rattle.std.proofs.Common.{◌≡◌, ℕ, zero, suc, ◌*◌, ◌<◌, ◌≤◌, ◌^◌, List, [], ◌∷◌, ◌++◌, length, map, Option, Some, refl, ap, ap₂, subst, sym, ◌∙◌, arith, slice_get, get_or, option_map, unwrap_or, inl, inr, Bool, true, false}
 use Rattle.std.proofs.Math.Seq.{drop-append_seam}
 use Rattle.std.proofs.lemmas.List.{length-append, length-map, length-replicate, map-append}

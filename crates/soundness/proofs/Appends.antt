@@ -1,4 +1,4 @@
--- Items behind others, and the addresses of them.
+-- Items after others, and their addresses.
 use Rattle.std.proofs.Common.{◌≡◌, ℕ, zero, suc, ◌+◌, ◌<◌, ◌≤◌, List, [], ◌∷◌, ◌++◌, length, map, Option, Some, refl, ap, ap₂, sym, ◌∙◌, append_assoc, arith, slice_get, option_map, unwrap_or}
 use Rattle.std.proofs.lemmas.List.{length-append, map-append}
 use Rattle.std.proofs.lemmas.List.Elements.{All-append, All-replicate}
@@ -60,7 +60,7 @@ module _ {X Y : Type 0} (type : X → Y) (missing : Y) where
       ap₂ (λ (t : Y) (ts : List Y). t ∷ ts) first
       (ap₂ (λ (zs : List X) (n : ℕ). types_at type missing zs (consecutive n (length ys))) (sym (append_assoc xs (y ∷ []) ys)) (sym longer) ∙ others)
 
-  -- What is given has its types, and behind it come those of the new items.
+  -- What is given has its types, and the types of the new items follow.
   pub types-appended : (xs ys : List X) (given : List ℕ) (count : ℕ) → AreThere xs given → length ys ≡ count
       → types_at type missing (xs ++ ys) (given ++ consecutive (length xs) count) ≡ types_at type missing xs given ++ map type ys
   types-appended xs ys given count there same =

@@ -1,4 +1,4 @@
--- The values of constant expressions are there, and have their types.
+-- The values of constant expressions exist, and have their types.
 use Rattle.std.proofs.Common.{◌≡◌, ℕ, suc, ◌<◌, ◌^◌, List, [], ◌∷◌, reverse, Some, refl, ap, subst, sym, ◌∙◌, slice_get, arith}
 use Rattle.std.specs.Prelude.{Option, Ok, Result, length}
 use Rattle.std.specs.List.{All}
@@ -80,7 +80,7 @@ module _ (old new : Store) (m : Module) (i : ModuleInstance)
   Leads after types = (stack : List ValType) × (operands : List Val) × (after ≡ Some operands) × ValuesHaveTypes new operands stack × (types ≡ known (reverse stack))
 
   module _ (stack : List ValType) (operands : List Val) (typed : ValuesHaveTypes new operands stack) (takes gives between : List OperandType) (frame : TakesAndGives takes gives (known (reverse stack)) between) where
-    -- A value is put on top.
+    -- A value is pushed.
     puts : (v : Val) (t : ValType) → ValueHasType new v t → HasFuncType (function_type [] (t ∷ [])) takes gives → Leads (Some (v ∷ operands)) between
     puts v t v_typed type =
         let (below, stack_is, between_is) = operands-on-top stack (function_type [] (t ∷ [])) takes gives between type frame in

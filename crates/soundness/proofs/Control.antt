@@ -1,4 +1,4 @@
--- Instructions on typed values: each does what is good.
+-- Instructions on typed values: each step is good.
 use Rattle.std.proofs.Common.{◌≡◌, ℕ, zero, suc, List, [], ◌∷◌, ◌++◌, reverse, Some, ap, subst, sym, ◌∙◌, append_assoc, get_or, slice_get, inl, inr}
 use Rattle.std.proofs.lemmas.List.{get_or_past, map-append, reverse-append, reverse-reverse}
 use Rattle.std.proofs.lemmas.Option.{slice_get_cases}
@@ -27,7 +27,7 @@ use Rattle.soundness.proofs.Operands.{i32-on-top, known-fits, known-same, known-
 -- ---- types on top
 
 module _ (stack : List ValType) (operands results between : List OperandType) (frame : TakesAndGives operands results (known (reverse stack)) between) where
-  -- Types that an instruction names above others lie on top.
+  -- Types that an instruction names above others are on top.
   pub types-on-top : (below : List OperandType) (types : List ValType) → operands ≡ below ++ known types → (under : List ValType) × (stack ≡ reverse types ++ under)
   types-on-top below types is =
       let (bs, gs, parts, operands_are, after) = taken operands results (reverse stack) between frame in
@@ -59,7 +59,7 @@ module _ (store : Store) (place : Place) (frame : Frame) where
     goes-on stack (Fails trap) good runs = tt
     goes-on stack Lacks good runs = absurd good
 
-    -- An instruction that works does what is good.
+    -- An instruction that works has a good step.
     pub does : (e : List Val → Effect) (values : List Val) (stack : List ValType) (operands given between : List OperandType) → ValuesHaveTypes store values stack
         → Works store place operands given e → TakesAndGives operands given (known (reverse stack)) between → HasType (context_at store place) rest between (known results)
         → IsGood store place results (continue_after frame (e values) rest)
@@ -84,7 +84,7 @@ module _ (store : Store) (place : Place) (frame : Frame) where
         by zero others left = (Follows-same store, valid, own, (reverse types ++ below, left, runs))
         by (suc n) others left = (types, is, (below, left))
 
-    -- The label that the i32 on top counts carries the types below it.
+    -- The label that the topmost i32 selects carries the types below it.
     branches-from : (table : BranchTable) (types under : List ValType) → stack ≡ ty.I32 ∷ reverse types ++ under
         → ((n : ℕ) → FitsLabel (context_at store place) (known types) (get_or table.labels n table.default)) → IsGood store place results (branch_by_table table values)
     branches-from table types under stack_is fitting =

@@ -41,7 +41,7 @@ module _ {H : Type 0} (host_type : H → FuncType) where
       All-append (FunctionIsValid store) (record { ty = host_type d.host; implementation = InHost number } ∷ []) (host_functions host_type (suc number) ds)
       (All-replicate (FunctionIsValid store) 1 (record { ty = host_type d.host; implementation = InHost number }) tt) (functions-valid store (suc number) ds)
 
-  -- ---- no funcref among the results of those that have no fault
+  -- ---- no funcref among the results of host functions without a fault
 
   first-has-none : (found : Bool) (other rest : Option Fault) → option_or (if found then Some HostFuncRef else other) rest ≡ None → found ≡ false
   first-has-none true other rest faultless = absurd cc

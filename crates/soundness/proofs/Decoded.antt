@@ -1,4 +1,4 @@
--- A valid module that bytes spell may be linked: its numbers have their widths.
+-- A valid module that bytes encode can be linked: its numbers have their widths.
 use Rattle.std.proofs.Common.{◌≡◌, ℕ, suc, ◌+◌, ◌-◌, ◌*◌, ◌<◌, ◌≤◌, ◌^◌, List, [], ◌∷◌, ◌++◌, refl, ap, sym, subst, ◌∙◌, arith, inl, inr}
 use Rattle.std.proofs.lemmas.Nat.{pow-add}
 use Rattle.std.specs.List.{All}
@@ -37,7 +37,7 @@ before-are-bytes first second is are = All-before (λ (b : ℕ). b < 2 ^ 8) firs
 
 -- ---- numbers
 
--- A number that is spelt has its bits.
+-- A number that is encoded fits in its bits.
 unsigned-below : (bits : ℕ) (bytes : List ℕ) (n : ℕ) → AreBytes bytes → SpellsUnsigned bits bytes n → n < 2 ^ bits
 unsigned-below bits [] n are spelt = absurd spelt
 unsigned-below bits (b ∷ []) n are (last, within, is) = omega (arith, within, is)
@@ -48,7 +48,7 @@ unsigned-below bits (b ∷ next ∷ bytes) n are (more, wide, (rest, spelt, valu
     let power : 2 ^ bits ≡ 2 ^ (bits - 7) * 2 ^ 7 = ap (λ (k : ℕ). 2 ^ k) parts ∙ pow-add 2 (bits - 7) 7 in
     omega (arith, below, small, power, value)
 
--- ---- what is spelt in turn
+-- ---- what is encoded in turn
 
 module _ {V : Type 0} (Spells : List ℕ → V → Type 0) (P : V → Type 0) (one : (text : List ℕ) (v : V) → AreBytes text → Spells text v → P v) where
   each-spelt : (bytes : List ℕ) (vs : List V) → AreBytes bytes → SpellsEach Spells bytes vs → All P vs

@@ -1,4 +1,4 @@
--- What a good effect is, and effects that leave the store: constants, numbers, parametric instructions, references and locals.
+-- What a good effect is, and effects that leave the store unchanged: constants, numbers, parametric instructions, references and locals.
 use Rattle.std.proofs.Common.{ℕ, ◌<◌, ◌≤◌, ◌^◌, List, ◌∷◌, ◌++◌, reverse, refl, arith, inl}
 use Rattle.std.specs.Prelude.{Result, Ok, Err, IfOk}
 use Rattle.core_types.specs.declared.op.Conversion.TheVariants.{I32WrapI64, I64ExtendI32S, I64ExtendI32U, I64Extend32S}
@@ -23,8 +23,8 @@ use Rattle.soundness.specs.Places.{Place}
 use Rattle.soundness.specs.Stores.{Extends, Follows, StoreIsValid}
 use Rattle.soundness.proofs.Operands.{i32-on-top, i64-on-top}
 
--- What an instruction without control must do at a place: give values of these types, over a store that is valid and extended, and
--- leave the locals their types; or trap.
+-- What an instruction without control must do at a place. It gives values of these types, over a store that is valid and extended, and
+-- leaves the types of the locals. Or it traps.
 abbrev pub EffectIsGood : Store → Place → (stack : List ValType) → Effect → Type 0
 EffectIsGood old place stack (Done cost store locals values) =
     Follows old store × StoreIsValid store × ValuesHaveTypes store locals place.locals × ValuesHaveTypes store values stack

@@ -44,7 +44,7 @@ use Rattle.soundness.proofs.Values.{All-at, values-reversed}
 
 -- ---- exported globals
 
--- What is made of an item that is there.
+-- The result of a function for an item that exists.
 made-of : {A B : Type 0} (f : A → B) (found : Option A) (y : B) → option_map f found ≡ Some y → (x : A) × (found ≡ Some x) × (f x ≡ y)
 made-of f None y is = absurd cc
 made-of f (Some x) y is = (x, refl, cc)
@@ -66,7 +66,7 @@ module _ (store : Store) (i : ModuleInstance) (valid : InstanceIsValid store i) 
       go None same = absurd cc
       go (Some e) same = of-kind e.desc address same
 
--- A global that is exported is there.
+-- An exported global exists.
 pub global-there : (store : Store) → StoreIsValid store → (name : List ℕ) (instance : Option ℕ) (address : ℕ) → as_global (export_from store name instance) ≡ Ok address → address < length store.globals
 global-there store valid name None address is = absurd cc
 global-there store valid name (Some instance) address is = go (export_of (instance_of store (Some instance)) name) refl is
@@ -82,20 +82,20 @@ global-there store valid name (Some instance) address is = go (export_of (instan
 
 -- ---- commands
 
--- A sound module that is allowed may be linked with what the names of its imports stand for.
+-- A sound module that is allowed can be linked with what the names of its imports stand for.
 pub links-linkable : (store : Store) (names : NamesContents) (m : Module) → IsSoundModule m → (given : List Extern) → resolve_imports store names m.imports ≡ Some given → IsAllowed store m given → IsLinkable store m given
 links-linkable store names m sound given resolved allowed =
     record { sound = sound; within = allowed.within; count = map_all-length (λ (i : Import). resolve_name store names i.module_name i.name) m.imports given resolved; fits = allowed.given }
 
 module _ {H : Type 0} (host_type : H → FuncType) where
-  -- What a command leaves, where these types were asked for.
+  -- The result of a command, if these types were asked for.
   pub record LeavesWell (old : Embedding H) (types : List ValType) (reply : Reply) (new : Embedding H) : Type 0 where
     pub extends : Extends old.state.store new.state.store
     pub replies : RepliesWell new.state.store types reply
     pub sound : IsSound host_type new
 
   module _ (old new : Embedding H) (sound : IsSound host_type old) (types : List ValType) (reply : Reply) where
-    -- A command that leaves the state of runs.
+    -- A command that leaves the state of runs unchanged.
     still : new.state ≡ old.state → RepliesWell old.state.store types reply → LeavesWell old types reply new
     still same replies =
         let stores : new.state.store ≡ old.state.store = ap (λ (s : State H). s.store) same in
@@ -148,7 +148,7 @@ module _ {H : Type 0} (host_type : H → FuncType) where
 
 module _ {H : Type 0} (host_type : H → FuncType) (Answers : H → List Val → List ℕ → Answer → List ℕ → H → Type 0) where
   module _ (old new : Embedding H) (sound : IsSound host_type old) (reply : Reply) where
-    -- What a run leaves.
+    -- The result of a run.
     leaves : {ending : Ending} {state : State H} (types : List ValType) → EndsTyped (IsHostStep host_type Answers) (AreReady host_type) types old.state ending state
         → new.state ≡ state → RepliesWell state.store types reply → LeavesWell host_type old types reply new
     leaves {state = state} types ended state_is replies =
@@ -205,7 +205,7 @@ module _ {H : Type 0} (host_type : H → FuncType) (Answers : H → List Val →
     applies-well read (GetGlobal number name) linkable applies = gets-well host_type old new sound reply (as_global (export_at old number name)) applies
     applies-well read (SetFuel fuel) linkable applies = sets-fuel-well host_type old new sound reply fuel applies
 
-    -- A command goes well, if the module that it links may be linked, and leaves a sound embedding.
+    -- A command goes well, if the module that it links can be linked, and leaves a sound embedding.
     pub goes-well : ((b : Body) → body_of (writing b) ≡ b) → (command : Command) → LinksSoundModule old command → Applies (IsHostStep host_type Answers) old command reply new
         → GoesWell old command reply new × IsSound host_type new
     goes-well read command linkable applies =
@@ -221,7 +221,7 @@ one-of at (Call number name arguments) all = tt
 one-of at (GetGlobal number name) all = tt
 one-of at (SetFuel fuel) all = tt
 
--- ---- commands in a row
+-- ---- consecutive commands
 
 module _ {H : Type 0} (HostStep : List H → ℕ → Option ℕ → List Val → Store → Answer → Store → List H → Type 0) where
   pub none-well : (at : Embedding H) → RunsWell HostStep at [] [] at
@@ -232,7 +232,7 @@ module _ {H : Type 0} (HostStep : List H → ℕ → Option ℕ → List Val →
       → RunsWell HostStep between commands replies last → RunsWell HostStep old (command ∷ commands) (reply ∷ replies) last
   one-before-well (step, well, said) (run, others, others_said) = (machine.then_on step run, (well, others), (said, others_said))
 
-  -- A command behind others.
+  -- A command after others.
   module _ {between : Embedding H} (last : Embedding H) (command : Command) (reply : Reply) (step : Applies HostStep between command reply last) where
     one-more : {old : Embedding H} {commands : List Command} {replies : List Reply} → AppliesAll HostStep old commands replies between
         → AppliesAll HostStep old (commands ++ command ∷ []) (replies ++ reply ∷ []) last
@@ -265,7 +265,7 @@ module _ {H : Type 0} (HostStep : List H → ℕ → Option ℕ → List Val →
   refused-after : (old new : Embedding H) {refusal : Refusal} {reply : Reply} → (reply ≡ Refused refusal) × (new ≡ old) → All IsSoundModule old.modules → All IsSoundModule new.modules
   refused-after old new (reply_is, new_is) = as-before old new (ap (λ (e : Embedding H). e.modules) new_is)
 
-  -- The modules may be linked after a command, if they might before.
+  -- The modules can be linked after a command if they could before.
   loads-after : (old new : Embedding H) (bytes : List ℕ) (reply : Reply) → AreBytes bytes → Loads old bytes reply new → All IsSoundModule old.modules → All IsSoundModule new.modules
   loads-after old new bytes reply are (machine.loaded {m = m} decoded valid reply_is new_is) =
       λ all. subst (All IsSoundModule) (sym (ap (λ (e : Embedding H). e.modules) new_is))

@@ -17,7 +17,7 @@ use Rattle.soundness.specs.Stores.{AreThere, Extends, InstanceIsValid, Keeps, St
 use Rattle.soundness.specs.Configurations.{ConfigurationHasType}
 use Rattle.soundness.proofs.Values.{All-at, values-extended}
 
--- ---- lists of what is there
+-- ---- lists of what exists
 
 module _ {X : Type 0} (Stays : X → X → Type 0) (old new : List X) (kept : Keeps Stays old new) where
   pub Keeps-length : length old ≤ length new
@@ -101,7 +101,7 @@ module _ (old new : Store) (valid : StoreIsValid old) (more : Extends old new) w
     references = λ x f is named. named;
   })
 
-  -- Where there is no instance, nothing was typed by it.
+  -- If there is no instance, nothing was typed by it.
   carried-from-none : (place : Place) → instance_of old place.instance ≡ no_instance → Carries (context_at old place) (context_at new place)
   carried-from-none place before = rw before (record {
     types = λ x t is. absurd cc;
@@ -168,7 +168,7 @@ module _ (old new : Store) (valid : StoreIsValid old) (more : Extends old new) w
       let (g, there', stays) = more.functions address f is in
       (f, there' ∙ ap (λ (h : FunctionInstance). Some h) (sym stays), values-extended old new functions-more arguments (reverse f.ty.params) typed, same)
 
--- The instance of a place is valid, also where there is none.
+-- The instance of a place is valid, even if there is none.
 pub instance-valid : (store : Store) → StoreIsValid store → (at : Option ℕ) → InstanceIsValid store (instance_of store at)
 instance-valid store valid at = by at
   where

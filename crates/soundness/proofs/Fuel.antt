@@ -1,4 +1,4 @@
--- What runs spend is what they cost, and no command but the one that sets the fuel leaves more than there was.
+-- Runs spend what they cost, and no command except the one that sets the fuel leaves more than there was.
 use Rattle.std.proofs.Common.{◌≡◌, ℕ, ◌+◌, ◌≤◌, ◌-◌, List, Option, Some, None, ap, arith}
 use Rattle.std.specs.Prelude.{Result, Ok, Err, slice_get}
 use Rattle.core_types.specs.declared.module.Module.{Module}
@@ -73,7 +73,7 @@ module _ {H : Type 0} (HostStep : List H → ℕ → Option ℕ → List Val →
     refused : {refusal : Refusal} → Refuses old refusal reply new → Less
     refused (reply_is, new_is) = still (ap (λ (e : Embedding H). e.state.fuel) new_is)
 
-    -- The state then is one that a run left.
+    -- The state afterwards is one that a run left.
     left-by : (state : State H) → new.state.fuel ≡ state.fuel → state.fuel ≤ old.state.fuel → Less
     left-by state is less = omega (arith, is, less)
 

@@ -1,4 +1,4 @@
--- Stores with nothing in them, and with a host function more.
+-- Empty stores, and stores with one more host function.
 use Rattle.std.proofs.Common.{◌≡◌, ℕ, ◌+◌, ◌<◌, ◌^◌, [], ◌∷◌, ◌++◌, length, refl, arith}
 use Rattle.std.proofs.lemmas.List.{length-append}
 use Rattle.std.proofs.lemmas.List.Elements.{All-append, All-replicate}
@@ -13,7 +13,7 @@ use Rattle.soundness.proofs.Writes.{elements-still, functions-still, globals-sti
 nothing : {X : Type 0} (P : X → Type 0) → All P []
 nothing P k d inside = let wrong : ⊥ = omega (arith, inside) in absurd wrong
 
--- A store with nothing in it.
+-- An empty store.
 pub empty-valid : (pages entries : ℕ) → StoreIsValid (record { functions = []; instances = []; tables = []; memories = []; globals = []; elements = []; datas = []; pages = pages; entries = entries })
 empty-valid pages entries = record {
   functions = nothing _;

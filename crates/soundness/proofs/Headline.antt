@@ -71,14 +71,14 @@ module _ {H : Type 0} (HostStep : List H → ℕ → Option ℕ → List Val →
           out_of_depth ending_is (leads-to-last last_is) (subst (λ (s : State H). WouldPassDepth bound s outside reached) (sym last_is) (passes (next at.store outside reached) (depth reached) is deep))
       end-is-said well (no_memory asks within enough ending_is last_is) = out_of_memory ending_is (leads-to-last last_is) (subst (λ (s : State H). WouldAskForMemory s outside reached) (sym last_is) asks)
 
-    -- So does a run whose steps lead there.
+    -- The same for a run whose steps lead there.
     run-is-said : {old last : State H} {first : Configuration} {ending : Ending} → ((at : State H) (reached : Configuration) → Steps HostStep bound outside old first at reached → LeadsTo at outside reached)
         → EndsWell last.store results ending → Run HostStep bound outside old first ending last → EndsAsSaid bound results LeadsTo ending last
     run-is-said {last = last} leads well run =
         let then = reaches run in
         end-is-said then.at last then.reached (leads then.at then.reached then.steps) well then.ends
 
--- What leads there leads further.
+-- An ending that is as stated for one relation is as stated for a wider one.
 further : {H : Type 0} (bound : ℕ) (results : List ValType) (LeadsTo LeadsFurther : State H → Frame → Configuration → Type 0) → ((at : State H) (frame : Frame) (reached : Configuration) → LeadsTo at frame reached → LeadsFurther at frame reached)
     → {ending : Ending} {last : State H} → EndsAsSaid bound results LeadsTo ending last → EndsAsSaid bound results LeadsFurther ending last
 further bound results LeadsTo LeadsFurther on (with_values_of_its_result_types is typed) = with_values_of_its_result_types is typed

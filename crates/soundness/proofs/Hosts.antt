@@ -1,4 +1,4 @@
--- Host functions answer well where no results are references to functions.
+-- Host functions answer well if no results are references to functions.
 use Rattle.std.proofs.Common.{◌≡◌, ℕ, zero, suc, List, [], ◌∷◌, length, map, Some, false, refl, ap, sym, subst, ◌∙◌, arith, slice_get}
 use Rattle.std.proofs.lemmas.List.Elements.{All-append}
 use Rattle.std.specs.List.{All}
@@ -49,7 +49,7 @@ module _ (store : Store) where
   answer-typed (Results values) types (same, fits) none = results-typed values types same none fits
   answer-typed (HostTrap code) types same none = tt
 
--- ---- bytes that are lent
+-- ---- bytes that are borrowed
 
 lent-leaves : (store : Store) → StoreIsValid store → (lent : Option ℕ) (bytes : List ℕ) → length bytes ≡ length (lent_bytes store lent) → AreBytes bytes
     → Extends store (with_lent_bytes store lent bytes) × StoreIsValid (with_lent_bytes store lent bytes)

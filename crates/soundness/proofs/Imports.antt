@@ -30,7 +30,7 @@ mapped f None y is = absurd cc
 mapped f (Some x) y is = let same : f x ≡ y = cc in (x, refl, same)
 
 module _ (store : Store) (m : Module) where
-  -- An external value is of the kind that an import asks for, and there.
+  -- An external value is of the kind that an import requires, and exists.
   pub data GivenAs : ImportDesc → Extern → Type 0 where
     as_function : {x a : ℕ} (f : FunctionInstance) → slice_get store.functions a ≡ Some f → slice_get m.types x ≡ Some f.ty → GivenAs (import.Func x) (value.Func a)
     as_table : {t : TableType} {a : ℕ} (table : TableInstance) → slice_get store.tables a ≡ Some table → table.ty.element ≡ t.element → GivenAs (import.Table t) (value.Table a)
@@ -124,7 +124,7 @@ module _ (store : Store) (m : Module) where
       let wanted_is = asked (type.Global t) wanted asks in
       as_global g there (meets (type.Global g.ty) (type.Global t) given wanted given_is wanted_is fits)
 
-  -- ---- what is given of each kind has the types that are asked for
+  -- ---- what is given of each kind has the required types
 
   pub functions-given : (missing : FuncType) (imports : List Import) (given : List Extern) → AreGiven store m imports given → length given ≡ length imports
       → types_at (λ (f : FunctionInstance). f.ty) missing store.functions (given_addresses function_address given) ≡ map (type_at m.types) (imported_functions imports)
@@ -189,7 +189,7 @@ module _ (store : Store) (m : Module) where
       by _ _ (as_memory memory there) addresses types rest = ap suc rest
       by _ _ (as_global g there same) addresses types rest = rest
 
-  -- ---- what is given is there
+  -- ---- what is given exists
 
   pub record AreAllThere (given : List Extern) : Type 0 where
     pub functions : AreThere store.functions (given_addresses function_address given)

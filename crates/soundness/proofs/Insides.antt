@@ -1,4 +1,4 @@
--- What is inside of a typed configuration is typed in its own frame.
+-- The inside of a typed configuration is typed in its own frame.
 use Rattle.std.proofs.Common.{[], ◌∷◌, refl}
 use Rattle.meaning.specs.execution.Configurations.{InFrame, InLabel}
 use Rattle.meaning.specs.execution.Layers.{AroundFrame, AroundLabel}

@@ -164,12 +164,12 @@ module _ (old : Store) (m : Module) (given : List Extern) (linkable : IsLinkable
           },
         )
 
--- ---- tasks in a row
+-- ---- consecutive tasks
 
 no-value : {A : Type 0} {a : A} → None ≡ Some a → ⊥
 no-value is = absurd cc
 
--- An ending without values ends well whatever the results.
+-- An ending without values ends well for any results.
 pub ends-anyway : (store : Store) (results : List ValType) (ending : Ending) → HasNoValues ending → EndsWell store results ending
 ends-anyway store results (WithValues values) none = absurd none
 ends-anyway store results (WithTrap trap) none = tt
@@ -184,7 +184,7 @@ module _ {H : Type 0} (HostStep : List H → ℕ → Option ℕ → List Val →
       → EndsTyped HostStep HaveHosts runs.results old ending last
   activity-typed a old last ending valid there runs run = never-goes-wrong HostStep HaveHosts kept well bound a.frame runs.place old last a.configuration runs.results ending runs.outside valid there runs.typed run
 
-  -- Tasks of which each is found and typed in every store that extends this one.
+  -- Tasks, each of which is found and typed in every store that extends this one.
   module _ (start : Store) (n : ℕ) (i : ModuleInstance) (P : Task → Type 0)
       (each : (at : Store) → StoreIsValid at → Extends start at → (task : Task) → P task → (a : Activity) × (activity at n i task ≡ Some a) × RunsTyped at a) where
     tasks-run : (tasks : List Task) → All P tasks → {old last : State H} {ending : Ending} → StoreIsValid old.store → HaveHosts old.store old.hosts → Extends start old.store
@@ -220,14 +220,14 @@ module _ {H : Type 0} (HostStep : List H → ℕ → Option ℕ → List Val →
 
 -- ---- the parts of a link, one after the other
 
--- The constants of a module that is linked have values.
+-- The constants of a linked module have values.
 pub objects-there : (old : Store) (m : Module) (given : List Extern) → StoreIsValid old → IsLinkable old m given → new_objects old (new_instance old m given) m ≡ None → ⊥
 objects-there old m given valid linkable none =
     let (gs, first) = globals-found old m given linkable valid in
     let (es, second) = elements-found old m given linkable valid in
     objects-found m _ _ gs es first second none
 
--- What it runs is there, and is typed, whatever runs before.
+-- What the link runs exists, and is typed, whatever runs before.
 pub tasks-good : ((b : Body) → body_of (writing b) ≡ b) → (old : Store) (m : Module) (given : List Extern) (made : ObjectLists) → StoreIsValid old → IsLinkable old m given → new_objects old (new_instance old m given) m ≡ Some made
     → TasksAreGood (with_module old (new_instance old m given) m made) (length old.instances) (new_instance old m given) (tasks_of m)
 tasks-good read old m given made valid linkable made_is =
@@ -299,7 +299,7 @@ module _ (read : (b : Body) → body_of (writing b) ≡ b)
         tasks-never-stuck HostStep HaveHosts kept well bound now (length old.store.instances) (new_instance old.store m given) (tasks_of m) (tasks-good read old.store m given made valid linkable made_is)
         now-valid (linked old.store m (new_instance old.store m given) made old.hosts there) (Extends-same now)
 
-  -- A link never goes wrong where host functions answer by their types, and a link leaves their conditions.
+  -- A link never goes wrong if host functions answer by their types, and a link keeps their conditions.
   pub links-never-go-wrong : LinksNeverGoWrong HostStep HaveHosts
   links-never-go-wrong bound m given old new ending valid there linkable link =
       let ran = links-end bound m given old link.objects valid there linkable link.allocated ending new link.ran in

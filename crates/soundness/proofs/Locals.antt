@@ -1,4 +1,4 @@
--- Effects that leave the store: parametric instructions, references, locals and constants.
+-- Effects that leave the store unchanged: parametric instructions, references, locals and constants.
 use Rattle.std.proofs.Common.{◌≡◌, ℕ, zero, suc, ◌<◌, ◌^◌, List, [], ◌∷◌, ◌++◌, reverse, Option, Some, None, refl, ap, ◌∙◌, arith}
 use Rattle.std.proofs.lemmas.Bool.{lt-ltb}
 use Rattle.std.proofs.lemmas.Option.{slice_get_within}
@@ -36,12 +36,12 @@ module _ {A : Type 0} (a b : ℕ) (x y : A) where
   pub if-below : a < b → (if nat_lt a b then x else y) ≡ x
   if-below h = ap (λ (t : Bool). if t then x else y) (lt-ltb a b h)
 
--- An instruction of this type works on all values of its parameters, whatever lies below them.
+-- An instruction of this type works on all values of its parameters, whatever is below them.
 abbrev pub WorksAs : Store → Place → FuncType → (List Val → Effect) → Type 0
 WorksAs store place s e = (values : List Val) (below : List ValType) → ValuesHaveTypes store values (reverse s.params ++ below)
     → EffectIsGood store place (reverse s.results ++ below) (e values)
 
--- An instruction that takes known operands is one of a type, as which it works.
+-- An instruction that takes known operands works as one of a type.
 abbrev pub Works : Store → Place → (operands results : List OperandType) → (List Val → Effect) → Type 0
 Works store place operands results e = (given : List ValType) → operands ≡ known given → (s : FuncType) × HasFuncType s operands results × WorksAs store place s e
 

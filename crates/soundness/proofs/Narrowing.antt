@@ -1,5 +1,5 @@
--- Where host functions answer by a narrower relation, as long as each keeps a condition of its own, a run of commands is a run over
--- the narrower one.
+-- If host functions answer by a narrower relation as long as each keeps its own condition, a run of commands is a run over the narrower
+-- relation.
 use Rattle.std.proofs.Common.{◌≡◌, ℕ, List, ◌∷◌, ap, refl, subst, sym, slice_get}
 use Rattle.std.specs.List.{All}
 use Rattle.std.specs.Prelude.{Option, Some, None, Result, Ok, Err}
@@ -152,7 +152,7 @@ module _ {H : Type 0} (host_type : H → FuncType) (Answers Own : H → List Val
     command-of-own (GetGlobal number name) applies = (applies, gets-keeps (as_global (export_at old number name)) applies)
     command-of-own (SetFuel fuel) applies = (applies, subst (λ (e : Embedding H). All Keeps e.state.hosts) (sym applies.1) kept)
 
-  -- The run that is narrower leads to the same embeddings.
+  -- The narrower run leads to the same embeddings.
   pub run-of-own : {old last : Embedding H} {commands : List Command} {replies : List Reply} → All Keeps old.state.hosts → (run : AppliesAll Wide old commands replies last)
       → (own : AppliesAll Narrow old commands replies last) × (states_of Narrow own ≡ states_of Wide run) × All Keeps last.state.hosts
   run-of-own kept machine.none = (machine.none, refl, kept)

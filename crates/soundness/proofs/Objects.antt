@@ -1,4 +1,4 @@
--- The objects that a module's parts are made into.
+-- The objects that a module's parts become.
 use Rattle.std.proofs.Common.{◌≡◌, suc, List, [], ◌∷◌, map, Option, Some, None, refl, ap, ap₂, ◌∙◌, arith}
 use Rattle.std.proofs.lemmas.List.Elements.{All-append, All-replicate}
 use Rattle.std.specs.List.{All}
@@ -33,7 +33,7 @@ module _ {A B : Type 0} (f : A → Option B) where
       rw parts (All-first P y rest (each x y (all 0 x (omega (arith))) first) (made-all P Q each xs rest (λ k d inside. all (suc k) d (omega (arith, inside))) others))
 
 module _ {A B : Type 0} (f : A → Option B) where
-  -- Where each has one, all have.
+  -- If each item has a value, all have.
   pub all-found : (xs : List A) → All (λ (x : A). (y : B) × (f x ≡ Some y)) xs → (ys : List B) × (map_all f xs ≡ Some ys)
   all-found [] each = ([], refl)
   all-found (x ∷ xs) each =
@@ -52,7 +52,7 @@ objects-made m None elements objects is = absurd cc
 objects-made m (Some gs) None objects is = absurd cc
 objects-made m (Some gs) (Some es) objects is = (gs, es, refl, refl, let same : objects ≡ record { tables = map new_table m.tables; memories = map new_memory m.memories; globals = gs; elements = es; datas = map new_data m.datas } = cc in same)
 
--- Where all constant expressions have values, there are objects.
+-- If all constant expressions have values, the objects exist.
 pub objects-found : (m : Module) (globals : Option (List GlobalInstance)) (elements : Option (List ElementInstance)) (gs : List GlobalInstance) (es : List ElementInstance)
     → globals ≡ Some gs → elements ≡ Some es → objects_with m globals elements ≡ None → ⊥
 objects-found m globals elements gs es first second none =

@@ -38,7 +38,7 @@ known-parts (t ∷ ts) (b ∷ below) given is =
     let (bs, gs, parts, below_is, given_is) = known-parts ts below given others in
     (t ∷ bs, gs, ap (λ (z : List ValType). t ∷ z) parts, ap₂ (λ (u : OperandType) (us : List OperandType). u ∷ us) first below_is, given_is)
 
--- What is taken off known types is known, and so are the types that stay.
+-- An operand that is popped from known types is known, and so are the types that stay.
 pub taken : (operands results : List OperandType) (before : List ValType) (after : List OperandType) → TakesAndGives operands results (known before) after
     → (below given : List ValType) × (before ≡ below ++ given) × (operands ≡ known given) × (after ≡ known below ++ results)
 taken operands results before after frame =
@@ -47,7 +47,7 @@ taken operands results before after frame =
 
 -- ---- the stack
 
--- The types of a stack whose types in the other order are these two parts.
+-- The types of a stack whose reverse has these two parts.
 stack-parts : (stack below given : List ValType) → reverse stack ≡ below ++ given → stack ≡ reverse given ++ reverse below
 stack-parts stack below given is = sym (reverse-reverse stack) ∙ ap (λ (z : List ValType). reverse z) is ∙ reverse-append below given
 
@@ -57,7 +57,7 @@ results-known below results =
     ∙ ap (λ (z : List ValType). known z) (sym (reverse-append (reverse results) (reverse below) ∙ ap (λ (z : List ValType). z ++ reverse (reverse results)) (reverse-reverse below) ∙ ap (λ (z : List ValType). below ++ z) (reverse-reverse results)))
 
 module _ (stack : List ValType) (s : FuncType) (operands results between : List OperandType) where
-  -- The operands of an instruction of one type lie on top, and its results come in their place.
+  -- The operands of an instruction of one type are on top, and its results replace them.
   pub operands-on-top : HasFuncType s operands results → TakesAndGives operands results (known (reverse stack)) between
       → (below : List ValType) × (stack ≡ reverse s.params ++ below) × (between ≡ known (reverse (reverse s.results ++ below)))
   operands-on-top (takes, gives) frame =

@@ -1,4 +1,4 @@
--- Lists in which items take the place of others, and tests that hold.
+-- Lists in which items replace others, and tests that hold.
 use Rattle.std.proofs.Common.{◌≡◌, ℕ, ◌+◌, ◌≤◌, List, ◌++◌, Bool, true, false, length, take, drop, refl, arith}
 use Rattle.std.proofs.lemmas.Bool.{leb-true}
 use Rattle.std.proofs.lemmas.List.{length-append, length-drop, length-take-le}

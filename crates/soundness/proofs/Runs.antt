@@ -20,7 +20,7 @@ use Rattle.soundness.proofs.Extension.{configuration-extended}
 use Rattle.soundness.proofs.Steps.{stays-good}
 use Rattle.soundness.proofs.Values.{values-reversed}
 
--- ---- extensions in a row
+-- ---- a chain of extensions
 
 Keeps-through : {X : Type 0} (Stays : X → X → Type 0) → ((x y z : X) → Stays x y → Stays y z → Stays x z) → (a b c : List X) → Keeps Stays a b → Keeps Stays b c → Keeps Stays a c
 Keeps-through Stays through a b c first second address x is =
@@ -75,7 +75,7 @@ module _ (frame : Frame) (place : Place) (out : IsOutside frame place) where
   good-goes-on store results (Over values) fine = inl tt
   good-goes-on store results NotReady fine = absurd fine
 
-  -- A typed configuration can go on.
+  -- A typed configuration can take a step or is over.
   typed-goes-on : (store : Store) (configuration : Configuration) (results : List ValType) → StoreIsValid store → ConfigurationHasType store place configuration results → CanGoOn (next store frame configuration)
   typed-goes-on store configuration results valid typed =
       good-goes-on store results (next store frame configuration) (stays-good store place frame configuration results valid (outside store) typed)
@@ -90,7 +90,7 @@ waiting-stuck is (inr ready) = subst IsReady is ready
 module _ {H : Type 0} (HostStep : List H → ℕ → Option ℕ → List Val → Store → Answer → Store → List H → Type 0) (HaveHosts : Store → List H → Type 0)
     (kept : (old new : Store) (hosts : List H) → new.functions ≡ old.functions → HaveHosts old hosts → HaveHosts new hosts)
     (well : HostsAnswerWell HostStep HaveHosts) (bound : ℕ) (frame : Frame) (place : Place) (out : IsOutside frame place) where
-  -- What a step from a typed configuration leaves.
+  -- The result of a step from a typed configuration.
   record StepsTyped (results : List ValType) (old : State H) (new : State H) (configuration : Configuration) : Type 0 where
     extends : Extends old.store new.store
     valid : StoreIsValid new.store

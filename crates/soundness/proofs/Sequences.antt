@@ -1,4 +1,4 @@
--- Instructions behind typed values do what is good.
+-- Instructions after typed values have good steps.
 use Rattle.std.proofs.Common.{◌≡◌, ℕ, zero, suc, ◌<◌, ◌≤◌, List, [], ◌∷◌, ◌++◌, Bool, true, false, length, take, reverse, Option, Some, None, refl, ap, subst, ◌∙◌, arith, slice_get, if◌then◌else◌, inl, inr}
 use Rattle.std.proofs.lemmas.List.{append-nil, length-append, length-reverse, map-append, reverse-append, reverse-reverse}
 use Rattle.std.proofs.lemmas.Option.{slice_get_cases}
@@ -48,7 +48,7 @@ use Rattle.soundness.proofs.Variables.{variable-works}
 module _ (store : Store) (valid : StoreIsValid store) (place : Place) (frame : Frame) (own : FrameHasPlace store frame place) (results : List ValType) where
   -- ---- calls of functions of a table
 
-  -- What is done with a function of the store that has this type.
+  -- The step of a function of the store that has this type.
   abbrev Calls : FuncType → (call : FunctionInstance → Next) → Type 0
   Calls f call = (address : ℕ) (g : FunctionInstance) → g.ty ≡ f → slice_get store.functions address ≡ Some g → IsGood store place results (call g)
 

@@ -1,4 +1,4 @@
--- What is next for a typed configuration is good: labels, frames and calls from outside.
+-- The next step of a typed configuration is good: labels, frames and calls from outside.
 use Rattle.std.proofs.Common.{◌≡◌, ℕ, zero, suc, ◌≤◌, List, [], ◌++◌, length, take, reverse, Option, Some, None, refl, subst, sym, arith}
 use Rattle.std.proofs.lemmas.List.{append-nil, length-append, length-reverse}
 use Rattle.core_types.specs.declared.outcome.Val.{Val}
@@ -82,7 +82,7 @@ module _ (store : Store) (valid : StoreIsValid store) (place : Place) (frame : F
 
   -- ---- frames
 
-  -- Where a call is good, so is one in place of a frame.
+  -- If a call is good, so is one in place of a frame.
   placed : (n : Next) → IsGood store place results n → IsGood store place results (in_place frame n)
   placed (Opens cost new inside) (same, inner) = (rw same (Follows-same store), rw same valid, rw same own, inner)
   placed other good = good

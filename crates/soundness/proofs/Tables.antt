@@ -39,7 +39,7 @@ use Rattle.soundness.proofs.Writes.{All-set, elements-dropped-extends, elements-
 
 -- ---- growth
 
--- What may grow stays within the bound, within what any may have, and within its maximum.
+-- The size after an allowed growth stays within the bound, within what any may have, and within its maximum.
 pub grown-size : (bound most : ℕ) (limits : Limits) (more : ℕ) → can_grow bound most limits more ≡ true → SizeIsValid (raised limits more) bound most
 grown-size bound most limits more is =
     let (first, rest) = both _ _ is in
@@ -66,7 +66,7 @@ module _ (store : Store) (valid : StoreIsValid store) (place : Place) (frame : F
     there : TableIsValid store table
     there = All-at (TableIsValid store) store.tables address table at valid.tables
 
-    -- Entries of the table's type in the place of as many.
+    -- Entries of the table's type in the place of the same number of entries.
     abbrev Fit : List Val → Type 0
     Fit entries = (length entries ≡ length table.entries) × AreOf table.ty.element entries
 

@@ -87,7 +87,7 @@ module _ (old new : Store) (valid : StoreIsValid old) (more : Extends old new) w
   pub elements-still : (es : List ElementInstance) → All (ElementIsValid old) es → All (ElementIsValid new) es
   elements-still es all = λ k e inside. λ j d there. value-still _ _ (all k e inside j d there)
 
--- A store whose lists are as long has as few objects.
+-- A store whose lists are as long also has few objects.
 few-still : (old new : Store) → HasFewObjects old → length new.functions ≡ length old.functions → length new.instances ≡ length old.instances → length new.tables ≡ length old.tables → length new.memories ≡ length old.memories
     → length new.globals ≡ length old.globals → length new.elements ≡ length old.elements → length new.datas ≡ length old.datas → HasFewObjects new
 few-still old new few functions instances tables memories globals elements datas = record {
@@ -103,7 +103,7 @@ few-still old new few functions instances tables memories globals elements datas
 -- ---- writes
 
 module _ (store : Store) (valid : StoreIsValid store) (address : ℕ) where
-  -- A global that is no constant gets another value of its type.
+  -- A mutable global gets another value of its type.
   module _ (g : GlobalInstance) (value : Val) (at : slice_get store.globals address ≡ Some g) (stays : GlobalStays g (record { ty = g.ty; value = value })) (typed : ValueHasType store value g.ty.value) where
     abbrev pub with_value : Store
     with_value = with_global store address (record { ty = g.ty; value = value })
@@ -133,7 +133,7 @@ module _ (store : Store) (valid : StoreIsValid store) (address : ℕ) where
       few = few-still store with_value valid.few refl refl refl refl (length-set store.globals address _) refl refl;
     }
 
-  -- A table has other entries, or more.
+  -- A table has other entries, or more entries.
   module _ (table new : TableInstance) (at : slice_get store.tables address ≡ Some table) (stays : TableStays table new) (new_valid : TableIsValid store new) where
     pub table-extends : Extends store (with_table store address new)
     table-extends = record {
@@ -161,7 +161,7 @@ module _ (store : Store) (valid : StoreIsValid store) (address : ℕ) where
       few = few-still store (with_table store address new) valid.few refl refl (length-set store.tables address new) refl refl refl refl;
     }
 
-  -- A memory has other bytes, or more.
+  -- A memory has other bytes, or more bytes.
   module _ (memory new : MemoryInstance) (at : slice_get store.memories address ≡ Some memory) (stays : MemoryStays memory new) (new_valid : MemoryIsValid store.pages new) where
     pub memory-extends : Extends store (with_memory store address new)
     memory-extends = record {
@@ -251,7 +251,7 @@ module _ (store : Store) (valid : StoreIsValid store) (address : ℕ) where
 
 -- ---- effects
 
--- After a step to another store, which is valid and extends the one before, typed values and locals are typed still.
+-- After a step to another store, which is valid and extends the one before, typed values and locals are still typed.
 module _ (store : Store) (valid : StoreIsValid store) (place : Place) (frame : Frame) (own : FrameHasPlace store frame place) (new : Store) (more : Extends store new) (new_valid : StoreIsValid new) (same : new.functions ≡ store.functions) where
   pub leaves : (cost : ℕ) (values : List Val) (stack : List ValType) → ValuesHaveTypes store values stack → EffectIsGood store place stack (Done cost new frame.locals values)
   leaves cost values stack typed =

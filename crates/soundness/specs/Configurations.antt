@@ -1,5 +1,5 @@
--- Typed configurations (Appendix, Soundness, Configuration Validity and Administrative Instructions). Values are listed from
--- the top, and so are the types of a stack of values; results have the top last.
+-- Typed configurations (Appendix, Soundness, Configuration Validity and Administrative Instructions). Values are listed from the top, and
+-- so are the types of a stack of values. Results have the top last.
 use Rattle.std.specs.Prelude.{◌≡◌, ℕ, List, ◌++◌, length, reverse, Some, slice_get}
 use Rattle.core_types.specs.declared.outcome.Val.{Val}
 use Rattle.core_types.specs.declared.types.FuncType.{FuncType}
@@ -12,7 +12,7 @@ use Rattle.meaning.specs.soundness.Values.{ValuesHaveTypes}
 use Rattle.soundness.specs.Places.{Place, RunsOn, inside_frame, inside_label}
 use Rattle.soundness.specs.Stores.{Follows, StoreIsValid}
 
--- Results on these values, with which the rest leads on.
+-- With results of these types on these values, the rest leads on.
 abbrev pub GoesOnWith : Store → Place → Body → (given stack results : List ValType) → Type 0
 GoesOnWith store place rest given stack results =
     RunsOn store place rest (reverse given ++ stack) results
@@ -42,8 +42,8 @@ abbrev pub FrameHasPlace : Store → Frame → Place → Type 0
 FrameHasPlace store frame place =
     (frame.instance ≡ place.instance) × ValuesHaveTypes store frame.locals place.locals
 
--- A call of the host function of a number gets arguments of its type, and with any results of its type the configuration that
--- takes them leads on.
+-- A call of the host function of a number gets arguments of its type. With any results of its type, the configuration that takes them
+-- leads on.
 pub record HostCallIsGood (store : Store) (place : Place) (number : ℕ) (arguments : List Val)
     (waiting : Configuration) (results : List ValType) : Type 0 where
   pub t : FuncType
@@ -54,14 +54,14 @@ pub record HostCallIsGood (store : Store) (place : Place) (number : ℕ) (argume
   pub goes_on : (values : List Val) → ValuesHaveTypes store values t.results
       → ConfigurationHasType store place (answered values waiting) results
 
--- The values that a branch, a return or a tail call is over: those of the types on top.
+-- The values that a branch, a return or a tail call takes are those of the types on top.
 abbrev pub HasOnTop : Store → List Val → (types : List ValType) → Type 0
 HasOnTop store values types =
     (stack : List ValType) × ValuesHaveTypes store values (reverse types ++ stack)
 
--- What a configuration with these results must do next: step to one that has them, over a store that is valid and extended;
--- call a host function; trap; branch or return with what the label or the frame takes; call a function of the store, whose results
--- are the frame's, in place of the frame, with its arguments; or be over, with the results.
+-- What a configuration with these results must do next. It steps to one that has them, over a store that is valid and extended. It calls
+-- a host function, traps, or is over, with the results. It branches or returns with what the label or the frame takes. Or it calls a
+-- function of the store in place of the frame, with its arguments, and the function's results are the frame's.
 abbrev pub IsGood : Store → Place → (results : List ValType) → Next → Type 0
 IsGood old place results (Goes cost store frame configuration) =
     Follows old store × StoreIsValid store × FrameHasPlace store frame place ×
@@ -84,7 +84,7 @@ IsGood old place results (TailCalls lent function values) =
 IsGood old place results (Over values) = ValuesHaveTypes old values (reverse results)
 IsGood old place results NotReady = ⊥
 
--- What is next for a typed configuration is good.
+-- The next step of a typed configuration is good.
 abbrev pub StaysGood : Type 0
 StaysGood = (store : Store) (place : Place) (frame : Frame) (configuration : Configuration)
     (results : List ValType)

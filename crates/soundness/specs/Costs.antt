@@ -1,4 +1,4 @@
--- What runs cost. Fuel is this project's own.
+-- The costs of runs. Fuel is this project's own.
 use Rattle.std.specs.Prelude.{◌≡◌, ℕ, ◌+◌, List, Option}
 use Rattle.core_types.specs.declared.outcome.Val.{Val}
 use Rattle.core_types.specs.declared.module.Module.{Module}
@@ -17,7 +17,7 @@ module _ {H : Type 0} (HostStep : List H → ℕ → Option ℕ → List Val →
   cost_of_step (opens {cost = cost} is enough left hosts within) = cost
   cost_of_step (calls {cost = cost} is enough left told answered) = cost
 
-  -- An instruction that traps is paid for. Nothing else at the end is.
+  -- The cost of an instruction that traps. Any other end costs nothing.
   abbrev pub cost_of_end : {at last : State H} {c : Configuration} {ending : Ending}
       → IsEnd HostStep bound outside at c ending last → ℕ
   cost_of_end (values_left is ending_is last_is) = 0
@@ -27,7 +27,7 @@ module _ {H : Type 0} (HostStep : List H → ℕ → Option ℕ → List Val →
   cost_of_end (no_depth is enough deep ending_is last_is) = 0
   cost_of_end (no_memory asks within enough ending_is last_is) = 0
 
-  -- The sum over the steps and the end.
+  -- The sum of the costs of the steps and the end.
   abbrev pub cost_of_run : {old last : State H} {c : Configuration} {ending : Ending}
       → Run HostStep bound outside old c ending last → ℕ
   cost_of_run (end is) = cost_of_end is
@@ -35,7 +35,7 @@ module _ {H : Type 0} (HostStep : List H → ℕ → Option ℕ → List Val →
 
 module _ {H : Type 0} (HostStep : List H → ℕ → Option ℕ → List Val → Store → Answer → Store
     → List H → Type 0) (bound : ℕ) where
-  -- The sum over the tasks that were run.
+  -- The sum of the costs of the tasks that were run.
   abbrev pub cost_of_tasks : {instance : ℕ} {i : ModuleInstance} {old last : State H}
       {tasks : List Task} {ending : Ending} → RunTasks HostStep bound instance i old tasks ending last
       → ℕ
@@ -49,7 +49,7 @@ module _ {H : Type 0} (HostStep : List H → ℕ → Option ℕ → List Val →
       → Instantiation HostStep bound m given old ending new → ℕ
   cost_of_link link = cost_of_tasks link.ran
 
--- What a run costs is what it spends.
+-- The cost of a run is the fuel that it spends.
 abbrev pub CostsAreSpent : {H : Type 0} → (List H → ℕ → Option ℕ → List Val → Store → Answer → Store
     → List H → Type 0) → Type 0
 CostsAreSpent {H} HostStep = (bound : ℕ) (outside : Frame) (old last : State H)

@@ -18,7 +18,7 @@ use Rattle.soundness.specs.Links.{IsSoundModule}
 use Rattle.soundness.specs.Runs.{EndsWell}
 use Rattle.soundness.specs.Stores.{Extends, StoreIsValid}
 
--- The types of the values that a function or a global gives, if it is there.
+-- The types of the values of a function or a global, if it exists.
 abbrev pub results_of : Option FunctionInstance → List ValType
 results_of None = []
 results_of (Some f) = f.ty.results
@@ -43,7 +43,7 @@ RepliesWell store types Done = Unit {0}
 RepliesWell store types (Ended ending) = EndsWell store types ending
 RepliesWell store types (Refused refusal) = Unit {0}
 
--- The fuel then is what it is set to, and else no more than there was.
+-- The fuel left is what it is set to, or at most what there was.
 abbrev pub Spends : Command → (old new : ℕ) → Type 0
 Spends (Load bytes) old new = new ≤ old
 Spends (Link number) old new = new ≤ old
@@ -52,7 +52,7 @@ Spends (Call number name arguments) old new = new ≤ old
 Spends (GetGlobal number name) old new = new ≤ old
 Spends (SetFuel fuel) old new = new ≡ fuel
 
--- What a command loads are bytes.
+-- The numbers that a command loads are bytes.
 abbrev pub LoadsBytes : Command → Type 0
 LoadsBytes (Load bytes) = AreBytes bytes
 LoadsBytes other = Unit {0}
@@ -69,7 +69,7 @@ module _ {H : Type 0} where
       global_value at.state.store (as_global (export_at at number name))
   asked_types at (SetFuel fuel) = []
 
-  -- The module that a command links may be linked.
+  -- The module that a command links can be linked.
   abbrev pub LinksSoundModule : Embedding H → Command → Type 0
   LinksSoundModule at (Load bytes) = Unit {0}
   LinksSoundModule at (Link number) =
@@ -79,8 +79,8 @@ module _ {H : Type 0} where
   LinksSoundModule at (GetGlobal number name) = Unit {0}
   LinksSoundModule at (SetFuel fuel) = Unit {0}
 
-  -- A command goes well: it leaves a valid store that extends the one before, values in the reply have the types that were asked for,
-  -- and no more fuel is left than there was, or was set.
+  -- A command goes well: it leaves a valid store that extends the one before, and values in the reply have the types that were asked for.
+  -- The fuel left is at most what there was, or what was set.
   pub record GoesWell (old : Embedding H) (command : Command) (reply : Reply) (new : Embedding H)
       : Type 0 where
     pub valid : StoreIsValid new.state.store
@@ -103,21 +103,21 @@ module _ {H : Type 0} (host_type : H → FuncType) where
     pub valid : StoreIsValid at.state.store
     pub ready : AreReady host_type at.state.store at.state.hosts
 
-  -- Each embedding that is created is sound, with fewer host functions than there are addresses.
+  -- Each created embedding is sound, and has fewer host functions than there are addresses.
   abbrev pub FreshOnesAreSound : Type 0
   FreshOnesAreSound = (setup : Setup) (definitions : List (HostDefinition H)) (at : Embedding H)
       → length definitions < 2 ^ 32 → Creates host_type setup definitions (Ok at) → IsSound at
 
 module _ {H : Type 0} (host_type : H → FuncType)
     (Answers : H → List Val → List ℕ → Answer → List ℕ → H → Type 0) where
-  -- Each command of a run from a sound embedding, whose modules may be linked, goes well, and the embedding at the end is sound.
+  -- Each command of a run from a sound embedding, whose modules can be linked, goes well, and the embedding at the end is sound.
   abbrev pub CommandsGoWell : Type 0
   CommandsGoWell = (old last : Embedding H) (commands : List Command) (replies : List Reply)
       (run : AppliesAll (IsHostStep host_type Answers) old commands replies last)
       → IsSound host_type old → All IsSoundModule old.modules → All LoadsBytes commands
       → AllGoWell (IsHostStep host_type Answers) run × IsSound host_type last
 
--- Host functions that are nothing but their types, and never answer.
+-- Host functions that are only their types, and never answer.
 abbrev pub own_type : FuncType → FuncType
 own_type t = t
 

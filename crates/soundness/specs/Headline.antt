@@ -1,4 +1,4 @@
--- The headline, in its own words: what is said of every call of an exported function and of every link, whatever list of commands is
+-- The headline as definitions: what is stated of every call of an exported function and of every link, for any list of commands that is
 -- applied to a fresh embedding. Fuel, depth and the embedding machine are this project's own.
 use Rattle.std.specs.Prelude.{◌≡◌, ℕ, ◌+◌, ◌<◌, ◌^◌, ◌⊎◌, List, [], ◌∷◌, Option, Some, Ok, length, reverse, slice_get}
 use Rattle.std.specs.List.{All}
@@ -38,8 +38,8 @@ module _ {H : Type 0} where
 
 module _ {H : Type 0} (bound : ℕ) (results : List ValType)
     (LeadsTo : State H → Frame → Configuration → Type 0) where
-  -- It ends with values of its result types, a named trap, or exhaustion of fuel, depth or memory: of fuel or depth only if the next
-  -- step would pass the bound, of memory only if it would ask for memory.
+  -- The run ends with values of its result types, a named trap, or exhaustion of fuel, depth or memory. It runs out of fuel or depth only
+  -- if the next step would pass the bound, and out of memory only if it would ask for memory.
   pub data EndsAsSaid (ending : Ending) (last : State H) : Type 0 where
     with_values_of_its_result_types : {values : List Val} → ending ≡ WithValues values
         → ValuesHaveTypes last.store values results → EndsAsSaid ending last
@@ -62,8 +62,8 @@ module _ {H : Type 0} (HostStep : List H → ℕ → Option ℕ → List Val →
   CallLeadsTo old first at frame reached =
       (frame ≡ no_frame) × Steps HostStep bound no_frame old first at reached
 
-  -- A call of the function at an address is a run of the reduction. What its steps cost, and the fuel that it leaves, are the fuel
-  -- that it had. Wherever it leads, it can go on.
+  -- A call of the function at an address is a run of the reduction. The cost of its steps and the fuel that it leaves sum to the fuel
+  -- that it had. Wherever it leads, it can take a step or is over.
   pub record CallIsAsSaid (old : State H) (address : ℕ) (arguments : List Val) (ending : Ending)
       (last : State H) : Type 0 where
     pub by_the_reduction : Run HostStep bound no_frame old (Invoking (reverse arguments) address)
@@ -90,7 +90,7 @@ module _ {H : Type 0} (HostStep : List H → ℕ → Option ℕ → List Val →
         → TasksLeadTo instance i at frame reached between tasks
         → TasksLeadTo instance i at frame reached old (task ∷ tasks)
 
-  -- A link of a module is an instantiation by the reduction. What its tasks cost, and the fuel that it leaves, are the fuel that it
+  -- A link of a module is an instantiation by the reduction. The cost of its tasks and the fuel that it leaves sum to the fuel that it
   -- had. None of its tasks gets stuck.
   pub record LinkIsAsSaid (old : State H) (m : Module) (given : List Extern) (ending : Ending)
       (last : State H) : Type 0 where
@@ -110,7 +110,7 @@ module _ {H : Type 0} (HostStep : List H → ℕ → Option ℕ → List Val →
               by_the_reduction.objects;
         }) (tasks_of m)) ending last
 
--- The reply to a link that ended so, where the new instance would get this number.
+-- The reply to a link that ended like this, if the new instance would get this number.
 abbrev pub reply_to_link : (number : ℕ) → Ending → Reply
 reply_to_link number (WithValues values) = Linked number
 reply_to_link number ending = Ended ending
@@ -119,8 +119,8 @@ module _ {H : Type 0} (HostStep : List H → ℕ → Option ℕ → List Val →
     → List H → Type 0) where
   -- ---- commands
 
-  -- A call of an exported function with arguments of its types, and a link of a module that may be linked, unless memory for its
-  -- objects runs out. No other command runs code.
+  -- What is stated of a command that is a call of an exported function with arguments of its types, or a link of a module that can be
+  -- linked. A link is an exception if memory for its objects runs out. No other command runs code.
   abbrev pub IsAsSaid : Embedding H → Command → Reply → Embedding H → Type 0
   IsAsSaid old (Call number name arguments) reply new =
       (address : ℕ) → as_function (export_at old number name) ≡ Ok address
@@ -136,26 +136,26 @@ module _ {H : Type 0} (HostStep : List H → ℕ → Option ℕ → List Val →
       × LinkIsAsSaid HostStep old.setup.depth old.state m given ending new.state)
   IsAsSaid old other reply new = Unit {0}
 
-  -- Each command of a run is as said.
+  -- Each command of a run is as stated.
   abbrev pub AllAreAsSaid : {old last : Embedding H} {commands : List Command}
       {replies : List Reply} → AppliesAll HostStep old commands replies last → Type 0
   AllAreAsSaid none = Unit {0}
   AllAreAsSaid (then_on {old = at} {between = next} {command = command} {reply = reply} step rest) =
       IsAsSaid at command reply next × AllAreAsSaid rest
 
-  -- The embeddings that a run of commands leads to, one a command.
+  -- The embeddings that a run of commands leads to, one for each command.
   abbrev pub states_of : {old last : Embedding H} {commands : List Command} {replies : List Reply}
       → AppliesAll HostStep old commands replies last → List (Embedding H)
   states_of none = []
   states_of (then_on {between = next} step rest) = next ∷ states_of rest
 
-  -- A command is applied, goes well and is as said.
+  -- A command is applied, goes well and is as stated.
   abbrev pub AppliesWell : Embedding H → Command → Reply → Embedding H → Type 0
   AppliesWell old command reply new =
       Applies HostStep old command reply new × GoesWell old command reply new
       × IsAsSaid old command reply new
 
-  -- A run of commands, each of which goes well and is as said.
+  -- A run of commands, each of which goes well and is as stated.
   abbrev pub RunsWell : Embedding H → List Command → List Reply → Embedding H → Type 0
   RunsWell old commands replies last =
       (run : AppliesAll HostStep old commands replies last) × AllGoWell HostStep run
@@ -163,7 +163,7 @@ module _ {H : Type 0} (HostStep : List H → ℕ → Option ℕ → List Val →
 
 module _ {H : Type 0} (host_type : H → FuncType)
     (Answers : H → List Val → List ℕ → Answer → List ℕ → H → Type 0) where
-  -- What the law is proved by: whatever list of commands is applied to a fresh embedding, each is as said.
+  -- The statement by which the law is proved: each command of any list that is applied to a fresh embedding is as stated.
   abbrev pub Headline : Type 0
   Headline = (setup : Setup) (definitions : List (HostDefinition H)) (fresh last : Embedding H)
       (commands : List Command) (replies : List Reply)

@@ -10,7 +10,7 @@ module _ {H : Type 0} (host_type : H → FuncType) where
   abbrev pub GivesNoFuncref : H → Type 0
   GivesNoFuncref h = has_funcref (host_type h).results ≡ false
 
-  -- Each host function of the store is there and has its type, and none gives references to functions.
+  -- Each host function of the store exists and has its type, and none returns references to functions.
   pub record AreReady (store : Store) (hosts : List H) : Type 0 where
     pub typed : HostsHaveTypes host_type store hosts
     pub no_funcrefs : All GivesNoFuncref hosts

@@ -1,4 +1,4 @@
--- What is inside of a typed configuration.
+-- The inside of a typed configuration.
 use Rattle.std.specs.Prelude.{List}
 use Rattle.core_types.specs.declared.types.ValType.{ValType}
 use Rattle.meaning.specs.execution.Configurations.{Configuration, Frame}
@@ -7,7 +7,7 @@ use Rattle.meaning.specs.execution.Store.{Store}
 use Rattle.soundness.specs.Configurations.{ConfigurationHasType, FrameHasPlace}
 use Rattle.soundness.specs.Places.{Place}
 
--- What is inside of labels and frames is typed at a place of its own, where a machine finds operands of the right types.
+-- The inside of labels and frames is typed at its own place, where a machine finds operands of the right types.
 abbrev pub InsideIsTyped : Type 0
 InsideIsTyped = (store : Store) (layers : List Layer) (frame : Frame) (inside : Configuration)
     (place : Place) (results : List ValType)

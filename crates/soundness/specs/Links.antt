@@ -38,12 +38,12 @@ pub record RunsTyped (store : Store) (a : Activity) : Type 0 where
   pub outside : IsOutside a.frame place
   pub typed : ConfigurationHasType store place a.configuration results
 
--- What a task of a link runs is there, and is typed.
+-- What a task of a link runs exists, and is typed.
 abbrev pub TaskIsGood : Store → (instance : ℕ) → ModuleInstance → Task → Type 0
 TaskIsGood store instance i task =
     (a : Activity) × (activity store instance i task ≡ Some a) × RunsTyped store a
 
--- So is each of these tasks, in each valid store that extends this one.
+-- The same for each of these tasks, in each valid store that extends this one.
 abbrev pub TasksAreGood : Store → (instance : ℕ) → ModuleInstance → List Task → Type 0
 TasksAreGood store instance i tasks =
     (at : Store) → StoreIsValid at → Extends store at → All (TaskIsGood at instance i) tasks
@@ -64,7 +64,7 @@ AllocationKeepsValid = (old : Store) (m : Module) (given : List Extern) (objects
     → Extends old (with_module old (new_instance old m given) m objects)
     × StoreIsValid (with_module old (new_instance old m given) m objects)
 
--- In the context of its instance the types are those of the module, and so are the types of its functions.
+-- In the context of its instance, the types are those of the module, and so are the types of its functions.
 abbrev pub ContextHasModuleTypes : Type 0
 ContextHasModuleTypes =
     (old : Store) (m : Module) (given : List Extern) (objects : ObjectLists)
@@ -76,15 +76,14 @@ ContextHasModuleTypes =
     (new_instance old m given)).functions
     ≡ functions_of m)
 
--- The instance of a module that was linked is there, and is valid.
+-- The instance of a module that was linked exists, and is valid.
 pub record InstanceStays (old new : Store) (m : Module) (given : List Extern) : Type 0 where
   pub there : slice_get new.instances (length old.instances) ≡ Some (new_instance old m given)
   pub valid : InstanceIsValid new (new_instance old m given)
 
 module _ {H : Type 0} (HostStep : List H → ℕ → Option ℕ → List Val → Store → Answer → Store
     → List H → Type 0) (HaveHosts : Store → List H → Type 0) where
-  -- A link of a module in a valid store never goes wrong. What it leaves is valid, its instance too, also where it ends without
-  -- values.
+  -- A link of a module in a valid store never goes wrong. It leaves a valid store and a valid instance, even if it ends without values.
   abbrev pub LinksNeverGoWrong : Type 0
   LinksNeverGoWrong = (bound : ℕ) (m : Module) (given : List Extern) (old new : State H)
       (ending : Ending)

@@ -13,24 +13,24 @@ use Rattle.meaning.specs.validation.Context.{Context}
 use Rattle.meaning.specs.validation.Instructions.{HasType, known}
 use Rattle.meaning.specs.validation.Types.{function_type}
 
--- Where a configuration runs, whatever the store holds: the address of the instance of the frame around it, none outside of all
--- frames; the types of the frame's locals; the types that branches to the labels around it carry, the innermost first; and the
--- results of the frame, none outside of all frames.
+-- Where a configuration runs, whatever the store contains. A place has the address of the instance of the frame around it, the types of
+-- the frame's locals, and the results of the frame. It also has the types that branches to the labels around it carry, the innermost
+-- first. Outside of all frames there is no instance and there are no results.
 pub record Place : Type 0 where
   pub instance : Option ℕ
   pub locals : List ValType
   pub labels : List (List ValType)
   pub results : Option (List ValType)
 
--- Outside of all frames.
+-- The place outside of all frames.
 abbrev pub outermost : Place
 outermost = record { instance = None; locals = []; labels = []; results = None }
 
--- Inside of one more label.
+-- The place within one more label.
 abbrev pub inside_label : Place → List ValType → Place
 inside_label place types = record place { labels = types ∷ place.labels }
 
--- Inside of a frame with these results.
+-- The place within a frame with these results.
 abbrev pub inside_frame : (instance : Option ℕ) → (locals results : List ValType) → Place
 inside_frame instance locals results =
     record { instance = instance; locals = locals; labels = []; results = Some results }

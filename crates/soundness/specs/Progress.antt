@@ -1,4 +1,4 @@
--- Progress: what a run can do next (Appendix, Soundness, Theorems).
+-- Progress: the next step of a run (Appendix, Soundness, Theorems).
 use Rattle.std.specs.Prelude.{◌≡◌, ℕ, ◌⊎◌, List, ◌∷◌, Option, Some, None}
 use Rattle.core_types.specs.declared.outcome.Val.{Val}
 use Rattle.core_types.specs.declared.types.ValType.{ValType}
@@ -12,12 +12,12 @@ use Rattle.soundness.specs.Places.{Place}
 use Rattle.soundness.specs.Runs.{IsOutside}
 use Rattle.soundness.specs.Stores.{StoreIsValid}
 
--- It is over, with values.
+-- The run is over, with values.
 abbrev pub IsOver : Next → Type 0
 IsOver (Over values) = Unit {0}
 IsOver other = ⊥
 
--- It is over, or a case of the reduction applies: a call of a host function is one, whatever the host answers.
+-- The run is over, or a case of the reduction applies. A call of a host function is such a case, whatever the host answers.
 abbrev pub CanGoOn : Next → Type 0
 CanGoOn n = IsOver n ⊎ IsReady n
 
@@ -26,20 +26,20 @@ IsStuck n = CanGoOn n → ⊥
 
 module _ {H : Type 0} (HostStep : List H → ℕ → Option ℕ → List Val → Store → Answer → Store
     → List H → Type 0) (bound : ℕ) where
-  -- Wherever steps lead from here, the run can go on.
+  -- Wherever steps lead from here, the run can continue.
   abbrev pub NeverGetsStuck : Frame → State H → Configuration → Type 0
   NeverGetsStuck frame old first =
       (at : State H) (reached : Configuration) → Steps HostStep bound frame old first at reached
       → CanGoOn (next at.store frame reached)
 
-  -- Steps lead from here to where it cannot.
+  -- Steps lead from here to where the run cannot continue.
   pub record GetsStuck (frame : Frame) (old : State H) (first : Configuration) : Type 0 where
     pub at : State H
     pub reached : Configuration
     pub steps : Steps HostStep bound frame old first at reached
     pub stuck : IsStuck (next at.store frame reached)
 
-  -- One of the tasks of a link is not there, or gets stuck, when those before it are done.
+  -- One of the tasks of a link does not exist, or gets stuck, after those before it are done.
   pub data TasksGetStuck (instance : ℕ) (i : ModuleInstance) : State H → List Task → Type 0 where
     not_there : {at : State H} {task : Task} {tasks : List Task}
         → activity at.store instance i task ≡ None → TasksGetStuck instance i at (task ∷ tasks)

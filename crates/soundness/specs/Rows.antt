@@ -17,7 +17,7 @@ adding = instance_of_two adder nothing
 abbrev pub AddsTyped : (arguments : List Val) → Type 0
 AddsTyped arguments = ConfigurationHasType adding outermost (Invoking arguments 0) (ty.I32 ∷ [])
 
--- The same store where a memory may have one page.
+-- The same store, in which a memory may have one page.
 abbrev pub adding_with_a_page : Store
 adding_with_a_page = record adding { pages = 1 }
 

@@ -11,7 +11,7 @@ use Rattle.soundness.specs.Configurations.{ConfigurationHasType}
 use Rattle.soundness.specs.Places.{Place, outermost}
 use Rattle.soundness.specs.Stores.{Extends, StoreIsValid}
 
--- Results are of these types. A trap has none.
+-- Results have these types. A trap has no results.
 abbrev pub AnswerHasTypes : Store → Answer → List ValType → Type 0
 AnswerHasTypes store (Results values) types = ValuesHaveTypes store values types
 AnswerHasTypes store (HostTrap code) types = Unit {0}
@@ -40,7 +40,7 @@ pub record IsOutside (frame : Frame) (place : Place) : Type 0 where
 
 module _ {H : Type 0} (HostStep : List H → ℕ → Option ℕ → List Val → Store → Answer → Store
     → List H → Type 0) (HaveHosts : Store → List H → Type 0) where
-  -- What a call of a host function by its type gives and leaves.
+  -- What a call of a host function by its type returns and leaves.
   pub record AnswersWell (t : FuncType) (old : Store) (answer : Answer) (new : Store)
       (hosts : List H) : Type 0 where
     pub extends : Extends old new
@@ -66,8 +66,8 @@ module _ {H : Type 0} (HostStep : List H → ℕ → Option ℕ → List Val →
     pub there : HaveHosts last.store last.hosts
     pub ends : EndsWell last.store results ending
 
-  -- A run from a typed configuration in a valid store never goes wrong. The frame outside is that of the place, around which
-  -- there is neither a label nor a frame.
+  -- A run from a typed configuration in a valid store never goes wrong. The frame outside is that of the place, which has no label and no
+  -- frame around it.
   abbrev pub NeverGoesWrong : Type 0
   NeverGoesWrong = (bound : ℕ) (frame : Frame) (place : Place) (old last : State H)
       (configuration : Configuration) (results : List ValType) (ending : Ending)

@@ -1,4 +1,4 @@
--- Valid stores, and what steps may do to a store (Appendix, Soundness, Store Validity and Store Extension).
+-- Valid stores, and the changes that steps can make to a store (Appendix, Soundness, Store Validity and Store Extension).
 use Rattle.std.specs.Prelude.{◌≡◌, ℕ, ◌*◌, ◌^◌, ◌<◌, ◌≤◌, ◌⊎◌, List, [], ◌∷◌, ◌++◌, length, Some, slice_get}
 use Rattle.std.specs.List.{All}
 use Rattle.core_types.specs.declared.module.Export.{Export}
@@ -18,7 +18,7 @@ use Rattle.soundness.specs.Places.{Place, RunsOn}
 
 -- ---- functions
 
--- Where the body of a function runs: in a frame of the instance, inside of a label that carries the results.
+-- The place where the body of a function runs: in a frame of the instance, within a label that carries the results.
 abbrev pub body_place : FuncType → (instance : ℕ) → Code → Place
 body_place t instance code = record {
   instance = Some instance;
@@ -27,7 +27,7 @@ body_place t instance code = record {
   results = Some t.results;
 }
 
--- The body leads to the results, in an instance that is there. The type of a host function is that of its object (Host Functions).
+-- The body leads to the results, in an instance that exists. The type of a host function is that of its object (Host Functions).
 abbrev pub ImplementationIsValid : Store → FuncType → Implementation → Type 0
 ImplementationIsValid store t (InCode instance code) =
     (instance < length store.instances)
@@ -67,7 +67,7 @@ DataIsValid d = AreBytes d.bytes
 
 -- ---- instances and stores
 
--- There is something at each of the addresses.
+-- The store has something at each of the addresses.
 abbrev pub AreThere : {X : Type 0} → List X → List ℕ → Type 0
 AreThere items addresses = All (λ (address : ℕ). address < length items) addresses
 
@@ -109,13 +109,13 @@ pub record StoreIsValid (store : Store) : Type 0 where
 
 -- ---- extension
 
--- What is at an address is there still, in this relation to what it was.
+-- What is at an address is still there, in this relation to what it was.
 abbrev pub Keeps : {X : Type 0} → (X → X → Type 0) → (old new : List X) → Type 0
 Keeps {X} Stays old new =
     (address : ℕ) (x : X) → slice_get old address ≡ Some x
     → (y : X) × (slice_get new address ≡ Some y) × Stays x y
 
--- The minimum may rise, the maximum stays.
+-- The minimum may rise, and the maximum stays.
 abbrev pub LimitsStay : Limits → Limits → Type 0
 LimitsStay old new = (old.min ≤ new.min) × (old.max ≡ new.max)
 
@@ -129,7 +129,7 @@ MemoryStays old new = LimitsStay old.limits new.limits
 abbrev pub GlobalStays : GlobalInstance → GlobalInstance → Type 0
 GlobalStays old new = (old.ty ≡ new.ty) × (old.ty.mutability ≡ Const → old.value ≡ new.value)
 
--- A segment keeps what it holds, or was dropped.
+-- A segment keeps its contents, or was dropped.
 abbrev pub ElementStays : ElementInstance → ElementInstance → Type 0
 ElementStays old new =
     (old.ty ≡ new.ty) × ((old.references ≡ new.references) ⊎ (new.references ≡ []))
@@ -137,7 +137,7 @@ ElementStays old new =
 abbrev pub DataStays : DataInstance → DataInstance → Type 0
 DataStays old new = (old.bytes ≡ new.bytes) ⊎ (new.bytes ≡ [])
 
--- Addresses stay, and so do functions, instances, types and the bounds of the embedding; tables and memories may grow.
+-- Addresses stay, and so do functions, instances, types and the bounds of the embedding. Tables and memories may grow.
 pub record Extends (old new : Store) : Type 0 where
   pub functions : Keeps (λ (f g : FunctionInstance). f ≡ g) old.functions new.functions
   pub instances : Keeps (λ (i j : ModuleInstance). i ≡ j) old.instances new.instances
@@ -149,7 +149,7 @@ pub record Extends (old new : Store) : Type 0 where
   pub pages : new.pages ≡ old.pages
   pub entries : new.entries ≡ old.entries
 
--- What a step of code does to a store: it extends it, and adds no function.
+-- The changes of a store by a step of code: the new store extends the old one, and has no new function.
 pub record Follows (old new : Store) : Type 0 where
   pub extends : Extends old new
   pub functions : new.functions ≡ old.functions

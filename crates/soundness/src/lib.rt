@@ -1,5 +1,5 @@
-//! Progress and preservation: in a valid store a typed configuration can go on and stays typed. Definitions and laws, and no code
-//! that runs.
+//! Progress and preservation: in a valid store, a typed configuration can take a step and stays typed. Definitions and laws. No
+//! code here runs.
 #![tactic(auto)]
 
 mod laws;

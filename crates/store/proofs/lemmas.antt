@@ -1,4 +1,4 @@
--- What the proofs of the calls rest on.
+-- What the proofs of the calls use.
 pub mod Arguments
 pub mod ContextTypes
 pub mod Entries

@@ -1,4 +1,4 @@
--- What the store holds, in the terms of the definitions.
+-- What the store contains, in the terms of the definitions.
 use Rattle.std.specs.List.{All}
 use Rattle.std.specs.Prelude.{◌≡◌, ℕ, ◌+◌, ◌<◌, List, [], ◌∷◌, ◌++◌, length, map, Option, Some, None, IsSome, option_map, unwrap_or, slice_get}
 use Rattle.core_types.specs.declared.types.FuncType.{FuncType}
@@ -64,12 +64,12 @@ entry_function hosts instances (InHost number) =
 abbrev pub IsFound : List FuncType → List Instance → FunctionInstance → Type 0
 IsFound hosts instances f = IsSome (entry_function hosts instances f)
 
--- Each of these entries does.
+-- Each of these entries finds its function.
 abbrev pub AllFound : List FuncType → List Instance → List FunctionInstance → Type 0
 AllFound hosts instances [] = Unit {0}
 AllFound hosts instances (f ∷ fs) = IsFound hosts instances f × AllFound hosts instances fs
 
--- What an entry would represent that finds nothing. A store has none.
+-- The function of an entry that finds none. A store has no such entry.
 abbrev pub no_function : Function
 no_function = record {
   ty = record { params = []; results = [] };
@@ -89,7 +89,7 @@ abbrev pub signatures_of_instance : Option Instance → Signatures
 signatures_of_instance None = record { types = []; functions = [] }
 signatures_of_instance (Some i) = module_signatures i.loaded.value.source
 
--- The addresses of what an instance has, a list a kind.
+-- The addresses of what an instance has, one list for each kind.
 pub record AddressLists : Type 0 where
   pub functions : List ℕ
   pub tables : List ℕ
@@ -131,7 +131,7 @@ functions_in s = map (function_at s.hosts s.instances) s.functions
 abbrev pub instances_in : Contents → List ModuleInstance
 instances_in s = map module_instance_of s.instances
 
--- The functions that are kept, and behind them those of the module of an instance that comes next.
+-- The functions that are kept, followed by those of the module of the next instance.
 abbrev pub functions_with : Contents → Instance → List Function
 functions_with s i =
     functions_in s ++ map (new_function (length (instances_in s)) i.loaded.value.source)
@@ -145,20 +145,21 @@ HasDeclaredBody instances (callee.InModule f) =
     × (f.func.now.body ≡ writing (code_of f.func.now).body)
 HasDeclaredBody instances (callee.InHost f) = Unit {0}
 
--- The functions of an instance are there, and have the types that they have in its module.
+-- The functions of an instance exist, and have the types that they have in its module.
 pub record HasModuleTypes (functions : List Function) (i : Instance) : Type 0 where
   pub there : AreThere functions i.addresses.functions.items
   pub types : types_at (λ (f : Function). f.ty) (function_type [] []) functions
       i.addresses.functions.items
       ≡ functions_of i.loaded.value.source
 
--- An instance has the function of an index of its module under the index behind those that it imports, at this address.
+-- An instance has the function of an index of its module at this address. The index in the instance is larger by the number of imported
+-- functions.
 pub record IsOwnFunction (functions : List FunctionInstance) (number : ℕ) (i : Instance)
     (index address : ℕ) : Type 0 where
   pub named : slice_get i.addresses.functions.items (i.imported + index) ≡ Some address
   pub there : slice_get functions address ≡ Some (InModule number index)
 
--- The functions of an instance of this number are those that it imports, and behind them those of its module.
+-- The functions of an instance of this number are those that it imports, followed by those of its module.
 pub record HasOwnFunctions (functions : List FunctionInstance) (number : ℕ) (i : Instance)
     : Type 0 where
   pub count : length i.addresses.functions.items
@@ -166,14 +167,14 @@ pub record HasOwnFunctions (functions : List FunctionInstance) (number : ℕ) (i
   pub own : (index : ℕ) → index < length i.loaded.value.source.funcs
       → (address : ℕ) × IsOwnFunction functions number i index address
 
--- An instance to be added has the functions of its module, from this address on, behind those that it imports.
+-- An instance to be added has the functions that it imports, followed by those of its module, which are at addresses from this one on.
 pub record AddsFunctions (first : ℕ) (i : Instance) : Type 0 where
   pub given : List ℕ
   pub imported : i.imported ≡ length given
   pub behind : i.addresses.functions.items
       ≡ given ++ consecutive first (length i.loaded.value.source.funcs)
 
--- An instance of this number is there, the flat code of its module is that of its functions, and its functions are where they belong.
+-- There is an instance of this number, the flat code of its module is that of its functions, and its functions are at their addresses.
 pub record IsLoaded (code : Contents) (number : ℕ) (i : Instance) : Type 0 where
   pub there : slice_get code.instances number ≡ Some i
   pub flat : IsFlatModule i.loaded.value.source i.loaded.value.flat
@@ -188,7 +189,7 @@ HasFlatCode code (callee.InModule f) =
     (operations_of i.loaded.value.flat) f.func.now f.flat.now
 HasFlatCode code (callee.InHost f) = Unit {0}
 
--- What a store's code keeps to.
+-- The invariant of a store's code.
 pub record IsSound (c : Contents) : Type 0 where
   pub found : AllFound c.hosts c.instances c.functions
   pub types : All (HasModuleTypes (functions_in c)) c.instances
@@ -234,14 +235,14 @@ HasContextTypes code (callee.InModule f) =
     (instance_context (code_store code) (instance_of (code_store code) (Some f.instance)))
 HasContextTypes code (callee.InHost f) = Unit {0}
 
--- The function at an address, with its flat code; its body and the types that it refers to are those of its module.
+-- The function at an address, with its flat code. Its body and the types that it refers to are those of its module.
 pub record IsCalleeAt (code : Contents) (address : ℕ) (f : Callee) : Type 0 where
   pub there : slice_get (functions_in code) address ≡ Some (callee_function f)
   pub flat : HasFlatCode code f
   pub declared : HasDeclaredBody code.instances f
   pub types : HasContextTypes code f
 
--- Both parts of what the store holds.
+-- The contents of both parts of the store.
 pub record BothParts : Type 0 where
   pub code : Contents
   pub state : StateContents
@@ -254,6 +255,6 @@ store_of s = store_with s.code s.state
 abbrev pub entries_of : (instance : ℕ) → (indices : List ℕ) → List FunctionInstance
 entries_of instance indices = map (λ (k : ℕ). InModule instance k) indices
 
--- The store with one function more.
+-- The store with one more function.
 abbrev pub with_function : Store → Function → Store
 with_function store f = record store { functions = store.functions ++ f ∷ [] }

@@ -1,4 +1,4 @@
--- What was lent ends with what was written through the loan.
+-- When a borrow ends, the memory has what was written through the borrow.
 use Rattle.std.specs.Prelude.{ℕ, List}
 use Rattle.std.specs.Borrow.{Lends, MutBor, Fml, u8, Array}
 use Rattle.meaning.specs.execution.Memories.{MemoryInstance}

@@ -1,4 +1,4 @@
--- What a loaded module is.
+-- The contents of a loaded module.
 use Rattle.core_types.specs.declared.module.Module.{Module}
 use Rattle.sidetable.specs.declared.flat_module.FlatModule.{FlatModule}
 

@@ -8,7 +8,7 @@ pub record HasPages (pages : ℕ) (bytes : List ℕ) : Type 0 where
   pub whole : length bytes ≡ page_size * pages
   pub few : pages ≤ most_pages
 
--- The memory with these over its first bytes, whose number stays.
+-- The memory with these bytes written over its first bytes. The number of its bytes stays.
 abbrev pub with_bytes : MemoryInstance → List ℕ → MemoryInstance
 with_bytes m bytes = record {
   limits = m.limits;

@@ -9,11 +9,11 @@ abbrev pub segment_bytes : Option DataSegment → List ℕ
 segment_bytes None = []
 segment_bytes (Some d) = d.bytes
 
--- The bytes of a module's data segment, none where there is no such segment.
+-- The bytes of a module's data segment, or none if there is no such segment.
 abbrev pub bytes_at : Module → (x : ℕ) → List ℕ
 bytes_at m x = segment_bytes (slice_get m.datas x)
 
--- The bytes of the module that is shared, none where none is.
+-- The bytes of the shared module, or none if there is no module.
 abbrev pub bytes_in : {Z : Type 0} → Option (Rc LoadedContents Z) → (x : ℕ) → List ℕ
 bytes_in None x = []
 bytes_in (Some loaded) x = bytes_at loaded.value.source x

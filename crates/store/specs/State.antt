@@ -1,4 +1,4 @@
--- What a run may change of a store, in the terms of the definitions.
+-- The part of the store that a run may change, in the terms of the definitions.
 use Rattle.std.specs.Prelude.{ℕ, ◌≤◌, List, [], ◌++◌, length, slice_set, slice_index_or, None}
 use Rattle.std.specs.List.{All}
 use Rattle.core_types.specs.declared.outcome.Val.{Val}
@@ -11,7 +11,7 @@ use Rattle.meaning.specs.execution.Tables.{ElementInstance, TableInstance}
 use Rattle.meaning.specs.execution.Store.{DataInstance, GlobalInstance, ObjectLists}
 use Rattle.store.specs.Memories.{with_bytes}
 
--- For how many more objects of each kind there is memory.
+-- The number of further objects of each kind for which memory is reserved.
 pub record Room : Type 0 where
   pub tables : ℕ
   pub memories : ℕ
@@ -19,7 +19,7 @@ pub record Room : Type 0 where
   pub elements : ℕ
   pub datas : ℕ
 
--- How many entries a table and how many pages a memory may have at most.
+-- The most entries of a table, and the most pages of a memory.
 pub record Bounds : Type 0 where
   pub entries : ℕ
   pub pages : ℕ
@@ -53,7 +53,7 @@ pub record Fits (room : Room) (objects : ObjectLists) : Type 0 where
 abbrev pub no_objects : ObjectLists
 no_objects = record { tables = []; memories = []; globals = []; elements = []; datas = [] }
 
--- New objects behind those that are there.
+-- New objects after the existing ones.
 abbrev pub append_objects : ObjectLists → ObjectLists → ObjectLists
 append_objects old new = record {
   tables = old.tables ++ new.tables;
@@ -63,7 +63,7 @@ append_objects old new = record {
   datas = old.datas ++ new.datas;
 }
 
--- ---- objects by address, which must be there
+-- ---- objects by address, which must exist
 
 abbrev pub no_table : TableInstance
 no_table = record {
@@ -127,6 +127,6 @@ abbrev pub put_data : StateContents → (address : ℕ) → DataInstance → Sta
 put_data s address segment =
     record s { contents = record s.contents { datas = slice_set s.contents.datas address segment } }
 
--- The state with these over the first bytes of a memory that it lent.
+-- The state with these bytes written over the first bytes of a memory that was borrowed.
 abbrev pub with_lent : StateContents → (address : ℕ) → List ℕ → StateContents
 with_lent s address bytes = put_memory s address (with_bytes (memory_of s address) bytes)

@@ -3,7 +3,7 @@ use Rattle.std.specs.Prelude.{◌≡◌, ℕ, List, length}
 use Rattle.core_types.specs.declared.outcome.Val.{Val}
 use Rattle.meaning.specs.execution.Tables.{TableInstance}
 
--- There are as many entries as the limits say.
+-- The number of entries is the one that the limits state.
 abbrev pub HasEntries : (size : ℕ) → List Val → Type 0
 HasEntries size entries = length entries ≡ size
 

@@ -5,7 +5,6 @@ ghost use Rattle.store.specs.Contents.{store_of};
 use crate::store::Store;
 use core_types::{Val, ValType};
 
-// Whether a value has a type, in this store.
 fn value_has_type(store: &Store, value: Val, ty: ValType) -> bool
     ensures { IsTrue result ↔ ValueHasType (store_of store.now) value ty }
 {
@@ -21,7 +20,6 @@ fn value_has_type(store: &Store, value: Val, ty: ValType) -> bool
     }
 }
 
-// Whether the values have the types, one by one.
 fn values_have_types(store: &Store, values: &[Val], types: &[ValType]) -> bool
     ensures { IsTrue result ↔ ValuesHaveTypes (store_of store.now) values.now types.now }
 {
@@ -36,8 +34,8 @@ fn values_have_types(store: &Store, values: &[Val], types: &[ValType]) -> bool
     true
 }
 
-/// Whether there is a function at an address and it takes these arguments, as many as its parameters and each of its type: the
-/// test for what `invoke` asks of its caller (Execution, Modules, Invocation).
+/// Returns whether there is a function at an address that takes these arguments: as many as its parameters, and each of its
+/// type. `invoke` requires this of its caller (Execution, Modules, Invocation).
 pub fn accepts(store: &Store, address: u32, args: &[Val]) -> bool
     ensures { IsTrue result ↔ TakesArguments (store_of store.now) address args.now }
 {

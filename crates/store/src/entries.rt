@@ -5,7 +5,7 @@ ghost use Rattle.store.specs.Contents.{entries_of};
 use crate::instances::FunctionInstance;
 use std::alloc::AllocError;
 
-/// Adds an entry for each of the functions of an instance. Where memory runs out, the list is as before.
+/// Appends an entry for each of the functions of an instance. If memory runs out, the list is unchanged.
 pub fn push_entries(
     functions: &mut Vec<FunctionInstance>,
     instance: u32,

@@ -9,7 +9,7 @@ use crate::instances::Code;
 use core_types::{Export, ExportDesc, Extern};
 
 impl Code {
-    /// What an instance exports, in the order of its module; nothing where there is no such instance.
+    /// Returns what an instance exports, in the order of its module, or an empty slice if there is no such instance.
     pub fn exports(&self, instance: u32) -> &[Export]
         ensures { result.now ≡ (instance_of (code_store self.now) (Some instance)).exports }
     {
@@ -19,7 +19,7 @@ impl Code {
         }
     }
 
-    // What the export of a name names, by its index.
+    // Returns the index that the export of a name refers to.
     fn export_under(&self, instance: u32, name: &str) -> Option<ExportDesc>
         ensures { result ≡ option_map (λ (e : Exported). e.desc)
             (find (λ (e : Exported). bytes_eq e.name name.now)
@@ -29,7 +29,7 @@ impl Code {
         found.loaded.as_ref().export(name)
     }
 
-    /// What an index of an instance names, by its address in the store, if it names something (Execution, Runtime Structure, Export
+    /// Returns the external value of an index of an instance, if the index is in use (Execution, Runtime Structure, Export
     /// Instances).
     pub fn extern_of(&self, instance: u32, desc: ExportDesc) -> Option<Extern>
         ensures { result ≡ value_of (instance_of (code_store self.now) (Some instance)) desc }
@@ -42,8 +42,8 @@ impl Code {
         }
     }
 
-    /// Returns what an instance exports under a name, if there is such an instance and such an export. It is found by halving, and
-    /// nothing is allocated (Execution, Runtime Structure, Export Instances).
+    /// Returns what an instance exports under a name, if there is such an instance and such an export. The search is binary and
+    /// allocates nothing (Execution, Runtime Structure, Export Instances).
     pub fn export(&self, instance: u32, name: &str) -> Option<Extern>
         ensures { result ≡ export_of (instance_of (code_store self.now) (Some instance)) name.now }
     {

@@ -8,7 +8,7 @@ use core_types::{Extern, ExternType};
 use std::alloc::{AllocError, Global};
 
 impl Store {
-    /// Whether an external value is in the store.
+    /// Returns whether an external value is in the store.
     pub fn has_extern(&self, value: Extern) -> bool
         ensures { IsTrue result ↔ IsSome (type_of (store_of self.now) value) }
     {
@@ -20,12 +20,12 @@ impl Store {
         }
     }
 
-    /// Returns the type of an external value, that of a table or a memory with the present size as minimum (Execution, Modules,
-    /// External Typing). The value must be in the store.
+    /// Returns the type of an external value, which must be in the store (Execution, Modules, External Typing). The minimum of a
+    /// table or a memory is its present size.
     ///
     /// # Errors
     ///
-    /// Fails only for a function, if memory for its types runs out.
+    /// Fails only for a function, if the allocation of its types fails.
     pub fn extern_type(&self, alloc: Global, value: Extern) -> Result<ExternType, AllocError>
         requires { IsSome (type_of (store_of self.now) value) }
         ensures ty { IfOk result (λ ty. type_of (store_of self.now) value ≡ Some ty) }

@@ -19,28 +19,27 @@ impl Model for GlobalVariable {
 }
 
 impl GlobalVariable {
-    /// A global of this type, with this value at first.
+    /// Creates a global of this type with its first value.
     pub fn new(ty: GlobalType, value: Val) -> GlobalVariable
         ensures { result ≡ record { ty = ty; value = value } }
     {
         GlobalVariable { ty, value }
     }
 
-    /// The type.
+    /// Returns the type.
     pub fn ty(&self) -> GlobalType
         ensures { result ≡ self.now.ty }
     {
         self.ty
     }
 
-    /// The value.
+    /// Returns the value.
     pub fn value(&self) -> Val
         ensures { result ≡ self.now.value }
     {
         self.value
     }
 
-    // Sets the value.
     pub(crate) fn set(&mut self, value: Val)
         ensures { self.new ≡ record { ty = self.old.ty; value = value } }
     {

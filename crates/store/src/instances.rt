@@ -14,13 +14,13 @@ use std::rc::Rc;
 /// A function of the store (Execution, Runtime Structure, Function Instances).
 #[derive(Clone, Copy)]
 pub enum FunctionInstance {
-    /// One of a module: the number of its instance, and its index in the instance's module.
+    /// A function of a module: the number of its instance, and its index in the instance's module.
     InModule { instance: u32, index: u32 },
-    /// One of the host, by its number.
+    /// A host function, by its number.
     InHost(u32),
 }
 
-/// The addresses of what an instance has of each kind, by index.
+/// The addresses of what an instance has, by kind and index.
 #[derive(Drop)]
 pub struct Addresses {
     pub functions: Vec<u32>,
@@ -31,8 +31,8 @@ pub struct Addresses {
     pub datas: Vec<u32>,
 }
 
-/// An instance of a module: the module, which it shares with other instances of it, the addresses of what it has, and how many of its
-/// functions are imported, behind which are those of its module.
+/// An instance of a module: the module, which other instances share, the addresses of what it has, and the number of its
+/// imported functions. The functions of its module follow the imported ones.
 #[derive(Drop)]
 pub struct Instance {
     pub loaded: Rc<LoadedModule>,
@@ -40,7 +40,7 @@ pub struct Instance {
     pub imported: usize,
 }
 
-/// A function of a module, for reading: its type, its code, its flat code, and the number of its instance.
+/// A borrowed function of a module: its type, its code, its flat code, and the number of its instance.
 #[derive(Clone, Copy)]
 pub struct ModuleFunction<'a> {
     pub ty: &'a FuncType,
@@ -49,14 +49,14 @@ pub struct ModuleFunction<'a> {
     pub instance: u32,
 }
 
-/// A function of the host, for reading: its type and its number.
+/// A borrowed host function: its type and its number.
 #[derive(Clone, Copy)]
 pub struct HostFunction<'a> {
     pub ty: &'a FuncType,
     pub number: u32,
 }
 
-/// A function of the store, for reading.
+/// A borrowed function of the store.
 #[derive(Clone, Copy)]
 pub enum Callee<'a> {
     InModule(ModuleFunction<'a>),
@@ -64,7 +64,7 @@ pub enum Callee<'a> {
 }
 
 impl<'a> Callee<'a> {
-    /// Its type.
+    /// Returns the type of the function.
     pub fn ty(&self) -> &'a FuncType
         ensures { result.now ≡ (callee_function self.now).ty }
     {
@@ -75,7 +75,8 @@ impl<'a> Callee<'a> {
     }
 }
 
-/// What a run does not change of the store: functions and module instances by address (Execution, Runtime Structure, Store).
+/// The part of the store that a run does not change: functions and module instances by address (Execution, Runtime Structure,
+/// Store).
 #[derive(Drop)]
 pub struct Code {
     functions: Vec<FunctionInstance>,
@@ -94,7 +95,7 @@ impl Model for Code {
         (contents_of s.functions.items s.instances.items s.hosts.items) };
 }
 
-// Adds an instance. Where memory runs out, the list is as before.
+// Appends an instance. If memory runs out, the list is unchanged.
 fn push_instance(instances: &mut Vec<Instance>, instance: Instance) -> Result<(), AllocError>
     ensures pushed { OnOk result (instances.new.items ≡ instances.old.items ++ instance ∷ []) }
     ensures unchanged { OnErr result (instances.new.items ≡ instances.old.items) }
@@ -104,7 +105,7 @@ fn push_instance(instances: &mut Vec<Instance>, instance: Instance) -> Result<()
 }
 
 impl Code {
-    /// No functions and no instances. Takes no memory.
+    /// Creates code without functions and instances. Allocates nothing.
     pub fn new(alloc: Global) -> Code
         ensures { result ≡ contents_of ([]) ([]) ([]) }
     {
@@ -115,28 +116,28 @@ impl Code {
         }
     }
 
-    /// How many functions there are.
+    /// Returns the number of functions.
     pub fn function_count(&self) -> usize
         ensures { result ≡ length self.now.functions }
     {
         self.functions.len()
     }
 
-    /// How many instances there are.
+    /// Returns the number of instances.
     pub fn instance_count(&self) -> usize
         ensures { result ≡ length self.now.instances }
     {
         self.instances.len()
     }
 
-    /// The instance of a number, if there is one.
+    /// Returns the instance of a number, if there is one.
     pub fn instance(&self, number: u32) -> Option<&Instance>
         ensures { option_copied result ≡ slice_get self.now.instances number }
     {
         item(&self.instances, number)
     }
 
-    /// The type that an instance has under an index, if there is one (Execution, Runtime Structure, Module Instances).
+    /// Returns the type that an instance has under an index, if there is one (Execution, Runtime Structure, Module Instances).
     pub fn type_at(&self, instance: u32, x: u32) -> Option<&FuncType>
         ensures { option_copied result ≡ slice_get
             (instance_of (code_store self.now) (Some instance)).types x }
@@ -145,8 +146,8 @@ impl Code {
         item(found.loaded.as_ref().module().types.as_slice(), x)
     }
 
-    /// The address of the function that an instance has under an index, if there is one (Execution, Runtime Structure, Module
-    /// Instances).
+    /// Returns the address of the function that an instance has under an index, if there is one (Execution, Runtime Structure,
+    /// Module Instances).
     pub fn function_address(&self, instance: u32, x: u32) -> Option<u32>
         ensures { result ≡ slice_get (instance_of (code_store self.now) (Some instance)).functions
             x }
@@ -155,7 +156,7 @@ impl Code {
         item(&found.addresses.functions, x).copied()
     }
 
-    /// The address of the table that an instance has under an index, if there is one.
+    /// Returns the address of the table that an instance has under an index, if there is one.
     pub fn table_address(&self, instance: u32, x: u32) -> Option<u32>
         ensures { result ≡ slice_get (instance_of (code_store self.now) (Some instance)).tables x }
     {
@@ -163,7 +164,7 @@ impl Code {
         item(&found.addresses.tables, x).copied()
     }
 
-    /// The address of the memory that an instance has under an index, if there is one.
+    /// Returns the address of the memory that an instance has under an index, if there is one.
     pub fn memory_address(&self, instance: u32, x: u32) -> Option<u32>
         ensures { result ≡ slice_get (instance_of (code_store self.now) (Some instance)).memories
             x }
@@ -172,7 +173,7 @@ impl Code {
         item(&found.addresses.memories, x).copied()
     }
 
-    /// The address of the global that an instance has under an index, if there is one.
+    /// Returns the address of the global that an instance has under an index, if there is one.
     pub fn global_address(&self, instance: u32, x: u32) -> Option<u32>
         ensures { result ≡ slice_get (instance_of (code_store self.now) (Some instance)).globals x }
     {
@@ -180,7 +181,7 @@ impl Code {
         item(&found.addresses.globals, x).copied()
     }
 
-    /// The address of the element segment that an instance has under an index, if there is one.
+    /// Returns the address of the element segment that an instance has under an index, if there is one.
     pub fn element_address(&self, instance: u32, x: u32) -> Option<u32>
         ensures { result ≡ slice_get (instance_of (code_store self.now) (Some instance)).elements
             x }
@@ -189,7 +190,7 @@ impl Code {
         item(&found.addresses.elements, x).copied()
     }
 
-    /// The address of the data segment that an instance has under an index, if there is one.
+    /// Returns the address of the data segment that an instance has under an index, if there is one.
     pub fn data_address(&self, instance: u32, x: u32) -> Option<u32>
         ensures { result ≡ slice_get (instance_of (code_store self.now) (Some instance)).datas x }
     {
@@ -197,7 +198,7 @@ impl Code {
         item(&found.addresses.datas, x).copied()
     }
 
-    // The function of a module that an instance has under an index.
+    // Returns the function of a module that an instance has under an index.
     #[inline(always)]
     fn module_function(&self, instance: u32, index: u32) -> ModuleFunction<'_>
         requires { IsSome (instance_function instance index
@@ -221,7 +222,7 @@ impl Code {
         }
     }
 
-    /// The function at an address.
+    /// Returns the function at an address.
     #[inline(always)]
     pub fn callee(&self, address: u32) -> Callee<'_>
         requires { address < length self.now.functions }
@@ -238,7 +239,7 @@ impl Code {
         }
     }
 
-    /// The function at an address, if there is one.
+    /// Returns the function at an address, if there is one.
     pub fn function(&self, address: u32) -> Option<Callee<'_>>
         ensures found { MatchOption result (slice_get (functions_in self.now) address ≡ None)
             (λ callee. slice_get (functions_in self.now) address ≡ Some (callee_function callee)) }
@@ -251,7 +252,7 @@ impl Code {
         }
     }
 
-    /// Adds a host function of a type, and answers its number. Where memory runs out, nothing has changed.
+    /// Appends a host function of a type, and returns its number. If memory runs out, nothing has changed.
     pub(crate) fn append_host(&mut self, ty: FuncType) -> Result<u32, AllocError>
         requires functions { length self.old.functions + 1 < 2 ^ 32 }
         requires hosts { length self.old.hosts + 1 < 2 ^ 32 }
@@ -273,8 +274,7 @@ impl Code {
         Ok(number)
     }
 
-    /// Adds the functions of a module, and an instance of it with these addresses. Where memory runs out, nothing
-    /// has changed.
+    /// Appends the functions of a module, and an instance of it with these addresses. If memory runs out, nothing has changed.
     pub(crate) fn append_instance(&mut self, instance: Instance) -> Result<(), AllocError>
         requires functions { length self.old.functions
             + length instance.loaded.value.source.funcs < 2 ^ 32 }

@@ -1,5 +1,5 @@
-//! The store of a run, in two parts: functions and module instances by address, with the flat code of functions; and tables,
-//! memories, globals and segments by address, which a run may change.
+//! The store of a run, in two parts. One part has functions and module instances by address, with the flat code of functions.
+//! The other part has tables, memories, globals and segments by address, which a run may change.
 #![tactic(auto)]
 
 mod arguments;

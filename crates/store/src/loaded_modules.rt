@@ -17,14 +17,14 @@ use std::alloc::{AllocError, Global};
 use std::marker::Model;
 use validator::ValidModule;
 
-/// A module that is loaded, which all its instances share: the module, and the flat code of its functions.
+/// A loaded module, which all its instances share: the module, and the flat code of its functions.
 #[derive(Drop)]
 pub struct LoadedModule {
     validated: ValidModule,
     flat: FlatModule,
 }
 
-/// A function of a module, for reading: its type, its code, and its flat code.
+/// A borrowed function of a module: its type, its code, and its flat code.
 #[derive(Clone, Copy)]
 pub struct LoadedFunction<'a> {
     pub ty: &'a FuncType,
@@ -44,14 +44,14 @@ impl Model for LoadedModule {
     ghost invariant = { λ m. IsFlatModule m.validated m.flat × IsSoundModule m.validated };
 }
 
-// The calls that show something do nothing: they say what is known by the types of numbers.
+// The functions named `show_` do nothing. They state what the types of numbers guarantee.
 
-// Bytes are bytes.
+// Each byte is below 256.
 fn show_bytes(bytes: &[u8])
     ensures { AreBytes bytes.now }
 {}
 
-// So are those of data segments.
+// So is each byte of data segments.
 fn show_datas(datas: &[DataSegment])
     ensures { All (λ (d : AnySegment). AreBytes d.bytes) datas.now }
 {
@@ -65,7 +65,7 @@ fn show_minimum(limits: Limits)
     ensures { limits.min ≤ most_entries }
 {}
 
-// So have those of tables.
+// So have the minima of tables.
 fn show_tables(tables: &[TableType])
     ensures { All (λ (t : AnyTable). t.limits.min ≤ most_entries) tables.now }
 {
@@ -74,7 +74,7 @@ fn show_tables(tables: &[TableType])
     }
 }
 
-// The flat code of a module, whose numbers fit their types.
+// Returns the flat code of a module, whose numbers fit their types.
 fn flatten_valid(alloc: Global, validated: &ValidModule) -> Result<FlatModule, AllocError>
     ensures flat { IfOk result (IsFlatModule validated.now) }
     ensures sound { IsSoundModule validated.now }
@@ -86,7 +86,7 @@ fn flatten_valid(alloc: Global, validated: &ValidModule) -> Result<FlatModule, A
 }
 
 impl LoadedModule {
-    /// Loads a module, whose functions are flattened. Fails where there is no memory for their flat code.
+    /// Loads a valid module and flattens its functions. Fails if an allocation fails for their flat code.
     pub fn new(alloc: Global, validated: ValidModule) -> Result<LoadedModule, AllocError>
         ensures { IfOk result (λ loaded. loaded.source ≡ validated) }
     {
@@ -94,7 +94,7 @@ impl LoadedModule {
         Ok(LoadedModule { validated, flat })
     }
 
-    /// The module, for reading.
+    /// Returns the module.
     pub fn module(&self) -> &Module
         ensures same { result.now ≡ self.now.source }
         ensures valid { IsValid self.now.source }
@@ -103,7 +103,7 @@ impl LoadedModule {
         self.validated.module()
     }
 
-    /// Returns what the export of a name names, if there is one.
+    /// Returns the index that the export of a name refers to, if there is one.
     pub fn export(&self, name: &str) -> Option<ExportDesc>
         ensures { result ≡ option_map (λ (e : Exported). e.desc)
             (find (λ (e : Exported). bytes_eq e.name name.now) self.now.source.exports) }
@@ -111,7 +111,7 @@ impl LoadedModule {
         self.validated.export(name)
     }
 
-    /// The flat code of its functions, for reading.
+    /// Returns the flat code of its functions.
     #[inline(always)]
     pub fn flat(&self) -> &FlatModule
         ensures same { result.now ≡ self.now.flat }
@@ -120,7 +120,7 @@ impl LoadedModule {
         &self.flat
     }
 
-    /// The function of an index.
+    /// Returns the function of an index.
     #[inline(always)]
     pub fn function(&self, index: u32) -> LoadedFunction<'_>
         requires { index < length self.now.source.funcs }

@@ -10,7 +10,7 @@ use core_types::Limits;
 use std::alloc::{AllocError, Global};
 use std::marker::Model;
 
-// The bytes of a page.
+// The size of a page, in bytes.
 const PAGE_SIZE: usize = 65_536;
 
 /// A memory: its limits, whose minimum is its present size in pages, and its bytes (Execution, Memory Instances).
@@ -32,7 +32,7 @@ impl Model for Memory {
 }
 
 impl Memory {
-    // A memory without bytes, for a place from which another was taken. Takes no memory.
+    // Returns a memory without bytes, for a place from which another was taken. Allocates nothing.
     pub(crate) fn empty(alloc: Global) -> Memory
         ensures { result ≡ no_memory }
     {
@@ -42,7 +42,7 @@ impl Memory {
         }
     }
 
-    /// A memory with these limits: as many pages as the minimum says, all zero.
+    /// Creates a memory with these limits. It has the minimum number of pages, and all bytes are zero.
     pub fn new(alloc: Global, limits: Limits) -> Result<Memory, AllocError>
         requires { limits.min ≤ most_pages }
         ensures { IfOk result (λ m. m ≡ new_memory limits) }
@@ -52,14 +52,14 @@ impl Memory {
         Ok(Memory { limits, bytes })
     }
 
-    /// The limits, whose minimum is the present size in pages.
+    /// Returns the limits, whose minimum is the present size in pages.
     pub fn limits(&self) -> Limits
         ensures { result ≡ self.now.limits }
     {
         self.limits
     }
 
-    /// The bytes, for reading.
+    /// Returns the bytes.
     pub fn bytes(&self) -> &[u8]
         ensures same { result.now ≡ self.now.bytes }
         ensures pages { HasPages (self.now.limits.min) self.now.bytes }
@@ -67,7 +67,7 @@ impl Memory {
         &self.bytes
     }
 
-    /// The bytes, for writing. Their number stays.
+    /// Returns the bytes as a mutable slice. Their number stays.
     pub fn bytes_mut(&mut self) -> &mut [u8]
         ensures* lent { sem 𝓛 (LendsBytes self.entry result) }
         ensures same { result.now ≡ self.old.bytes }
@@ -75,7 +75,7 @@ impl Memory {
         self.bytes.as_mut_slice()
     }
 
-    // Adds pages of zeros. Where memory runs out, the memory is as before.
+    // Appends pages of zeros. If memory runs out, the memory is unchanged.
     pub(crate) fn grow(&mut self, pages: u32) -> Result<(), AllocError>
         requires { self.old.limits.min + pages ≤ most_pages }
         ensures grown { OnOk result (self.new ≡ grow_by self.old pages) }

@@ -7,7 +7,8 @@ use std::alloc::Global;
 use std::marker::Model;
 use std::rc::Rc;
 
-/// An element segment: the type of its references, and these, none once it was dropped (Execution, Element Instances).
+/// An element segment: the type of its references, and the references. There are none after it was dropped (Execution, Element
+/// Instances).
 #[derive(Drop)]
 pub struct ElementSegment {
     ty: RefType,
@@ -23,21 +24,21 @@ impl Model for ElementSegment {
 }
 
 impl ElementSegment {
-    /// A segment of these references.
+    /// Creates a segment of these references.
     pub fn new(ty: RefType, references: Vec<Val>) -> ElementSegment
         ensures { result ≡ record { ty = ty; references = references.items } }
     {
         ElementSegment { ty, references }
     }
 
-    /// The references, for reading.
+    /// Returns the references.
     pub fn references(&self) -> &[Val]
         ensures { result.now ≡ self.now.references }
     {
         &self.references
     }
 
-    // Gives the references back. Takes no memory.
+    // Frees the references. Allocates nothing.
     pub(crate) fn clear(&mut self, alloc: Global)
         ensures { self.new ≡ record { ty = self.old.ty; references = [] } }
     {
@@ -45,7 +46,7 @@ impl ElementSegment {
     }
 }
 
-// The bytes of a module's data segment, none where there is no such segment.
+// Returns the bytes of a module's data segment, or none if there is no such segment.
 fn bytes_of(read: &Module, index: u32) -> &[u8]
     ensures { result.now ≡ bytes_at read.now index }
 {
@@ -55,7 +56,7 @@ fn bytes_of(read: &Module, index: u32) -> &[u8]
     }
 }
 
-/// A data segment: that of an index of a loaded module, which it shares; or nothing once it was dropped (Execution, Data
+/// A data segment: the segment of an index of a shared loaded module, or nothing after it was dropped (Execution, Data
 /// Instances).
 #[derive(Drop)]
 pub struct DataSegment {
@@ -73,7 +74,7 @@ impl Model for DataSegment {
 }
 
 impl DataSegment {
-    /// The data segment of this index of a module, none of whose bytes are copied.
+    /// Creates the data segment of this index of a module. No bytes are copied.
     pub fn new(loaded: Rc<LoadedModule>, index: u32) -> DataSegment
         ensures { result.bytes ≡ bytes_at loaded.value.source index }
     {
@@ -83,7 +84,7 @@ impl DataSegment {
         }
     }
 
-    /// The bytes, for reading.
+    /// Returns the bytes.
     pub fn bytes(&self) -> &[u8]
         ensures { result.now ≡ self.now.bytes }
     {
@@ -93,7 +94,7 @@ impl DataSegment {
         }
     }
 
-    // Gives the module back. Takes no memory.
+    // Releases the module. Allocates nothing.
     pub(crate) fn clear(&mut self)
         ensures { self.new.bytes ≡ [] }
     {

@@ -19,7 +19,7 @@ use std::alloc::{AllocError, Global};
 use std::marker::Model;
 use std::mem;
 
-/// Objects that a run may change, a list a kind.
+/// Objects that a run may change, one list for each kind.
 #[derive(Drop)]
 pub struct Objects {
     pub tables: Vec<Table>,
@@ -43,7 +43,7 @@ impl Model for Objects {
     } };
 }
 
-/// What a run may change of the store: tables, memories, globals and segments by address.
+/// The part of the store that a run may change: tables, memories, globals and segments by address.
 #[derive(Drop)]
 pub struct State {
     alloc: Global,
@@ -85,7 +85,8 @@ impl Model for State {
 }
 
 impl State {
-    /// No objects. A memory may have this many pages and a table this many entries at most. Takes no memory.
+    /// Creates a state without objects. A memory may have at most `pages` pages, and a table at most `entries` entries.
+    /// Allocates nothing.
     pub fn new(alloc: Global, pages: u32, entries: u32) -> State
         ensures contents { result.contents ≡ no_objects }
         ensures bounds { result.bounds ≡ record { entries = entries; pages = pages } }
@@ -102,56 +103,56 @@ impl State {
         }
     }
 
-    /// How many pages a memory may have at most.
+    /// Returns the most pages that a memory may have.
     pub fn pages(&self) -> u32
         ensures { result ≡ self.now.bounds.pages }
     {
         self.pages
     }
 
-    /// How many entries a table may have at most.
+    /// Returns the most entries that a table may have.
     pub fn entries(&self) -> u32
         ensures { result ≡ self.now.bounds.entries }
     {
         self.entries
     }
 
-    /// How many tables there are.
+    /// Returns the number of tables.
     pub fn table_count(&self) -> usize
         ensures { result ≡ length self.now.contents.tables }
     {
         self.tables.len()
     }
 
-    /// How many memories there are.
+    /// Returns the number of memories.
     pub fn memory_count(&self) -> usize
         ensures { result ≡ length self.now.contents.memories }
     {
         self.memories.len()
     }
 
-    /// How many globals there are.
+    /// Returns the number of globals.
     pub fn global_count(&self) -> usize
         ensures { result ≡ length self.now.contents.globals }
     {
         self.globals.len()
     }
 
-    /// How many element segments there are.
+    /// Returns the number of element segments.
     pub fn element_count(&self) -> usize
         ensures { result ≡ length self.now.contents.elements }
     {
         self.elements.len()
     }
 
-    /// How many data segments there are.
+    /// Returns the number of data segments.
     pub fn data_count(&self) -> usize
         ensures { result ≡ length self.now.contents.datas }
     {
         self.datas.len()
     }
 
-    /// Makes room for these objects. What is there stays, also where memory runs out.
+    /// Reserves room for these objects. The existing objects stay, even if memory runs out.
     pub fn reserve_all(&mut self, objects: &Objects) -> Result<(), AllocError>
         ensures contents { self.new.contents ≡ self.old.contents }
         ensures bounds { self.new.bounds ≡ self.old.bounds }
@@ -165,7 +166,7 @@ impl State {
         Ok(())
     }
 
-    /// Adds objects for which there is room. Takes no memory.
+    /// Appends objects for which there is room. Allocates nothing.
     pub fn append_all(&mut self, mut objects: Objects)
         requires fits { Fits self.old.room objects }
         requires within { AreWithin self.old.bounds objects.tables objects.memories }
@@ -179,7 +180,7 @@ impl State {
         let _ = self.datas.append(&mut objects.datas);
     }
 
-    /// The table at an address, if there is one.
+    /// Returns the table at an address, if there is one.
     pub fn table(&self, address: u32) -> Option<&Table>
         ensures { option_copied result ≡ slice_get self.now.contents.tables address }
     {
@@ -198,7 +199,7 @@ impl State {
         table.set(offset, value);
     }
 
-    /// Gives that many entries of a table a value of its type.
+    /// Fills `count` entries of a table with a value of its type.
     pub fn fill_entries(&mut self, address: u32, offset: u32, value: Val, count: u32)
         requires there { address < length self.old.contents.tables }
         requires within { offset + count ≤ length (table_of self.old address).entries }
@@ -210,7 +211,7 @@ impl State {
         table.fill(offset, value, count);
     }
 
-    // Copies that many entries of a table into another, which is taken out meanwhile.
+    // Copies `count` entries of a table into another one, which is taken out meanwhile.
     fn copy_between(&mut self, into: u32, source: u32, target: u32, from: u32, count: u32)
         requires apart { source ≢ into }
         requires there { into < length self.old.contents.tables }
@@ -227,7 +228,7 @@ impl State {
         self.tables[into as usize] = table;
     }
 
-    /// Copies that many entries of a table into another or the same, as if they were read before any is written.
+    /// Copies `count` entries of a table into the same or another table, as if all were read before any is written.
     pub fn copy_entries(&mut self, into: u32, source: u32, target: u32, from: u32, count: u32)
         requires there { into < length self.old.contents.tables }
         requires source { source < length self.old.contents.tables }
@@ -245,7 +246,7 @@ impl State {
         }
     }
 
-    /// Copies that many references of an element segment into a table.
+    /// Copies `count` references of an element segment into a table.
     pub fn init_entries(&mut self, into: u32, segment: u32, target: u32, from: u32, count: u32)
         requires there { into < length self.old.contents.tables }
         requires segment { segment < length self.old.contents.elements }
@@ -260,7 +261,7 @@ impl State {
         table.copy_from(source.references(), target, from, count);
     }
 
-    /// Adds entries to a table, of a value of its type. Where memory runs out, nothing has changed.
+    /// Appends entries to a table, with a value of its type. If memory runs out, nothing has changed.
     pub fn grow_table(&mut self, address: u32, value: Val, count: u32) -> Result<(), AllocError>
         requires there { address < length self.old.contents.tables }
         requires typed { type_of value ≡ reference_type (table_of self.old address).ty.element }
@@ -277,14 +278,14 @@ impl State {
         table.grow(value, count)
     }
 
-    /// The memory at an address, if there is one.
+    /// Returns the memory at an address, if there is one.
     pub fn memory(&self, address: u32) -> Option<&Memory>
         ensures { option_copied result ≡ slice_get self.now.contents.memories address }
     {
         self.memories.get(address as usize)
     }
 
-    /// Takes a memory out, in whose place an empty one lies until it is put back. Takes no memory.
+    /// Takes a memory out. An empty one is in its place until it is put back. Allocates nothing.
     pub fn take_memory(&mut self, address: u32) -> Memory
         requires { address < length self.old.contents.memories }
         ensures taken { result ≡ memory_of self.old address }
@@ -294,7 +295,7 @@ impl State {
         mem::replace(&mut self.memories[address as usize], none)
     }
 
-    /// Puts a memory at an address, in the place of the one that is there. Takes no memory.
+    /// Replaces the memory at an address. Allocates nothing.
     pub fn put_memory(&mut self, address: u32, memory: Memory)
         requires there { address < length self.old.contents.memories }
         requires within { memory.limits.min ≤ self.old.bounds.pages }
@@ -303,7 +304,7 @@ impl State {
         self.memories[address as usize] = memory;
     }
 
-    /// The bytes of a memory, for writing. Their number stays.
+    /// Returns the bytes of a memory as a mutable slice. Their number stays.
     pub fn memory_mut(&mut self, address: u32) -> &mut [u8]
         requires { address < length self.old.contents.memories }
         ensures* lent { sem 𝓛 (LendsMemory self.entry address result) }
@@ -313,7 +314,8 @@ impl State {
         memory.bytes_mut()
     }
 
-    /// The bytes of a memory, for writing, beside those of a data segment. The number of the memory's bytes stays.
+    /// Returns the bytes of a memory as a mutable slice, and the bytes of a data segment. The number of the memory's bytes
+    /// stays.
     pub fn memory_and_data(&mut self, address: u32, segment: u32) -> (&mut [u8], &[u8])
         requires memory { address < length self.old.contents.memories }
         requires segment { segment < length self.old.contents.datas }
@@ -326,7 +328,7 @@ impl State {
         (memory.bytes_mut(), source.bytes())
     }
 
-    /// Adds pages of zeros to a memory. Where memory runs out, nothing has changed.
+    /// Appends pages of zeros to a memory. If memory runs out, nothing has changed.
     pub fn grow_memory(&mut self, address: u32, pages: u32) -> Result<(), AllocError>
         requires there { address < length self.old.contents.memories }
         requires most { (memory_of self.old address).limits.min + pages ≤ most_pages }
@@ -341,14 +343,14 @@ impl State {
         memory.grow(pages)
     }
 
-    /// The global at an address, if there is one.
+    /// Returns the global at an address, if there is one.
     pub fn global(&self, address: u32) -> Option<&GlobalVariable>
         ensures { option_copied result ≡ slice_get self.now.contents.globals address }
     {
         self.globals.get(address as usize)
     }
 
-    /// Sets a global that may be set, to a value of its type.
+    /// Sets a mutable global to a value of its type.
     pub fn set_global(&mut self, address: u32, value: Val)
         requires there { address < length self.old.contents.globals }
         requires variable { (global_of self.old address).ty.mutability ≡ Var }
@@ -359,14 +361,14 @@ impl State {
         variable.set(value);
     }
 
-    /// The element segment at an address, if there is one.
+    /// Returns the element segment at an address, if there is one.
     pub fn element_segment(&self, address: u32) -> Option<&ElementSegment>
         ensures { option_copied result ≡ slice_get self.now.contents.elements address }
     {
         self.elements.get(address as usize)
     }
 
-    /// Gives the references of an element segment back. Takes no memory.
+    /// Frees the references of an element segment. Allocates nothing.
     pub fn drop_elements(&mut self, address: u32)
         requires { address < length self.old.contents.elements }
         ensures { self.new ≡ put_elements self.old address (record {
@@ -378,14 +380,14 @@ impl State {
         segment.clear(self.alloc);
     }
 
-    /// The data segment at an address, if there is one.
+    /// Returns the data segment at an address, if there is one.
     pub fn data_segment(&self, address: u32) -> Option<&DataSegment>
         ensures { option_copied result ≡ slice_get self.now.contents.datas address }
     {
         self.datas.get(address as usize)
     }
 
-    /// Gives the bytes of a data segment back. Takes no memory.
+    /// Releases the bytes of a data segment. Allocates nothing.
     pub fn drop_data(&mut self, address: u32)
         requires { address < length self.old.contents.datas }
         ensures { self.new ≡ put_data self.old address (record { bytes = [] }) }

@@ -32,7 +32,7 @@ impl Model for Store {
     ghost invariant = { λ s. StoreIsValid (store_with s.code s.state) };
 }
 
-// Whether that many more objects of a kind still get addresses of 32 bits.
+// Returns whether 32-bit addresses remain for that many more objects of a kind.
 fn has_addresses(used: usize, wanted: usize) -> bool
     ensures { IsTrue result ↔ (used + wanted < 2 ^ 32) }
 {
@@ -40,8 +40,8 @@ fn has_addresses(used: usize, wanted: usize) -> bool
 }
 
 impl Store {
-    /// A store with nothing in it, in which a memory may have this many pages and a table this many entries at most. Takes no
-    /// memory.
+    /// Creates an empty store. A memory may have at most `pages` pages, and a table at most `entries` entries. Allocates
+    /// nothing.
     pub fn new(alloc: Global, pages: u32, entries: u32) -> Store
         ensures code { result.code ≡ contents_of ([]) ([]) ([]) }
         ensures contents { result.state.contents ≡ no_objects }
@@ -53,14 +53,14 @@ impl Store {
         }
     }
 
-    /// What a run does not change.
+    /// Returns the part that a run does not change.
     pub fn code(&self) -> &Code
         ensures { result.now ≡ self.now.code }
     {
         &self.code
     }
 
-    /// What a run may change. The store is valid.
+    /// Returns the part that a run may change. The store is valid.
     pub fn state(&self) -> &State
         ensures same { result.now ≡ self.now.state }
         ensures valid { StoreIsValid (store_of self.now) }
@@ -68,7 +68,7 @@ impl Store {
         &self.state
     }
 
-    /// Whether the functions of a module, its objects and an instance of it still get addresses of 32 bits.
+    /// Returns whether 32-bit addresses remain for the functions of a module, its objects and an instance of it.
     pub fn has_room_for(&self, wanted: &Module) -> bool
         ensures { IsTrue result ↔ HasRoom (store_of self.now) wanted.now }
     {
@@ -81,8 +81,8 @@ impl Store {
             && has_addresses(self.state.data_count(), wanted.datas.len())
     }
 
-    /// Adds the functions of a module, these objects, and an instance that has these addresses, and answers the instance's
-    /// number (Execution, Modules, Allocation). Where memory runs out, what the store holds is as before.
+    /// Appends the functions of a module, these objects, and an instance that has these addresses. Returns the instance's number
+    /// (Execution, Modules, Allocation). If memory runs out, the contents of the store are unchanged.
     pub fn append_module(
         &mut self,
         alloc: Global,
@@ -115,8 +115,8 @@ impl Store {
         Ok(number)
     }
 
-    /// Adds a host function of a type, and answers its number, the next one. Where memory runs out, nothing has changed (Execution,
-    /// Runtime Structure, Function Instances).
+    /// Appends a host function of a type, and returns its number, the next one. If memory runs out, nothing has changed
+    /// (Execution, Runtime Structure, Function Instances).
     pub fn append_host(&mut self, ty: FuncType) -> Result<u32, AllocError>
         requires functions { length (store_of self.old).functions + 1 < 2 ^ 32 }
         requires hosts { length (self.old.code.hosts) + 1 < 2 ^ 32 }

@@ -28,7 +28,7 @@ impl Model for Table {
     ghost invariant = { λ t. HasEntries t.ty.limits.min t.entries.items };
 }
 
-/// The null of a type (Execution, Runtime Structure, Values).
+/// Returns the null of a type (Execution, Runtime Structure, Values).
 pub fn null_of(ty: RefType) -> Val
     ensures { result ≡ null_of ty }
 {
@@ -39,7 +39,7 @@ pub fn null_of(ty: RefType) -> Val
 }
 
 impl Table {
-    // A table without entries, for a place from which another was taken. Takes no memory.
+    // Returns a table without entries, for a place from which another was taken. Allocates nothing.
     pub(crate) fn empty(alloc: Global) -> Table
         ensures { result ≡ no_table }
     {
@@ -54,7 +54,7 @@ impl Table {
         }
     }
 
-    /// A table of this type: as many entries as the minimum says, all null.
+    /// Creates a table of this type. It has the minimum number of entries, and all are null.
     pub fn new(alloc: Global, ty: TableType) -> Result<Table, AllocError>
         ensures { IfOk result (λ t. t ≡ new_table ty) }
     {
@@ -63,14 +63,14 @@ impl Table {
         Ok(Table { ty, entries })
     }
 
-    /// The type, whose minimum is the present size.
+    /// Returns the type, whose minimum is the present size.
     pub fn ty(&self) -> TableType
         ensures { result ≡ self.now.ty }
     {
         self.ty
     }
 
-    /// The entries, for reading.
+    /// Returns the entries.
     pub fn entries(&self) -> &[Val]
         ensures same { result.now ≡ self.now.entries }
         ensures size { HasEntries (self.now.ty.limits.min) self.now.entries }
@@ -86,7 +86,7 @@ impl Table {
         self.entries[offset as usize] = value;
     }
 
-    // Gives that many entries a value.
+    // Fills `count` entries with a value.
     pub(crate) fn fill(&mut self, offset: u32, value: Val, count: u32)
         requires { offset + count ≤ length self.old.entries }
         ensures { self.new ≡ with_entries self.old
@@ -96,7 +96,7 @@ impl Table {
         self.entries[from..from + count as usize].fill(value);
     }
 
-    // Copies that many entries within the table, as if they were read before any is written.
+    // Copies `count` entries within the table, as if all were read before any is written.
     pub(crate) fn copy_within(&mut self, target: u32, from: u32, count: u32)
         requires source { from + count ≤ length self.old.entries }
         requires target { target + count ≤ length self.old.entries }
@@ -111,7 +111,7 @@ impl Table {
         );
     }
 
-    // Copies that many values from others.
+    // Copies `count` values from others into the table.
     pub(crate) fn copy_from(&mut self, source: &[Val], target: u32, from: u32, count: u32)
         requires source { from + count ≤ length source.now }
         requires target { target + count ≤ length self.old.entries }
@@ -124,7 +124,7 @@ impl Table {
         self.entries[offset..offset + count as usize].copy_from_slice(read);
     }
 
-    // Adds entries of a value. Where memory runs out, the table is as before.
+    // Appends entries with a value. If memory runs out, the table is unchanged.
     pub(crate) fn grow(&mut self, value: Val, count: u32) -> Result<(), AllocError>
         requires { self.old.ty.limits.min + count ≤ 4294967295 }
         ensures grown { OnOk result (self.new ≡ grow_entries self.old value count) }

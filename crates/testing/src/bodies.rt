@@ -5,7 +5,7 @@ use crate::reader::Reader;
 use crate::writer::Writer;
 use std::alloc::Global;
 
-/// Writes the numbers in front.
+/// Writes the next numbers.
 pub fn write_numbers(reader: &mut Reader<'_>, writer: &mut Writer) {
     for _ in 0..u64::MAX {
         match reader.next_number() {
@@ -15,7 +15,7 @@ pub fn write_numbers(reader: &mut Reader<'_>, writer: &mut Writer) {
     }
 }
 
-// Writes how many labels there are in front of the default one, and all labels.
+// Writes the number of labels before the default one, and all labels.
 fn write_labels(reader: &mut Reader<'_>, writer: &mut Writer) {
     match reader.count_numbers() {
         0 => reader.fail(),
@@ -24,7 +24,7 @@ fn write_labels(reader: &mut Reader<'_>, writer: &mut Writer) {
     write_numbers(reader, writer);
 }
 
-// Writes the alignment and the offset of an access, whose natural alignment is this.
+// Writes the alignment and the offset of an access with this natural alignment.
 fn write_access(natural: u64, reader: &mut Reader<'_>, writer: &mut Writer) {
     let offset = reader.argument("offset=", 0);
     let alignment = reader.argument("align=", natural);
@@ -35,7 +35,6 @@ fn write_access(natural: u64, reader: &mut Reader<'_>, writer: &mut Writer) {
     writer.write_number(offset);
 }
 
-// Writes the type of a block.
 fn write_block_type(
     alloc: Global,
     types: &mut FunctionTypes,
@@ -51,7 +50,7 @@ fn write_block_type(
     }
 }
 
-// Writes the type of the function that is called, and the table.
+// Writes the type of the called function, and the table.
 fn write_indirect(
     alloc: Global,
     types: &mut FunctionTypes,
@@ -64,7 +63,7 @@ fn write_indirect(
     writer.write_number(table);
 }
 
-// Writes an element segment, and the table in front of it.
+// Writes an element segment, and the table before it.
 fn write_table_init(reader: &mut Reader<'_>, writer: &mut Writer) {
     let first = reader.number();
     match reader.next_number() {
@@ -79,7 +78,7 @@ fn write_table_init(reader: &mut Reader<'_>, writer: &mut Writer) {
     }
 }
 
-// Writes what stands behind an instruction's name, where that has no lists.
+// Writes what follows an instruction's name, if it has no lists.
 fn write_words(immediates: Immediates, reader: &mut Reader<'_>, writer: &mut Writer) {
     match immediates {
         Immediates::Index => writer.write_number(reader.number()),
@@ -104,7 +103,7 @@ fn write_words(immediates: Immediates, reader: &mut Reader<'_>, writer: &mut Wri
     }
 }
 
-// Writes a selection, whose opcode says whether it has types.
+// Writes a selection, whose opcode states whether it has types.
 fn write_selection(alloc: Global, reader: &mut Reader<'_>, writer: &mut Writer) {
     if reader.is_at_list() {
         writer.write_byte(0x1C);
@@ -122,7 +121,7 @@ fn write_opcode(opcode: u16, writer: &mut Writer) {
     writer.write_byte(last);
 }
 
-// Writes an instruction behind its name.
+// Writes an instruction, whose name was read.
 fn write_instruction(
     alloc: Global,
     types: &mut FunctionTypes,
@@ -142,7 +141,7 @@ fn write_instruction(
     }
 }
 
-/// Writes the instructions in front, and the end behind them.
+/// Writes the next instructions, followed by the end.
 pub fn write_expression(
     alloc: Global,
     types: &mut FunctionTypes,

@@ -1,8 +1,8 @@
 /// Why a text was not assembled.
 #[derive(Clone, Copy)]
 pub enum AssembleError {
-    /// The text is not of the subset that is understood.
+    /// The text is not in the supported subset.
     Unreadable,
-    /// There was no memory left for the bytes.
+    /// An allocation for the bytes failed.
     OutOfMemory,
 }

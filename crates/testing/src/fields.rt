@@ -6,7 +6,7 @@ use crate::segments::{write_data, write_elements};
 use crate::writer::Writer;
 use std::alloc::Global;
 
-// Writes a least size, and a greatest one if it is given.
+// Writes a least size, and a greatest one if there is one.
 fn write_limits(least: u64, greatest: Option<u64>, writer: &mut Writer) {
     match greatest {
         Some(greatest) => {
@@ -46,7 +46,7 @@ fn write_global_type(reader: &mut Reader<'_>, writer: &mut Writer) {
     }
 }
 
-// The byte of a kind of exports.
+// Returns the byte of a kind of exports.
 fn read_kind(reader: &mut Reader<'_>) -> u8 {
     match reader.word() {
         "func" => 0x00,
@@ -69,7 +69,6 @@ impl Sections {
         reader.close();
     }
 
-    // Reads what is imported.
     fn read_description(&mut self, reader: &mut Reader<'_>, import: &mut Writer) {
         match reader.word() {
             "func" => {
@@ -153,7 +152,6 @@ impl Sections {
         write_elements(self.alloc, &mut self.types, reader, self.elements.begin());
     }
 
-    // Reads a field.
     fn read_field(&mut self, reader: &mut Reader<'_>) {
         match reader.word() {
             "type" => self.read_type(reader),

@@ -11,7 +11,7 @@ pub struct FunctionTypes {
     has_failed: bool,
 }
 
-// The index of the first type with these bytes; where there is none, the one behind all types.
+// Returns the index of the first type with these bytes, or the number of types if there is none.
 fn index_of(types: &[Writer], ty: &[u8]) -> usize {
     for (index, other) in types.iter().enumerate() {
         if other.as_slice() == ty {
@@ -22,7 +22,7 @@ fn index_of(types: &[Writer], ty: &[u8]) -> usize {
 }
 
 impl FunctionTypes {
-    /// No types. Takes no memory.
+    /// Creates an empty list of types. Allocates nothing.
     pub fn new(alloc: Global) -> FunctionTypes {
         FunctionTypes {
             alloc,
@@ -31,7 +31,7 @@ impl FunctionTypes {
         }
     }
 
-    // The type with the parameters and results of a header.
+    // Returns the type with the parameters and results of a header.
     fn type_of(&self, header: &Header<'_>) -> Writer {
         let mut ty = Writer::new(self.alloc);
         ty.write_byte(0x60);
@@ -48,7 +48,8 @@ impl FunctionTypes {
         }
     }
 
-    /// The index that a header gives, or that of the first type with its parameters and results, which is added if there is none.
+    /// Returns the index in a header, or that of the first type with its parameters and results. The type is added if there is
+    /// none.
     pub fn index_of(&mut self, header: &Header<'_>) -> u64 {
         if let Some(index) = header.type_index {
             return index;
@@ -60,7 +61,7 @@ impl FunctionTypes {
         index as u64
     }
 
-    /// The section of the types.
+    /// Returns the section of the types.
     pub fn section(&self) -> Section {
         let mut section = Section::new(self.alloc);
         for ty in &self.types {

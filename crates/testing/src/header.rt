@@ -2,7 +2,7 @@ use crate::reader::Reader;
 use crate::writer::Writer;
 use std::alloc::Global;
 
-/// What the lists in front of a function's instructions, or behind an instruction's name, say of it; a type is a byte.
+/// The lists before a function's instructions, or after an instruction's name. A type is a byte.
 #[derive(Drop)]
 pub struct Header<'a> {
     pub export: Option<&'a [u8]>,
@@ -23,7 +23,6 @@ fn read_types(reader: &mut Reader<'_>, types: &mut Writer) {
 }
 
 impl<'a> Header<'a> {
-    // Reads one list.
     fn read_list(&mut self, reader: &mut Reader<'a>) {
         match reader.word() {
             "export" => self.export = Some(reader.quoted()),
@@ -37,7 +36,7 @@ impl<'a> Header<'a> {
     }
 }
 
-/// Reads the lists in front.
+/// Reads the next lists.
 pub fn read_header<'a>(alloc: Global, reader: &mut Reader<'a>) -> Header<'a> {
     let mut header = Header {
         export: None,

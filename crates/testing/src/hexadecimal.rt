@@ -4,7 +4,7 @@ ghost use Rattle.std.specs.Prelude.{◌<◌, IfSome};
 
 use std::alloc::{AllocError, Global};
 
-/// The value of a hexadecimal digit of either case.
+/// Returns the value of a hexadecimal digit of either case.
 pub fn digit(code: u8) -> Option<u8>
     ensures { IfSome result (λ value. value < 16) }
 {
@@ -16,7 +16,7 @@ pub fn digit(code: u8) -> Option<u8>
     }
 }
 
-/// The bytes that a text of hexadecimal numbers of two digits each represents; blanks are passed over, and any other code counts as the digit 0.
+/// Returns the bytes of a text of two-digit hexadecimal numbers. Blanks are skipped, and any other code counts as the digit 0.
 pub fn bytes_of(alloc: Global, text: &str) -> Result<Vec<u8>, AllocError> {
     let mut bytes = Vec::new(alloc);
     let mut high = None;

@@ -1,4 +1,4 @@
-/// What is written behind an instruction's name.
+/// What is written after an instruction's name.
 #[derive(Clone, Copy)]
 pub enum Immediates {
     Nothing,
@@ -7,23 +7,23 @@ pub enum Immediates {
     Index,
     /// The labels of a branch table, the default one last.
     Labels,
-    /// A table, which may be left out for the first one, and the type of the function in it.
+    /// A table, which may be omitted for the first one, and the type of the function in it.
     Indirect,
     /// The types of a selection, if it has any.
     Selection,
-    /// A table, which may be left out for the first one.
+    /// A table, which may be omitted for the first one.
     Table,
     /// The table that is written, and the one that is read.
     TableCopy,
-    /// A table, which may be left out for the first one, and the element segment.
+    /// A table, which may be omitted for the first one, and the element segment.
     TableInit,
-    /// Nothing, and the bytes have the first memory.
+    /// Nothing. The bytes have the first memory.
     Memory,
-    /// Nothing, and the bytes have the first memory twice.
+    /// Nothing. The bytes have the first memory twice.
     MemoryCopy,
-    /// The data segment, and the bytes have the first memory.
+    /// The data segment. The bytes also have the first memory.
     MemoryInit,
-    /// The offset and the alignment of an access, whose natural alignment is this.
+    /// The offset and the alignment of an access with this natural alignment.
     Access(u64),
     /// A type of references.
     Reference,
@@ -31,15 +31,15 @@ pub enum Immediates {
     Constant64,
 }
 
-/// An instruction: its opcode, which is two bytes where it is above 0xFF, and what is written behind its name.
+/// An instruction: its opcode, which has two bytes if it is above 0xFF, and what is written after its name.
 #[derive(Clone, Copy)]
 pub struct Instruction {
     pub opcode: u16,
     pub immediates: Immediates,
 }
 
-// In each row a name, the opcode in hexadecimal, and what is written behind the name, if anything is. Of the two opcodes of
-// `select` the one without types stands here.
+// Each row has a name, the opcode in hexadecimal, and what is written after the name, if anything is. Of the two opcodes of
+// `select`, this is the one without types.
 const INSTRUCTIONS: &str = "\
 unreachable 00
 nop 01
@@ -190,7 +190,7 @@ static COLUMNS: [(&str, Immediates); 18] = [
     ("constant64", Immediates::Constant64),
 ];
 
-// What a word of the last column represents.
+// Returns the meaning of a word of the last column.
 fn immediates_of(column: &str) -> Immediates {
     for (word, immediates) in &COLUMNS {
         if *word == column {
@@ -200,12 +200,10 @@ fn immediates_of(column: &str) -> Immediates {
     Immediates::Nothing
 }
 
-// The opcode that hexadecimal digits give.
 fn opcode_of(digits: &str) -> u16 {
     u16::from_str_radix(digits, 16).unwrap_or(0)
 }
 
-// The instruction of a row, if it has this name.
 fn instruction_in(row: &str, name: &str) -> Option<Instruction> {
     match row.split_once(' ') {
         Some((front, others)) if front == name => {
@@ -219,7 +217,7 @@ fn instruction_in(row: &str, name: &str) -> Option<Instruction> {
     }
 }
 
-/// The instruction of a name.
+/// Returns the instruction of a name.
 pub fn instruction_named(name: &str) -> Option<Instruction> {
     for row in INSTRUCTIONS.lines() {
         let found = instruction_in(row, name);

@@ -1,4 +1,4 @@
-//! What the test crates share: modules from text, and bytes from hexadecimal numbers.
+//! Shared code of the test crates: modules from text, and bytes from hexadecimal numbers.
 #![tactic(auto)]
 
 mod assembling;

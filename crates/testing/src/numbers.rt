@@ -1,4 +1,4 @@
-// The number that digits give, hexadecimal behind `0x`, decimal otherwise.
+// Returns the number of these digits. They are hexadecimal after `0x`, and decimal otherwise.
 fn magnitude(digits: &str) -> Option<u64> {
     match digits.strip_prefix("0x") {
         Some(hexadecimal) => u64::from_str_radix(hexadecimal, 16).ok(),
@@ -6,7 +6,7 @@ fn magnitude(digits: &str) -> Option<u64> {
     }
 }
 
-/// The number of a word, below the 32nd power of 2.
+/// Returns the number of a word, below the 32nd power of 2.
 pub fn unsigned(word: &str) -> Option<u64> {
     match magnitude(word) {
         Some(number) if number <= u64::from(u32::MAX) => Some(number),
@@ -14,7 +14,8 @@ pub fn unsigned(word: &str) -> Option<u64> {
     }
 }
 
-/// The integer of a word, signed or unsigned, of as many bits as twice `half` has values: the 64 bits of it as a signed one.
+/// Returns the integer of a word, signed or unsigned, as the 64 bits of a signed one. The integer has as many bits as twice
+/// `half` has values.
 pub fn integer(word: &str, half: u64) -> Option<u64> {
     let (digits, is_negative) = match word.strip_prefix('-') {
         Some(digits) => (digits, true),

@@ -3,7 +3,8 @@ use crate::reader::Reader;
 use crate::writer::Writer;
 use std::alloc::Global;
 
-// Writes the bytes that a quoted text represents: a backslash and two digits represent one. Answers whether it is one.
+// Writes the bytes of a quoted text, in which a backslash and two digits represent one byte. Returns whether it is a quoted
+// text.
 fn write_quoted(quoted: &[u8], writer: &mut Writer) -> bool {
     let mut codes = quoted.iter();
     while let Some(code) = codes.next() {
@@ -22,7 +23,7 @@ fn write_quoted(quoted: &[u8], writer: &mut Writer) -> bool {
     true
 }
 
-/// Writes the quoted texts in front, one behind the other, behind the number of their bytes.
+/// Writes the number of bytes of the next quoted texts, and then the texts in a row.
 pub fn write_texts(alloc: Global, reader: &mut Reader<'_>, writer: &mut Writer) {
     let mut bytes = Writer::new(alloc);
     for _ in 0..u64::MAX {

@@ -1,14 +1,14 @@
 use crate::numbers::{integer, unsigned};
 
-/// Reads a module's text from the front. Once something else stands there than is asked for, the reader has failed, and reads
-/// nothing any more.
+/// Reads a module's text from the front. If the text does not continue as expected, the reader fails, and reads nothing after
+/// that.
 #[derive(Clone, Copy)]
 pub struct Reader<'a> {
     rest: &'a [u8],
     has_failed: bool,
 }
 
-// A piece of a text: a parenthesis, a keyword, number or name of an instruction, or what stands between quotes.
+// A piece of a text: a parenthesis, a keyword, number or name of an instruction, or what is between quotes.
 #[derive(Clone, Copy)]
 enum Token<'a> {
     Open,
@@ -17,12 +17,11 @@ enum Token<'a> {
     Quoted(&'a [u8]),
 }
 
-// Whether a byte ends a word.
 fn ends_word(code: u8) -> bool {
     code.is_ascii_whitespace() || matches!(code, b'(' | b')' | b'"')
 }
 
-// The word in front, and what follows it.
+// Returns the word at the front, and what follows it.
 fn split_word(text: &[u8]) -> Option<(Token<'_>, &[u8])> {
     let end = text
         .iter()
@@ -34,7 +33,7 @@ fn split_word(text: &[u8]) -> Option<(Token<'_>, &[u8])> {
     }
 }
 
-// The token in front of a text that does not begin with a blank, and what follows it.
+// Returns the token at the front of a text that does not begin with a blank, and what follows it.
 fn split_front(text: &[u8]) -> Option<(Token<'_>, &[u8])> {
     match text {
         [b'(', rest @ ..] => Some((Token::Open, rest)),
@@ -47,7 +46,7 @@ fn split_front(text: &[u8]) -> Option<(Token<'_>, &[u8])> {
     }
 }
 
-// The byte of a type of values.
+// Returns the byte of a type of values.
 fn type_named(word: &str) -> Option<u8> {
     match word {
         "i32" => Some(0x7F),
@@ -58,13 +57,13 @@ fn type_named(word: &str) -> Option<u8> {
     }
 }
 
-// The token in front, and what follows it.
+// Returns the token at the front, and what follows it.
 fn split_token(text: &[u8]) -> Option<(Token<'_>, &[u8])> {
     split_front(text.trim_ascii_start())
 }
 
 impl<'a> Reader<'a> {
-    /// A reader of this text.
+    /// Creates a reader of this text.
     pub fn new(text: &'a [u8]) -> Reader<'a> {
         Reader {
             rest: text,
@@ -72,23 +71,23 @@ impl<'a> Reader<'a> {
         }
     }
 
-    /// Has the reader fail.
+    /// Makes the reader fail.
     pub fn fail(&mut self) {
         self.rest = &[];
         self.has_failed = true;
     }
 
-    /// Whether all of the text was read.
+    /// Returns whether all of the text was read.
     pub fn is_done(&self) -> bool {
         !self.has_failed && self.rest.trim_ascii_start().is_empty()
     }
 
-    /// Whether a list stands in front.
+    /// Returns whether a list is next.
     pub fn is_at_list(&self) -> bool {
         matches!(split_token(self.rest), Some((Token::Open, _)))
     }
 
-    /// Reads the parenthesis that opens a list, if it stands in front.
+    /// Reads the parenthesis that opens a list, if it is next. Returns whether it is.
     pub fn opens(&mut self) -> bool {
         let Some((Token::Open, rest)) = split_token(self.rest) else {
             return false;
@@ -112,7 +111,7 @@ impl<'a> Reader<'a> {
         }
     }
 
-    /// Reads a word, if one stands in front.
+    /// Reads a word, if one is next.
     pub fn next_word(&mut self) -> Option<&'a str> {
         let Some((Token::Word(word), rest)) = split_token(self.rest) else {
             return None;
@@ -121,7 +120,7 @@ impl<'a> Reader<'a> {
         Some(word)
     }
 
-    /// Reads a number below the 32nd power of 2, if one stands in front.
+    /// Reads a number below the 32nd power of 2, if one is next.
     pub fn next_number(&mut self) -> Option<u64> {
         let Some((Token::Word(word), rest)) = split_token(self.rest) else {
             return None;
@@ -133,7 +132,7 @@ impl<'a> Reader<'a> {
         Some(number)
     }
 
-    /// Reads the number behind this beginning of a word, if such a word stands in front; else the answer is `default`.
+    /// Reads a word with this beginning, if it is next, and returns the number after the beginning. Otherwise returns `default`.
     pub fn argument(&mut self, beginning: &str, default: u64) -> u64 {
         let Some((Token::Word(word), rest)) = split_token(self.rest) else {
             return default;
@@ -151,7 +150,7 @@ impl<'a> Reader<'a> {
         }
     }
 
-    /// Reads a quoted text, if one stands in front.
+    /// Reads a quoted text, if one is next.
     pub fn next_quoted(&mut self) -> Option<&'a [u8]> {
         let Some((Token::Quoted(quoted), rest)) = split_token(self.rest) else {
             return None;
@@ -160,7 +159,7 @@ impl<'a> Reader<'a> {
         Some(quoted)
     }
 
-    /// Reads a word; after a failure it is empty.
+    /// Reads a word. After a failure it is empty.
     pub fn word(&mut self) -> &'a str {
         match self.next_word() {
             Some(word) => word,
@@ -171,7 +170,7 @@ impl<'a> Reader<'a> {
         }
     }
 
-    /// Reads this word, if it stands in front.
+    /// Reads this word, if it is next. Returns whether it is.
     pub fn accepts(&mut self, expected: &str) -> bool {
         match split_token(self.rest) {
             Some((Token::Word(word), rest)) if word == expected => {
@@ -189,7 +188,7 @@ impl<'a> Reader<'a> {
         }
     }
 
-    /// Reads a number below the 32nd power of 2; after a failure it is zero.
+    /// Reads a number below the 32nd power of 2. After a failure it is zero.
     pub fn number(&mut self) -> u64 {
         match self.next_number() {
             Some(number) => number,
@@ -200,7 +199,7 @@ impl<'a> Reader<'a> {
         }
     }
 
-    /// Reads a quoted text; after a failure it is empty.
+    /// Reads a quoted text. After a failure it is empty.
     pub fn quoted(&mut self) -> &'a [u8] {
         match self.next_quoted() {
             Some(quoted) => quoted,
@@ -211,7 +210,7 @@ impl<'a> Reader<'a> {
         }
     }
 
-    /// Reads the name of a type of values, if a word stands in front: the byte of the type, and zero after a failure.
+    /// Reads the name of a type of values, if a word is next. Returns the byte of the type, or zero after a failure.
     pub fn next_type(&mut self) -> Option<u8> {
         let Some(word) = self.next_word() else {
             return None;
@@ -225,7 +224,7 @@ impl<'a> Reader<'a> {
         }
     }
 
-    /// Reads the name of a type of values, as the byte of the type; after a failure it is zero.
+    /// Reads the name of a type of values. Returns the byte of the type, or zero after a failure.
     pub fn value_type(&mut self) -> u8 {
         match self.next_type() {
             Some(ty) => ty,
@@ -236,7 +235,8 @@ impl<'a> Reader<'a> {
         }
     }
 
-    /// Reads an integer of as many bits as twice `half` has values, as the 64 bits of a signed one; after a failure it is zero.
+    /// Reads an integer, and returns the 64 bits of it as a signed one, or zero after a failure. The integer has as many bits as
+    /// twice `half` has values.
     pub fn integer(&mut self, half: u64) -> u64 {
         match integer(self.word(), half) {
             Some(number) => number,
@@ -247,7 +247,7 @@ impl<'a> Reader<'a> {
         }
     }
 
-    /// How many numbers stand in front.
+    /// Returns how many numbers are next.
     pub fn count_numbers(&self) -> u64 {
         let mut ahead = *self;
         for count in 0..u64::MAX {

@@ -1,7 +1,7 @@
 use crate::writer::Writer;
 use std::alloc::Global;
 
-/// Items behind their number.
+/// Items, after their number.
 #[derive(Drop)]
 pub struct Section {
     count: u64,
@@ -9,7 +9,7 @@ pub struct Section {
 }
 
 impl Section {
-    /// No items. Takes no memory.
+    /// Creates a section without items. Allocates nothing.
     pub fn new(alloc: Global) -> Section {
         Section {
             count: 0,
@@ -17,18 +17,18 @@ impl Section {
         }
     }
 
-    /// How many items there are.
+    /// Returns the number of items.
     pub fn count(&self) -> u64 {
         self.count
     }
 
-    /// Begins one more item, which is to be written here.
+    /// Begins one more item, and returns the writer for it.
     pub fn begin(&mut self) -> &mut Writer {
         self.count = self.count.saturating_add(1);
         &mut self.items
     }
 
-    /// Writes the items behind their number.
+    /// Writes the number of items, and then the items.
     pub fn write(&self, writer: &mut Writer) {
         writer.write_number(self.count);
         writer.append(&self.items);

@@ -6,7 +6,7 @@ use std::alloc::Global;
 
 const HEADER: [u8; 8] = [0x00, 0x61, 0x73, 0x6D, 0x01, 0x00, 0x00, 0x00];
 
-/// What stands in a module's sections.
+/// The contents of a module's sections.
 #[derive(Drop)]
 pub struct Sections {
     pub alloc: Global,
@@ -21,7 +21,7 @@ pub struct Sections {
     pub elements: Section,
     pub codes: Section,
     pub datas: Section,
-    /// How many functions there are, imported ones among them.
+    /// The number of functions, including imported ones.
     pub function_count: u64,
     pub has_passive_data: bool,
 }
@@ -36,7 +36,6 @@ fn write_section(alloc: Global, id: u8, section: &Section, bytes: &mut Writer) {
     }
 }
 
-// Writes a section of a number, if there is one.
 fn write_number_section(alloc: Global, id: u8, number: Option<u64>, bytes: &mut Writer) {
     if let Some(number) = number {
         let mut content = Writer::new(alloc);
@@ -47,7 +46,7 @@ fn write_number_section(alloc: Global, id: u8, number: Option<u64>, bytes: &mut 
 }
 
 impl Sections {
-    /// Sections without items. Takes no memory.
+    /// Creates sections without items. Allocates nothing.
     pub fn new(alloc: Global) -> Sections {
         Sections {
             alloc,
@@ -67,7 +66,7 @@ impl Sections {
         }
     }
 
-    /// The bytes of the module.
+    /// Returns the bytes of the module.
     pub fn to_bytes(&self) -> Result<Vec<u8>, AssembleError> {
         let alloc = self.alloc;
         let mut bytes = Writer::new(alloc);

@@ -8,10 +8,10 @@ use crate::section::Section;
 use crate::writer::Writer;
 use std::alloc::Global;
 
-// The code of the type of references to functions, which an active segment in table 0 need not name.
+// The code of the type of references to functions. An active segment in table 0 need not name it.
 const FUNC_REF: u8 = 0x70;
 
-// What a segment goes to: the index of a table or a memory, and the expression of the offset, without which the segment is
+// The target of a segment: the index of a table or a memory, and the expression of the offset. Without an offset the segment is
 // passive or declarative.
 #[derive(Drop)]
 struct Target {
@@ -21,7 +21,6 @@ struct Target {
 }
 
 impl Target {
-    // Reads one list.
     fn read_list(&mut self, alloc: Global, types: &mut FunctionTypes, reader: &mut Reader<'_>) {
         match reader.word() {
             "table" | "memory" => self.index = reader.number(),
@@ -35,7 +34,7 @@ impl Target {
         reader.close();
     }
 
-    // The number of the form of a segment with indices or bytes.
+    // Returns the number of the form of a segment with indices or bytes.
     fn form(&self) -> u8
         ensures { result ≤ 3 }
     {
@@ -59,7 +58,7 @@ impl Target {
     }
 }
 
-// Reads the word and the lists in front.
+// Reads the next word and the next lists.
 fn read_target(alloc: Global, types: &mut FunctionTypes, reader: &mut Reader<'_>) -> Target {
     let mut target = Target {
         index: 0,
@@ -75,7 +74,7 @@ fn read_target(alloc: Global, types: &mut FunctionTypes, reader: &mut Reader<'_>
     target
 }
 
-// Writes the expressions of the items in front behind their number.
+// Writes the number of the next items, and then their expressions.
 fn write_items(
     alloc: Global,
     types: &mut FunctionTypes,
@@ -105,7 +104,6 @@ fn write_indices(target: &Target, reader: &mut Reader<'_>, writer: &mut Writer) 
     write_numbers(reader, writer);
 }
 
-// Writes an element segment with expressions.
 fn write_expressions(
     alloc: Global,
     types: &mut FunctionTypes,
@@ -125,7 +123,7 @@ fn write_expressions(
     write_items(alloc, types, reader, writer);
 }
 
-/// Writes an element segment; without a table it is one of functions.
+/// Writes an element segment. Without a table it is one of functions.
 pub fn write_elements(
     alloc: Global,
     types: &mut FunctionTypes,

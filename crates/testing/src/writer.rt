@@ -3,14 +3,14 @@ ghost use Rattle.std.specs.Prelude.{◌<◌};
 use crate::error::AssembleError;
 use std::alloc::Global;
 
-/// Bytes that are written one behind the other. Once there was no memory for one, the writer has failed, and `finish` says so.
+/// Bytes that are written in a row. If an allocation fails, the writer has failed, and `finish` returns that.
 #[derive(Drop)]
 pub struct Writer {
     bytes: Vec<u8>,
     has_failed: bool,
 }
 
-// The lowest seven bits of a number, or of the one with all bits turned.
+// Returns the lowest seven bits of a number, or of its complement.
 fn seven_bits(number: u64, is_turned: bool) -> u8
     ensures { result < 0x80 }
 {
@@ -19,7 +19,7 @@ fn seven_bits(number: u64, is_turned: bool) -> u8
 }
 
 impl Writer {
-    /// A writer without bytes. Takes no memory.
+    /// Creates a writer without bytes. Allocates nothing.
     pub fn new(alloc: Global) -> Writer {
         Writer {
             bytes: Vec::new(alloc),
@@ -27,7 +27,7 @@ impl Writer {
         }
     }
 
-    /// The bytes so far.
+    /// Returns the bytes so far.
     pub fn as_slice(&self) -> &[u8] {
         self.bytes.as_slice()
     }
@@ -67,7 +67,7 @@ impl Writer {
         self.write_byte(seven_bits(rest, is_negative));
     }
 
-    /// Writes bytes behind their number.
+    /// Writes the number of bytes, and then the bytes.
     pub fn write_counted(&mut self, bytes: &[u8]) {
         self.write_number(bytes.len() as u64);
         self.write_bytes(bytes);
@@ -79,18 +79,18 @@ impl Writer {
         self.has_failed |= other.has_failed;
     }
 
-    /// Writes the bytes of another writer behind their number.
+    /// Writes the number of bytes of another writer, and then the bytes.
     pub fn append_counted(&mut self, other: &Writer) {
         self.write_number(other.bytes.len() as u64);
         self.append(other);
     }
 
-    /// Has the writer fail.
+    /// Makes the writer fail.
     pub fn fail(&mut self) {
         self.has_failed = true;
     }
 
-    /// All bytes, unless there was no memory for one.
+    /// Returns all bytes, unless an allocation failed.
     pub fn finish(self) -> Result<Vec<u8>, AssembleError> {
         let Writer { bytes, has_failed } = self;
         if has_failed {

@@ -43,7 +43,7 @@ module _ {I : Type 0} {F : I → Type 0} (members : (i : I) → Ghosts (F i)) wh
     nothing = one-more GivesNothing were.commands command were.nothing gives;
   }
 
-  -- A fresh embedding without host functions has none.
+  -- The instances of a fresh embedding without host functions are strangers.
   fresh-strangers : (setup : Setup) (fresh : Embedding (HostObject I F)) → Creates type_of_host setup (map (definition_of members) []) (Ok fresh) → AreStrangers members fresh
   fresh-strangers setup fresh is = record {
     setup = setup;

@@ -1,4 +1,4 @@
--- Instances in an embedding without host functions that share nothing.
+-- Instances that share nothing, in an embedding without host functions.
 use Rattle.std.specs.Prelude.{◌≡◌, ℕ, ◌<◌, ◌↔◌, List, [], ◌∷◌, length}
 use Rattle.std.specs.List.{All}
 use Rattle.meaning.specs.embedding.Commands.{Command, Call, SetFuel, Reply}
@@ -19,7 +19,7 @@ module _ {I : Type 0} {F : I → Type 0} (members : (i : I) → Ghosts (F i)) wh
     pub come : HasCome members [] setup commands replies at
     pub nothing : All GivesNothing commands
 
-  -- Each other instance may reply the same to each question, once the fuel is set.
+  -- Each other instance has the same possible replies to each question, once the fuel is set.
   abbrev pub OthersReplyTheSame : (number : ℕ) → (old new : Embedding (HostObject I F)) → Type 0
   OthersReplyTheSame number old new = (other fuel : ℕ) (question : List ℕ) (replies : List Reply)
       → (number ≡ other → ⊥) → other < length old.instances

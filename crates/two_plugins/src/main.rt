@@ -1,4 +1,4 @@
-//! A host of two plug-ins, which share nothing: what one does to its memory changes nothing that the other replies.
+//! A host of two plug-ins that share nothing: what one does to its memory never changes a reply of the other.
 #![tactic(auto)]
 
 mod strangers;
@@ -30,7 +30,7 @@ pub enum Fault {
 // The fuel of each call.
 const FUEL: u64 = 10_000;
 
-// Loads and links the plug-in that bytes encode.
+// Loads and links the plug-in that the bytes encode.
 fn link(embedding: &mut Embedding, bytes: &[u8]) -> Result<InstanceNumber, Fault>
     requires strangers { AreStrangers ⟦<dyn HostFn as HostFn>⟧ (embedding_of embedding.old) }
     ensures strangers { AreStrangers ⟦<dyn HostFn as HostFn>⟧ (embedding_of embedding.new) }
@@ -69,7 +69,7 @@ fn call<W: Write>(
     print_outcome(out, &outcome)
 }
 
-// Links a writer and a reader, and asks the reader before and after the writer fills its memory.
+// Links a writer and a reader, and calls the reader before and after the writer fills its memory.
 fn run<W: Write>(
     embedding: &mut Embedding,
     writer: &[u8],
@@ -87,7 +87,7 @@ fn run<W: Write>(
     Ok(())
 }
 
-// Runs the plug-ins that bytes encode in an embedding of their own.
+// Runs the plug-ins that the bytes encode in a new embedding.
 fn run_plugins<W: Write>(
     alloc: Global,
     writer: &[u8],

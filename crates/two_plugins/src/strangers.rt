@@ -1,5 +1,5 @@
-//! Plug-ins in an embedding without host functions, of which none is registered and no call is passed a reference: none can change
-//! what another replies.
+//! Plug-ins in an embedding without host functions. No plug-in is registered, and no call is passed a reference. So no plug-in
+//! can change what another replies.
 
 ghost use Rattle.std.specs.Prelude.{IfOk};
 ghost use Rattle.embed.specs.Contents.{embedding_of};
@@ -22,7 +22,7 @@ pub fn new_embedding(alloc: Global, config: Config) -> Result<Embedding, NewFaul
     Embedding::new(alloc, config, Vec::new(alloc))
 }
 
-// Says that bytes are bytes, as their type has it.
+// Each byte is below 256, by its type.
 fn show_bytes(bytes: &[u8])
     ensures { AreBytes bytes.now }
 {}
@@ -52,8 +52,7 @@ pub fn set_fuel(embedding: &mut Embedding, fuel: u64)
     embedding.set_fuel(fuel);
 }
 
-/// Calls an export of a plug-in. Whatever the other plug-ins may reply to a question before the call, they may reply after it, and
-/// nothing else.
+/// Calls an export of a plug-in. Each other plug-in has the same possible replies to a question before and after the call.
 pub fn call_plugin(
     embedding: &mut Embedding,
     plugin: InstanceNumber,

@@ -26,7 +26,7 @@ no-operator context (Table op) t gives operates = gives
 no-operator context (Memory op) t gives operates = gives
 no-operator context (Numeric op) t gives operates = gives
 
--- A constant of the type leads to one operand more.
+-- A constant of the type leads to one more operand.
 pub constant-leads : (context : ConstantContext) (op : PlainOp) (t : ValType) (before after : ℕ) → GivesConstant context op t → (Some (before + 1) ≡ Some after) ↔ Leads context t op before after
 constant-leads context op t before after constant = (
   λ same. let after_is : before + 1 ≡ after = cc in inl (constant, omega (arith, after_is)),
@@ -43,7 +43,7 @@ module _ (context : ConstantContext) (t : ValType) (ops : List Op) (height k : �
   others : (op : Op) → k < length ops → op ≡ get_or ops k op → drop k ops ≡ op ∷ drop (k + 1) ops
   others op inside is = drop_more ops k op inside ∙ ap (λ (o : Op). o ∷ drop (k + 1) ops) (sym is)
 
-  -- Where no instruction without blocks follows, there is no constant expression.
+  -- If the next operation is not an instruction without blocks, there is no constant expression.
   pub not-plain : (op : Op) → k < length ops → op ≡ get_or ops k op → ((x : PlainOp) → op ≡ Plain x → ⊥) → IsConstantIn context ops t → ⊥
   not-plain op inside is not constant = wrong op not (subst (LeadsToOne context t height) (others op inside is) (so_far.1.1 constant))
     where
@@ -55,13 +55,13 @@ module _ (context : ConstantContext) (t : ValType) (ops : List Op) (height k : �
       wrong Else not leads = leads
       wrong End not leads = leads
 
-  -- Nor where it leads nowhere.
+  -- Nor is there one if the instruction leads nowhere.
   pub leads-nowhere : (op : Op) (x : PlainOp) → k < length ops → op ≡ get_or ops k op → op ≡ Plain x → ((after : ℕ) → Leads context t x height after → ⊥) → IsConstantIn context ops t → ⊥
   leads-nowhere op x inside is plain nowhere constant =
       let (between, leads, rest) = subst (LeadsToOne context t height) (others op inside is ∙ ap (λ (o : Op). o ∷ drop (k + 1) ops) plain) (so_far.1.1 constant) in
       nowhere between leads
 
-  -- Where it leads on, the others are judged from there.
+  -- If it leads to a number of operands, the others are judged from there.
   pub leads-on : (op : Op) (x : PlainOp) (after : ℕ) → k < length ops → op ≡ get_or ops k op → op ≡ Plain x → Leads context t x height after
       → ((other : ℕ) → Leads context t x height other → after ≡ other) → IsJudgedFrom context t ops after (k + 1)
   leads-on op x after inside is plain leads only =
@@ -75,7 +75,7 @@ module _ (context : ConstantContext) (t : ValType) (ops : List Op) (height k : �
         ),
       )
 
-  -- Behind the last instruction there has to be one operand.
+  -- After the last instruction there must be one operand.
   pub judged-at-end : length ops ≤ k → IsTrue (nat_eq height 1) ↔ IsConstantIn context ops t
   judged-at-end past =
       let none : drop k ops ≡ [] = drop_all k ops past in (

@@ -1,4 +1,4 @@
--- A body that is typed in its context has the type of its function, and one that is not has not.
+-- A body that is typed in its context has the type of its function, and a body that is not typed does not.
 use Rattle.std.proofs.Common.{◌≡◌, ◌<◌, [], List, ◌++◌, ap, arith, length, map, refl, subst, sym, ◌∙◌}
 use Rattle.std.proofs.lemmas.List.{length-map}
 use Rattle.std.proofs.lemmas.Option.{slice_get_within}
@@ -19,22 +19,22 @@ use Rattle.validator.specs.IndexSpaces.{AreIndexSpaces}
 use Rattle.validator.specs.References.{HasMarks}
 use Rattle.validator.specs.Soundness.{IsTyped}
 
--- What the function is typed in, before the label of its body.
+-- The context in which the function is typed, before the label of its body.
 abbrev outside : Module → FuncType → List ValType → Context
 outside m ty locals = record (module_context m) { locals = ty.params ++ locals; results = Some ty.results }
 
 module _ (m : Module) (s : IndexSpaces) (spaces : AreIndexSpaces m s) (marks : HasMarks m s) (f : Func) (ty : FuncType) (lent : BodyContext)
-    (decoded_is : lent.decoded.now ≡ m) (spaces_is : lent.spaces.now ≡ s) (params_are : lent.params.now ≡ ty.params)
+    (types_are : lent.types.now ≡ m.types) (elements_are : lent.elements.now ≡ m.elements) (datas_are : lent.datas ≡ length m.datas) (spaces_is : lent.spaces.now ≡ s) (params_are : lent.params.now ≡ ty.params)
     (locals_are : lent.locals.now ≡ f.locals) (results_are : lent.results.now ≡ ty.results) where
   describes : Describes lent (outside m ty f.locals)
   describes = record {
-    types = rw decoded_is refl;
-    functions = rw (decoded_is, spaces_is, spaces.functions) refl;
+    types = rw types_are refl;
+    functions = rw (types_are, spaces_is, spaces.functions) refl;
     tables = rw (spaces_is, spaces.tables) refl;
     memories = rw (spaces_is, spaces.memories) refl;
     globals = rw (spaces_is, spaces.globals) refl;
-    elements = rw decoded_is refl;
-    datas = rw decoded_is refl;
+    elements = rw elements_are refl;
+    datas = rw datas_are refl;
     locals = rw (params_are, locals_are) refl;
     labels = refl;
     results = rw results_are refl;

@@ -22,7 +22,7 @@ label-at innermost outer (suc k) x some le =
     slice_get-get_or (map label_of (innermost ∷ reverse outer)) (suc k) (label_of x) (omega (arith, inside, length-map (innermost ∷ reverse outer) label_of))
     ∙ ap Some (get_or-map label_of (innermost ∷ reverse outer) (suc k) x (label_of x) inside ∙ ap label_of at)
 
--- The same in frames that are those looked at.
+-- The same in equal lists of frames.
 pub label-along : (innermost : ControlFrame) (outer same : List ControlFrame) (n : ℕ) (types : List ValType) → outer ≡ same → slice_get (map label_of (innermost ∷ reverse outer)) n ≡ Some types → slice_get (map label_of (innermost ∷ reverse same)) n ≡ Some types
 label-along innermost outer same n types e found = subst (λ (z : List ControlFrame). slice_get (map label_of (innermost ∷ reverse z)) n ≡ Some types) e found
 
@@ -37,7 +37,7 @@ label-missing innermost outer same n types e none found = let both : None ≡ So
 pub label-unique : (control_stack : List ControlFrame) (n : ℕ) (types others : List ValType) → slice_get (map label_of control_stack) n ≡ Some types → slice_get (map label_of control_stack) n ≡ Some others → types ≡ others
 label-unique control_stack n types others found other = let both : Some types ≡ Some others = sym found ∙ other in cc
 
--- A label that is missing, or whose types the operands do not fit, is one to which they may not be carried.
+-- If a label is missing, or the operands do not fit its types, they may not be carried to it.
 pub carry-missing : (innermost : ControlFrame) (outer : List ControlFrame) (given : List OperandType) (ns : List ℕ) (i : ℕ) (n : ℕ) → i < length ns → get_or ns i 0 ≡ n → slice_get (map label_of (innermost ∷ reverse outer)) n ≡ None → All (FitsLabelAt innermost outer given) ns → ⊥
 carry-missing innermost outer given ns i n less is none all =
     let (types, found, fits) = subst (FitsLabelAt innermost outer given) is (All-get_or (FitsLabelAt innermost outer given) ns i 0 less all) in
@@ -48,11 +48,11 @@ carry-misfit innermost outer given ns i n types less is found wrong all =
     let (others, other, fits) = subst (FitsLabelAt innermost outer given) is (All-get_or (FitsLabelAt innermost outer given) ns i 0 less all) in
     wrong (subst (λ (z : List ValType). AllFit given (known z)) (label-unique (innermost ∷ reverse outer) n others types other found) fits)
 
--- Operands that fit those that may be carried may be carried too.
+-- If operands fit others that may be carried, they may be carried too.
 pub carry-through : (innermost : ControlFrame) (outer : List ControlFrame) (taken given : List OperandType) (ns : List ℕ) → AllFit taken given → All (FitsLabelAt innermost outer given) ns → All (FitsLabelAt innermost outer taken) ns
 carry-through innermost outer taken given ns fit all = All-weaker (FitsLabelAt innermost outer given) (FitsLabelAt innermost outer taken) (λ n (types, found, fits). (types, found, AllFit-through taken given (known types) fit fits)) ns all
 
--- What holds of a label that is kept holds of one of the same number.
+-- What holds for a label that is kept holds for one of the same number.
 pub same-label : (P : ℕ → Type 0) (kept : Option ℕ) (n : ℕ) → option_eq eqb kept (Some n) ≡ true → IfSome kept P → P n
 same-label P None n is holds = absurd cc
 same-label P (Some m) n is holds = subst P (eqb-true m n is) holds

@@ -23,7 +23,7 @@ last_of (u ∷ under) own (n ∷ new) t e less =
     let (rest, parts, last) = last_of under own new t tails (omega arith) in
     (rest, ap (λ (x : OperandType). x ∷ new) same ∙ ap (λ (z : List OperandType). u ∷ z) parts, last)
 
--- The topmost operand is taken off.
+-- The topmost operand is popped.
 pub Takes-top : (unreachable : Bool) (height : ℕ) (old new : List OperandType) (t : OperandType) → old ≡ new ++ t ∷ [] → height < length old → Takes unreachable height old (t ∷ []) new
 Takes-top unreachable height old new t e high = record {
   at = λ under own parts long.
@@ -31,7 +31,7 @@ Takes-top unreachable height old new t e high = record {
       (rest, left, inl taken);
 }
 
--- A list is what stands before its last element, and that element.
+-- A list is the part before its last element, and that element.
 split_last : (xs : List OperandType) (x : OperandType) (n : ℕ) → n + 1 ≡ length xs → x ≡ get_or xs n x → xs ≡ take n xs ++ x ∷ []
 split_last xs x n last is =
     let whole = sym (take_all (n + 1) xs (omega (arith, last))) in
@@ -43,14 +43,14 @@ set_last xs y n last =
     let whole = sym (take_all (n + 1) (set xs n y) (omega (arith, last, length-set xs n y))) in
     whole ∙ take_more_set xs n y (omega (arith, last))
 
--- The topmost operand is this one, and is taken off.
+-- The topmost operand is this one, and is popped.
 pub Takes-last : (unreachable : Bool) (height : ℕ) (old : List OperandType) (t : OperandType) (n : ℕ) → n + 1 ≡ length old → t ≡ get_or old n t → height ≤ n → Takes unreachable height old (t ∷ []) (take n old)
 Takes-last unreachable height old t n last is high = Takes-top unreachable height old (take n old) t (split_last old t n last is) (omega (arith, last))
 
 pub Takes-nothing : (unreachable : Bool) (height : ℕ) (old : List OperandType) → Takes unreachable height old [] old
 Takes-nothing unreachable height old = record { at = λ under own parts long. (own, parts, inl (sym (append-nil own))) }
 
--- More are taken, from below those that were.
+-- More operands are taken, from below those that were taken.
 TakenFrom-under : (unreachable : Bool) (own given rest new more : List OperandType) → TakenFrom unreachable own given rest → TakenFrom unreachable rest more new → TakenFrom unreachable own (more ++ given) new
 TakenFrom-under unreachable own given rest new more (inl parts) (inl last) = inl (parts ∙ ap (λ (z : List OperandType). z ++ given) last ∙ append_assoc new more given)
 TakenFrom-under unreachable own given rest new more (inl parts) (inr (dead, nothing, (n, last))) =
@@ -70,11 +70,11 @@ Takes-under unreachable height old given mid more new first second = record {
       (last, below, TakenFrom-under unreachable own given rest last more taken others);
 }
 
--- The same, of a list of those taken that grows at its end, from the topmost on.
+-- The same for a list of the taken operands that grows at its end, from the topmost on.
 pub Takes-reverse : (unreachable : Bool) (height : ℕ) (old given mid new : List OperandType) (t : OperandType) → Takes unreachable height old (reverse given) mid → Takes unreachable height mid (t ∷ []) new → Takes unreachable height old (reverse (given ++ t ∷ [])) new
 Takes-reverse unreachable height old given mid new t first second = rw (reverse-append given (t ∷ [])) (Takes-under unreachable height old (reverse given) mid (t ∷ []) new first second)
 
--- One more of the types wanted, from the last to the first.
+-- One more of the wanted types, from the last to the first.
 pub AllFit-down : (wanted : List ValType) (left : ℕ) (given : List OperandType) (t : OperandType) (d : ValType) → left < length wanted → Fits t (Known (get_or wanted left d)) → AllFit given (known (drop (left + 1) wanted)) → AllFit (t ∷ given) (known (drop left wanted))
 AllFit-down wanted left given t d less one more = rw (drop_more wanted left d less) (one, more)
 
@@ -90,7 +90,7 @@ AllFit-at (t ∷ given) [] i d e less fits = absurd fits
 AllFit-at (t ∷ given) (w ∷ wanted) zero d e less fits = fits.0
 AllFit-at (t ∷ given) (w ∷ wanted) (suc i) d e less fits = AllFit-at given wanted i d e (omega arith) fits.1
 
--- The same, of what a pop answered.
+-- The same for the result of a pop.
 pub Takes-popped : (unreachable : Bool) (height : ℕ) (old new : List OperandType) (answer : Option OperandType) → old ≡ new ++ option_to_list answer → height < length old → IfSome answer (λ t. Takes unreachable height old (t ∷ []) new)
 Takes-popped unreachable height old new None e high = tt
 Takes-popped unreachable height old new (Some t) e high = Takes-top unreachable height old new t e high

@@ -1,4 +1,4 @@
--- The answers of pops.
+-- The results of pops.
 use Rattle.std.proofs.Common.{◌≡◌, Bool, true, false, List, [], ◌∷◌, ◌++◌, refl, sym, subst}
 use Rattle.std.specs.Prelude.{IsTrue, ◌↔◌}
 use Rattle.std.proofs.lemmas.List.{map-append}
@@ -13,7 +13,7 @@ use Rattle.validator.proofs.OperandStack.{Takes-under}
 use Rattle.validator.proofs.completeness.Covers.{Refuses-misfit, Refuses-top, Refuses-under}
 
 module _ (frame : ControlFrame) (old : List OperandType) where
-  -- The topmost operand was taken, and it was looked whether it fits.
+  -- The topmost operand was taken, and tested whether it fits.
   pub pop_answer : (answer : Bool) (new : List OperandType) (t wanted : OperandType) → TakesOff frame old (t ∷ []) new
       → (IsTrue answer ↔ Fits t wanted) → PopsOne frame old wanted new answer
   pop_answer true new t wanted takes test = (t, takes, test.0 refl)
@@ -28,7 +28,7 @@ module _ (frame : ControlFrame) (old : List OperandType) where
   no_top wanted top refuses =
       subst (Refuses frame.unreachable frame.height old) (sym (with_top_known wanted top)) (Refuses-top frame.unreachable frame.height old (known wanted) (Known top) refuses)
 
-  -- One of the topmost type was taken, and then what lies under it.
+  -- An operand of the topmost type was taken, and then those below it.
   pub under_top : (answer : Bool) (mid new : List OperandType) (wanted : List ValType) (top : ValType) (t : OperandType) → TakesOff frame old (t ∷ []) mid → Fits t (Known top)
       → Pops frame mid (known wanted) new answer → Pops frame old (known (wanted ++ top ∷ [])) new answer
   under_top true mid new wanted top t takes fit (given, taken, fits) = (

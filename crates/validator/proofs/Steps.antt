@@ -28,7 +28,7 @@ use Rattle.validator.proofs.soundness.Instructions.{IsTypingOfRead-parts, rule_s
 use Rattle.validator.proofs.soundness.ReadBodies.{start_open, took_open}
 
 module _ {lent : BodyContext} {old new : Stacks} where
-  -- The operands of its type are taken, and its results put on.
+  -- The operands of its type are taken, and its results are pushed.
   pub type_steps : {given left : List OperandType} (o : PlainOp) (t : FuncType) → IsTypeOf lent (map label_of (control_stack old)) o t
       → new.innermost ≡ old.innermost → new.outer ≡ old.outer
       → Takes old.innermost.unreachable old.innermost.height old.operands.items given left → AllFit given (known t.params)
@@ -55,7 +55,7 @@ module _ {lent : BodyContext} {old new : Stacks} where
 
 -- A block begins.
 pub begin_steps : {lent : BodyContext} {old new : Stacks} {given left : List OperandType} (frame : ControlFrame) (t : BlockType) (o : Op)
-    → IsMark frame.kind t o → block_type lent.decoded.now.types t ≡ Some (signature_of frame)
+    → IsMark frame.kind t o → block_type lent.types.now t ≡ Some (signature_of frame)
     → Takes old.innermost.unreachable old.innermost.height old.operands.items given left → AllFit given (hand_of frame)
     → frame.height ≡ length left → frame.unreachable ≡ false → new.innermost ≡ frame
     → reverse new.outer.items ≡ old.innermost ∷ reverse old.outer.items → new.operands.items ≡ left ++ known frame.start_types.now → StepsTo lent old new o
@@ -68,7 +68,7 @@ begin_steps {lent} {old} {new} {given} {left} frame t o mark type takes fits hei
   complete = begin_complete frame t o mark type takes fits height innermost outer operands;
 }
 
--- An instruction that has this type in every context, which is that of the answer.
+-- An instruction that has this type in every context. The result is the same.
 pub fixed_steps : (lent : BodyContext) (old new : Stacks) (result : Result (Unit {0}) Fault) (o : PlainOp) (found t : FuncType) → found ≡ t
     → ((context : Context) → Rule context o (known t.params) (known t.results))
     → ((context : Context) (operands results : List OperandType) → Rule context o operands results → HasFuncType t operands results)
@@ -88,6 +88,6 @@ module _ {lent : BodyContext} {old : Stacks} (o : PlainOp) where
       let (parameters, results) = type.only context described theirs others rule in
       ([], known t.params, refuses, subst (λ (z : List OperandType). AllFit z (known t.params)) (sym parameters) (AllFit-same (known t.params))))
 
-  -- It has no type.
+  -- The instruction has no type.
   pub no_type : HasNoType lent (map label_of (control_stack old)) o → CannotBeNext lent old (Plain o)
   no_type type = no_rule o type.none

@@ -32,7 +32,7 @@ same_types (t ∷ ts) (u ∷ us) e =
 parts_of : (context : Context) (t : FuncType) (params results : List ValType) → context.results ≡ Some results → HasFuncType t (known params) (known results) → (any : List OperandType) → (context.results ≡ Some t.results) × (any ++ known params ≡ any ++ known t.params)
 parts_of context t params results given (takes, gives) any = (given ∙ ap Some (same_types results t.results gives), ap (λ (z : List OperandType). any ++ z) takes)
 
--- Where a call gives the results of the function that it is in, its tail call takes the same over anything, and leads to anything.
+-- If a call gives the results of the function that contains it, its tail call takes the same over anything, and leads to anything.
 tail_rule : (context : Context) (call tail : ControlOp) (params results : List ValType) → IsTailCallOf call tail → Rule context (Control call) (known params) (known results) → context.results ≡ Some results → (any to : List OperandType) → Rule context (Control tail) (any ++ known params) to
 tail_rule context call tail params results (inl (x, same, is)) rule given any to =
     let (f, found, shape) = rw same at rule in
@@ -43,7 +43,7 @@ tail_rule context call tail params results (inr (type, x, same, is)) rule given 
     let (gives, takes) = parts_of context (function_type (f.params ++ I32 ∷ []) f.results) params results given shape any in
     rw is (f, any, found, table, gives, takes)
 
--- The call whose tail call has a rule: it has one too, and the results of the function.
+-- The call of a tail call that has a rule. It also has a rule, and the results of the function.
 record CallBehind (context : Context) (call : ControlOp) (operands : List OperandType) : Type 0 where
   below : List OperandType
   params : List ValType
@@ -61,7 +61,7 @@ call_behind context call tail operands others (inr (type, x, same, is)) rule =
     record { below = below; params = f.params ++ I32 ∷ []; results = f.results; rule = rw same (f, found, table, (refl, refl)); given = given; parts = parts }
 
 module _ {lent : BodyContext} (old : Stacks) {call tail : ControlOp} (is : IsTailCallOf call tail) where
-  -- The rule of a tail call, where the results of the call are those of the function.
+  -- The rule of a tail call, if the results of the call are those of the function.
   pub tail_rule_of : (t : FuncType) → IsTypeOf lent (map label_of (control_stack old)) (Control call) t → t.results ≡ lent.results.now
       → (context : Context) → Describes lent context → (any to : List OperandType) → Rule (inside context (control_stack old)) (Control tail) (any ++ known t.params) to
   tail_rule_of t type same context described any to =
@@ -76,7 +76,7 @@ module _ {lent : BodyContext} (old : Stacks) {call tail : ControlOp} (is : IsTai
       let (operands, results) = type.only context described (known behind.params) (known behind.results) behind.rule in
       (behind.below, known t.params, refuses, subst (λ (z : List OperandType). AllFit z (behind.below ++ known t.params)) (sym (behind.parts ∙ ap (λ (z : List OperandType). behind.below ++ z) operands)) (AllFit-same (behind.below ++ known t.params))))
 
-  -- The call gives other results than the function.
+  -- The call gives results that differ from those of the function.
   pub tail_differs : (t : FuncType) → IsTypeOf lent (map label_of (control_stack old)) (Control call) t → (t.results ≡ lent.results.now → ⊥) → CannotBeNext lent old (Plain (Control tail))
   tail_differs t type other =
       no_rule (Control tail)

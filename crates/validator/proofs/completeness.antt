@@ -1,4 +1,4 @@
--- That Invalid means that there is no typing: every typing of the rest goes on.
+-- `Invalid` means that there is no typing: every typing of the rest continues.
 pub mod AnyOperands
 pub mod BlockEnds
 pub mod BlockStarts

@@ -1,4 +1,4 @@
--- That Ok means a valid module: a typing of what was read.
+-- `Ok` means a valid module: a typing of what was read.
 pub mod Declarations
 pub mod Instructions
 pub mod ModuleParts

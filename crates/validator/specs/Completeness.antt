@@ -1,4 +1,4 @@
--- What the stacks leave possible: typings of the operations that are still to be read.
+-- What remains possible with these stacks: typings of the operations that are still to be read.
 use Rattle.std.specs.Prelude.{◌≡◌, List, ◌++◌, length, ◌⊎◌, ◌∷◌, [], reverse}
 use Rattle.core_types.specs.declared.op.Op.TheVariants as op
 use Rattle.core_types.specs.declared.op.Op.{Op}
@@ -16,8 +16,8 @@ use Rattle.validator.specs.Contexts.{Describes, IsBodyOf}
 use Rattle.validator.specs.ControlFrames.{inside}
 use Rattle.validator.specs.Operands.{Covers}
 
--- Of what is to be read, the rest of the frame's body comes first, and later after it. It leads
--- from operands that the frame's own cover, with those in hand, to the frame's end types.
+-- Of the operations to read, the rest of the frame's body comes first, and `later` comes after it. The body leads from operands that the
+-- frame's own cover, with those in hand, to the frame's end types.
 pub record HereRest (context : Context) (l : ControlFrame) (operands hand : List OperandType)
     (ops : List Op) (under : List OperandType) (later : List Op) : Type 0 where
   pub own : List OperandType
@@ -29,7 +29,7 @@ pub record HereRest (context : Context) (l : ControlFrame) (operands hand : List
   pub typed : HasType context rest (theirs ++ hand) (known l.end_types.now)
   pub written : ops ≡ writing rest ++ later
 
--- What ends a frame: an end, or for an if an else with another body.
+-- What ends a frame: an end, or for an if also an else with another body.
 abbrev pub FrameEnd : Context → FrameKind → List ValType → List ValType → List Op → List Op → Type 0
 FrameEnd context Function start_types end_types later after = ⊥
 FrameEnd context Block start_types end_types later after = later ≡ op.End ∷ after
@@ -51,7 +51,7 @@ AroundRest context l (m ∷ ms) under later =
     × HereRest (inside context (m ∷ ms)) m under (known l.end_types.now) after lower last
     × AroundRest context m ms lower last
 
--- The operations that are to be read can end the bodies of the frames by a typing.
+-- The operations to read can end the bodies of the frames by a typing.
 pub record IsTypingOfRest (context : Context) (l : ControlFrame) (ls : List ControlFrame)
     (operands : List OperandType) (ops : List Op) : Type 0 where
   pub under : List OperandType
@@ -63,15 +63,13 @@ abbrev pub TypesRest : Context → Stacks → List Op → Type 0
 TypesRest context s ops =
     IsTypingOfRest context s.innermost (reverse s.outer.items) s.operands.items ops
 
--- In each context that is described, and whatever typing the operations have, the rest of them has
--- one from the stacks.
+-- In each context that is described, and for any typing of the operations, the rest of them has a typing from the stacks.
 pub record IsRestTyped (s : BodyContext) (ops : List Op) (stacks : Stacks) (rest : List Op)
     : Type 0 where
   pub in_context : (context : Context) → Describes s context → (body : Body) → ops ≡ writing body
       → IsBodyOf context s.results.now body → TypesRest context stacks rest
 
--- In no context that is described are the operations the writing of a body that gives the results
--- from nothing.
+-- In no context that is described are the operations the writing of a body that gives the results from nothing.
 pub record IsUntyped (s : BodyContext) (ops : List Op) : Type 0 where
   pub in_context : (context : Context) → Describes s context → (body : Body) → ops ≡ writing body
       → IsBodyOf context s.results.now body → ⊥

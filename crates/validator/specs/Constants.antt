@@ -1,4 +1,4 @@
--- Constant expressions, in the terms of the context that is lent to them.
+-- Constant expressions, in the terms of the context that they borrow.
 use Rattle.std.specs.Prelude.{◌≡◌, ◌^◌, ◌<◌, ◌≤◌, ◌⊎◌, ℕ, suc, true, Some, slice_get, List, [], ◌∷◌}
 use Rattle.core_types.specs.declared.module.Module.{Module}
 use Rattle.core_types.specs.declared.op.BinaryOp.TheVariants.{Add, Sub, Mul}
@@ -31,7 +31,7 @@ GivesGlobal context (GlobalGet x) t =
     slice_get context.globals.now x ≡ Some (record { value = t; mutability = Const })
 GivesGlobal context op t = ⊥
 
--- The context lends the types of the imported globals, and the marks of the functions.
+-- The context borrows the types of the imported globals, and the marks of the functions.
 pub record IsConstantContext (m : Module) (s : IndexSpaces) (context : ConstantContext)
     : Type 0 where
   pub globals : context.globals.now ≡ imported_globals m.imports
@@ -52,20 +52,20 @@ Operates (Numeric (Binary width Sub)) t = integer_type width ≡ t
 Operates (Numeric (Binary width Mul)) t = integer_type width ≡ t
 Operates op t = ⊥
 
--- From that many operands, all of this type, an instruction leads to so many.
+-- An instruction leads from that many operands to that many, all of this type.
 abbrev pub Leads : ConstantContext → ValType → PlainOp → (before after : ℕ) → Type 0
 Leads context t op before after =
     (GivesConstant context op t × (after ≡ suc before)) ⊎
     (Operates op t × (2 ≤ before) × (suc after ≡ before))
 
--- From that many operands, these instructions lead to one.
+-- These instructions lead from that many operands to one.
 abbrev pub LeadsToOne : ConstantContext → ValType → (before : ℕ) → List Op → Type 0
 LeadsToOne context t before [] = before ≡ 1
 LeadsToOne context t before (Plain op ∷ ops) =
     (between : ℕ) × Leads context t op before between × LeadsToOne context t between ops
 LeadsToOne context t before (op ∷ ops) = ⊥
 
--- Constant instructions that lead from no operand to one. An operator takes operands of the type that it gives, so that all operands
--- have the type of the last one.
+-- Constant instructions that lead from no operand to one. An operator takes operands of the type that it gives, so all operands have the
+-- type of the last one.
 abbrev pub IsConstantIn : ConstantContext → List Op → ValType → Type 0
 IsConstantIn context ops t = LeadsToOne context t 0 ops

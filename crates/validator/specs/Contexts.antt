@@ -1,5 +1,5 @@
 -- What the context of the code lends, and the contexts that it describes.
-use Rattle.std.specs.Prelude.{List, Option, Some, [], length, map, option_map, slice_get, true, ℕ, ◌++◌, ◌≡◌}
+use Rattle.std.specs.Prelude.{List, Option, Some, [], map, option_map, slice_get, true, ℕ, ◌++◌, ◌≡◌}
 use Rattle.core_types.specs.declared.module.ElementSegment.{ElementSegment}
 use Rattle.core_types.specs.declared.types.FuncType.{FuncType}
 use Rattle.core_types.specs.declared.types.ValType.{ValType}
@@ -13,7 +13,7 @@ use Rattle.core_types.specs.declared.types.TableType.{TableType}
 
 -- The types of the functions, imports first.
 abbrev pub function_types : BodyContext → List FuncType
-function_types lent = map (type_at lent.decoded.now.types) lent.spaces.now.functions.items
+function_types lent = map (type_at lent.types.now) lent.spaces.now.functions.items
 
 -- The types of the locals, parameters first.
 abbrev pub local_types : BodyContext → List ValType
@@ -26,22 +26,21 @@ table_element_at lent x =
 
 abbrev pub segment_type_at : BodyContext → ℕ → Option RefType
 segment_type_at lent x =
-    option_map (λ (e : ElementSegment). e.ty) (slice_get lent.decoded.now.elements x)
+    option_map (λ (e : ElementSegment). e.ty) (slice_get lent.elements.now x)
 
--- The function may be named by ref.func.
+-- `ref.func` may name the function.
 abbrev pub IsMarked : BodyContext → ℕ → Type 0
 IsMarked lent x = slice_get lent.spaces.now.declared.items x ≡ Some true
 
--- The context has what the code's context lends, and no labels. ref.func may name the functions that
--- are marked.
+-- The context has what the context in the code borrows, and no labels. `ref.func` may name the marked functions.
 pub record Describes (lent : BodyContext) (context : Context) : Type 0 where
-  pub types : context.types ≡ lent.decoded.now.types
+  pub types : context.types ≡ lent.types.now
   pub functions : context.functions ≡ function_types lent
   pub tables : context.tables ≡ lent.spaces.now.tables.items
   pub memories : context.memories ≡ lent.spaces.now.memories.items
   pub globals : context.globals ≡ lent.spaces.now.globals.items
-  pub elements : context.elements ≡ map (λ (e : ElementSegment). e.ty) lent.decoded.now.elements
-  pub datas : context.datas ≡ length lent.decoded.now.datas
+  pub elements : context.elements ≡ map (λ (e : ElementSegment). e.ty) lent.elements.now
+  pub datas : context.datas ≡ lent.datas
   pub locals : context.locals ≡ local_types lent
   pub labels : context.labels ≡ []
   pub results : context.results ≡ Some lent.results.now
@@ -49,7 +48,6 @@ pub record Describes (lent : BodyContext) (context : Context) : Type 0 where
   pub marks : (x : ℕ) (f : FuncType) → slice_get context.functions x ≡ Some f
       → IsNamed x context.references → IsMarked lent x
 
--- The body is that of a function with these results, in this context: it leads from no operands to
--- the results.
+-- The body is that of a function with these results, in this context. It leads from no operands to the results.
 abbrev pub IsBodyOf : Context → List ValType → Body → Type 0
 IsBodyOf context results body = HasType (with_label context results) body [] (known results)

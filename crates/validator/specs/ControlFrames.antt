@@ -49,7 +49,7 @@ inside context control_stack = record context { labels = map label_of control_st
 abbrev pub control_stack : Stacks → List ControlFrame
 control_stack s = s.innermost ∷ reverse s.outer.items
 
--- The body of a function with these results begins: there is no operand, and no frame but its own.
+-- The body of a function with these results begins: there is no operand, and no frame except its own.
 pub record BeginsBody (s : Stacks) (results : List ValType) : Type 0 where
   pub kind : s.innermost.kind ≡ Function
   pub start_types : s.innermost.start_types.now ≡ []
@@ -77,17 +77,17 @@ pub record BecomesUnreachable (old new : Stacks) : Type 0 where
   pub innermost : new.innermost ≡ unreachable_from_here old.innermost
   pub outer : new.outer ≡ old.outer
 
--- The frame is pushed, and the operands at its start.
+-- The frame and the operands at its start are pushed.
 pub record PushesFrame (old : Stacks) (frame : ControlFrame) (new : Stacks) : Type 0 where
   pub operands : new.operands.items ≡ old.operands.items ++ known frame.start_types.now
   pub innermost : new.innermost ≡ frame
   pub outer : new.outer.items ≡ old.outer.items ++ old.innermost ∷ []
 
--- The frame of an else, in place of that of its if.
+-- The frame of an else, instead of that of its if.
 abbrev pub otherwise : ControlFrame → ControlFrame
 otherwise l = record l { kind = Else; unreachable = false }
 
--- What the types of the label of this index are, if there is one.
+-- The types of the label of this index, if there is one.
 abbrev pub IsLabelAt : ControlFrame → List ControlFrame → ℕ → Option (List ValType) → Type 0
 IsLabelAt innermost outer n found = slice_get (map label_of (innermost ∷ reverse outer)) n ≡ found
 

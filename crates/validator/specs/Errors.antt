@@ -1,4 +1,4 @@
--- Errors: their numbers, and which of them says that there is no typing.
+-- Errors: their numbers, and which of them states that there is no typing.
 use Rattle.std.specs.Prelude.{ℕ, ◌≡◌}
 use Rattle.meaning.specs.embedding.Commands as refusal
 use Rattle.meaning.specs.embedding.Refusals.{number_of}

@@ -1,5 +1,5 @@
 -- The index spaces of a module, and what one import adds to each.
-use Rattle.std.specs.Prelude.{List, None, Option, Some, map, slice_get, true, ℕ, ◌++◌, ◌≡◌}
+use Rattle.std.specs.Prelude.{List, None, Option, Some, length, map, slice_get, true, ℕ, ◌++◌, ◌≡◌}
 use Rattle.core_types.specs.declared.module.ImportDesc.TheVariants as import
 use Rattle.core_types.specs.declared.module.ImportDesc.{ImportDesc}
 use Rattle.core_types.specs.declared.module.Module.{Module}
@@ -8,7 +8,9 @@ use Rattle.core_types.specs.declared.types.Limits.{Limits}
 use Rattle.core_types.specs.declared.types.TableType.{TableType}
 use Rattle.meaning.specs.validation.Instructions.{IsNamed}
 use Rattle.meaning.specs.validation.Modules.{function_indices, globals_of, memories_of, named_functions, tables_of}
+use Rattle.validator.specs.References.{marks_of, named_in}
 use Rattle.validator.specs.declared.context.IndexSpaces.{IndexSpaces}
+use Rattle.validator.specs.declared.context.ModuleParts.{ModuleParts}
 use Rattle.std.specs.List.{filter_map}
 use Rattle.core_types.specs.declared.module.Import.{Import}
 use Rattle.core_types.specs.declared.module.Func.{Func}
@@ -60,3 +62,21 @@ pub record AreIndexSpaces (m : Module) (s : IndexSpaces) : Type 0 where
   pub memories : s.memories.items ≡ memories_of m
   pub globals : s.globals.items ≡ globals_of m
   pub declared : (x : ℕ) → slice_get s.declared.items x ≡ Some true → IsNamed x (named_functions m)
+
+-- The parts are those of the module.
+pub record ArePartsOf (m : Module) (parts : ModuleParts) : Type 0 where
+  pub imports : parts.imports.now ≡ m.imports
+  pub tables : parts.tables.now ≡ m.tables
+  pub memories : parts.memories.now ≡ m.memories
+  pub globals : parts.globals.now ≡ m.globals
+  pub exports : parts.exports.now ≡ m.exports
+  pub elements : parts.elements.now ≡ m.elements
+
+-- The index spaces have functions of these type indices, and what the parts import and declare. The functions that the
+-- parts name are marked.
+pub record AreSpacesOf (indices : List ℕ) (parts : ModuleParts) (s : IndexSpaces) : Type 0 where
+  pub functions : s.functions.items ≡ indices
+  pub tables : s.tables.items ≡ tables_in parts.imports.now parts.tables.now
+  pub memories : s.memories.items ≡ memories_in parts.imports.now parts.memories.now
+  pub globals : s.globals.items ≡ globals_in parts.imports.now parts.globals.now
+  pub declared : s.declared.items ≡ marks_of (named_in parts) (length indices)

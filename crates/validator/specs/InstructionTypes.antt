@@ -13,16 +13,16 @@ use Rattle.validator.specs.declared.types.InstructionType.{InstructionType}
 use Rattle.validator.specs.declared.types.LentFuncType.{LentFuncType}
 use Rattle.validator.specs.Contexts.{Describes}
 
--- The operands, with an i32 over them or not.
+-- The operands, with an i32 above them or not.
 abbrev pub with_i32 : List ValType → Bool → List ValType
 with_i32 types false = types
 with_i32 types true = types ++ I32 ∷ []
 
--- The function type that an instruction's type is.
+-- The function type of an instruction's type.
 abbrev pub lent_type : InstructionType → FuncType
 lent_type t = function_type (with_i32 t.operands.now t.i32_on_top) t.results.now
 
--- A function type whose lists are lent.
+-- A function type whose lists are borrowed.
 abbrev pub lent_func_type : LentFuncType → FuncType
 lent_func_type t = function_type t.params.now t.results.now
 
@@ -36,13 +36,13 @@ pub record IsTypeOf (lent : BodyContext) (labels : List (List ValType)) (op : Pl
       → Rule (record context { labels = labels }) op operands results
       → HasFuncType t operands results
 
--- In no context that is described, with these labels, has the instruction a type.
+-- In no context that is described, with these labels, does the instruction have a type.
 pub record HasNoType (lent : BodyContext) (labels : List (List ValType)) (op : PlainOp)
     : Type 0 where
   pub none : (context : Context) → Describes lent context → (operands results : List OperandType)
       → Rule (record context { labels = labels }) op operands results → ⊥
 
--- With any labels, what was found is the type of the instruction, or it has none.
+-- With any labels, the type that was found is that of the instruction, or it has none.
 abbrev pub HasTypeOf : BodyContext → PlainOp → Option InstructionType → Type 0
 HasTypeOf lent op None = (labels : List (List ValType)) → HasNoType lent labels op
 HasTypeOf lent op (Some t) = (labels : List (List ValType)) → IsTypeOf lent labels op (lent_type t)

@@ -1,4 +1,4 @@
--- What the rules say of a part of a module, in the terms of its index spaces.
+-- The rules for a part of a module, in the terms of its index spaces.
 use Rattle.std.specs.Prelude.{◌<◌, length, ◌≡◌, ℕ, List, [], Option, Some, None, slice_get, All}
 use Rattle.core_types.specs.declared.module.DataMode.TheVariants as data_mode
 use Rattle.core_types.specs.declared.module.DataMode.{DataMode}
@@ -26,11 +26,11 @@ ExistsIn s (Table x) = x < length s.tables.items
 ExistsIn s (Memory x) = x < length s.memories.items
 ExistsIn s (Global x) = x < length s.globals.items
 
--- The type of this index is there, and is that of functions that take and give nothing.
+-- The type of this index exists, and is that of functions that take and give nothing.
 abbrev pub IsEmptyTypeAt : List FuncType → ℕ → Type 0
 IsEmptyTypeAt types x = slice_get types x ≡ Some (record { params = []; results = [] })
 
--- The function is there and takes and gives nothing.
+-- The function exists, and takes and gives nothing.
 unfoldable pub IsStartIn : List FuncType → IndexSpaces → Option ℕ → Type 0
 IsStartIn types s None = Unit {0}
 IsStartIn types s (Some x) =

@@ -17,7 +17,7 @@ use Rattle.meaning.specs.validation.Types.{AreFewPages, AreOrdered}
 abbrev pub IsValidMemory : Limits → Type 0
 IsValidMemory limits = AreOrdered limits × AreFewPages limits
 
--- In a module with this number of types.
+-- An import is valid in a module with this number of types.
 abbrev pub IsValidImport : ℕ → ImportDesc → Type 0
 IsValidImport types (import.Func x) = x < types
 IsValidImport types (import.Table t) = AreOrdered t.limits
@@ -30,7 +30,7 @@ pub record HasValidDeclarations (m : Module) : Type 0 where
   pub tables : All (λ (t : TableType). AreOrdered t.limits) m.tables
   pub memories : All IsValidMemory m.memories
 
--- Where the types of the functions exist.
+-- The parts of the module are valid, given that the types of the functions exist.
 pub record HasValidParts (m : Module) : Type 0 where
   pub one_memory : length (memories_of m) ≤ 1
   pub globals : All (λ (g : Global). IsConstantExpression (constant_context m) g.init g.ty.value)

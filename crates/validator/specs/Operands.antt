@@ -1,4 +1,4 @@
--- What is taken from the operands of a control frame.
+-- How operands are taken from those of a control frame.
 use Rattle.std.specs.Prelude.{◌≡◌, ℕ, Bool, true, List, [], ◌∷◌, ◌++◌, replicate, ◌⊎◌, length, ◌≤◌, false}
 use Rattle.core_types.specs.declared.types.OperandType.TheVariants.{Known, Unknown}
 use Rattle.core_types.specs.declared.types.OperandType.{OperandType}
@@ -9,14 +9,14 @@ use Rattle.validator.specs.declared.control_frames.Stacks.{Stacks}
 use Rattle.core_types.specs.declared.types.RefType.{RefType}
 use Rattle.meaning.specs.validation.Types.{reference_type}
 
--- The operands are taken from the top of the frame's own, and the rest is left. If the frame is
--- unreachable, unknown ones are taken once there are no others.
+-- The operands are taken from the top of the frame's own, and the rest is left. If the frame is unreachable, unknown ones are taken after
+-- its own.
 abbrev pub TakenFrom : Bool → List OperandType → List OperandType → List OperandType → Type 0
 TakenFrom unreachable own taken rest =
     (own ≡ rest ++ taken)
     ⊎ ((unreachable ≡ true) × (rest ≡ []) × ((n : ℕ) × (taken ≡ replicate n Unknown ++ own)))
 
--- The same in the whole stack, of which what lies under the height is left alone.
+-- The same in the whole stack. The operands below the height are left alone.
 pub record Takes (unreachable : Bool) (height : ℕ) (old taken new : List OperandType) : Type 0 where
   pub at : (under own : List OperandType) → old ≡ under ++ own → length under ≡ height
       → (rest : List OperandType) × (new ≡ under ++ rest) × TakenFrom unreachable own taken rest
@@ -25,8 +25,7 @@ pub record Takes (unreachable : Bool) (height : ℕ) (old taken new : List Opera
 abbrev pub IsDry : Bool → ℕ → List OperandType → Type 0
 IsDry unreachable height old = (unreachable ≡ false) × (length old ≤ height)
 
--- The operands of a typing are those of the frame where these are known, over others if the frame
--- is unreachable.
+-- If an operand of the frame is known, that of the typing is equal to it. If the frame is unreachable, the typing may have others below.
 pub record Covers (unreachable : Bool) (own theirs : List OperandType) : Type 0 where
   pub others : List OperandType
   pub top : List OperandType
@@ -34,7 +33,7 @@ pub record Covers (unreachable : Bool) (own theirs : List OperandType) : Type 0 
   pub fits : AllFit own top
   pub alone : unreachable ≡ false → others ≡ []
 
--- No typing has operands on top that fit those that are wanted.
+-- No typing has operands on top that fit the wanted ones.
 pub record Refuses (unreachable : Bool) (height : ℕ) (old wanted : List OperandType) : Type 0 where
   pub at : (under own : List OperandType) → old ≡ under ++ own → length under ≡ height
       → (theirs below top : List OperandType) → Covers unreachable own theirs
@@ -56,27 +55,27 @@ TakesOff frame old taken new = Takes frame.unreachable frame.height old taken ne
 abbrev pub RefusesCountOf : ControlFrame → List OperandType → ℕ → Type 0
 RefusesCountOf frame old count = RefusesCount frame.unreachable frame.height old count
 
--- The answer of a pop: operands are taken that fit those wanted, or no typing has such operands.
+-- The result of a pop: operands are taken that fit the wanted ones, or no typing has such operands.
 abbrev pub Pops : ControlFrame → List OperandType → List OperandType → List OperandType → Bool
     → Type 0
 Pops frame old wanted new true =
     (given : List OperandType) × TakesOff frame old given new × AllFit given wanted
 Pops frame old wanted new false = Refuses frame.unreachable frame.height old wanted
 
--- The same, of one operand.
+-- The same for one operand.
 abbrev pub PopsOne : ControlFrame → List OperandType → OperandType → List OperandType → Bool
     → Type 0
 PopsOne frame old wanted new true =
     (t : OperandType) × TakesOff frame old (t ∷ []) new × Fits t wanted
 PopsOne frame old wanted new false = Refuses frame.unreachable frame.height old (wanted ∷ [])
 
--- Operands of the types that are wanted are taken, and those of others are put in their place.
+-- Operands of the wanted types are taken, and operands of the result types are pushed.
 abbrev pub Replaces : ControlFrame → List OperandType → List ValType → List ValType → List OperandType
     → Type 0
 Replaces frame old wanted results new =
     (rest : List OperandType) × TakesOff frame old (known wanted) rest × (new ≡ rest ++ known results)
 
--- The answer of a pop from the stacks, whose frames stay.
+-- The result of a pop from the stacks, whose frames stay.
 abbrev pub PopsFrom : Stacks → List OperandType → Stacks → Bool → Type 0
 PopsFrom old wanted new answer =
     Pops old.innermost old.operands.items wanted new.operands.items answer

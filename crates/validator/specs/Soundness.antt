@@ -1,5 +1,4 @@
--- What the stacks say of the operations that were read: typed bodies, one in the other, that lead to
--- the operands.
+-- What the stacks state of the operations that were read: typed bodies, one within the other, that lead to the operands.
 use Rattle.std.specs.Prelude.{◌≡◌, Bool, true, false, List, ◌++◌, length, [], ◌∷◌, Some, reverse}
 use Rattle.core_types.specs.declared.op.BlockType.{BlockType}
 use Rattle.core_types.specs.declared.op.Op.TheVariants as op
@@ -19,7 +18,7 @@ use Rattle.validator.specs.declared.control_frames.Stacks.{Stacks}
 use Rattle.validator.specs.Contexts.{Describes, IsBodyOf}
 use Rattle.validator.specs.ControlFrames.{hand_of, signature_of, inside}
 
--- The operands that a frame's own operands admit: these alone, or over any others if it is unreachable.
+-- The operands that a frame's own operands admit: only these, or these above any others if it is unreachable.
 abbrev pub Admits : Bool → List OperandType → List OperandType → Type 0
 Admits false own target = target ≡ own
 Admits true own target = (any : List OperandType) × (target ≡ any ++ own)
@@ -31,8 +30,8 @@ pub record Reaches (context : Context) (body : Body) (start_types : List ValType
   pub each : (target : List OperandType) → Admits unreachable own target
       → HasType context body (known start_types) target
 
--- Of what was read, a body was read in the frame, behind what came before it. The body leads to the
--- operands of the frame with those in hand. The others lie under them.
+-- Of the operations that were read, a body was read in the frame, after what came before it. The body leads to the operands of the frame
+-- with those in hand. The others are below them.
 pub record HereRead (context : Context) (l : ControlFrame) (operands hand : List OperandType)
     (read : List Op) (under : List OperandType) (before : List Op) : Type 0 where
   pub own : List OperandType
@@ -58,7 +57,7 @@ FrameStart context Else s outer before =
     × (block_type context.types t ≡ Some s) ×
     HasType context first (known s.params) (known s.results)
 
--- The frames around a frame, from the inside out; the outermost is the function's.
+-- The frames around a frame, from the inside out. The outermost is the function's.
 abbrev pub AroundRead : Context → ControlFrame → List ControlFrame → List OperandType → List Op
     → Type 0
 AroundRead context l [] under before =
@@ -71,8 +70,7 @@ AroundRead context l (m ∷ ms) under before =
     × HereRead (inside context (m ∷ ms)) m under (hand_of l) outer lower earlier
     × AroundRead context m ms lower earlier
 
--- The operations read so far are typed bodies, one in the other, that lead to these operands and
--- those in hand.
+-- The operations read so far are typed bodies, one within the other, that lead to these operands and those in hand.
 pub record IsTypingOfRead (context : Context) (l : ControlFrame) (ls : List ControlFrame)
     (operands hand : List OperandType) (read : List Op) : Type 0 where
   pub under : List OperandType
@@ -80,7 +78,7 @@ pub record IsTypingOfRead (context : Context) (l : ControlFrame) (ls : List Cont
   pub here : HereRead (inside context (l ∷ ls)) l operands hand read under before
   pub around : AroundRead context l ls under before
 
--- The same of the stacks, with nothing in hand.
+-- The same for the stacks, with nothing in hand.
 abbrev pub TypesRead : Context → Stacks → List Op → Type 0
 TypesRead context s read =
     IsTypingOfRead context s.innermost (reverse s.outer.items) s.operands.items [] read
@@ -89,8 +87,7 @@ TypesRead context s read =
 pub record IsReadTyped (s : BodyContext) (stacks : Stacks) (read : List Op) : Type 0 where
   pub in_context : (context : Context) → Describes s context → TypesRead context stacks read
 
--- In each context that is described, the operations are the writing of a body that gives the
--- results from nothing.
+-- In each context that is described, the operations are the writing of a body that gives the results from nothing.
 pub record IsTyped (s : BodyContext) (ops : List Op) : Type 0 where
   pub in_context : (context : Context) → Describes s context
       → (body : Body) × (ops ≡ writing body) × IsBodyOf context s.results.now body

@@ -1,4 +1,4 @@
--- What one step does to the stacks.
+-- The effect of one step on the stacks.
 use Rattle.std.specs.Prelude.{◌≡◌, ◌⊎◌, ℕ, List, [], ◌∷◌, ◌++◌, Option, Result, IfErr, OnOk, length, map}
 use Rattle.core_types.specs.declared.op.BlockType.{BlockType}
 use Rattle.core_types.specs.declared.op.ControlOp.{ControlOp}
@@ -29,24 +29,24 @@ abbrev pub RefusesType : Stacks → FuncType → Type 0
 RefusesType old t =
     Refuses old.innermost.unreachable old.innermost.height old.operands.items (known t.params)
 
--- What was read in the innermost frame is whole: its end types can be taken, and none is left.
+-- What was read in the innermost frame is whole: its end types can be taken, and no operand is left.
 pub record Closes (old : Stacks) (new : List OperandType) : Type 0 where
   pub given : List OperandType
   pub takes : Takes old.innermost.unreachable old.innermost.height old.operands.items given new
   pub fits : AllFit given (known old.innermost.end_types.now)
   pub dry : length new ≡ old.innermost.height
 
--- No typing has the end types of the innermost frame alone.
+-- No typing has exactly the end types of the innermost frame.
 pub record NeverCloses (old : Stacks) : Type 0 where
   pub at : (under own theirs : List OperandType) → old.operands.items ≡ under ++ own
       → length under ≡ old.innermost.height → Covers old.innermost.unreachable own theirs
       → AllFit theirs (known old.innermost.end_types.now) → ⊥
 
--- The answer when the results of the innermost frame are taken.
+-- The result of taking the results of the innermost frame.
 abbrev pub Finishes : Stacks → List OperandType → Result (Unit {0}) Fault → Type 0
 Finishes old new result = OnOk result (Closes old new) × IfErr result (OnInvalid (NeverCloses old))
 
--- What the stacks said of what was read holds with the operation.
+-- What the stacks state of the operations that were read still holds with this operation.
 pub record KeepsRead (lent : BodyContext) (old new : Stacks) (o : Op) : Type 0 where
   pub keeps : (context : Context) → Describes lent context → (read : List Op)
       → TypesRead context old read → TypesRead context new (read ++ o ∷ [])
@@ -56,7 +56,7 @@ pub record KeepsRest (lent : BodyContext) (old new : Stacks) (o : Op) : Type 0 w
   pub on : (context : Context) → Describes lent context → (ops : List Op)
       → TypesRest context old (o ∷ ops) → TypesRest context new ops
 
--- The step reads the operation: it keeps what was read typed, and what is possible.
+-- The step reads the operation: what was read stays typed, and what was possible stays possible.
 pub record StepsTo (lent : BodyContext) (old new : Stacks) (o : Op) : Type 0 where
   pub sound : KeepsRead lent old new o
   pub complete : KeepsRest lent old new o
@@ -66,7 +66,7 @@ pub record CannotBeNext (lent : BodyContext) (old : Stacks) (o : Op) : Type 0 wh
   pub at : (context : Context) → Describes lent context → (ops : List Op)
       → TypesRest context old (o ∷ ops) → ⊥
 
--- The answer of a step over the operation, in this context.
+-- The result of a step over the operation, in this context.
 abbrev pub Steps : BodyContext → Stacks → Stacks → Op → Result (Unit {0}) Fault → Type 0
 Steps lent old new o result =
     OnOk result (StepsTo lent old new o)
@@ -86,7 +86,7 @@ abbrev pub StepsInto : BodyContext → Stacks → Stacks → FrameKind → Block
 StepsInto lent old new kind type result =
     (o : Op) → IsMark kind type o → Steps lent old new o result
 
--- The answer of a step over any instruction that has this type, where the stacks are.
+-- The result of a step over any instruction that has this type with these stacks.
 abbrev pub StepsByType : Stacks → Stacks → FuncType → Result (Unit {0}) Fault → Type 0
 StepsByType old new t result =
     (lent : BodyContext) (o : PlainOp) → IsTypeOf lent (map label_of (control_stack old)) o t
@@ -105,7 +105,7 @@ IsTailCallOf call tail =
     ((x : ℕ) × (call ≡ Call x) × (tail ≡ ReturnCall x))
     ⊎ ((type x : ℕ) × (call ≡ CallIndirect type x) × (tail ≡ ReturnCallIndirect type x))
 
--- The answer of a step over the tail call of any call whose type was looked up.
+-- The result of a step over the tail call of any call whose type was looked up.
 abbrev pub StepsByTailCall : BodyContext → Stacks → Stacks → Option InstructionType
     → Result (Unit {0}) Fault → Type 0
 StepsByTailCall lent old new found result =

@@ -11,7 +11,7 @@ use core_types::{
     VariableOp, is_mark, plain_op,
 };
 
-/// What a constant expression is typed in (Validation, Constant Expressions).
+/// The context in which a constant expression is typed (Validation, Constant Expressions).
 #[derive(Clone, Copy)]
 pub struct ConstantContext<'a> {
     /// The types of the imported globals.
@@ -20,7 +20,7 @@ pub struct ConstantContext<'a> {
     pub declared: &'a [bool],
 }
 
-// The type of a null, or of a reference to a function that is named.
+// Returns the type of a null, or of a reference to a function that is named.
 #[tactic(auto, unfolding(crate::specs::Constants::GivesReference))]
 fn reference_constant(context: &ConstantContext<'_>, op: ReferenceOp) -> Option<ValType>
     ensures { (t : Value) → (result ≡ Some t) ↔ GivesReference context.now op t }
@@ -35,7 +35,7 @@ fn reference_constant(context: &ConstantContext<'_>, op: ReferenceOp) -> Option<
     }
 }
 
-// The type of an imported global that is never set.
+// Returns the type of an imported global that is never set.
 #[tactic(auto, unfolding(crate::specs::Constants::GivesGlobal))]
 fn global_constant(context: &ConstantContext<'_>, op: VariableOp) -> Option<ValType>
     ensures { (t : Value) → (result ≡ Some t) ↔ GivesGlobal context.now op t }
@@ -50,7 +50,7 @@ fn global_constant(context: &ConstantContext<'_>, op: VariableOp) -> Option<ValT
     }
 }
 
-// The type of the value that a constant instruction gives.
+// Returns the type of the value of a constant instruction.
 #[tactic(auto, unfolding(crate::specs::Constants::GivesConstant))]
 fn constant_type(context: &ConstantContext<'_>, op: LentOp<'_>) -> Option<ValType>
     ensures { (plain : Plain) → lent_op op.entry ≡ flat.Plain plain → (t : Value)
@@ -65,7 +65,7 @@ fn constant_type(context: &ConstantContext<'_>, op: LentOp<'_>) -> Option<ValTyp
     }
 }
 
-// Whether an instruction is a constant of this type.
+// Returns whether an instruction is a constant of this type.
 fn is_constant_of(context: &ConstantContext<'_>, op: LentOp<'_>, wanted: ValType) -> bool
     ensures { (plain : Plain) → lent_op op.entry ≡ flat.Plain plain
         → IsTrue result ↔ GivesConstant context.now plain wanted }
@@ -73,7 +73,7 @@ fn is_constant_of(context: &ConstantContext<'_>, op: LentOp<'_>, wanted: ValType
     constant_type(context, op) == Some(wanted)
 }
 
-// Whether an instruction is an operator of constant expressions, on operands of this type.
+// Returns whether an instruction is an operator of constant expressions, on operands of this type.
 #[tactic(auto, unfolding(crate::specs::Constants::Operates))]
 fn is_operator(op: LentOp<'_>, wanted: ValType) -> bool
     ensures { (plain : Plain) → lent_op op.entry ≡ flat.Plain plain
@@ -89,7 +89,7 @@ fn is_operator(op: LentOp<'_>, wanted: ValType) -> bool
     }
 }
 
-// How many operands of a type there are behind a constant instruction, if it is one on that type.
+// Returns the number of operands of a type after a constant instruction, if it is one on that type.
 fn height_behind(
     context: &ConstantContext<'_>,
     op: LentOp<'_>,
@@ -109,7 +109,7 @@ fn height_behind(
     None
 }
 
-// Whether an expression is made of constant instructions, which leave one value of this type.
+// Returns whether an expression consists of constant instructions that leave one value of this type.
 pub fn is_constant(context: &ConstantContext<'_>, ops: &Expression, wanted: ValType) -> bool
     ensures { IsTrue result ↔ IsConstantIn context.now ops.now wanted }
 {

@@ -4,7 +4,7 @@ ghost use Rattle.validator.specs.ControlFrames.{BecomesUnreachable, BeginsBody, 
 use core_types::{OperandType, ValType};
 use std::alloc::Global;
 
-/// What the body of a control frame belongs to.
+/// The instruction or function that the body of a control frame belongs to.
 #[derive(Clone, Copy)]
 pub enum FrameKind {
     Function,
@@ -14,8 +14,8 @@ pub enum FrameKind {
     Else,
 }
 
-/// A body that has begun and not ended: the types at its start and at its end, how many operands lie
-/// below it, and whether what follows in it is unreachable.
+/// A body that has begun and not ended. It has the types at its start and at its end, the number of operands below it, and
+/// whether what follows in it is unreachable.
 #[derive(Clone, Copy)]
 pub struct ControlFrame<'a> {
     pub kind: FrameKind,
@@ -25,8 +25,7 @@ pub struct ControlFrame<'a> {
     pub unreachable: bool,
 }
 
-/// The operand stack and the control stack, which has a frame for each body that has begun and not
-/// ended.
+/// The operand stack and the control stack. The control stack has a frame for each body that has begun and not ended.
 #[derive(Drop)]
 pub struct Stacks<'a> {
     pub operands: Vec<OperandType>,
@@ -37,7 +36,7 @@ pub struct Stacks<'a> {
 }
 
 impl<'a> Stacks<'a> {
-    // No operand, and no frame but that of a body without results. Takes no memory.
+    // Creates stacks with no operand and only the frame of a body without results. Allocates nothing.
     pub fn new(alloc: Global) -> Stacks<'a>
         ensures { BeginsBody result [] }
     {
@@ -55,7 +54,7 @@ impl<'a> Stacks<'a> {
     }
 }
 
-// Leaves no operand, and no frame but that of the body of a function with these results. The stacks keep their room.
+// Removes all operands, and all frames except that of the body of a function with these results. The stacks keep their room.
 pub fn begin_body<'a>(stacks: &mut Stacks<'a>, results: &'a [ValType])
     ensures { BeginsBody stacks.new results.now }
 {
@@ -70,7 +69,6 @@ pub fn begin_body<'a>(stacks: &mut Stacks<'a>, results: &'a [ValType])
     };
 }
 
-// The types of the label of a frame.
 fn label_types<'a>(frame: &ControlFrame<'a>) -> &'a [ValType]
     ensures { result.now ≡ label_of frame.now }
 {
@@ -80,7 +78,7 @@ fn label_types<'a>(frame: &ControlFrame<'a>) -> &'a [ValType]
     }
 }
 
-// The types of a label, by its index from the inside out.
+// Returns the types of a label, by its index from the inside out.
 pub fn find_label<'a>(
     innermost: &ControlFrame<'a>,
     outer: &[ControlFrame<'a>],

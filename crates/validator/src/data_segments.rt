@@ -6,8 +6,7 @@ use crate::constants::{ConstantContext, is_constant};
 use crate::context::IndexSpaces;
 use core_types::{DataMode, DataSegment, ValType};
 
-// Whether a data segment goes nowhere, or into a memory that is there, at a constant offset
-// (Validation, Data Segments).
+// Returns whether a data segment is passive, or is for a memory that exists, at a constant offset (Validation, Data Segments).
 #[tactic(auto, unfolding(crate::specs::ModuleParts::IsDataModeIn))]
 fn is_valid_data_mode(spaces: &IndexSpaces, context: &ConstantContext<'_>, mode: &DataMode) -> bool
     ensures { IsTrue result ↔ IsDataModeIn spaces.now context.now mode.now }
@@ -20,7 +19,6 @@ fn is_valid_data_mode(spaces: &IndexSpaces, context: &ConstantContext<'_>, mode:
     }
 }
 
-// Whether each data segment is valid.
 pub fn are_valid_datas(
     spaces: &IndexSpaces,
     context: &ConstantContext<'_>,

@@ -6,7 +6,7 @@ use crate::context::IndexSpaces;
 use crate::types::reference_type;
 use core_types::{ElementItems, ElementMode, ElementSegment, RefType, ValType};
 
-// Whether the references of a segment are of its type, each a function that is there or a constant.
+// Returns whether the references of a segment are of its type, each a function that exists or a constant.
 #[tactic(auto, unfolding(crate::specs::ModuleParts::AreItemsIn))]
 fn are_valid_items(
     spaces: &IndexSpaces,
@@ -27,15 +27,13 @@ fn are_valid_items(
     }
 }
 
-// Whether each index is below the count.
 fn are_below(count: usize, indices: &[u32]) -> bool
     ensures { IsTrue result ↔ All (λ x. x < count) indices.now }
 {
     indices.iter().all(|index| (*index as usize) < count)
 }
 
-// Whether a segment of references of this type goes nowhere, or into a table of the type, at a
-// constant offset.
+// Returns whether a segment of references of this type is not active, or is for a table of the type, at a constant offset.
 #[tactic(auto, unfolding(crate::specs::ModuleParts::IsElementModeIn))]
 fn is_valid_element_mode(
     spaces: &IndexSpaces,
@@ -54,7 +52,7 @@ fn is_valid_element_mode(
     }
 }
 
-// Whether an element segment is valid (Validation, Element Segments).
+// Returns whether an element segment is valid (Validation, Element Segments).
 fn is_valid_element(
     spaces: &IndexSpaces,
     context: &ConstantContext<'_>,
@@ -66,7 +64,6 @@ fn is_valid_element(
         && is_valid_element_mode(spaces, context, element.ty, &element.mode)
 }
 
-// Whether each element segment is valid.
 pub fn are_valid_elements(
     spaces: &IndexSpaces,
     context: &ConstantContext<'_>,

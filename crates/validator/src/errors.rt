@@ -30,7 +30,7 @@ pub enum ValidateError {
     /// No typing accepts the module.
     #[error("invalid module: {0}")]
     Invalid(Place),
-    /// Out of memory.
+    /// An allocation failed.
     #[error("out of memory")]
     OutOfMemory,
 }
@@ -38,7 +38,7 @@ pub enum ValidateError {
 impl ValidateError {
     ghost use Rattle.validator.specs.Errors.{validate_number};
 
-    /// The number of the refusal.
+    /// Returns the number of the refusal.
     pub fn number(&self) -> u8
         ensures { result ≡ validate_number self.now }
     {
@@ -62,7 +62,7 @@ impl From<AllocError> for ValidateError {
 pub enum Fault {
     /// No typing accepts it.
     Invalid,
-    /// Out of memory.
+    /// An allocation failed.
     OutOfMemory,
 }
 

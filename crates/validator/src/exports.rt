@@ -5,7 +5,7 @@ ghost use Rattle.validator.specs.ModuleParts.{ExistsIn};
 use crate::context::IndexSpaces;
 use core_types::{Export, ExportDesc};
 
-// Whether what is exported exists (Validation, Exports).
+// Returns whether an export refers to something that exists (Validation, Exports).
 fn exists(spaces: &IndexSpaces, desc: ExportDesc) -> bool
     ensures { IsTrue result ↔ ExistsIn spaces.now desc }
 {
@@ -17,7 +17,7 @@ fn exists(spaces: &IndexSpaces, desc: ExportDesc) -> bool
     }
 }
 
-// Whether all that is exported exists.
+// Returns whether all exports refer to something that exists.
 pub fn all_exist(spaces: &IndexSpaces, exports: &[Export]) -> bool
     ensures { IsTrue result ↔ All (λ (e : Exported). ExistsIn spaces.now e.desc) exports.now }
 {

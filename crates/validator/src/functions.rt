@@ -18,15 +18,14 @@ use crate::instructions::step;
 use core_types::{Expression, Func, Module, item};
 use std::alloc::Global;
 
-// Whether the type of each function is there, in a module with this number of types (Validation,
-// Functions).
+// Returns whether the type of each function exists, in a module with this number of types (Validation, Functions).
 pub fn are_typed(types: usize, funcs: &[Func]) -> bool
     ensures { IsTrue result ↔ All (λ (func : Function). func.ty < types) funcs.now }
 {
     funcs.iter().all(|func| (func.ty as usize) < types)
 }
 
-// Checks the body of a function, as flat operations without the last `End`, with the room of the stacks.
+// Checks the body of a function, as flat operations without the last `End`. Reuses the room of the stacks.
 #[inline(never)]
 pub fn validate_body<'a>(
     alloc: Global,
@@ -60,11 +59,14 @@ fn validate_function<'a>(
     ensures valid { OnOk result (IsValidFunction decoded.now func.now) }
     ensures invalid { IfErr result (OnInvalid (¬ IsValidFunction decoded.now func.now)) }
 {
-    let Some(ty) = item(decoded.types.as_slice(), func.ty) else {
+    let types = decoded.types.as_slice();
+    let Some(ty) = item(types, func.ty) else {
         return Err(Fault::Invalid);
     };
     let context = BodyContext {
-        decoded: decoded,
+        types,
+        elements: decoded.elements.as_slice(),
+        datas: decoded.datas.len(),
         spaces,
         params: ty.params.as_slice(),
         locals: &func.locals,
@@ -73,7 +75,6 @@ fn validate_function<'a>(
     validate_body(alloc, &context, stacks, &func.body)
 }
 
-// Checks each function of a module.
 pub fn validate_functions(
     alloc: Global,
     decoded: &Module,

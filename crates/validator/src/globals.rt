@@ -5,8 +5,7 @@ ghost use Rattle.validator.specs.Constants.{IsConstantIn};
 use crate::constants::{ConstantContext, is_constant};
 use core_types::Global as ModuleGlobal;
 
-// Whether the first value of each global is constant and of the global's type (Validation,
-// Globals).
+// Returns whether the first value of each global is constant and of the global's type (Validation, Globals).
 pub fn are_valid_globals(context: &ConstantContext<'_>, globals: &[ModuleGlobal]) -> bool
     ensures { IsTrue result ↔ All (λ (g : OwnGlobal). IsConstantIn context.now g.init g.ty.value)
         globals.now }

@@ -6,8 +6,7 @@ use crate::memories::is_valid_memory;
 use crate::types::are_ordered;
 use core_types::{Import, ImportDesc};
 
-// Whether the type of an import is valid, in a module with this number of types (Validation,
-// Imports).
+// Returns whether the type of an import is valid, in a module with this number of types (Validation, Imports).
 fn is_valid_import(types: usize, desc: ImportDesc) -> bool
     ensures { IsTrue result ↔ IsValidImport types desc }
 {
@@ -19,7 +18,6 @@ fn is_valid_import(types: usize, desc: ImportDesc) -> bool
     }
 }
 
-// Whether the type of each import is valid.
 pub fn are_valid_imports(types: usize, imports: &[Import]) -> bool
     ensures { IsTrue result ↔ All (λ (import : Imported). IsValidImport types import.desc)
         imports.now }

@@ -55,7 +55,6 @@ fn pop_under_i32(stacks: &mut Stacks<'_>, wanted: &[ValType]) -> bool
     pop_types(&mut stacks.operands, &stacks.innermost, wanted)
 }
 
-// Pops the operands of an instruction type.
 #[inline(always)]
 pub fn pop_operands(stacks: &mut Stacks<'_>, ty: &InstructionType<'_>) -> bool
     ensures frames { SameFrames stacks.old stacks.new }
@@ -80,7 +79,7 @@ pub fn apply(stacks: &mut Stacks<'_>, ty: &InstructionType<'_>) -> Result<(), Fa
     Ok(())
 }
 
-// Steps over an instruction that takes nothing, and gives an operand of a type.
+// Steps over an instruction that takes nothing and gives an operand of a type.
 #[inline(always)]
 pub fn apply_nullary(stacks: &mut Stacks<'_>, gives: ValType) -> Result<(), Fault>
     ensures { StepsByType stacks.old stacks.new (type_of [] (gives ∷ [])) result }
@@ -89,7 +88,7 @@ pub fn apply_nullary(stacks: &mut Stacks<'_>, gives: ValType) -> Result<(), Faul
     Ok(())
 }
 
-// Steps over an instruction that takes an operand of a type, and gives one.
+// Steps over an instruction that takes an operand of a type and gives one.
 #[inline(never)]
 fn apply_to_one(stacks: &mut Stacks<'_>, takes: ValType, gives: ValType) -> Result<(), Fault>
     ensures { StepsByType stacks.old stacks.new (type_of (takes ∷ []) (gives ∷ [])) result }
@@ -101,7 +100,7 @@ fn apply_to_one(stacks: &mut Stacks<'_>, takes: ValType, gives: ValType) -> Resu
     Ok(())
 }
 
-// The same, where the operand is mostly known, and is replaced in its place then.
+// Like `apply_to_one`. The operand is mostly known, and is then overwritten.
 #[inline(always)]
 pub fn apply_unary(stacks: &mut Stacks<'_>, takes: ValType, gives: ValType) -> Result<(), Fault>
     ensures { StepsByType stacks.old stacks.new (type_of (takes ∷ []) (gives ∷ [])) result }
@@ -112,7 +111,7 @@ pub fn apply_unary(stacks: &mut Stacks<'_>, takes: ValType, gives: ValType) -> R
     apply_to_one(stacks, takes, gives)
 }
 
-// Steps over an instruction that takes two operands of a type, and gives one.
+// Steps over an instruction that takes two operands of a type and gives one.
 #[inline(never)]
 fn apply_to_two(stacks: &mut Stacks<'_>, takes: ValType, gives: ValType) -> Result<(), Fault>
     ensures { StepsByType stacks.old stacks.new (type_of (takes ∷ takes ∷ []) (gives ∷ [])) result }
@@ -124,7 +123,7 @@ fn apply_to_two(stacks: &mut Stacks<'_>, takes: ValType, gives: ValType) -> Resu
     Ok(())
 }
 
-// The same, where both operands are mostly known, and are replaced in their place then.
+// Like `apply_to_two`. Both operands are mostly known, and are then overwritten.
 #[inline(always)]
 pub fn apply_binary(stacks: &mut Stacks<'_>, takes: ValType, gives: ValType) -> Result<(), Fault>
     ensures { StepsByType stacks.old stacks.new (type_of (takes ∷ takes ∷ []) (gives ∷ [])) result }
@@ -199,7 +198,7 @@ fn step_mark<'a>(
     }
 }
 
-// Steps over the operation at an index, whichever it is.
+// Steps over the operation at an index, of any kind.
 #[inline(never)]
 fn step_any<'a>(
     alloc: Global,
@@ -297,8 +296,8 @@ fn step_any<'a>(
     }
 }
 
-// Steps over the operation at an index. The most frequent ones are stepped over here, as the loop over a body keeps nothing in memory
-// without the others, and each arm answers its own fault, as all arms else share a test of what they answer.
+// Steps over the operation at an index. The most frequent operations are handled here, because the loop over a body keeps
+// nothing in memory without the others. Each arm returns its own fault. Otherwise all arms would share a test of their results.
 #[inline(always)]
 pub fn step<'a>(
     alloc: Global,

@@ -5,28 +5,26 @@ ghost use Rattle.validator.specs.Modules.{IsValidMemory};
 use crate::types::are_ordered;
 use core_types::{Limits, MAX_PAGES};
 
-// Whether the bounds are of no more pages than there are addresses for (Validation, Memory Types).
+// Returns whether the bounds are within the pages of the address space (Validation, Memory Types).
 fn are_few_pages(limits: Limits) -> bool
     ensures { IsTrue result ↔ AreFewPages limits }
 {
     limits.min <= MAX_PAGES && limits.max.unwrap_or(limits.min) <= MAX_PAGES
 }
 
-// Whether the bounds of a memory are valid.
 pub fn is_valid_memory(limits: Limits) -> bool
     ensures { IsTrue result ↔ IsValidMemory limits }
 {
     are_ordered(limits) && are_few_pages(limits)
 }
 
-// Whether the bounds of each memory are valid.
 pub fn are_valid_memories(memories: &[Limits]) -> bool
     ensures { IsTrue result ↔ All IsValidMemory memories.now }
 {
     memories.iter().all(|limits| is_valid_memory(*limits))
 }
 
-// Whether there is at most one memory (Validation, Modules).
+// Returns whether there is at most one memory (Validation, Modules).
 pub fn is_at_most_one(memories: &[Limits]) -> bool
     ensures { IsTrue result ↔ (length memories.now ≤ 1) }
 {

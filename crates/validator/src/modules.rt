@@ -10,7 +10,7 @@ ghost use Rattle.validator.specs.declared.errors.ValidateError.TheVariants.{Inva
 
 use crate::constants::ConstantContext;
 use crate::context::IndexSpaces;
-use crate::context::index_spaces::index_spaces;
+use crate::context::index_spaces::module_spaces;
 use crate::data_segments::are_valid_datas;
 use crate::elements::are_valid_elements;
 use crate::errors::{Place, ValidateError};
@@ -38,7 +38,7 @@ fn require(holds: bool, id: u8) -> Result<(), ValidateError>
     }
 }
 
-// Checks what a module imports and declares, each by itself.
+// Checks what a module imports and declares, each item alone.
 fn validate_declarations(decoded: &Module) -> Result<(), ValidateError>
     ensures valid { OnOk result (HasValidDeclarations decoded.now) }
     ensures invalid { OnErr result (¬ HasValidDeclarations decoded.now) }
@@ -50,7 +50,6 @@ fn validate_declarations(decoded: &Module) -> Result<(), ValidateError>
     require(are_valid_memories(decoded.memories.as_slice()), 5)
 }
 
-// What the constant expressions of a module are typed in.
 fn constant_context<'a>(decoded: &Module, spaces: &'a IndexSpaces) -> ConstantContext<'a>
     requires { AreIndexSpaces decoded.now spaces.now }
     ensures { IsConstantContext decoded.now spaces.now result }
@@ -102,13 +101,16 @@ fn validate_module(alloc: Global, decoded: &Module, names: &NameOrder) -> Result
     ensures invalid { IfErr result (λ error. (error ≡ OutOfMemory) ⊎ (¬ IsValid decoded.now)) }
 {
     validate_declarations(decoded)?;
-    let spaces = index_spaces(alloc, decoded)?;
+    let spaces = module_spaces(alloc, decoded)?;
     validate_parts(decoded, &spaces, names)?;
     validate_functions(alloc, decoded, &spaces)
 }
 
-/// Checks a module in one pass over its operations, without recursion. Invalid says where no typing
-/// accepts it. Invalid and out of memory drop the module (Validation, Modules).
+/// Checks a module in one pass over its operations, without recursion (Validation, Modules).
+///
+/// # Errors
+///
+/// Fails with `Invalid`, and the place that no typing accepts, or with `OutOfMemory`. Both drop the module.
 pub fn validate(alloc: Global, decoded: Module) -> Result<ValidModule, ValidateError>
     ensures kept { IfOk result (λ valid. valid ≡ decoded) }
     ensures valid { OnOk result (IsValid decoded) }

@@ -9,7 +9,6 @@ use crate::errors::Fault;
 use core_types::{OperandType, ValType};
 use std::alloc::{AllocError, Global};
 
-// Whether an operand fits the type that is wanted.
 #[inline(always)]
 pub fn fits(given: OperandType, wanted: OperandType) -> bool
     ensures { IsTrue result ↔ Fits given wanted }
@@ -20,7 +19,7 @@ pub fn fits(given: OperandType, wanted: OperandType) -> bool
     }
 }
 
-// Pops the topmost operand of the frame, or an unknown one where it has none and is unreachable.
+// Pops the topmost operand of the frame. If the frame has none and is unreachable, pops an unknown one.
 #[inline(always)]
 pub fn pop(operands: &mut Vec<OperandType>, frame: &ControlFrame<'_>) -> Option<OperandType>
     ensures some { IfSome result (λ t. TakesOff frame.now operands.old.items (t ∷ [])
@@ -33,7 +32,7 @@ pub fn pop(operands: &mut Vec<OperandType>, frame: &ControlFrame<'_>) -> Option<
     operands.pop()
 }
 
-// Takes the topmost operand off, where it fits.
+// Pops the topmost operand, if it fits.
 #[inline(always)]
 pub fn pop_fitting(
     operands: &mut Vec<OperandType>,
@@ -48,7 +47,6 @@ pub fn pop_fitting(
     }
 }
 
-// Takes an operand of a type off.
 #[inline(always)]
 pub fn pop_one(operands: &mut Vec<OperandType>, frame: &ControlFrame<'_>, wanted: ValType) -> bool
     ensures { Pops frame.now operands.old.items (known (wanted ∷ [])) operands.new.items result }
@@ -56,7 +54,6 @@ pub fn pop_one(operands: &mut Vec<OperandType>, frame: &ControlFrame<'_>, wanted
     pop_fitting(operands, frame, OperandType::Known(wanted))
 }
 
-// Takes two operands of a type off.
 #[inline(always)]
 pub fn pop_two(operands: &mut Vec<OperandType>, frame: &ControlFrame<'_>, wanted: ValType) -> bool
     ensures { Pops frame.now operands.old.items (known (wanted ∷ wanted ∷ []))
@@ -68,7 +65,8 @@ pub fn pop_two(operands: &mut Vec<OperandType>, frame: &ControlFrame<'_>, wanted
     pop_one(operands, frame, wanted)
 }
 
-// Replaces the topmost operand of the frame by one of another type, where its type is known and is this one; answers whether it is.
+// Replaces the topmost operand of the frame with one of another type, if its type is known and is this one. Returns whether it
+// is.
 #[inline(always)]
 pub fn replace_one(
     operands: &mut Vec<OperandType>,
@@ -88,8 +86,8 @@ pub fn replace_one(
     true
 }
 
-// Replaces the two topmost operands of the frame by one of another type, where their types are known and are both this one; answers
-// whether they are.
+// Replaces the two topmost operands of the frame with one of another type, if their types are known and are both this one.
+// Returns whether they are.
 #[inline(always)]
 pub fn replace_two(
     operands: &mut Vec<OperandType>,
@@ -114,7 +112,7 @@ pub fn replace_two(
     true
 }
 
-// Takes operands off that fit the types, the last one first.
+// Pops operands that fit the types, the last one first.
 #[inline(always)]
 pub fn pop_types(
     operands: &mut Vec<OperandType>,
@@ -133,7 +131,6 @@ pub fn pop_types(
     true
 }
 
-// Puts operands of the types on top.
 #[inline(always)]
 pub fn push_types(operands: &mut Vec<OperandType>, types: &[ValType]) -> Result<(), AllocError>
     ensures { OnOk result (operands.new.items ≡ operands.old.items ++ known types.now) }
@@ -144,7 +141,7 @@ pub fn push_types(operands: &mut Vec<OperandType>, types: &[ValType]) -> Result<
     Ok(())
 }
 
-// Pops a number of operands, and answers them in their order.
+// Pops a number of operands, and returns them in their order.
 pub fn take_operands(
     alloc: Global,
     operands: &mut Vec<OperandType>,
@@ -167,7 +164,6 @@ pub fn take_operands(
     Ok(given)
 }
 
-// Whether operands fit the types that are wanted.
 pub fn all_fit(given: &[OperandType], wanted: &[ValType]) -> bool
     ensures { IsTrue result ↔ AllFit given.now (known wanted.now) }
 {

@@ -4,14 +4,14 @@ ghost use Rattle.validator.specs.ModuleParts.{IsEmptyTypeAt, IsStartIn};
 use crate::context::IndexSpaces;
 use core_types::{FuncType, item};
 
-// Whether a function of this type takes and gives nothing.
+// Returns whether a function of this type takes and gives nothing.
 fn is_empty(ty: &FuncType) -> bool
     ensures { IsTrue result ↔ (ty.now ≡ record { params = []; results = [] }) }
 {
     ty.params.is_empty() && ty.results.is_empty()
 }
 
-// Whether the type of this index exists and is that of functions that take and give nothing.
+// Returns whether the type of this index exists and is that of functions that take and give nothing.
 fn is_empty_at(types: &[FuncType], index: u32) -> bool
     ensures { IsTrue result ↔ IsEmptyTypeAt types.now index }
 {
@@ -21,8 +21,7 @@ fn is_empty_at(types: &[FuncType], index: u32) -> bool
     }
 }
 
-// Whether the start function, if there is one, takes and gives nothing (Validation, Start
-// Function).
+// Returns whether the start function, if there is one, takes and gives nothing (Validation, Start Function).
 #[tactic(auto, unfolding(crate::specs::ModuleParts::IsStartIn))]
 pub fn is_valid_start(types: &[FuncType], spaces: &IndexSpaces, start: Option<u32>) -> bool
     ensures { IsTrue result ↔ IsStartIn types.now spaces.now start }

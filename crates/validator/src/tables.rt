@@ -5,7 +5,7 @@ ghost use Rattle.meaning.specs.validation.Types.{AreOrdered};
 use crate::types::are_ordered;
 use core_types::TableType;
 
-// Whether the bounds of each table are valid (Validation, Table Types).
+// Returns whether the bounds of each table are valid (Validation, Table Types).
 pub fn are_valid_tables(tables: &[TableType]) -> bool
     ensures { IsTrue result ↔ All (λ (table : Table). AreOrdered table.limits) tables.now }
 {

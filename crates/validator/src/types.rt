@@ -6,8 +6,7 @@ ghost use Rattle.validator.specs.InstructionTypes.{lent_func_type, lent_type};
 
 use core_types::{BlockType, FuncType, Limits, RefType, ValType, Width, item};
 
-/// The type of an instruction: the operands that it takes, with an i32 over them or not, and its
-/// results.
+/// The type of an instruction: the operands that it takes, whether an i32 is above them, and its results.
 #[derive(Clone, Copy)]
 pub struct InstructionType<'a> {
     pub operands: &'a [ValType],
@@ -15,7 +14,7 @@ pub struct InstructionType<'a> {
     pub results: &'a [ValType],
 }
 
-/// A function type whose lists are lent.
+/// A function type whose lists are borrowed.
 #[derive(Clone, Copy)]
 pub struct LentFuncType<'a> {
     pub params: &'a [ValType],
@@ -44,7 +43,7 @@ static I32_AND_FUNC_REF: [ValType; 2] = [ValType::I32, ValType::FuncRef];
 
 static I32_AND_EXTERN_REF: [ValType; 2] = [ValType::I32, ValType::ExternRef];
 
-// One operand of the type.
+// Returns one operand of the type.
 pub fn once(ty: ValType) -> &'static [ValType]
     ensures { result.now ≡ ty ∷ [] }
 {
@@ -56,7 +55,7 @@ pub fn once(ty: ValType) -> &'static [ValType]
     }
 }
 
-// Two operands of the type.
+// Returns two operands of the type.
 pub fn twice(ty: ValType) -> &'static [ValType]
     ensures { result.now ≡ ty ∷ ty ∷ [] }
 {
@@ -68,7 +67,7 @@ pub fn twice(ty: ValType) -> &'static [ValType]
     }
 }
 
-// An i32, and an operand of the type over it.
+// Returns an i32, and an operand of the type above it.
 pub fn over_i32(ty: ValType) -> &'static [ValType]
     ensures { result.now ≡ I32 ∷ ty ∷ [] }
 {
@@ -80,7 +79,6 @@ pub fn over_i32(ty: ValType) -> &'static [ValType]
     }
 }
 
-// The type of the integers of a width.
 pub fn integer_type(width: Width) -> ValType
     ensures { result ≡ type_of_width width }
 {
@@ -90,7 +88,7 @@ pub fn integer_type(width: Width) -> ValType
     }
 }
 
-// The references of a type as values.
+// Returns the value type of references of a type.
 pub fn reference_type(ty: RefType) -> ValType
     ensures { result ≡ type_of_reference ty }
 {
@@ -100,7 +98,7 @@ pub fn reference_type(ty: RefType) -> ValType
     }
 }
 
-// The type of what takes and gives these.
+// Returns the type of an instruction that takes and gives these.
 pub fn takes_gives<'a>(operands: &'a [ValType], results: &'a [ValType]) -> InstructionType<'a>
     ensures { lent_type result ≡ type_of operands.now results.now }
 {
@@ -111,7 +109,7 @@ pub fn takes_gives<'a>(operands: &'a [ValType], results: &'a [ValType]) -> Instr
     }
 }
 
-// The same, with an i32 over the operands.
+// Like `takes_gives`, with an i32 above the operands.
 pub fn takes_i32_gives<'a>(operands: &'a [ValType], results: &'a [ValType]) -> InstructionType<'a>
     ensures { lent_type result ≡ type_of (operands.now ++ I32 ∷ []) results.now }
 {
@@ -122,7 +120,7 @@ pub fn takes_i32_gives<'a>(operands: &'a [ValType], results: &'a [ValType]) -> I
     }
 }
 
-// A function type, lent.
+// Returns a function type, borrowed.
 pub fn lend<'a>(ty: &'a FuncType) -> LentFuncType<'a>
     ensures { lent_func_type result ≡ ty.now }
 {
@@ -132,7 +130,7 @@ pub fn lend<'a>(ty: &'a FuncType) -> LentFuncType<'a>
     }
 }
 
-// The type of a block (Validation, Block Types).
+// Returns the type of a block (Validation, Block Types).
 pub fn type_of_block<'a>(types: &'a [FuncType], block: BlockType) -> Option<LentFuncType<'a>>
     ensures { option_map lent_func_type result ≡ block_type types.now block }
 {
@@ -152,7 +150,7 @@ pub fn type_of_block<'a>(types: &'a [FuncType], block: BlockType) -> Option<Lent
     }
 }
 
-// Whether the maximum, if there is one, is at least the minimum (Validation, Limits).
+// Returns whether the maximum, if there is one, is at least the minimum (Validation, Limits).
 pub fn are_ordered(limits: Limits) -> bool
     ensures { IsTrue result ↔ AreOrdered limits }
 {

@@ -4,7 +4,7 @@ use core_types::{ExportDesc, Module};
 use export_names::NameOrder;
 use std::marker::Model;
 
-/// A module that is valid, with the order of its exports' names.
+/// A valid module, with the order of its exports' names.
 #[derive(Drop)]
 pub struct ValidModule {
     inner: Module,
@@ -30,7 +30,7 @@ impl ValidModule {
     ghost use Rattle.export_names.specs.Order.{IsNameOrder};
     ghost use Rattle.meaning.specs.validation.Modules.{IsValid};
 
-    // The module, which meets each rule.
+    // Creates a valid module. The module must meet each rule.
     pub(crate) fn new(inner: Module, names: NameOrder) -> ValidModule
         requires valid { IsValid inner }
         requires names { IsNameOrder inner.exports names }
@@ -47,8 +47,8 @@ impl ValidModule {
         &self.inner
     }
 
-    /// Returns what the export of a name names, if there is one. It is found by halving, in a number of comparisons that is
-    /// logarithmic in the number of exports (Structure, Modules, Exports).
+    /// Returns the index that the export of a name refers to, if there is one. The search is binary: the number of comparisons
+    /// is logarithmic in the number of exports (Structure, Modules, Exports).
     pub fn export(&self, name: &str) -> Option<ExportDesc>
         ensures { result ≡ option_map (λ (e : Exported). e.desc)
             (find (λ (e : Exported). bytes_eq e.name name.now) self.now.exports) }

@@ -1,11 +1,11 @@
-//! Says of a WebAssembly module what it has, or why it is refused.
+//! Prints what a WebAssembly module contains, or why it is refused.
 #![tactic(auto)]
 
 use module_info::{Verdict, describe};
 use std::process::ExitCode;
 use std::{env, fs, io};
 
-// Reads the file at a path, and says what it is; answers the exit status.
+// Reads the file at a path, and prints what it contains. Returns the exit status.
 fn describe_file(rt: &HostRuntime, path: &str) -> io::Result<u8> {
     let bytes = match fs::read(rt, path) {
         Ok(bytes) => bytes,
@@ -24,7 +24,7 @@ fn describe_file(rt: &HostRuntime, path: &str) -> io::Result<u8> {
     }
 }
 
-// Does what the words after the program's name ask for; answers the exit status.
+// Performs the request of the program's arguments. Returns the exit status.
 fn run(rt: &HostRuntime) -> io::Result<u8> {
     let words: Vec<String> = env::args(rt)?.skip(1).collect(rt.alloc())?;
     match words.as_slice() {

@@ -10,7 +10,7 @@ const OUTPUT: i32 = 1;
 
 const INPUT: i32 = 0;
 
-// Whether standard input is non-blocking and has no bytes now. The server takes that for its end.
+// Returns whether standard input is non-blocking and has no bytes now. The server treats that as the end of its input.
 fn would_block(rt: &HostRuntime) -> bool {
     let mut byte = [0u8; 1];
     match rt.stdin().read(&mut byte) {

@@ -1,4 +1,4 @@
--- Readers that choose by a number in front.
+-- Readers that select by a number at the start.
 use Rattle.std.proofs.Common.{List, [], ap, append_assoc, eqb, inl, inr, leb, refl, subst, sym, ℕ, ◌++◌, ◌∙◌, ◌∷◌, ◌≡◌}
 use Rattle.std.specs.Prelude.{Some}
 use Rattle.std.proofs.lemmas.Bool.{eqb-true}
@@ -26,7 +26,7 @@ byte_reader = record {
         }
 
 module _ {A V : Type 0} {Inner : Spelling A} {Spells : Spelling V} {read : Reading A} where
-  -- What is read and turned into another value.
+  -- What is read and mapped to another value.
   pub mapped_reader : (into : A → V) → IsReader Inner read
       → ((text : List ℕ) (a : A) → Inner text a → Spells text (into a))
       → ((text : List ℕ) (v : V) → Spells text v → (a : A) × Inner text a × (into a ≡ v))
@@ -44,7 +44,7 @@ module _ {A V : Type 0} {Inner : Spelling A} {Spells : Spelling V} {read : Readi
         rw (reader.complete text rest a inner, same) refl;
   }
 
--- Two in turn.
+-- Two values in turn.
 pub pair_reader : {A B : Type 0} {First : Spelling A} {Second : Spelling B} {read : Reading A} {next : Reading B}
     → IsReader First read → IsReader Second next → IsReader (SpellsPair First Second) (pair_at read next)
 pair_reader {A} {B} {First} {Second} reader reader_next = record {
@@ -55,14 +55,14 @@ pair_reader {A} {B} {First} {Second} reader reader_next = record {
       λ text rest pair spelt. both_complete (λ (a : A) (b : B). (a, b)) reader reader_next text rest pair.0 pair.1 spelt;
 }
 
--- ---- what is read behind a number in front is spelled so
+-- ---- what is read after a number at the start has this encoding
 
--- in whatever case the number is
+-- for any value of the number
 pub record SoundCases {V : Type 0} (Front : Spelling ℕ) (Spells : Spelling V) (read : Cases V) : Type 0 where
   pub sound : (code : ℕ) (front bytes rest : List ℕ) (v : V) → Front front code
       → read code bytes ≡ Some (v, rest) → Reads Spells (front ++ bytes) v rest
 
--- in the case of this number
+-- for this value of the number
 pub record SoundCase {V : Type 0} (Front : Spelling ℕ) (Spells : Spelling V) (expected : ℕ) (read : Reading V) : Type 0 where
   pub sound : (front bytes rest : List ℕ) (v : V) → Front front expected → read bytes ≡ Some (v, rest)
       → Reads Spells (front ++ bytes) v rest
@@ -133,7 +133,7 @@ module _ {V : Type 0} {Front : Spelling ℕ} {Spells : Spelling V} where
         };
   }
 
--- a tag, and what lies behind it
+-- a tag, and what follows it
 pub tag_sound : {A V : Type 0} {Inner : Spelling A} {Spells : Spelling V} {read : Reading A} (code : ℕ) (into : A → V)
     → IsReader Inner read → ((text : List ℕ) (a : A) → SpellsTagged code Inner text a → Spells text (into a))
     → SoundCase SpellsByte Spells code (mapped_at into read)
@@ -141,9 +141,9 @@ tag_sound code into reader spelt =
     behind_sound into reader
     (λ front text a f inner. spelt (front ++ text) a (text, ap (λ (z : List ℕ). z ++ text) f, inner))
 
--- ---- what is spelled so is read behind its number
+-- ---- what has this encoding is read after its number
 
--- the text begins with a number, behind which the value is read
+-- the text begins with a number, after which the value is read
 pub record IsFront {V : Type 0} (Front : Spelling ℕ) (read : Cases V) (text rest : List ℕ) (v : V) : Type 0 where
   pub code : ℕ
   pub front : List ℕ
@@ -179,7 +179,7 @@ choice_reader {V} {Front} {Spells} {read_front} {read} front_reader sound_cases 
       ∙ rw (front_reader.complete is.front (is.inside ++ rest) is.code is.chooses) is.reads;
 }
 
--- the text begins with a spelled number
+-- the text begins with an encoded number
 pub at_number : {V : Type 0} {read : Cases V} {text rest : List ℕ} {v : V} (code : ℕ) (front inside : List ℕ)
     → SpellsUnsigned 32 front code → text ≡ front ++ inside → read code (inside ++ rest) ≡ Some (v, rest)
     → IsFront (SpellsUnsigned 32) read text rest v

@@ -1,4 +1,4 @@
--- Expressions are read as they are spelled.
+-- Expressions are read as they are encoded.
 use Rattle.std.proofs.Common.{List, [], ap, append_assoc, arith, length, length-append, refl, subst, suc, sym, zero, ℕ, ◌++◌, ◌<◌, ◌∙◌, ◌∷◌, ◌≡◌}
 use Rattle.std.specs.Prelude.{Some}
 use Rattle.std.proofs.lemmas.List.{append-nil}
@@ -19,7 +19,7 @@ use Rattle.binary.proofs.exactness.Nesting.{ClosesBodies, closes_tree, writing_c
 use Rattle.binary.proofs.exactness.Readers.{IsReader, bind_some, found, found-injective}
 use Rattle.binary.proofs.exactness.instructions.Operations.{SpellsOp, op_has_bytes, op_reader}
 
--- ---- a tree is spelled as its writing is, operation by operation
+-- ---- a tree is encoded as its writing is, operation by operation
 
 abbrev SpellsOps : List ℕ → List Op → Type 0
 SpellsOps bytes ops = SpellsEach SpellsOp bytes ops
@@ -49,7 +49,7 @@ split bytes (op ∷ ops) more (first, behind, parts, here, rest) =
       second = s.second;
     }
 
--- a mark of one byte, and what lies behind it
+-- a mark of one byte, and what follows it
 marked : (byte : ℕ) (mark : Op) (bytes : List ℕ) (ops : List Op) → SpellsOp (byte ∷ []) mark
     → SpellsOps bytes ops → SpellsOps (byte ∷ bytes) (mark ∷ ops)
 marked byte mark bytes ops here rest = (byte ∷ [], bytes, refl, here, rest)
@@ -110,7 +110,7 @@ body_of_ops (IfElse t inner other rest) bytes (begin, behind, parts, here, spelt
 
 -- ---- the loop over the operations
 
--- what is read behind other operations
+-- what is read after other operations
 record ReadsOps (open_bodies : List OpenBody) (front : List Op) (bytes : List ℕ) (ops : List Op) (rest : List ℕ)
     : Type 0 where
   more : List Op

@@ -1,4 +1,4 @@
--- Integers are read as they are spelled.
+-- Integers are read as they are encoded.
 use Rattle.std.proofs.Common.{List, [], ap, arith, cond, inl, inr, leb, ltb, negsuc, pos, refl, subst, sym, ℕ, ℤ, ◌*ℤ◌, ◌*◌, ◌++◌, ◌+ℤ◌, ◌+◌, ◌-◌, ◌<◌, ◌^◌, ◌∷◌, ◌≡◌, ◌≤◌}
 use Rattle.std.specs.Prelude.{None, Some}
 use Rattle.std.proofs.lemmas.Bool.{le-leb, le-ltb, leb-true, lt-ltb, ltb-false, ltb-true}

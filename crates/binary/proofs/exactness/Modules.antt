@@ -1,4 +1,4 @@
--- A module is read as it is spelled.
+-- A module is read as it is encoded.
 use Rattle.std.proofs.Common.{List, [], ap, refl, subst, sym, ℕ, ◌++◌, ◌∙◌, ◌∷◌, ◌≡◌}
 use Rattle.std.specs.Prelude.{None, Option, Some}
 use Rattle.core_types.specs.declared.module.DataSegment.{DataSegment}
@@ -104,7 +104,7 @@ module_complete bytes m count (behind, parts, spelt) =
     let reads = sections.complete behind behind (sections_of m count) spelt agrees refl in
     rw (parts, (expected_reader header).complete header behind tt refl, reads) refl
 
--- Bytes spell at most one module, with one data count.
+-- Bytes encode at most one module, with one data count.
 pub one_module : (bytes rest : List ℕ) (m other : Module) (count n : Option ℕ)
     → module_at bytes ≡ Some ((m, count), rest) → SpellsParts bytes other n → (m ≡ other) × (count ≡ n)
 one_module bytes rest m other count n read spelt =
@@ -116,7 +116,7 @@ pub spelt_once : (bytes : List ℕ) (a b : Module) → SpellsModule bytes a → 
 spelt_once bytes a b (behind, parts, (count, spelt, counts)) (other, other_parts, (n, other_spelt, other_counts)) =
     (one_module bytes [] a b count n (module_complete bytes a count (behind, parts, spelt)) (other, other_parts, other_spelt)).0
 
--- ---- what a refusal says
+-- ---- what a refusal states
 
 pub no_module : (bytes : List ℕ) → module_at bytes ≡ None → IsNoModule bytes
 no_module bytes none m (behind, parts, (count, spelt, counts)) within = let read = module_complete bytes m count (behind, parts, spelt) in absurd cc

@@ -17,9 +17,9 @@ ClosesBodies (open_body ∷ open_bodies) [] = ⊥
 ClosesBodies open_bodies (op ∷ ops) =
     ((next_bodies open_bodies op).0 ≡ Continues) × ClosesBodies (next_bodies open_bodies op).1 ops
 
--- ---- the writing of a tree goes on
+-- ---- the writing of a tree can be continued
 
--- a body down to its end, and what follows it
+-- a body up to its end, and what follows it
 up_to_end : (open_body : OpenBody) (open_bodies : List OpenBody) (inner rest : Body) (after : List Op)
     → ClosesBodies (open_body ∷ open_bodies) (writing inner ++ (End ∷ (writing rest ++ after)))
     → ClosesBodies (open_body ∷ open_bodies) ((writing inner ++ (End ∷ writing rest)) ++ after)
@@ -58,7 +58,7 @@ writing_closes (IfElse t inner other rest) open_bodies after p =
     let both = writing_closes inner (InIf ∷ open_bodies) (Else ∷ (writing other ++ last)) (refl, second) in
     (refl, subst (λ (ops : List Op). ClosesBodies (InIf ∷ open_bodies) ops) (sym parts) both)
 
--- ---- what goes on is the writing of a tree
+-- ---- what can be continued is the writing of a tree
 
 -- the writing of a tree, and then something with the property
 abbrev Before : (List Op → Type 0) → List Op → Type 0

@@ -1,4 +1,4 @@
--- A reading function and the spelling that it reads: it is sound and complete.
+-- A reading function and the encoding that it reads: it is sound and complete.
 use Rattle.std.proofs.Common.{Bool, List, [], ap, append_assoc, cond, drop, false, inl, inr, refl, subst, sym, true, ℕ, ◌++◌, ◌∙◌, ◌∷◌, ◌≡◌, ◌⊎◌}
 use Rattle.std.specs.Prelude.{None, Option, Some}
 use Rattle.std.proofs.lemmas.Bool.{eqb-true}
@@ -7,11 +7,11 @@ use Rattle.meaning.specs.binary.Conventions.{NoFront, Reads, SpellsBoth, SpellsP
 use Rattle.binary.specs.Conventions.{Reading, ◌>>=◌}
 use Rattle.binary.specs.Values.{begins_with}
 
--- Which bytes spell which value.
+-- The relation of bytes to the value that they encode.
 abbrev pub Spelling : Type 0 → Type 1
 Spelling V = List ℕ → V → Type 0
 
--- Sound: what is read is spelled so. Complete: what is spelled so is read, whatever follows.
+-- Sound: what is read has this encoding. Complete: what has this encoding is read, whatever follows.
 pub record IsReader {V : Type 0} (Spells : Spelling V) (read : Reading V) : Type 0 where
   pub sound : (bytes rest : List ℕ) (v : V) → read bytes ≡ Some (v, rest) → Reads Spells bytes v rest
   pub complete : (text rest : List ℕ) (v : V) → Spells text v → read (text ++ rest) ≡ Some (v, rest)
@@ -29,7 +29,7 @@ pub bind_some : {A B : Type 0} (read : Option A) (next : A → Option B) (y : B)
 bind_some (Some x) next y e = (x, refl, e)
 bind_some None next y e = absurd cc
 
--- Which way a test went.
+-- The branch that a test selected.
 pub chosen : {A : Type 0} (b : Bool) (x y z : A) → cond b x y ≡ z
     → ((b ≡ true) × (x ≡ z)) ⊎ ((b ≡ false) × (y ≡ z))
 chosen true x y z e = inl (refl, e)
@@ -65,7 +65,7 @@ module _ {V : Type 0} {Spells : Spelling V} {read : Reading V} where
       by_case None e = refl
       by_case (Some (v, rest)) e = let reads = reader.sound bytes rest v e in absurd (none reads.text rest v reads.parts reads.spelt)
 
--- The same of all the bytes.
+-- The same for all of the bytes.
 pub record IsWholeReader {V : Type 0} (Spells : Spelling V) (read : Reading V) : Type 0 where
   pub sound : (bytes : List ℕ) (v : V) → read bytes ≡ Some (v, []) → Spells bytes v
   pub complete : (bytes : List ℕ) (v : V) → Spells bytes v → read bytes ≡ Some (v, [])
@@ -79,7 +79,7 @@ whole_reader {V} Spells read reader = record {
   complete = λ bytes v spelt. ap read (sym (append-nil bytes)) ∙ reader.complete bytes [] v spelt;
 }
 
--- What is read and turned into another value.
+-- What is read and mapped to another value.
 pub mapped_sound : {V W : Type 0} {Spells : Spelling V} {read : Reading V} (into : V → W) → IsReader Spells read
     → (bytes rest : List ℕ) (w : W) → (read bytes >>= λ v. found (into v.0) v.1) ≡ Some (w, rest)
     → (v : V) × Reads Spells bytes v rest × (into v ≡ w)
@@ -124,7 +124,7 @@ module _ {A B : Type 0} {First : Spelling A} {Second : Spelling B} {read : Readi
 
 -- ---- what follows from what was read
 
--- the same text, as another spelling
+-- the same text, as another encoding
 pub reads_as : {V W : Type 0} {Spells : Spelling V} {Others : Spelling W} {bytes rest : List ℕ} {v : V} {w : W}
     → Reads Spells bytes v rest → ((text : List ℕ) → Spells text v → Others text w) → Reads Others bytes w rest
 reads_as reads so = record { text = reads.text; spelt = so reads.text reads.spelt; parts = reads.parts }

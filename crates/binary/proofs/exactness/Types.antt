@@ -1,4 +1,4 @@
--- Types are read as they are spelled.
+-- Types are read as they are encoded.
 use Rattle.std.proofs.Common.{List, [], ap, arith, drop, inl, inr, negsuc, pos, refl, subst, ℕ, ℤ, ◌++◌, ◌<◌, ◌∙◌, ◌∷◌, ◌≡◌, ◌≤◌, ◌⊎◌}
 use Rattle.std.specs.Prelude.{None, Option, Some}
 use Rattle.std.proofs.lemmas.Bool.{le-leb, le-ltb, lt-leb, ne_eqb}

@@ -1,4 +1,4 @@
--- Bytes, vectors, sized parts and names are read as they are spelled.
+-- Bytes, vectors, sized parts and names are read as they are encoded.
 use Rattle.std.proofs.Common.{List, [], ap, append_assoc, arith, cond, drop, eqb, false, length, length-append, length-take, ltb, refl, subst, suc, sym, take, zero, ℕ, ◌++◌, ◌∙◌, ◌∷◌, ◌≡◌, ◌≤◌}
 use Rattle.std.specs.Prelude.{None, Option, Some}
 use Rattle.std.proofs.lemmas.Bool.{eq-eqb, eqb-true, le-ltb, ltb-false}
@@ -13,10 +13,10 @@ use Rattle.binary.specs.Values.{begins_with, each_at, expected_at, index_at, nam
 use Rattle.binary.proofs.exactness.Integers.{unsigned_reader}
 use Rattle.binary.proofs.exactness.Readers.{IsReader, IsWholeReader, Spelling, begins, bind_some, found, found-injective, if_found, if_some, unless_some}
 
--- ---- a count, and as many values
+-- ---- a count, and that many values
 
 module _ {V : Type 0} (Spells : Spelling V) (read : Reading V) (reader : IsReader Spells read) where
-  -- what is read behind other values
+  -- what is read after other values
   record ReadsMore (front : List V) (bytes : List ℕ) (values : List V) (count : ℕ) (rest : List ℕ) : Type 0 where
     more : List V
     reads : Reads (SpellsEach Spells) bytes more rest
@@ -98,7 +98,7 @@ module _ {V : Type 0} (Spells : Spelling V) (read : Reading V) (reader : IsReade
 abbrev pub SpellsPart : List ℕ → List ℕ → Type 0
 SpellsPart bytes content = (size : List ℕ) × (bytes ≡ size ++ content) × SpellsUnsigned 32 size (length content)
 
--- what part_at does behind the size
+-- what `part_at` does after the size
 abbrev set_apart : ℕ × List ℕ → Option (List ℕ × List ℕ)
 set_apart size = cond (ltb (length size.1) size.0) None (found (take size.0 size.1) (drop size.0 size.1))
 
@@ -145,7 +145,7 @@ part_reader = record { sound = part_sound; complete = part_complete }
 -- ---- sized content
 
 module _ {V : Type 0} (Spells : Spelling V) (read : Reading V) (reader : IsWholeReader Spells read) where
-  -- what sized_at does behind the part
+  -- what `sized_at` does after the part
   content_of : List ℕ × List ℕ → Option (V × List ℕ)
   content_of part = read part.0 >>= λ content. cond (eqb (length content.1) 0) (found content.0 part.1) None
 

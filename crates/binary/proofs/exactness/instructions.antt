@@ -1,4 +1,5 @@
 pub mod Opcodes
+pub mod Rows
 pub mod Control
 pub mod Reference
 pub mod Parametric

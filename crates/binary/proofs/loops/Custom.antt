@@ -9,7 +9,7 @@ use Rattle.binary.specs.declared.errors.DecodeError.{DecodeError}
 use Rattle.binary.proofs.Refusals.{OnRefused-map}
 use Rattle.binary.proofs.exactness.Readers.{begins}
 
--- Custom sections are being skipped: the remaining steps suffice, and go on to the bytes behind all of them.
+-- Custom sections are being skipped: the remaining steps suffice, and lead to the bytes after all of them.
 pub record IsSkippingCustoms (whole rest : List ℕ) : Type 0 where
   pub steps : ℕ
   pub enough : length rest ≤ steps

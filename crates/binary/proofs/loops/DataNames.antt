@@ -8,13 +8,13 @@ use Rattle.meaning.specs.binary.Modules.{names_data}
 use Rattle.binary.specs.Instructions.{NameNoData, NotesData, NotesMore}
 use Rattle.binary.specs.Sections.{NotesDataOfAll}
 
--- One function more.
+-- One more function.
 pub notes_function : (before noted : Bool) (f : Func) (funcs : List Func) → NotesDataOfAll before funcs → NotesData noted f.body → (noted ≡ false → before ≡ false)
     → NotesDataOfAll noted (funcs ++ f ∷ [])
 notes_function before noted f funcs others one first = λ none.
     All-append (λ (g : Func). NameNoData g.body) funcs (f ∷ []) (others (first none)) (All-replicate (λ (g : Func). NameNoData g.body) 1 f (one none))
 
--- One operation more.
+-- One more operation.
 pub notes_last : (before here : Bool) (others : List Op) (op : Op) → here ≡ names_data op → NotesMore others before (others ++ op ∷ []) (before || here)
 notes_last before here others op is = λ none.
     let (unnoted, other) = or_parts before here none in (

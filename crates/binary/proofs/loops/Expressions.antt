@@ -17,13 +17,13 @@ pub expression_begins : (whole : List ℕ) → IsReadingExpression whole whole [
 unfolding expression_at
 expression_begins whole = record { steps = length whole; enough = omega arith; so_far = refl }
 
--- An operation is read behind its opcode.
+-- An operation is read after its opcode.
 pub chosen : (bytes rest : List ℕ) (code : ℕ) → byte_at bytes ≡ Some (code, rest) → op_at bytes ≡ operation_at code rest
 unfolding op_at
 chosen bytes rest code is = rw is refl
 
 module _ (result : Result Flow DecodeError) (bodies new : List OpenBody) (ops behind : List Op) (bytes rest after : List ℕ) (code : ℕ) (is : byte_at bytes ≡ Some (code, rest)) where
-  -- What is read behind an opcode is read with it.
+  -- What is read after an opcode is read with it.
   pub reads_behind : ReadsNext result bodies new ops behind after (operation_at code rest) → ReadsNext result bodies new ops behind after (op_at bytes)
   reads_behind reads = rw (chosen bytes rest code is) reads
 
@@ -84,7 +84,7 @@ module _ (whole bytes : List ℕ) (open_bodies : List OpenBody) (ops : List Op) 
       OnRefused-map error (op_at bytes ≡ None) (expression_at whole ≡ None)
       (λ none. sym inside.so_far ∙ none_inside inside.steps none) refused
 
--- Where no opcode is read, no operation is.
+-- If no opcode is read, no operation is.
 pub no_opcode : (bytes : List ℕ) (error : DecodeError) → OnRefused error (byte_at bytes ≡ None) → OnRefused error (op_at bytes ≡ None)
 unfolding op_at
 no_opcode bytes error refused = OnRefused-map error (byte_at bytes ≡ None) (op_at bytes ≡ None) (λ none. rw none refl) refused

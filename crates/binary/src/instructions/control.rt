@@ -9,7 +9,7 @@ use crate::values::read_vector;
 use core_types::{BranchTable, ControlOp};
 use std::alloc::Global;
 
-// A control instruction behind its opcode, which is at the offset.
+// Reads the rest of a control instruction, whose opcode was read at the offset.
 #[tactic(auto, unfolding(crate::specs::Instructions::control_at))]
 #[inline(always)]
 pub fn read_control(
@@ -41,7 +41,7 @@ pub fn read_control(
     }
 }
 
-// The labels of a branch table, and its default.
+// Reads the labels of a branch table, and its default.
 #[tactic(auto, unfolding(crate::specs::Instructions::branch_table_at))]
 pub fn read_branch_table(alloc: Global, reader: &mut Reader<'_>) -> Result<BranchTable, DecodeError>
     ensures { Gives result reader.new (branch_table_at reader.old) }

@@ -5,9 +5,10 @@ ghost use Rattle.core_types.specs.declared.op.Op.TheVariants.{Plain};
 ghost use Rattle.core_types.specs.declared.op.PlainOp.TheVariants as plain;
 ghost use Rattle.meaning.specs.binary.Modules.{names_data};
 ghost use Rattle.binary.specs.Conventions.{Gives};
-ghost use Rattle.binary.specs.Instructions.{in_row, load_at, mem_arg_at, memory_at, prefixed_memory_at, store_at};
+ghost use Rattle.binary.specs.Instructions.{load_at, mem_arg_at, memory_at, prefixed_memory_at, store_at};
 
 use crate::errors::DecodeError;
+use crate::instructions::rows::op_of;
 use crate::reader::Reader;
 use crate::values::read_expected;
 use core_types::{LoadOp, MemArg, MemoryOp, Sign, StoreOp, Width};
@@ -42,17 +43,6 @@ const STORES: [Option<StoreOp>; 9] = [
     Some(StoreOp::Bits16(Width::W64)),
     Some(StoreOp::Bits32),
 ];
-
-// The operation of an opcode, in a row of opcodes from the first on.
-fn op_of<T: Copy>(row: &[Option<T>], first: u8, code: u8) -> Option<T>
-    requires { first ≤ code }
-    ensures { result ≡ in_row first row.now code }
-{
-    match row.get((code - first) as usize) {
-        Some(op) => *op,
-        None => None,
-    }
-}
 
 #[tactic(auto, unfolding(crate::specs::Instructions::mem_arg_at))]
 #[inline(always)]
@@ -90,7 +80,7 @@ fn read_store(reader: &mut Reader<'_>, code: u8, offset: usize) -> Result<Memory
     }
 }
 
-// A memory instruction behind its opcode, from 28 on, which is at the offset.
+// Reads the rest of a memory instruction, whose opcode, from 28 on, was read at the offset.
 #[tactic(auto, unfolding(crate::specs::Instructions::memory_at))]
 #[inline(always)]
 pub fn read_memory(
@@ -117,7 +107,7 @@ pub fn read_memory(
     }
 }
 
-// A memory instruction behind the byte FC, which is at the offset, and this number.
+// Reads the rest of a memory instruction with this number after the byte FC, which was read at the offset.
 #[tactic(auto, unfolding(crate::specs::Instructions::prefixed_memory_at))]
 pub fn read_prefixed_memory(
     reader: &mut Reader<'_>,

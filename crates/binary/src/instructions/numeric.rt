@@ -1,104 +1,160 @@
 //! Numeric instructions without an immediate (Binary Format, Numeric Instructions).
 
 ghost use Rattle.std.specs.Prelude.{◌≡◌};
-ghost use Rattle.core_types.specs.declared.op.NumericOp.TheVariants.{Binary, Compare, Unary};
-ghost use Rattle.binary.specs.Instructions.{from_row, numeric_of};
-ghost use Rattle.meaning.specs.binary.Instructions.{binary_ops, bit_counts, comparisons, sign_extensions};
+ghost use Rattle.binary.specs.Instructions.{numeric_of};
 
+use crate::instructions::rows::op_of;
 use core_types::{BinaryOp, Comparison, Conversion, NumericOp, UnaryOp, Width};
 
-// The comparisons of a width in the order of their opcodes.
-const COMPARISONS: [Comparison; 10] = [
-    Comparison::Eq,
-    Comparison::Ne,
-    Comparison::LtS,
-    Comparison::LtU,
-    Comparison::GtS,
-    Comparison::GtU,
-    Comparison::LeS,
-    Comparison::LeU,
-    Comparison::GeS,
-    Comparison::GeU,
+// The numeric instructions without an immediate by opcode, from 45 on. Where there is none, there is an instruction on
+// floating-point numbers.
+const NUMERICS: [Option<NumericOp>; 128] = [
+    // 45: tests and comparisons of 32 bits
+    Some(NumericOp::Eqz(Width::W32)),
+    Some(NumericOp::Compare(Width::W32, Comparison::Eq)),
+    Some(NumericOp::Compare(Width::W32, Comparison::Ne)),
+    Some(NumericOp::Compare(Width::W32, Comparison::LtS)),
+    Some(NumericOp::Compare(Width::W32, Comparison::LtU)),
+    Some(NumericOp::Compare(Width::W32, Comparison::GtS)),
+    Some(NumericOp::Compare(Width::W32, Comparison::GtU)),
+    Some(NumericOp::Compare(Width::W32, Comparison::LeS)),
+    Some(NumericOp::Compare(Width::W32, Comparison::LeU)),
+    Some(NumericOp::Compare(Width::W32, Comparison::GeS)),
+    Some(NumericOp::Compare(Width::W32, Comparison::GeU)),
+    // 50: tests and comparisons of 64 bits
+    Some(NumericOp::Eqz(Width::W64)),
+    Some(NumericOp::Compare(Width::W64, Comparison::Eq)),
+    Some(NumericOp::Compare(Width::W64, Comparison::Ne)),
+    Some(NumericOp::Compare(Width::W64, Comparison::LtS)),
+    Some(NumericOp::Compare(Width::W64, Comparison::LtU)),
+    Some(NumericOp::Compare(Width::W64, Comparison::GtS)),
+    Some(NumericOp::Compare(Width::W64, Comparison::GtU)),
+    Some(NumericOp::Compare(Width::W64, Comparison::LeS)),
+    Some(NumericOp::Compare(Width::W64, Comparison::LeU)),
+    Some(NumericOp::Compare(Width::W64, Comparison::GeS)),
+    Some(NumericOp::Compare(Width::W64, Comparison::GeU)),
+    // 5B: comparisons of floating-point numbers
+    None,
+    None,
+    None,
+    None,
+    None,
+    None,
+    None,
+    None,
+    None,
+    None,
+    None,
+    None,
+    // 67: operators on 32 bits
+    Some(NumericOp::Unary(Width::W32, UnaryOp::Clz)),
+    Some(NumericOp::Unary(Width::W32, UnaryOp::Ctz)),
+    Some(NumericOp::Unary(Width::W32, UnaryOp::Popcnt)),
+    Some(NumericOp::Binary(Width::W32, BinaryOp::Add)),
+    Some(NumericOp::Binary(Width::W32, BinaryOp::Sub)),
+    Some(NumericOp::Binary(Width::W32, BinaryOp::Mul)),
+    Some(NumericOp::Binary(Width::W32, BinaryOp::DivS)),
+    Some(NumericOp::Binary(Width::W32, BinaryOp::DivU)),
+    Some(NumericOp::Binary(Width::W32, BinaryOp::RemS)),
+    Some(NumericOp::Binary(Width::W32, BinaryOp::RemU)),
+    Some(NumericOp::Binary(Width::W32, BinaryOp::And)),
+    Some(NumericOp::Binary(Width::W32, BinaryOp::Or)),
+    Some(NumericOp::Binary(Width::W32, BinaryOp::Xor)),
+    Some(NumericOp::Binary(Width::W32, BinaryOp::Shl)),
+    Some(NumericOp::Binary(Width::W32, BinaryOp::ShrS)),
+    Some(NumericOp::Binary(Width::W32, BinaryOp::ShrU)),
+    Some(NumericOp::Binary(Width::W32, BinaryOp::Rotl)),
+    Some(NumericOp::Binary(Width::W32, BinaryOp::Rotr)),
+    // 79: operators on 64 bits
+    Some(NumericOp::Unary(Width::W64, UnaryOp::Clz)),
+    Some(NumericOp::Unary(Width::W64, UnaryOp::Ctz)),
+    Some(NumericOp::Unary(Width::W64, UnaryOp::Popcnt)),
+    Some(NumericOp::Binary(Width::W64, BinaryOp::Add)),
+    Some(NumericOp::Binary(Width::W64, BinaryOp::Sub)),
+    Some(NumericOp::Binary(Width::W64, BinaryOp::Mul)),
+    Some(NumericOp::Binary(Width::W64, BinaryOp::DivS)),
+    Some(NumericOp::Binary(Width::W64, BinaryOp::DivU)),
+    Some(NumericOp::Binary(Width::W64, BinaryOp::RemS)),
+    Some(NumericOp::Binary(Width::W64, BinaryOp::RemU)),
+    Some(NumericOp::Binary(Width::W64, BinaryOp::And)),
+    Some(NumericOp::Binary(Width::W64, BinaryOp::Or)),
+    Some(NumericOp::Binary(Width::W64, BinaryOp::Xor)),
+    Some(NumericOp::Binary(Width::W64, BinaryOp::Shl)),
+    Some(NumericOp::Binary(Width::W64, BinaryOp::ShrS)),
+    Some(NumericOp::Binary(Width::W64, BinaryOp::ShrU)),
+    Some(NumericOp::Binary(Width::W64, BinaryOp::Rotl)),
+    Some(NumericOp::Binary(Width::W64, BinaryOp::Rotr)),
+    // 8B: operators on floating-point numbers
+    None,
+    None,
+    None,
+    None,
+    None,
+    None,
+    None,
+    None,
+    None,
+    None,
+    None,
+    None,
+    None,
+    None,
+    None,
+    None,
+    None,
+    None,
+    None,
+    None,
+    None,
+    None,
+    None,
+    None,
+    None,
+    None,
+    None,
+    None,
+    // A7: conversions
+    Some(NumericOp::Convert(Conversion::I32WrapI64)),
+    None,
+    None,
+    None,
+    None,
+    Some(NumericOp::Convert(Conversion::I64ExtendI32S)),
+    Some(NumericOp::Convert(Conversion::I64ExtendI32U)),
+    None,
+    None,
+    None,
+    None,
+    None,
+    None,
+    None,
+    None,
+    None,
+    None,
+    None,
+    None,
+    None,
+    None,
+    None,
+    None,
+    None,
+    None,
+    // C0: sign extensions
+    Some(NumericOp::Unary(Width::W32, UnaryOp::Extend8S)),
+    Some(NumericOp::Unary(Width::W32, UnaryOp::Extend16S)),
+    Some(NumericOp::Unary(Width::W64, UnaryOp::Extend8S)),
+    Some(NumericOp::Unary(Width::W64, UnaryOp::Extend16S)),
+    Some(NumericOp::Convert(Conversion::I64Extend32S)),
 ];
 
-// The operators that count bits, in the order of their opcodes.
-const BIT_COUNTS: [UnaryOp; 3] = [UnaryOp::Clz, UnaryOp::Ctz, UnaryOp::Popcnt];
-
-// The operators that repeat a sign, in the order of their opcodes.
-const SIGN_EXTENSIONS: [UnaryOp; 2] = [UnaryOp::Extend8S, UnaryOp::Extend16S];
-
-// The operators on two integers of a width in the order of their opcodes.
-const BINARY_OPS: [BinaryOp; 15] = [
-    BinaryOp::Add,
-    BinaryOp::Sub,
-    BinaryOp::Mul,
-    BinaryOp::DivS,
-    BinaryOp::DivU,
-    BinaryOp::RemS,
-    BinaryOp::RemU,
-    BinaryOp::And,
-    BinaryOp::Or,
-    BinaryOp::Xor,
-    BinaryOp::Shl,
-    BinaryOp::ShrS,
-    BinaryOp::ShrU,
-    BinaryOp::Rotl,
-    BinaryOp::Rotr,
-];
-
-fn comparison(width: Width, index: u8) -> Option<NumericOp>
-    ensures { result ≡ from_row (Compare width) comparisons index }
-{
-    let op = *COMPARISONS.get(index as usize)?;
-    Some(NumericOp::Compare(width, op))
-}
-
-fn bit_count(width: Width, index: u8) -> Option<NumericOp>
-    ensures { result ≡ from_row (Unary width) bit_counts index }
-{
-    let op = *BIT_COUNTS.get(index as usize)?;
-    Some(NumericOp::Unary(width, op))
-}
-
-fn sign_extension(width: Width, index: u8) -> Option<NumericOp>
-    ensures { result ≡ from_row (Unary width) sign_extensions index }
-{
-    let op = *SIGN_EXTENSIONS.get(index as usize)?;
-    Some(NumericOp::Unary(width, op))
-}
-
-fn binary_op(width: Width, index: u8) -> Option<NumericOp>
-    ensures { result ≡ from_row (Binary width) binary_ops index }
-{
-    let op = *BINARY_OPS.get(index as usize)?;
-    Some(NumericOp::Binary(width, op))
-}
-
-// The numeric instruction without an immediate of this opcode, if there is one. The most frequent ones are tested first.
-#[tactic(auto, unfolding(crate::specs::Instructions::numeric_of))]
+// The numeric instruction without an immediate of this opcode, if there is one.
+#[tactic(auto, unfolding(crate::specs::Instructions::numeric_of, crate::specs::Instructions::numerics))]
 #[inline(always)]
 pub fn numeric_op(code: u8) -> Option<NumericOp>
     ensures { result ≡ numeric_of code }
 {
-    if matches!(code, 0x6A..=0x78) {
-        return binary_op(Width::W32, code - 0x6A);
+    if code < 0x45 {
+        return None;
     }
-    if matches!(code, 0x46..=0x4F) {
-        return comparison(Width::W32, code - 0x46);
-    }
-    match code {
-        0x45 => Some(NumericOp::Eqz(Width::W32)),
-        0x50 => Some(NumericOp::Eqz(Width::W64)),
-        0x51..=0x5A => comparison(Width::W64, code - 0x51),
-        0x67..=0x69 => bit_count(Width::W32, code - 0x67),
-        0x79..=0x7B => bit_count(Width::W64, code - 0x79),
-        0x7C..=0x8A => binary_op(Width::W64, code - 0x7C),
-        0xA7 => Some(NumericOp::Convert(Conversion::I32WrapI64)),
-        0xAC => Some(NumericOp::Convert(Conversion::I64ExtendI32S)),
-        0xAD => Some(NumericOp::Convert(Conversion::I64ExtendI32U)),
-        0xC0..=0xC1 => sign_extension(Width::W32, code - 0xC0),
-        0xC2..=0xC3 => sign_extension(Width::W64, code - 0xC2),
-        0xC4 => Some(NumericOp::Convert(Conversion::I64Extend32S)),
-        _ => None,
-    }
+    op_of(&NUMERICS, 0x45, code)
 }

@@ -7,7 +7,7 @@ use crate::errors::DecodeError;
 use crate::reader::Reader;
 use core_types::ParametricOp;
 
-// A parametric instruction behind its opcode, which is at the offset.
+// Reads the rest of a parametric instruction, whose opcode was read at the offset.
 #[tactic(auto, unfolding(crate::specs::Instructions::parametric_at))]
 #[inline(always)]
 pub fn read_parametric(

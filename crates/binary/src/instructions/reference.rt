@@ -8,7 +8,7 @@ use crate::reader::Reader;
 use crate::types::read_ref_type;
 use core_types::ReferenceOp;
 
-// A reference instruction behind its opcode, which is at the offset.
+// Reads the rest of a reference instruction, whose opcode was read at the offset.
 #[tactic(auto, unfolding(crate::specs::Instructions::reference_at))]
 #[inline(always)]
 pub fn read_reference(

@@ -7,7 +7,7 @@ use crate::errors::DecodeError;
 use crate::reader::Reader;
 use core_types::TableOp;
 
-// A table instruction behind its opcode, which is at the offset.
+// Reads the rest of a table instruction, whose opcode was read at the offset.
 #[tactic(auto, unfolding(crate::specs::Instructions::table_at))]
 #[inline(always)]
 pub fn read_table(reader: &mut Reader<'_>, code: u8, offset: usize) -> Result<TableOp, DecodeError>
@@ -20,7 +20,7 @@ pub fn read_table(reader: &mut Reader<'_>, code: u8, offset: usize) -> Result<Ta
     }
 }
 
-// A table instruction behind the byte FC, which is at the offset, and this number.
+// Reads the rest of a table instruction with this number after the byte FC, which was read at the offset.
 #[tactic(auto, unfolding(crate::specs::Instructions::prefixed_table_at))]
 pub fn read_prefixed_table(
     reader: &mut Reader<'_>,

@@ -7,7 +7,7 @@ use crate::errors::DecodeError;
 use crate::reader::Reader;
 use core_types::VariableOp;
 
-// A variable instruction behind its opcode, which is at the offset.
+// Reads the rest of a variable instruction, whose opcode was read at the offset.
 #[tactic(auto, unfolding(crate::specs::Instructions::variable_at))]
 #[inline(always)]
 pub fn read_variable(

@@ -13,7 +13,7 @@ use crate::types::read_val_type;
 use core_types::{Func, Items, Locals, Stack, ValType};
 use std::alloc::Global;
 
-// A count of locals, and their type.
+// Reads a count of locals, and their type.
 #[tactic(auto, unfolding(crate::specs::Sections::local_group_at))]
 fn read_local_group(reader: &mut Reader<'_>) -> Result<(u32, ValType), DecodeError>
     ensures { Gives result reader.new (local_group_at reader.old) }
@@ -38,7 +38,7 @@ fn read_groups(alloc: Global, reader: &mut Reader<'_>, count: u32) -> Result<Loc
     Ok(locals)
 }
 
-// Groups of locals, behind their count.
+// Reads a count, and that many groups of locals.
 #[tactic(auto, unfolding(crate::specs::Sections::locals_at))]
 fn read_locals(alloc: Global, reader: &mut Reader<'_>) -> Result<Locals, DecodeError>
     ensures { Gives result reader.new (locals_at reader.old) }
@@ -47,7 +47,7 @@ fn read_locals(alloc: Global, reader: &mut Reader<'_>) -> Result<Locals, DecodeE
     read_groups(alloc, reader, count)
 }
 
-// A function whose type has this index, behind its size, read with the room of a stack.
+// Reads a size, and a function whose type has this index. Reuses the room of a stack.
 #[tactic(auto, unfolding(crate::specs::Sections::code_at, crate::specs::Sections::function_content_at, crate::specs::Values::sized_at))]
 fn read_code(
     alloc: Global,
@@ -67,7 +67,7 @@ fn read_code(
     Ok(Func { ty, locals, body })
 }
 
-// A function for each index of a type. Notes where their code may name a data segment.
+// Reads a function for each index of a type. Notes if their code may name a data segment.
 fn read_codes(
     alloc: Global,
     reader: &mut Reader<'_>,
@@ -85,7 +85,7 @@ fn read_codes(
     Ok(Items::from_vec(funcs))
 }
 
-// The content of the code section: a function for each index of a type.
+// Reads the content of the code section: a function for each index of a type.
 #[tactic(auto, unfolding(crate::specs::Sections::functions_at))]
 fn read_functions(
     alloc: Global,
@@ -104,7 +104,7 @@ fn read_functions(
     read_codes(alloc, reader, types, data_named)
 }
 
-// The code section, which may be absent where there are no indices. Notes where its code may name a data segment.
+// Reads the code section, which may be absent if there are no indices. Notes if its code may name a data segment.
 #[tactic(auto, unfolding(crate::specs::Sections::section_at, crate::specs::Values::sized_at))]
 pub fn read_code_section(
     alloc: Global,

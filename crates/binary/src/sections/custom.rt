@@ -7,7 +7,7 @@ use crate::errors::DecodeError;
 use crate::reader::Reader;
 use crate::values::read_text;
 
-// A custom section behind its id: a name, and any bytes.
+// Skips the rest of a custom section, whose id was read: a name, and any bytes.
 #[tactic(auto, unfolding(crate::specs::Sections::custom_at))]
 fn skip_custom(reader: &mut Reader<'_>) -> Result<(), DecodeError>
     ensures { Gives result reader.new (custom_at reader.old) }
@@ -27,7 +27,7 @@ pub fn skip_customs(reader: &mut Reader<'_>) -> Result<(), DecodeError>
     Ok(())
 }
 
-// Custom sections, and then the end of the input.
+// Skips custom sections up to the end of the input. Fails if anything else is left.
 #[tactic(auto, unfolding(crate::specs::Sections::end_at))]
 pub fn read_ending(reader: &mut Reader<'_>) -> Result<(), DecodeError>
     ensures { Gives result reader.new (end_at reader.old) }

@@ -8,8 +8,8 @@ ghost use Rattle.meaning.specs.binary.Modules.{IsDataCount, names_data};
 use crate::instructions::is_of_data;
 use core_types::{Func, Module};
 
-// Whether the data count is the number of data segments. Where it is absent, no code may name a data segment, which is looked at
-// only where it was noted that some may.
+// Returns whether the data count is the number of data segments. If it is absent, no code may name a data segment. The code is
+// checked only if it was noted that some may.
 pub fn fits_count(count: Option<u32>, decoded: &Module, data_named: bool) -> bool
     requires { NotesDataOfAll data_named decoded.now.funcs }
     ensures { IsTrue result ↔ IsDataCount decoded.now count }

@@ -24,7 +24,7 @@ impl Readable for DataSegment {
     }
 }
 
-// A data segment behind the number of its form, which is at the offset.
+// Reads the rest of a data segment, whose number of the form was read at the offset.
 #[tactic(auto, unfolding(crate::specs::Sections::data_form_at))]
 fn read_data_form(
     alloc: Global,

@@ -29,7 +29,7 @@ impl Readable for ElementSegment {
     }
 }
 
-// An element segment behind the number of its form, which is at the offset.
+// Reads the rest of an element segment, whose number of the form was read at the offset.
 #[tactic(auto, unfolding(crate::specs::Sections::element_form_at))]
 fn read_element_form(
     alloc: Global,
@@ -45,7 +45,7 @@ fn read_element_form(
     }
 }
 
-// A segment of function indices, of the forms 0 to 3.
+// Reads a segment of function indices, of the forms 0 to 3.
 #[tactic(auto, unfolding(crate::specs::Sections::functions_form_at))]
 fn read_functions_form(
     alloc: Global,
@@ -75,7 +75,7 @@ fn read_functions_form(
     }
 }
 
-// A segment of expressions, of the forms 4 to 7.
+// Reads a segment of expressions, of the forms 4 to 7.
 #[tactic(auto, unfolding(crate::specs::Sections::expressions_form_at))]
 fn read_expressions_form(
     alloc: Global,
@@ -109,7 +109,7 @@ fn read_expressions_form(
     }
 }
 
-// The byte 00, which is the element kind funcref, and function indices.
+// Reads the byte 00, which is the element kind funcref, and function indices.
 #[tactic(auto, unfolding(crate::specs::Sections::kind_functions_at))]
 fn read_kind_functions(alloc: Global, reader: &mut Reader<'_>) -> Result<Items<u32>, DecodeError>
     ensures { Gives result reader.new (kind_functions_at reader.old) }
@@ -121,7 +121,6 @@ fn read_kind_functions(alloc: Global, reader: &mut Reader<'_>) -> Result<Items<u
     read_vector::<u32>(alloc, reader)
 }
 
-// A reference type, and expressions.
 #[tactic(auto, unfolding(crate::specs::Sections::references_at))]
 fn read_references(
     alloc: Global,

@@ -30,7 +30,7 @@ validate-refuses bytes m (validate.Invalid place) decoded (inr not_valid) = inva
 -- ---- imports
 
 module _ {A B : Type 0} (f : A → Option B) (x : A) (y : B) (has : f x ≡ Some y) where
-  -- What each of some items has, and one more.
+  -- The values of some items, and of one more.
   pub map_all-append : (xs : List A) (ys : List B) → map_all f xs ≡ Some ys → map_all f (xs ++ x ∷ []) ≡ Some (ys ++ y ∷ [])
   map_all-append [] ys all = let none : [] ≡ ys = same_Some [] ys all in rw (← none, has) refl
   map_all-append (z ∷ zs) ys all = by-first (f z) (map_all f zs) (λ ws is. map_all-append zs ws is) all

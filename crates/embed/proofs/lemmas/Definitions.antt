@@ -36,7 +36,7 @@ module _ {H : Type 0} (host_type : H → FuncType) where
   length-functions k [] = refl
   length-functions k (d ∷ ds) = ap suc (length-functions (suc k) ds)
 
-  -- Where those so far have no fault, the next one decides.
+  -- If the definitions so far have no fault, the next one decides.
   pub fault-next : (names : NamesContents) (k : ℕ) (ds : List (HostDefinition H)) (d : HostDefinition H) (rest : List (HostDefinition H)) → first_fault host_type names k ds ≡ None
       → first_fault host_type names k (ds ++ d ∷ rest) ≡ option_or (fault_of host_type (with_definitions host_type names k ds) d) (first_fault host_type (with_host (with_definitions host_type names k ds) d.module_name d.name (k + length ds)) (suc (k + length ds)) rest)
   fault-next names k [] d rest none =
@@ -53,7 +53,7 @@ module _ {H : Type 0} (host_type : H → FuncType) where
           let same : suc k + length ds ≡ k + suc (length ds) = omega arith in
           ap (λ (f : Option Fault). option_or f (first_fault host_type names' (suc k) (ds ++ d ∷ rest))) is ∙ subst (λ (n : ℕ). (first_fault host_type names' (suc k) (ds ++ d ∷ rest) ≡ option_or (fault_of host_type (with_definitions host_type names' (suc k) ds) d) (first_fault host_type (with_host (with_definitions host_type names' (suc k) ds) d.module_name d.name n) (suc n) rest))) same (later none')
 
--- ---- one more definition is taken in
+-- ---- one more definition is added
 
 module _ {I : Type 0} {F : I → Type 0} (members : (i : I) → Ghosts (F i)) (taken : List (HostDef I F)) (next : HostDef I F) where
   abbrev so_far : List (HostDefinition (HostObject I F))

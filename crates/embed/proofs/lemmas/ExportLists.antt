@@ -1,4 +1,4 @@
--- A list of exports, while one is added to it.
+-- A list of exports, when one is added to it.
 use Rattle.std.proofs.Common.{ℕ, List, [], ◌∷◌, ◌++◌}
 use Rattle.std.specs.List.{AllZip}
 use Rattle.core_types.specs.declared.types.ExternType.{ExternType}

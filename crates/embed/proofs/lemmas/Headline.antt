@@ -1,4 +1,4 @@
--- The headline, of an embedding and of each command: host functions that keep their types answer by the relations of their objects alone.
+-- The headline, for an embedding and for each command: host functions that keep their types act by the relations of their objects alone.
 use Rattle.std.proofs.Common.{◌≡◌, ◌<◌, ◌^◌, List, length, map, refl, subst, sym, arith}
 use Rattle.std.proofs.lemmas.List.{length-map}
 use Rattle.std.specs.List.{All}
@@ -35,7 +35,7 @@ module _ (read : (b : Body) → body_of (writing b) ≡ b) {I : Type 0} {F : I �
 -- ---- commands
 
 module _ (read : (b : Body) → body_of (writing b) ≡ b) {I : Type 0} {F : I → Type 0} (members : (i : I) → Ghosts (F i)) where
-  -- What is known of a command that was applied to a sound embedding.
+  -- What holds for a command that was applied to a sound embedding.
   pub record IsDone (old : Embedding (HostObject I F)) (command : Command) (reply : Reply) (new : Embedding (HostObject I F)) : Type 0 where
     pub goes_well : GoesWell old command reply new
     pub as_said : IsAsSaid (HostStep members) old command reply new

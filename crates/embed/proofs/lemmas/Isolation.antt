@@ -1,4 +1,4 @@
--- Isolation, determinism and fuel, of embeddings with these definitions of host functions.
+-- Isolation, determinism and fuel, for embeddings with these definitions of host functions.
 use Rattle.std.proofs.Common.{◌≡◌, ℕ, ◌<◌, ◌^◌, List, length, map, arith, ap, inr, refl, slice_get, subst, sym, ◌∙◌, ◌∷◌, []}
 use Rattle.std.proofs.lemmas.List.{length-map}
 use Rattle.std.specs.List.{All}
@@ -29,7 +29,7 @@ module _ {I : Type 0} {F : I → Type 0} (members : (i : I) → Ghosts (F i)) wh
   less-fuel old last commands replies fuel less sets run = lists-end-early (HostStep members) (with_fuel old fuel) last commands replies less sets run
 
   module _ (definitions : List (HostDef I F)) where
-    -- What holds of each host function that is defined holds of each of a fresh embedding.
+    -- What holds for each host function that is defined holds for each one of a fresh embedding.
     hosts-all : (P : HostObject I F → Type 0) → All (λ (d : HostDef I F). P (definition_of members d).host) definitions
         → All P (map (λ (d : HostDefinition (HostObject I F)). d.host) (map (definition_of members) definitions))
     hosts-all P all =

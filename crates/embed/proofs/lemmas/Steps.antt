@@ -1,4 +1,4 @@
--- Steps of the embedding machine, by what the layers below do.
+-- Steps of the embedding machine, by the results of the layers below.
 use Rattle.std.proofs.Common.{◌≡◌, ℕ, zero, suc, List, [], ◌∷◌, ◌++◌, length, arith, refl, sym, subst, ap, ◌∙◌}
 use Rattle.std.proofs.lemmas.Option.{same_Some, slice_get-map}
 use Rattle.std.specs.Prelude.{Option, Some, Result, Ok, Err, option_map, reverse, slice_get}
@@ -32,7 +32,7 @@ use Rattle.embed.specs.Contents.{modules_in}
 use Rattle.embed.specs.Replies.{refusal_of}
 use Rattle.embed.specs.declared.refusals.Refusal.{Refusal}
 
--- If one import is given something else than it asks for, not each is given what it asks for.
+-- If one import is given a value that does not match, not every import is given what it requires.
 not-given : (store : Store) (m : Module) (imports : List Import) (externs : List Extern) (index : ℕ) (wanted : Import) (given : Extern) → slice_get imports index ≡ Some wanted → slice_get externs index ≡ Some given
     → (IsGiven store given (import_type m wanted.desc) → ⊥) → AreGiven store m imports externs → ⊥
 not-given store m [] externs index wanted given wanted_is given_is differs all = absurd cc
@@ -70,7 +70,7 @@ module _ {H : Type 0} where
       → slice_get old.state.store.globals address ≡ Some g → v ≡ g.value → GetsAt old found (machine.Ended (WithValues (v ∷ []))) old
   get-value old found address g v is there has = rw (← is) (got there (ap (λ (u : Val). machine.Ended (WithValues (u ∷ []))) has) refl)
 
-  -- A value that was read may still not be answered for want of memory.
+  -- A value that was read may still be refused, if memory ran out.
   pub get-refused : (old : Embedding H) (found : Result ℕ machine.Refusal) (ending : Ending) → GetsAt old found (machine.Ended ending) old → GetsAt old found (machine.Refused machine.OutOfMemory) old
   get-refused old (Ok address) ending gets = of.no_memory (refl, refl)
   get-refused old (Err refusal) ending gets = absurd (let wrong = gets.0 in cc)

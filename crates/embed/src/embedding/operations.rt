@@ -28,14 +28,14 @@ use std::alloc::AllocError;
 use std::rc::Rc;
 use store::{LoadedModule, accepts};
 
-// The number after those of these items, which count up from 0.
+// Returns the number after those of these items, which count up from 0.
 fn next_number<T>(items: &[T]) -> u64
     ensures { result ≡ length items.now }
 {
     items.len() as u64
 }
 
-// Appends an item, where there is room for it.
+// Appends an item. The list must have room for it.
 fn append<T: Drop>(items: &mut Vec<T>, item: T)
     requires room { vec_len items.old < vec_capacity items.old }
     ensures appended { items.new.items ≡ items.old.items ++ item ∷ [] }
@@ -45,7 +45,6 @@ fn append<T: Drop>(items: &mut Vec<T>, item: T)
     let _ = items.push(item);
 }
 
-// The module of a number, if there is one.
 fn module_at(modules: &[Rc<LoadedModule>], number: u64) -> Option<&Rc<LoadedModule>>
     ensures { MatchOption result (slice_get modules.now number ≡ None)
         (λ loaded. slice_get modules.now number ≡ Some loaded.now) }
@@ -54,7 +53,6 @@ fn module_at(modules: &[Rc<LoadedModule>], number: u64) -> Option<&Rc<LoadedModu
 }
 
 impl Embedding {
-    // Loads the module that bytes spell.
     fn load_bytes(&mut self, bytes: &[u8]) -> Result<ModuleNumber, Refusal>
         ensures { Loads (embedding_of self.old) bytes.now (load_reply result)
             (embedding_of self.new) }
@@ -65,7 +63,6 @@ impl Embedding {
         Ok(ModuleNumber(number))
     }
 
-    // Links the module of a number.
     fn link_module(&mut self, number: u64) -> Result<LinkOutcome, Refusal>
         ensures links { LinksAt (HostStep ⟦<dyn HostFn as HostFn>⟧) (embedding_of self.old)
             (slice_get (embedding_of self.old).modules number)
@@ -144,14 +141,14 @@ impl Embedding {
         Ok(variable.value())
     }
 
-    // Puts another number in the place of the fuel that is left.
+    // Sets the fuel left.
     fn replace_fuel(&mut self, fuel: u64)
         ensures { SetsFuel (embedding_of self.old) fuel DoneReply (embedding_of self.new) }
     {
         self.meter.set(fuel);
     }
 
-    // The module of a number, if there is one, may be linked: one that is loaded is valid, and its numbers fit their types.
+    // The module of a number, if there is one, can be linked: a loaded module is valid, and its numbers fit their types.
     fn show_linked_module(&self, number: u64)
         ensures { LinksSoundModule (embedding_of self.now) (LinkCommand number) }
     {
@@ -160,10 +157,12 @@ impl Embedding {
         }
     }
 
-    /// Loads the module that bytes spell, and answers its number.
+    /// Loads the module that the bytes encode, and returns its number.
     ///
-    /// Refused with `Malformed`, `Unsupported` or `Limit` where the bytes spell no module within the limits, with `Invalid` where it is not
-    /// valid, and with `OutOfMemory`. A refused call changes nothing (Appendix, Embedding, Modules).
+    /// # Errors
+    ///
+    /// Refused with `Malformed`, `Unsupported` or `Limit` if the bytes encode no module within the limits, with `Invalid` if the
+    /// module is not valid, and with `OutOfMemory`. A refused call changes nothing (Appendix, Embedding, Modules).
     pub fn load(&mut self, bytes: &[u8]) -> Result<ModuleNumber, Refusal>
         requires nothing { Unit {0} }
         ensures applied { Applies (HostStep ⟦<dyn HostFn as HostFn>⟧) (embedding_of self.old)
@@ -177,15 +176,19 @@ impl Embedding {
         self.load_bytes(bytes)
     }
 
-    /// Links a module with what the names of its imports stand for, and returns the number of the new instance, or the trap or the
-    /// exhaustion in which a segment or the start function ended. Then there is no number, and what was done stays.
+    /// Links a module with what the names of its imports stand for, and returns the number of the new instance. If a segment or
+    /// the start function traps or is exhausted, returns that outcome. Then the instance has no number, and what was done stays.
     ///
     /// # Errors
     ///
-    /// Refused with `UnknownModule`; with `UnknownImport` if an import's names stand for nothing; then with `IncompatibleImport` if what
-    /// they stand for does not match; then with `Limit` if a table, a memory or the store would be larger than it may be; and with
-    /// `OutOfMemory`. The index of an import is that of the first one at fault. A refused call changes nothing (Execution, Modules,
-    /// Instantiation).
+    /// Refused, in this order:
+    /// - with `UnknownModule`
+    /// - with `UnknownImport` if an import's names stand for nothing
+    /// - with `IncompatibleImport` if what they stand for does not match
+    /// - with `Limit` if a table, a memory or the store would be larger than it may be
+    ///
+    /// Refused with `OutOfMemory` if an allocation fails. The index of an import is that of the first one at fault. A refused
+    /// call changes nothing (Execution, Modules, Instantiation).
     pub fn link(&mut self, number: ModuleNumber) -> Result<LinkOutcome, Refusal>
         requires nothing { Unit {0} }
         ensures applied { Applies (HostStep ⟦<dyn HostFn as HostFn>⟧) (embedding_of self.old)
@@ -208,9 +211,11 @@ impl Embedding {
         self.link_module(number.0)
     }
 
-    /// Registers an instance under a name, in the place of the one that was registered under it.
+    /// Registers an instance under a name, and replaces the instance that was registered under it.
     ///
-    /// Refused with `UnknownInstance`, then with `NameTaken` where a host function is defined under this name of a module, and with
+    /// # Errors
+    ///
+    /// Refused with `UnknownInstance`, then with `NameTaken` if a host function is defined under this name of a module, and with
     /// `OutOfMemory`. A refused call changes nothing.
     pub fn register(&mut self, instance: InstanceNumber, name: &str) -> Result<(), Refusal>
         requires nothing { Unit {0} }
@@ -226,11 +231,16 @@ impl Embedding {
         self.give_name(instance.0, name)
     }
 
-    /// Calls the function that an instance exports under a name: answers its results, or the trap or the exhaustion in which it ended.
+    /// Calls the function that an instance exports under a name. Returns its results, or the trap or the exhaustion in which it
+    /// ended.
     ///
-    /// Refused with `UnknownInstance`, `UnknownExport`, `WrongKind` where the export is no function, and `BadArguments` where the arguments
-    /// are too many or too few, or one has not its parameter's type or names a function that is not there. A refused call changes nothing
-    /// (Execution, Modules, Invocation).
+    /// # Errors
+    ///
+    /// Refused with `UnknownInstance`, `UnknownExport`, and `WrongKind` if the export is not a function. Refused with
+    /// `BadArguments` if the number of arguments is wrong, or if an argument has another type than its parameter or names a
+    /// function that does not exist.
+    ///
+    /// A refused call changes nothing (Execution, Modules, Invocation).
     pub fn call(
         &mut self,
         instance: InstanceNumber,
@@ -262,8 +272,8 @@ impl Embedding {
     ///
     /// # Errors
     ///
-    /// Refused with `UnknownInstance`, `UnknownExport`, and `WrongKind` if the export is no global; never with `OutOfMemory` (Appendix,
-    /// Embedding, Globals).
+    /// Refused with `UnknownInstance`, `UnknownExport`, and `WrongKind` if the export is not a global. Never refused with
+    /// `OutOfMemory` (Appendix, Embedding, Globals).
     pub fn get_global(&self, instance: InstanceNumber, name: &str) -> Result<Val, Refusal>
         requires nothing { Unit {0} }
         ensures applied { Applies (HostStep ⟦<dyn HostFn as HostFn>⟧) (embedding_of self.now)
@@ -278,7 +288,7 @@ impl Embedding {
         self.read_global(instance.0, name)
     }
 
-    /// Sets the fuel that is left.
+    /// Sets the fuel left.
     pub fn set_fuel(&mut self, fuel: u64)
         requires nothing { Unit {0} }
         ensures applied { Applies (HostStep ⟦<dyn HostFn as HostFn>⟧) (embedding_of self.old)
@@ -292,7 +302,7 @@ impl Embedding {
         self.replace_fuel(fuel);
     }
 
-    // The value of a global, as the values of a reply.
+    // Returns the value of a global as the list of values of a reply.
     fn values_of_global(&self, number: u64, name: &str) -> Result<Vec<Val>, Refusal>
         ensures { GetsAt (embedding_of self.now)
             (as_global (export_at (embedding_of self.now) number name.now)) (values_reply result)
@@ -304,7 +314,7 @@ impl Embedding {
         Ok(values)
     }
 
-    // The module that a command links, if there is one, may be linked.
+    // The module that a command links, if there is one, can be linked.
     fn show_linkable(&self, command: &Command)
         ensures { LinksSoundModule (embedding_of self.now) (command_of command.now) }
     {
@@ -313,7 +323,7 @@ impl Embedding {
         }
     }
 
-    // Applies a command, as the method does that bears its name.
+    // Applies a command, as the method of its name does.
     fn apply_command(&mut self, command: &Command) -> Reply
         ensures { Applies (HostStep ⟦<dyn HostFn as HostFn>⟧) (embedding_of self.old)
             (command_of command.now) (reply_of result) (embedding_of self.new) }
@@ -337,12 +347,14 @@ impl Embedding {
         }
     }
 
-    /// Applies a command, as the method of its name does.
+    /// Applies a command, as the method of its name does, and returns the reply.
     ///
-    /// A refused command changes nothing. If a link or a call ends in a trap or an exhaustion, what was done stays. The command goes
-    /// well: values have the types of the function or the global, the store is valid and extends the one before, and no command but
-    /// `SetFuel` leaves more fuel than there was. A call of an exported function with arguments of its types, and a link, are as the
-    /// headline says. Unlike `get_global`, `GetGlobal` is refused with `OutOfMemory` if memory for the list in its reply runs out.
+    /// A refused command changes nothing. If a link or a call ends in a trap or an exhaustion, what was done stays. Unlike
+    /// `get_global`, `GetGlobal` is refused with `OutOfMemory` if the list in its reply cannot be allocated.
+    ///
+    /// The command goes well: values have the types of the function or the global, and the store is valid and extends the one
+    /// before. No command except `SetFuel` leaves more fuel than there was. A call of an exported function with arguments of its
+    /// types, and a link, are as the headline states.
     pub fn apply(&mut self, command: &Command) -> Reply
         requires nothing { Unit {0} }
         ensures applied { Applies (HostStep ⟦<dyn HostFn as HostFn>⟧) (embedding_of self.old)
@@ -366,13 +378,14 @@ impl Embedding {
 
     /// Applies all commands, in order, and appends one reply for each.
     ///
-    /// They and what is left are a run of the embedding machine, each command of which goes well and is as the headline says, from a
-    /// sound embedding to a sound one. If each host function declares the type that it was taken in with, as those of a fresh embedding
-    /// do, it is one in which each answers by the relation of its object alone.
+    /// The commands, the replies and what is left are a run of the embedding machine, from a sound embedding to a sound one.
+    /// Each command of the run goes well and is as the headline states. In a fresh embedding, each host function declares the
+    /// type that it was defined with. If each one does, host functions in the run act by the relations of their objects alone.
     ///
     /// # Errors
     ///
-    /// Fails if memory for the replies runs out. All of it is reserved before the first command is applied, so then nothing has changed.
+    /// Fails if the replies cannot be allocated. They are allocated before the first command is applied, so then nothing has
+    /// changed.
     pub fn apply_all(
         &mut self,
         commands: &[Command],

@@ -12,10 +12,10 @@ pub pushed-next : (first k : ℕ) (initial so_far after : List ℕ) → so_far �
 pushed-next first k initial so_far after had pushed =
     pushed ∙ ap (λ (row : List ℕ). row ++ (first + k) ∷ []) had ∙ append_assoc initial (consecutive first k) ((first + k) ∷ []) ∙ ap (λ (row : List ℕ). initial ++ row) (consecutive-next first k)
 
--- ---- of a kind of what is given
+-- ---- for one kind of what is given
 
 module _ (address_of : Extern → Option ℕ) (given : List Extern) (whole : List ℕ) where
-  -- What there is so far, before what there is of the rest, is the whole.
+  -- The addresses so far, followed by those of the rest, are all addresses.
   abbrev pub FoundSoFar : ℕ → List ℕ → Type 0
   FoundSoFar k found =
       found ++ given_addresses address_of (drop k given) ≡ whole

@@ -1,4 +1,4 @@
--- Constant expressions over operands in a row.
+-- Constant expressions over operands in a list.
 use Rattle.std.proofs.Common.{◌≡◌, ℕ, ◌+◌, ◌<◌, ◌≤◌, List, [], ◌∷◌, ◌++◌, length, reverse, get_or, drop, Some, None, refl, ap, sym, ◌∙◌}
 use Rattle.std.specs.Prelude.{Option, option_map}
 use Rattle.std.proofs.lemmas.List.{drop_all, drop_more, reverse-append}
@@ -13,7 +13,7 @@ use Rattle.meaning.specs.execution.Modules.{constant, constant_operands, constan
 use Rattle.meaning.specs.execution.Store.{ModuleInstance, Store}
 
 module _ (store : Store) (i : ModuleInstance) where
-  -- What is no operator puts its value on top, if it has one.
+  -- An instruction that is not an operator pushes its value, if it has one.
   step-put : (op : PlainOp) (operands : List Val) → ((n : NumericOp) → op ≡ Numeric n → ⊥) → constant_step store i op operands ≡ option_map (λ (v : Val). v ∷ operands) (constant store i op)
   step-put (I32Const n) operands no_operator = refl
   step-put (I64Const n) operands no_operator = refl
@@ -36,7 +36,7 @@ module _ (store : Store) (i : ModuleInstance) where
   pub put-none : (op : PlainOp) (operands : List Val) → ((n : NumericOp) → op ≡ Numeric n → ⊥) → None ≡ constant store i op → constant_step store i op operands ≡ None
   put-none op operands no_operator none = step-put op operands no_operator ∙ ap (λ (o : Option Val). option_map (λ (w : Val). w ∷ operands) o) (sym none)
 
--- In no instance does a constant expression have a value that begins with an operation with a list or a body.
+-- In no instance does a constant expression have a value if it begins with an operation with a list or a body.
 pub no_constant : (o : Op) → HasListOrBody o → (store : Store) (i : ModuleInstance) (ops : List Op) (operands : List Val) → constant_operands store i (o ∷ ops) operands ≡ None
 no_constant (flat.Plain (Control o)) has store i ops operands = absurd has
 no_constant (flat.Plain (BrTable t)) has store i ops operands = refl
@@ -57,7 +57,7 @@ no_constant flat.End has store i ops operands = refl
 
 -- ---- the loop over an expression
 
--- What the instructions from an index on make of the operands is what all of them make of none.
+-- The instructions from an index on, with these operands, have the same result as all of them without operands.
 abbrev pub IsRunFrom : Store → ModuleInstance → List Op → (k : ℕ) → (items : List Val) → Type 0
 IsRunFrom store i ops k items = constant_operands store i (drop k ops) (reverse items) ≡ constant_operands store i ops []
 

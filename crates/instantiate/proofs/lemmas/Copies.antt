@@ -50,7 +50,7 @@ module _ (bound instance : ℕ) (old : Store) (fuel : ℕ) (configuration : Conf
   abbrev its_frame : Frame
   its_frame = frame_of instance
 
-  -- It has this outcome in the frame.
+  -- The instruction has this outcome in the frame.
   abbrev HasNext : Outcome → Type 0
   HasNext o = next old its_frame configuration ≡ continue_after its_frame (effect_of o [] []) rest
 
@@ -63,7 +63,7 @@ module _ (bound instance : ℕ) (old : Store) (fuel : ℕ) (configuration : Conf
     same-state : new ≡ old → (k : ℕ) → left ≡ k → at new left ≡ at old k
     same-state same k is = rw (same, is) refl
 
-    -- What came of it is a step, or an end.
+    -- The result of the instruction is a step, or an end.
     pub steps-or-ends : {U : Type 0} (r : Result U TaskEnd) (o : Outcome) → IsOutcome old 0 o → HasNext o → Passes r o old new fuel left → StepsOrEnds NoHosts r bound its_frame (at old fuel) configuration (at new left) (Running [] rest)
     steps-or-ends (Ok u) (made cost store []) many is (enough, left_is, same) = goes (is ∙ ap (λ (s : Store). Goes cost s its_frame (Running [] rest)) (sym same)) enough left_is refl
     steps-or-ends (Ok u) (made cost store (v ∷ vs)) (count, stays) is passes = absurd (omega (arith, count))
@@ -96,11 +96,11 @@ module _ (bound instance : ℕ) (old : Store) (fuel : ℕ) (configuration : Conf
     steps-or-ends (Err (Ended (Values values))) o many is passes = absurd passes
     steps-or-ends (Err Stuck) o many is passes = absurd passes
 
-  -- It is stuck where it has no outcome.
+  -- The instruction is stuck if it has no outcome.
   pub gets-stuck : next old its_frame configuration ≡ continue_after its_frame Lacks rest → Ends NoHosts bound its_frame (at old fuel) configuration Stuck (at old fuel)
   gets-stuck is = record { ends = record { at = at old fuel; reached = configuration; steps = none; stuck = waiting-stuck is }; no_values = tt }
 
--- A step behind which nothing is left is a run.
+-- A step after which nothing is left is a run.
 pub steps-run : {U : Type 0} (r : Result U TaskEnd) (bound : ℕ) (frame : Frame) (old new : State ⊥) (configuration : Configuration) → StepsOrEnds NoHosts r bound frame old configuration new (Running [] Empty) → RunsTo NoHosts r bound frame old configuration new
 steps-run (Ok u) bound frame old new configuration s = ([], step-over bound frame old new configuration [] s)
 steps-run (Err o) bound frame old new configuration ends = ends

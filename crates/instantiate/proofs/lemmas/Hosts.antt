@@ -12,7 +12,7 @@ use Rattle.instantiate.specs.declared.link_end.TaskEnd.{TaskEnd}
 use Rattle.instantiate.specs.Tasks.{EndedTasks, RanTasks, TasksRunOn, ending_in}
 
 module _ {H : Type 0} (HostStep : List H → ℕ → Option ℕ → List Val → Store → Answer → Store → List H → Type 0) (hosts : List H) (bound instance : ℕ) (i : ModuleInstance) where
-  -- What is run without host functions is run over any.
+  -- A run without host functions is a run over any host functions.
   tasks-over : {old last : State ⊥} {tasks : List Task} {ending : Ending} → RunTasks NoHosts bound instance i old tasks ending last → RunTasks HostStep bound instance i (with_hosts hosts old) tasks ending (with_hosts hosts last)
   tasks-over all_done = all_done
   tasks-over (done is run others) = done is (run-over HostStep hosts bound _ run) (tasks-over others)
@@ -49,7 +49,7 @@ module _ {H : Type 0} (HostStep : List H → ℕ → Option ℕ → List Val →
     no_values = before.no_values;
   }
 
-  -- What ends among tasks ends all of them.
+  -- An end of one task ends all tasks.
   pub ended-over : (old new : State ⊥) (first second third : List Task) {o : TaskEnd} → EndedTasks NoHosts bound instance i old (first ++ second) o new → EndedTasks HostStep bound instance i (with_hosts hosts old) (first ++ (second ++ third)) o (with_hosts hosts new)
   ended-over old new first second third {o} before = record {
     ended = λ further.

@@ -11,7 +11,7 @@ use Rattle.meaning.specs.execution.Modules.{AreGiven, IsGiven, import_type}
 use Rattle.meaning.specs.execution.Store.{Store, extern_type}
 
 module _ (store : Store) (e : Extern) (wanted : Option ExternType) where
-  -- The value is there, and the import asks for a type: the two have to match.
+  -- The value exists, and the import requires a type: the two must match.
   pub is_given-by : (r : Bool) (given ty : ExternType) → extern_type store e ≡ Some given → wanted ≡ Some ty → (IsTrue r ↔ Matches given ty) → IsTrue r ↔ IsGiven store e wanted
   is_given-by r given ty there asked match = (
     λ yes. (given, ty, there, asked, match.0 yes),
@@ -21,11 +21,11 @@ module _ (store : Store) (e : Extern) (wanted : Option ExternType) where
         match.1 (subst (λ (t : ExternType). Matches given t) same_type (subst (λ (g : ExternType). Matches g w.1) same_given w.4)),
   )
 
-  -- The import asks for nothing.
+  -- The import requires nothing.
   pub not_given-unasked : wanted ≡ None → IsGiven store e wanted → ⊥
   not_given-unasked unasked w = absurd cc
 
--- One import more is given what it asks for.
+-- One more import is given what it requires.
 pub given-next : (store : Store) (m : Module) (imports : List Import) (externs : List Extern) (k : ℕ) (i : Import) (e : Extern) → slice_get imports k ≡ Some i → slice_get externs k ≡ Some e → IsGiven store e (import_type m i.desc)
     → AreGiven store m (take k imports) externs → AreGiven store m (take (suc k) imports) externs
 given-next store m [] externs k i e there given is before = absurd cc

@@ -55,7 +55,7 @@ objects-within store i m objects bounds is few_entries few_pages = record {
 }
 
 module _ (number : ℕ) (m : Module) (given : List Extern) (old : Store) (code : Contents) (s : StateContents) (a : IsAllocated number m given old (store_with code s)) where
-  -- The new instance has the number that is answered.
+  -- The new instance has the number that is returned.
   numbered : slice_get (store_with code s).instances number ≡ Some (new_instance old m given)
   numbered =
       ap (slice_get (store_with code s).instances) a.number_is ∙ ap (λ (store : Store). slice_get store.instances (length old.instances)) a.store_is ∙ slice_get-seam old.instances (new_instance old m given) []
@@ -63,7 +63,7 @@ module _ (number : ℕ) (m : Module) (given : List Extern) (old : Store) (code :
   pub allocated-instance : HasInstance code number m
   allocated-instance = (addresses_in (new_instance old m given), numbered)
 
-  -- What it runs goes well.
+  -- The tasks of the link go well.
   pub allocated-good : ((b : Body) → body_of (writing b) ≡ b) → StoreIsValid old → IsLinkable old m given → TasksAreGood (store_with code s) number (instance_of (code_store code) (Some number)) (tasks_of m)
   allocated-good read valid linkable =
       let instance_is : instance_of (code_store code) (Some number) ≡ new_instance old m given = ap (λ (o : Option ModuleInstance). unwrap_or o no_instance) numbered in
@@ -76,7 +76,7 @@ module _ (number : ℕ) (m : Module) (given : List Extern) (old : Store) (code :
   allocated-ready host_type hosts ready =
       subst (λ (store : Store). AreReady host_type store hosts) (sym a.store_is) (ready-linked host_type old m (new_instance old m given) a.objects hosts ready)
 
-  -- What runs in it is the instantiation.
+  -- The run of the tasks is the instantiation.
   module _ {H : Type 0} (HostStep : List H → ℕ → Option ℕ → List Val → Store → Answer → Store → List H → Type 0) (hosts : List H) (bound fuel : ℕ) where
     ran-links : (ending : Ending) (last : State H) → RunTasks HostStep bound number (instance_of (code_store code) (Some number)) (run_state (store_with code s) hosts fuel) (tasks_of m) ending last → Instantiation HostStep bound m given (run_state old hosts fuel) ending last
     ran-links ending last ran =

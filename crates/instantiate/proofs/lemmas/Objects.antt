@@ -25,7 +25,7 @@ use Rattle.instantiate.specs.Objects.{OnNoValue}
 
 -- ---- faults
 
--- Where one thing is missing, another is.
+-- If one object is missing, another one is.
 pub fault-passed : {X Y : Type 0} (fault : ObjectFault) (o : Option X) (p : Option Y) → (o ≡ None → p ≡ None) → OnNoValue {T = Unit {0}} (Err fault) o → OnNoValue {T = Unit {0}} (Err fault) p
 fault-passed NoValue o p none missing = none missing
 fault-passed Memory o p none missing = tt

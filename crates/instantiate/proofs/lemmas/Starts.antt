@@ -1,4 +1,4 @@
--- A start function that takes arguments, or is not there.
+-- A start function that takes arguments, or does not exist.
 use Rattle.std.proofs.Common.{◌≡◌, ℕ, List, [], ◌∷◌, length, refl, sym, subst, arith}
 use Rattle.std.specs.Prelude.{Option, Some, None, slice_get}
 use Rattle.core_types.specs.declared.types.ValType.{ValType}

@@ -1,4 +1,4 @@
--- Instructions of a link as steps and runs, and these as its tasks.
+-- Instructions of a link as steps and runs, and the runs as its tasks.
 use Rattle.std.proofs.Common.{◌≡◌, ℕ, suc, ◌+◌, ◌%◌, ◌^◌, ◌<◌, ◌≤◌, List, [], ◌∷◌, ◌++◌, length, get_or, drop, reverse, refl, sym, ap, subst, ◌∙◌, append_assoc, arith}
 use Rattle.std.specs.Prelude.{Option, Some, None, Result, Ok, Err, slice_get}
 use Rattle.std.proofs.lemmas.List.{drop_more}
@@ -39,7 +39,7 @@ at store fuel = record { store = store; hosts = []; fuel = fuel }
 
 -- ---- runs
 
--- A step before a run, however that goes on.
+-- A step before a run, however the run continues.
 step-before : (ending : Option Ending) (bound : ℕ) (frame : Frame) (old mid new : State ⊥) (first second : Configuration) → IsStep NoHosts bound frame old first mid second → RunsOn NoHosts bound frame mid second ending new → RunsOn NoHosts bound frame old first ending new
 step-before (Some ending) bound frame old mid new first second s run = step s run
 step-before None bound frame old mid new first second s gets = record { at = gets.at; reached = gets.reached; steps = Steps-join NoHosts bound frame (one_more of.none s) gets.steps; stuck = gets.stuck }
@@ -49,11 +49,11 @@ pub step-runs : {U : Type 0} (r : Result U TaskEnd) (bound : ℕ) (frame : Frame
 step-runs (Ok u) bound frame old mid new first second s run = (run.0, step s run.1)
 step-runs (Err o) bound frame old mid new first second s run = record { ends = step-before (ending_in o) bound frame old mid new first second s run.ends; no_values = run.no_values }
 
--- A step to values alone.
+-- A step to values only.
 pub step-over : (bound : ℕ) (frame : Frame) (old new : State ⊥) (first : Configuration) (values : List Val) → IsStep NoHosts bound frame old first new (Running values Empty) → Run NoHosts bound frame old first (WithValues (reverse values)) new
 step-over bound frame old new first values s = step s (end (values_left refl refl refl))
 
--- A call from outside that ended so.
+-- A call from outside that ended like this.
 pub called : {H : Type 0} (HostStep : List H → ℕ → Option ℕ → List Val → Store → Answer → Store → List H → Type 0) {U : Type 0} (r : Result U TaskEnd) (outcome : Outcome) (bound : ℕ) (frame : Frame) (old new : State H) (configuration : Configuration)
     → EndsAs r outcome → Run HostStep bound frame old configuration (ending_of outcome) new → RunsTo HostStep r bound frame old configuration new
 called HostStep (Ok u) outcome bound frame old new configuration (values, is) run = (values, subst (λ (o : Outcome). Run HostStep bound frame old configuration (ending_of o) new) is run)
@@ -62,13 +62,13 @@ called HostStep (Err o) outcome bound frame old new configuration (is, none) run
 -- ---- tasks
 
 module _ {H : Type 0} (HostStep : List H → ℕ → Option ℕ → List Val → Store → Answer → Store → List H → Type 0) (bound instance : ℕ) (i : ModuleInstance) where
-  -- A task that is done goes before others, however these go on.
+  -- A completed task is before others, however these continue.
   done-before : (ending : Option Ending) (old between last : State H) (task : Task) (tasks : List Task) (a : Activity) (values : List Val) → activity old.store instance i task ≡ Some a → RunOf HostStep bound old a (WithValues values) between
       → TasksRunOn HostStep bound instance i between tasks ending last → TasksRunOn HostStep bound instance i old (task ∷ tasks) ending last
   done-before (Some ending) old between last task tasks a values is run more = done is run more
   done-before None old between last task tasks a values is run more = later is run more
 
-  -- A task ends all.
+  -- A task ends all tasks.
   ended-here : (ending : Option Ending) (old last : State H) (task : Task) (tasks : List Task) (a : Activity) → activity old.store instance i task ≡ Some a → RunsOn HostStep bound a.frame old a.configuration ending last → IsWithoutValues ending
       → TasksRunOn HostStep bound instance i old (task ∷ tasks) ending last
   ended-here (Some ending) old last task tasks a is run none = ended is run none
@@ -95,7 +95,7 @@ module _ {H : Type 0} (HostStep : List H → ℕ → Option ℕ → List Val →
   started r old new x address has run =
       ran-one r old new (Starts x) (record { frame = no_frame; configuration = Invoking [] address }) (rw has refl) run
 
-  -- There is none under the index.
+  -- There is no function under the index.
   pub not-started : (old : State H) (x : ℕ) → slice_get i.functions x ≡ None → EndedTasks HostStep bound instance i old (Starts x ∷ []) Stuck old
   not-started old x none = lost-one old (Starts x) (rw none refl)
 
@@ -116,7 +116,7 @@ module _ {H : Type 0} (HostStep : List H → ℕ → Option ℕ → List Val →
   -- ---- the tasks of items, one after the other
 
   module _ {A : Type 0} (task : ℕ → A → List Task) (items : List A) (start : State H) where
-    -- What runs the rest of them from here runs all from the start.
+    -- A run of the rest of the tasks from here is a run of all from the start.
     abbrev pub SoFar : (now : State H) → ℕ → Type 0
     SoFar now k =
         (further : List Task) (ending : Option Ending) (last : State H)
@@ -142,7 +142,7 @@ module _ {H : Type 0} (HostStep : List H → ℕ → Option ℕ → List Val →
     tasks-done now k past so_far =
         λ further ending last more. so_far further ending last (subst (λ (rest : List A). TasksRunOn HostStep bound instance i now (tasks_by task k rest ++ further) ending last) (sym (drop_of_length-le items past)) more)
 
-  -- ---- a copy whose offset is no i32
+  -- ---- a copy whose offset is not an i32
 
   module _ (old : State H) (count : ℕ) where
     abbrev Lacking : (init : PlainOp) → Type 0
@@ -173,7 +173,7 @@ module _ {H : Type 0} (HostStep : List H → ℕ → Option ℕ → List Val →
         go None = refl
         go (Some (a, m)) = bytes-lack a m (data_at old.store (frame_of instance) segment) v none rest
 
-  -- A copy is stuck whose offset is no i32.
+  -- A copy whose offset is not an i32 is stuck.
   module _ (old : State H) (offset : List Op) (count : ℕ) (init drop : PlainOp) (lacking : Lacking old (count % 2 ^ 32) init) where
     stuck-copy : HasNoI32 (constant_value old.store i offset) → EndedTasks HostStep bound instance i old (Copies offset count init drop ∷ []) Stuck old
     stuck-copy none = go (constant_value old.store i offset) refl none

@@ -37,13 +37,13 @@ pub good-part : (store : Store) (n : ℕ) (i : ModuleInstance) (first second thi
 good-part store n i first second third good at valid more =
     All-before (TaskIsGood at n i) (first ++ second) third (subst (All (TaskIsGood at n i)) (sym (append_assoc first second third)) (good at valid more))
 
--- What is given is given for the imports alone.
+-- Values after the last import can be left out.
 pub given-taken : (store : Store) (m : Module) (imports : List Import) (externs : List Extern) → AreGiven store m imports externs → AreGiven store m imports (take (length imports) externs)
 given-taken store m [] externs given = tt
 given-taken store m (i ∷ imports) [] given = absurd given
 given-taken store m (i ∷ imports) (e ∷ externs) given = (given.0, given-taken store m imports externs given.1)
 
--- A loaded module may be linked with what is given for its imports.
+-- A loaded module can be linked with what is given for its imports.
 pub is-linkable : (store : Store) (m : Module) (externs : List Extern) (n : ℕ) → n ≡ length m.imports → IsSoundModule m → IsAllowed store m externs → IsLinkable store m (take n externs)
 is-linkable store m externs n count sound allowed =
     let enough = given-enough store m m.imports externs allowed.given in

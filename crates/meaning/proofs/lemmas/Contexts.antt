@@ -101,7 +101,7 @@ labels_extension : (types : List ValType) (labels others : List (List ValType)) 
 labels_extension types labels others more zero item is = is
 labels_extension types labels others more (suc x) item is = more x item is
 
--- A label more in both.
+-- One more label in both.
 Carries-with_label : (a b : Context) (types : List ValType) → Carries a b → Carries (with_label a types) (with_label b types)
 Carries-with_label a b types more = record {
   types = more.types;

@@ -1,4 +1,4 @@
--- What the formulas of the integer operators say of numbers and of bits.
+-- What the formulas of the integer operators state of numbers and of bits.
 use Rattle.std.proofs.Common.{ℕ, zero, suc, ◌≡◌, ◌<◌, ◌≤◌, ◌+◌, ◌-◌, ◌*◌, ◌/◌, ◌%◌, ◌^◌, ◌∙◌, true, false, inl, inr, sym, ap, refl, arith, add-zero}
 use Rattle.std.specs.Prelude.{pos, negsuc, neg_ℤ, ◌-ℤ◌, ◌≤ℤ◌, ◌<ℤ◌, unsigned_abs, if◌then◌else◌, nat_lt, ◌==◌}
 use Rattle.std.specs.Int.{bit_at, int_rem_euclid}
@@ -107,7 +107,7 @@ low_bits a j i h = sym (bit_at_cat_low (a / 2 ^ j) j (a % 2 ^ j) i h) ∙ ap (λ
 high_bits : (a j i m : ℕ) → j + m ≡ i → bit_at (a / 2 ^ j) m ≡ bit_at a i
 high_bits a j i m e = ap (λ x. x % 2) (shr-shr a j m) ∙ ap (bit_at a) e
 
--- the two parts change their places
+-- the two parts exchange their places
 moved : (a j k i place : ℕ) → a < 2 ^ (k + j) → i < j + k → place ≡ (i + k) % (j + k) → bit_at ((a % 2 ^ j) * 2 ^ k + a / 2 ^ j) place ≡ bit_at a i
 moved a j k i place h l e = elim (cases_lt i j) [
   | inl below ↦
@@ -139,7 +139,7 @@ right_moves bits j k a i e h l =
     ∙ ap (λ n. bit_at n i) (add_comm (a / 2 ^ k) ((a % 2 ^ k) * 2 ^ j))
     ∙ moved a k j ((i + k) % bits) i small within (sym returns ∙ ap (λ n. ((i + k) % bits + j) % n) whole)
 
--- a rotation by b places is one by what b leaves modulo the number of bits
+-- a rotation by b places is one by the remainder of b modulo the number of bits
 pub whole_of : (bits b : ℕ) → 0 < bits → bits ≡ (bits - b % bits) + b % bits
 whole_of bits b some = omega (arith, mod-lt b some)
 

@@ -1,4 +1,4 @@
--- A host function keeps the types of all.
+-- A host function keeps the types of all host functions.
 use Rattle.std.proofs.Common.{◌≡◌, ℕ, zero, suc, List, [], ◌∷◌, refl, ap, sym, ◌∙◌}
 use Rattle.std.specs.Prelude.{Option, Some, None, option_map, slice_get, slice_set}
 use Rattle.core_types.specs.declared.outcome.Val.{Val}
@@ -8,7 +8,7 @@ use Rattle.meaning.specs.execution.Memories.{MemoryInstance}
 use Rattle.meaning.specs.execution.Runs.{Answer}
 use Rattle.meaning.specs.execution.Store.{FunctionInstance, Store}
 
--- The functions of a store are not lent.
+-- The functions of a store are not changed by bytes of a memory.
 functions-with : (store : Store) (address : ℕ) (there : Option MemoryInstance) (bytes : List ℕ) → (with_bytes store address there bytes).functions ≡ store.functions
 functions-with store address None bytes = refl
 functions-with store address (Some memory) bytes = refl
@@ -18,7 +18,7 @@ functions-lent store None bytes = refl
 functions-lent store (Some address) bytes = functions-with store address (slice_get store.memories address) bytes
 
 module _ {H : Type 0} (host_type : H → FuncType) where
-  -- One that has a type is there.
+  -- One that has a type exists.
   pub host-there : (hosts : List H) (number : ℕ) (t : FuncType) → HasType host_type hosts number t → (host : H) × (slice_get hosts number ≡ Some host) × (host_type host ≡ t)
   host-there hosts number t has = go (slice_get hosts number) refl has
     where
@@ -27,7 +27,7 @@ module _ {H : Type 0} (host_type : H → FuncType) where
       go (Some host) e is = (host, e, cc)
 
 module _ {H : Type 0} (host_type : H → FuncType) (Answers : H → List Val → List ℕ → Answer → List ℕ → H → Type 0) where
-  -- A host in the place of another one of its type leaves all types.
+  -- Replacing a host function with another one of its type leaves all types unchanged.
   typed-set : (hosts : List H) (number : ℕ) (host host' : H) → slice_get hosts number ≡ Some host → host_type host' ≡ host_type host
       → (other : ℕ) → option_map host_type (slice_get (slice_set hosts number host') other) ≡ option_map host_type (slice_get hosts other)
   typed-set [] number host host' is same other = absurd cc

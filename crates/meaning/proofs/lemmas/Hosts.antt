@@ -1,4 +1,4 @@
--- What is done without host functions is done over any.
+-- A run without host functions is a run over any host functions.
 use Rattle.std.proofs.Common.{ℕ, List, refl, ap}
 use Rattle.std.specs.Prelude.{Option}
 use Rattle.core_types.specs.declared.outcome.Val.{Val}

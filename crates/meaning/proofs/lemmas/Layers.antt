@@ -1,4 +1,4 @@
--- What a configuration does inside of labels and frames is what the whole does.
+-- A step of a configuration within labels and frames is a step of the whole.
 use Rattle.std.proofs.Common.{◌≡◌, ℕ, zero, ◌+◌, ◌<◌, ◌≤◌, List, [], ◌∷◌, ◌++◌, length, take, refl, ap, sym, ◌∙◌, add-suc, add-zero, suc-add, zero-add, arith}
 use Rattle.std.proofs.lemmas.Bool.{le-leb, leb-true}
 use Rattle.std.specs.Prelude.{Bool, Option, Some, true, false, if◌then◌else◌, nat_le}
@@ -21,7 +21,7 @@ module _ {A : Type 0} (a b : ℕ) (x y : A) where
       go true e = absurd (let le : a ≤ b = leb-true a b e in omega arith)
       go false e = ap (λ (t : Bool). if t then x else y) e
 
--- ---- a step inside of layers
+-- ---- a step within layers
 
 module _ (store : Store) where
   pub plugged-goes : (layers : List Layer) (frame frame' : Frame) (store' : Store) (cost : ℕ) (x y : Configuration) → next store frame x ≡ Goes cost store' frame' y → next store (outermost layers frame) (plug layers frame x) ≡ Goes cost store' (outermost layers frame') (plug layers frame' y)
@@ -54,26 +54,26 @@ module _ (store : Store) where
   plugged-waits (AroundLabel label ∷ layers) frame x e = plugged-waits layers frame (InLabel label x) (ap (step_in_label store frame label) e)
   plugged-waits (AroundFrame activation outer ∷ layers) frame x e = plugged-waits layers outer (InFrame activation frame x) (ap (step_in_frame store outer activation frame) e)
 
--- Results of a host function are put inside of the layers.
+-- Results of a host function are pushed within the layers.
 pub plugged-answered : (layers : List Layer) (frame : Frame) (results : List Val) (x : Configuration) → answered results (plug layers frame x) ≡ plug layers frame (answered results x)
 plugged-answered [] frame results x = refl
 plugged-answered (AroundLabel label ∷ layers) frame results x = plugged-answered layers frame results (InLabel label x)
 plugged-answered (AroundFrame activation outer ∷ layers) frame results x = plugged-answered layers outer results (InFrame activation frame x)
 
--- The frames of the layers, and those inside of them.
+-- The frames of the layers, and those within them.
 pub plugged-depth : (layers : List Layer) (frame : Frame) (x : Configuration) → depth (plug layers frame x) ≡ count_frames layers + depth x
 plugged-depth [] frame x = sym (zero-add (depth x))
 plugged-depth (AroundLabel label ∷ layers) frame x = plugged-depth layers frame (InLabel label x)
 plugged-depth (AroundFrame activation outer ∷ layers) frame x = plugged-depth layers outer (InFrame activation frame x) ∙ add-suc (count_frames layers) (depth x) ∙ sym (suc-add (count_frames layers) (depth x))
 
--- ---- labels alone
+-- ---- labels only
 
--- A configuration inside of labels, the innermost first.
+-- A configuration within labels, the innermost first.
 abbrev pub in_labels : List Label → Configuration → Configuration
 in_labels [] x = x
 in_labels (label ∷ labels) x = in_labels labels (InLabel label x)
 
--- Labels inside of layers.
+-- Labels within layers.
 abbrev pub around_labels : List Label → List Layer → List Layer
 around_labels [] layers = layers
 around_labels (label ∷ labels) layers = AroundLabel label ∷ around_labels labels layers
@@ -93,7 +93,7 @@ frames-labels (label ∷ labels) layers = frames-labels labels layers
 -- ---- branches and returns
 
 module _ (store : Store) (frame : Frame) (kept : List Val) where
-  -- A branch goes through the labels inside of the one that it is to.
+  -- A branch leaves the labels within its target.
   pub branch-passes : (labels : List Label) (further : ℕ) (x : Configuration) → next store frame x ≡ Branches (length labels + further) kept → next store frame (in_labels labels x) ≡ Branches further kept
   branch-passes [] further x e = e ∙ ap (λ (n : ℕ). Branches n kept) (zero-add further)
   branch-passes (label ∷ labels) further x e = branch-passes labels further (InLabel label x) (ap (step_in_label store frame label) (e ∙ ap (λ (n : ℕ). Branches n kept) (suc-add (length labels) further)))

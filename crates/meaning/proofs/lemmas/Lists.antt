@@ -1,19 +1,19 @@
--- Lists that a loop makes, item by item.
+-- Lists that a loop builds, item by item.
 use Rattle.std.proofs.Common.{◌≡◌, ℕ, ◌+◌, ◌<◌, ◌≤◌, List, [], ◌∷◌, ◌++◌, append_assoc, ap, drop, get_or, length, map, refl, sym, take, ◌∙◌}
 use Rattle.std.specs.Prelude.{Option, Some, None}
 use Rattle.std.proofs.lemmas.List.{append-nil, drop_more, map-append, take_more}
 use Rattle.std.proofs.Math.ListN.{drop_of_length-le}
 use Rattle.meaning.specs.execution.Modules.{cons, map_all}
 
--- ---- what each of them has
+-- ---- the value of each item
 
 module _ {A B : Type 0} (f : A → B) where
   pub map-next : (xs : List A) (k : ℕ) (d : A) → k < length xs → map f (take k xs) ++ f (get_or xs k d) ∷ [] ≡ map f (take (k + 1) xs)
   map-next xs k d inside = sym (ap (map f) (take_more xs k d inside) ∙ map-append f (take k xs) (get_or xs k d ∷ []))
 
--- ---- what each of them has, if each has it
+-- ---- the value of each item, if each item has one
 
--- Items before those that there are, if there are any.
+-- Items before the existing ones, if there are any.
 abbrev prepended : {B : Type 0} → List B → Option (List B) → Option (List B)
 prepended items None = None
 prepended items (Some others) = Some (items ++ others)
@@ -22,13 +22,13 @@ prepended-one : {B : Type 0} (ys : List B) (y : B) (rest : Option (List B)) → 
 prepended-one ys y None = refl
 prepended-one {B = B} ys y (Some zs) = ap (λ (all : List B). Some all) (sym (append_assoc ys (y ∷ []) zs))
 
--- The items of an option, none where there is none.
+-- The items of an option, or an empty list if there are none.
 abbrev items_in : {B : Type 0} → Option (List B) → List B
 items_in None = []
 items_in (Some ys) = ys
 
 module _ {A B : Type 0} (f : A → Option B) (xs : List A) where
-  -- What there is so far, before what there is of the rest.
+  -- The values so far, before those of the rest.
   abbrev pub SoFar : ℕ → List B → Type 0
   SoFar k ys = map_all f xs ≡ prepended ys (map_all f (drop k xs))
 
@@ -45,7 +45,7 @@ module _ {A B : Type 0} (f : A → Option B) (xs : List A) where
       so_far ∙ ap (λ (rest : List A). prepended ys (map_all f rest)) (drop_of_length-le xs past) ∙ ap (λ (all : List B). Some all) (append-nil ys)
 
 module _ {A B : Type 0} (f : A → Option B) where
-  -- A list of what each has is as long as the items.
+  -- The list of the values of items is as long as the items.
   pub map_all-length : (xs : List A) (ys : List B) → map_all f xs ≡ Some ys → length ys ≡ length xs
   map_all-length [] ys e = rw (← ap items_in e) refl
   map_all-length (x ∷ xs) ys e = by-first (f x) (map_all f xs) (λ zs is. map_all-length xs zs is) e

@@ -61,7 +61,7 @@ left_range bits a j k e h =
     let high = ap (λ n. (a * 2 ^ k) / 2 ^ n) e ∙ high_part a j k in
     rw (low, high) (parts_range bits a j k (e ∙ add_comm j k) h)
 
--- A result that a test chooses.
+-- The result that a test selects.
 either_range : (P : ℕ → Type 0) (test : Bool) (first second : Result ℕ Trap) → IfOk first P → IfOk second P → IfOk (if test then first else second) P
 either_range P true first second h k = h
 either_range P false first second h k = k

@@ -18,7 +18,7 @@ module _ {H : Type 0} where
       state s hs n = record { store = s; hosts = hs; fuel = n }
 
 module _ {H : Type 0} (HostStep : List H → ℕ → Option ℕ → List Val → Store → Answer → Store → List H → Type 0) (bound : ℕ) (outside : Frame) where
-  -- An end for want of memory is before a step that asks for some.
+  -- An end out of memory is before a step that asks for memory.
   pub memory-asked : {at last : State H} {configuration : Configuration} {ending : Ending} → ending ≡ OutOfMemory → IsEnd HostStep bound outside at configuration ending last → AsksForMemory (next at.store outside configuration)
   memory-asked wants (values_left is e l) = absurd (let both = sym wants ∙ e in cc)
   memory-asked wants (trapped is le e l) = absurd (let both = sym wants ∙ e in cc)
@@ -27,7 +27,7 @@ module _ {H : Type 0} (HostStep : List H → ℕ → Option ℕ → List Val →
   memory-asked wants (no_depth is le deep e l) = absurd (let both = sym wants ∙ e in cc)
   memory-asked wants (no_memory asks within le e l) = asks
 
-  -- A run behind steps is a run from before them.
+  -- A run after steps is a run from before them.
   pub Steps-run : {old between last : State H} {first second : Configuration} {ending : Ending} → Steps HostStep bound outside old first between second → Run HostStep bound outside between second ending last → Run HostStep bound outside old first ending last
   Steps-run none run = run
   Steps-run (one_more before last) run = Steps-run before (step last run)
@@ -36,7 +36,7 @@ module _ {H : Type 0} (HostStep : List H → ℕ → Option ℕ → List Val →
   Steps-join before none = before
   Steps-join before (one_more more last) = one_more (Steps-join before more) last
 
-  -- Steps leave no more fuel than there was.
+  -- Steps leave at most the fuel that there was.
   step-fuel : {old new : State H} {first second : Configuration} → IsStep HostStep bound outside old first new second → new.fuel ≤ old.fuel
   step-fuel (goes is le f h) = omega (arith, f)
   step-fuel (grows is le f h) = omega (arith, f)
@@ -50,7 +50,7 @@ module _ {H : Type 0} (HostStep : List H → ℕ → Option ℕ → List Val →
       let second = step-fuel last in
       omega (arith, first, second)
 
-  -- ---- what may come of what is next
+  -- ---- what the next step can lead to
 
   module _ (at : State H) (frames : ℕ) where
     abbrev NoFuel : ℕ → Ending → State H → Type 0
@@ -121,7 +121,7 @@ module _ {H : Type 0} (HostStep : List H → ℕ → Option ℕ → List Val →
     IsStep-at {new} (opens is le f h lt) = rw is ((le, same-state new _ refl h f, refl), lt)
     IsStep-at (calls {results = results} is le f host c) = rw is (results, le, f, host, c)
 
-  -- ---- only one of them comes
+  -- ---- only one of them occurs
 
   -- Each host function answers in one way.
   abbrev pub AnswersInOneWay : Type 0

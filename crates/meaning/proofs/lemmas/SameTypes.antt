@@ -1,4 +1,4 @@
--- Types are the same exactly where they are equal.
+-- Types are the same exactly if they are equal.
 use Rattle.std.proofs.Common.{◌≡◌, ◌↔◌, List, [], ◌∷◌, refl, ap, ◌∙◌}
 use Rattle.std.specs.Prelude.{Bool, true, false, IsTrue}
 use Rattle.std.proofs.lemmas.Bool.{and_from, and_parts}
@@ -44,7 +44,7 @@ same-function-type t u h =
 pub function-type-same : (t : FuncType) → is_same_function_type t t ≡ true
 function-type-same t = and_from (are_same_types t.params t.params) (are_same_types t.results t.results) (types-same t.params) (types-same t.results)
 
--- What tells whether two lists of types are equal is whether they are the same.
+-- The test of whether two lists of types are equal decides whether they are the same.
 pub types_decided : (b : Bool) (ts us : List ValType) → (IsTrue b ↔ (ts ≡ us)) → are_same_types ts us ≡ b
 types_decided true ts us h = rw (h.0 refl) (types-same us)
 types_decided false ts us h = go (are_same_types ts us) refl
@@ -53,7 +53,7 @@ types_decided false ts us h = go (are_same_types ts us) refl
     go true e = absurd (let no = h.1 (same-types ts us e) in cc)
     go false e = refl
 
--- What tells whether two types of functions are equal is whether they are the same.
+-- The test of whether two types of functions are equal decides whether they are the same.
 pub function_type_decided : (b : Bool) (t u : FuncType) → (IsTrue b ↔ (t ≡ u)) → is_same_function_type t u ≡ b
 function_type_decided true t u h = rw (h.0 refl) (function-type-same u)
 function_type_decided false t u h = go (is_same_function_type t u) refl

@@ -35,7 +35,7 @@ AllFit-joined [] (u ∷ us) more others first second = absurd first
 AllFit-joined (t ∷ ts) [] more others first second = absurd first
 AllFit-joined (t ∷ ts) (u ∷ us) more others first second = (first.0, AllFit-joined ts us more others first.1 second)
 
--- What fits two lists that are joined is joined likewise.
+-- If a list fits two joined lists, its parts fit them.
 pub AllFit-parts : (ts wanted more : List OperandType) → AllFit ts (wanted ++ more) → (front back : List OperandType) × (ts ≡ front ++ back) × AllFit front wanted × AllFit back more
 AllFit-parts ts [] more fits = ([], ts, refl, tt, fits)
 AllFit-parts [] (w ∷ wanted) more fits = absurd fits
@@ -45,7 +45,7 @@ AllFit-parts (t ∷ ts) (w ∷ wanted) more fits =
 
 -- ---- bodies
 
--- Operands that fit those of a stack can be given in their place.
+-- Operands that fit those of a stack can be given instead.
 taken-before : (operands results before given after : List OperandType) → AllFit given before → TakesAndGives operands results before after → (now : List OperandType) × TakesAndGives operands results given now × AllFit now after
 taken-before operands results before given after fits frame =
     let (below, top, parts, fits_below, fits_top) = AllFit-parts given frame.below frame.given (rw frame.before_is at fits) in
@@ -55,7 +55,7 @@ taken-before operands results before given after fits frame =
       rw frame.after_is left,
     )
 
--- What lies below the stacks stays.
+-- What is below the stacks stays.
 taken-weakening : (under operands results before after : List OperandType) → TakesAndGives operands results before after → TakesAndGives operands results (under ++ before) (under ++ after)
 taken-weakening under operands results before after frame = record {
   below = under ++ frame.below;
@@ -81,7 +81,7 @@ HasType-after context (Then op rest) before after wanted (operands, results, bet
 HasType-after context (Nested kind type inner rest) before after wanted (s, between, is, inside, other, frame, last) fits = (s, between, is, inside, other, frame, HasType-after context rest between after wanted last fits)
 HasType-after context (IfElse type inner other rest) before after wanted (s, between, is, inside, second, frame, last) fits = (s, between, is, inside, second, frame, HasType-after context rest between after wanted last fits)
 
--- A body that leads from a stack leads from each that fits it.
+-- A body that leads from a stack leads from each stack that fits it.
 pub HasType-before : (context : Context) (body : Body) (before given after : List OperandType) → AllFit given before → HasType context body before after → HasType context body given after
 HasType-before context Empty before given after fits typed = AllFit-through given before after fits typed
 HasType-before context (Then op rest) before given after fits (operands, results, between, rule, frame, last) =

@@ -1,4 +1,4 @@
--- The spellings of instructions, bodies and expressions (Binary Format, Instructions).
+-- The encodings of instructions, bodies and expressions (Binary Format, Instructions).
 use Rattle.std.specs.Prelude.{◌≡◌, ℕ, ◌+◌, ◌-◌, ◌^◌, ◌⊎◌, suc, ℤ, pos, negsuc, List, [], ◌∷◌, Option, Some, None, slice_get, ◌++◌}
 use Rattle.core_types.specs.declared.op.BinaryOp.{BinaryOp}
 use Rattle.core_types.specs.declared.op.BinaryOp.TheVariants.{Add, Sub, Mul, DivS, DivU, RemS, RemU, And, Or, Xor, Shl, ShrS, ShrU, Rotl, Rotr}
@@ -47,7 +47,7 @@ stored bits (negsuc n) = 2 ^ bits - suc n
 abbrev pub SpellsStored : ℕ → List ℕ → ℕ → Type 0
 SpellsStored bits bytes n = (z : ℤ) × SpellsSigned bits bytes z × (n ≡ stored bits z)
 
--- The byte FC, an unsigned number, and a spelling behind them.
+-- The byte FC, an unsigned number, and an encoding after them.
 abbrev pub SpellsPrefixed : {V : Type 0} → ℕ → (List ℕ → V → Type 0) → List ℕ → V → Type 0
 SpellsPrefixed {V} n Spells bytes v =
     SpellsTagged 0xFC (SpellsPair (SpellsUnsigned 32) Spells) bytes (n, v)
@@ -94,7 +94,7 @@ SpellsVariable bytes (LocalTee x) = SpellsTagged 0x22 SpellsIndex bytes x
 SpellsVariable bytes (GlobalGet x) = SpellsTagged 0x23 SpellsIndex bytes x
 SpellsVariable bytes (GlobalSet x) = SpellsTagged 0x24 SpellsIndex bytes x
 
--- Table Instructions. A copy names the table that it writes first, an initialisation the segment.
+-- Table Instructions. A copy first names the table that it writes. An initialization first names the segment.
 abbrev pub SpellsTable : List ℕ → TableOp → Type 0
 SpellsTable bytes (table.Get x) = SpellsTagged 0x25 SpellsIndex bytes x
 SpellsTable bytes (table.Set x) = SpellsTagged 0x26 SpellsIndex bytes x
@@ -106,12 +106,12 @@ SpellsTable bytes (table.Grow x) = SpellsPrefixed 15 SpellsIndex bytes x
 SpellsTable bytes (table.Size x) = SpellsPrefixed 16 SpellsIndex bytes x
 SpellsTable bytes (table.Fill x) = SpellsPrefixed 17 SpellsIndex bytes x
 
--- One byte, the opcode that x has in a row of opcodes from the first on.
+-- One byte, the opcode of x in a row of opcodes from the first on.
 abbrev pub IsOpcode : {X : Type 0} → ℕ → List (Option X) → X → ℕ → Type 0
 IsOpcode {X} first row x code =
     (place : ℕ) × (slice_get row place ≡ Some (Some x)) × (code ≡ first + place)
 
--- The loads by opcode, from 28 on. Where there is none, there is an instruction on floating-point numbers.
+-- The loads by opcode, from 28 on. If there is none, the opcode is an instruction on floating-point numbers.
 abbrev pub loads : List (Option LoadOp)
 loads =
     Some (load.Whole W32) ∷ Some (load.Whole W64) ∷ None ∷ None
@@ -202,7 +202,7 @@ opcode_of BlockKind = 0x02
 opcode_of LoopKind = 0x03
 opcode_of IfKind = 0x04
 
--- Instructions in a row. A body goes down to the byte 0B, the first one of an if with two down to the byte 05.
+-- Instructions in a row. A body extends to the byte 0B, and the first body of an if with two extends to the byte 05.
 abbrev pub SpellsBody : List ℕ → Body → Type 0
 SpellsBody bytes Empty = bytes ≡ []
 SpellsBody bytes (Then op rest) =

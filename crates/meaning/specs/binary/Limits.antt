@@ -4,7 +4,7 @@ use Rattle.core_types.specs.declared.types.FuncType.{FuncType}
 use Rattle.core_types.specs.declared.module.Func.{Func}
 use Rattle.core_types.specs.declared.module.Module.{Module}
 
--- How many parameters a type has; none where there is no type.
+-- The number of parameters of a type, or 0 if there is no type.
 abbrev pub parameter_count : Option FuncType → ℕ
 parameter_count None = 0
 parameter_count (Some t) = length t.params

@@ -1,4 +1,4 @@
--- The spelling of a module, section by section (Binary Format, Modules).
+-- The encoding of a module, section by section (Binary Format, Modules).
 use Rattle.std.specs.Prelude.{◌≡◌, ℕ, ◌<◌, ◌^◌, ◌⊎◌, List, [], ◌∷◌, ◌++◌, length, map, replicate, All, Bool, true, false, Option, Some, None}
 use Rattle.core_types.specs.declared.types.RefType.{RefType}
 use Rattle.core_types.specs.declared.types.RefType.TheVariants.{FuncRef}
@@ -57,7 +57,7 @@ SpellsExportDesc bytes (export.Global x) = SpellsTagged 0x03 SpellsIndex bytes x
 abbrev pub SpellsExport : List ℕ → Export → Type 0
 SpellsExport bytes e = SpellsBoth SpellsName SpellsExportDesc bytes e.name e.desc
 
--- A segment begins with the number of its form, and goes on by the form.
+-- A segment begins with the number of its form, and continues by the form.
 abbrev pub SpellsForm : {V : Type 0} → ℕ → (List ℕ → V → Type 0) → List ℕ → V → Type 0
 SpellsForm {V} form Spells bytes v = SpellsBoth (SpellsUnsigned 32) Spells bytes form v
 
@@ -73,7 +73,7 @@ SpellsReferences bytes references =
 abbrev pub element : RefType → ElementItems → ElementMode → ElementSegment
 element ty items mode = record { ty = ty; items = items; mode = mode }
 
--- Element Section: the eight forms. A table that is not named is table 0, a type that is not named funcref.
+-- Element Section: the eight forms. A table that is not named is table 0, and a type that is not named is funcref.
 pub data SpellsElement : List ℕ → ElementSegment → Type 0 where
   form_0 : {bytes indices : List ℕ} {offset : List Op}
       → SpellsForm 0 (SpellsPair SpellsFlat (SpellsVector SpellsIndex)) bytes (offset, indices)
@@ -120,7 +120,7 @@ SpellsLocals bytes locals =
 abbrev pub SpellsFunctionContent : List ℕ → Function → Type 0
 SpellsFunctionContent bytes f = SpellsBoth SpellsLocals SpellsFlat bytes f.locals f.body
 
--- The same, behind its size.
+-- The same, after its size.
 abbrev pub SpellsCode : List ℕ → Function → Type 0
 SpellsCode bytes f = SpellsSized SpellsFunctionContent bytes f
 
@@ -142,7 +142,7 @@ pub data SpellsData : List ℕ → DataSegment → Type 0 where
       ((x, offset), content)
       → SpellsData bytes (data_segment content (data_mode.Active x offset))
 
--- A section: its id, and its content behind its size (Sections).
+-- A section: its id, its size, and its content (Sections).
 abbrev pub SpellsSection : {V : Type 0} → ℕ → (List ℕ → V → Type 0) → List ℕ → V → Type 0
 SpellsSection {V} id Spells bytes v = SpellsTagged id (SpellsSized Spells) bytes v
 
@@ -155,7 +155,7 @@ abbrev pub IsCustomSections : List ℕ → Type 0
 IsCustomSections bytes =
     (names : List (List ℕ)) × SpellsEach (SpellsSection 0 SpellsCustom) bytes names
 
--- A section with a vector; one that is absent represents the empty one.
+-- A section with a vector. An absent section represents the empty vector.
 abbrev pub HasVector : {V : Type 0} → ℕ → (List ℕ → V → Type 0) → List V → List ℕ → Type 0
 HasVector {V} id Spells vs bytes =
     SpellsSection id (SpellsVector Spells) bytes vs ⊎ ((bytes ≡ []) × (vs ≡ []))
@@ -196,7 +196,7 @@ names_data (Plain (Memory (Init segment))) = true
 names_data (Plain (Memory (DataDrop segment))) = true
 names_data op = false
 
--- The data count is the number of data segments; where it is absent, no code names a data segment (Data Count Section).
+-- The data count is the number of data segments. If it is absent, no code names a data segment (Data Count Section).
 abbrev pub IsDataCount : Module → Option ℕ → Type 0
 IsDataCount m None = All (λ (f : Function). All (λ (op : Op). names_data op ≡ false) f.body) m.funcs
 IsDataCount m (Some n) = n ≡ length m.datas

@@ -1,4 +1,4 @@
--- The spellings of types (Binary Format, Types).
+-- The encodings of types (Binary Format, Types).
 use Rattle.std.specs.Prelude.{◌≡◌, ℕ, List, [], ◌∷◌, pos, Option, Some, None}
 use Rattle.core_types.specs.declared.op.BlockType.{BlockType}
 use Rattle.core_types.specs.declared.op.BlockType.TheVariants as block
@@ -39,7 +39,7 @@ SpellsBounds bytes min None = SpellsTagged 0x00 (SpellsUnsigned 32) bytes min
 SpellsBounds bytes min (Some max) =
     SpellsTagged 0x01 (SpellsPair (SpellsUnsigned 32) (SpellsUnsigned 32)) bytes (min, max)
 
--- Limits; those of a memory are its type (Memory Types).
+-- Limits. Those of a memory are its type (Memory Types).
 abbrev pub SpellsLimits : List ℕ → Limits → Type 0
 SpellsLimits bytes limits = SpellsBounds bytes limits.min limits.max
 

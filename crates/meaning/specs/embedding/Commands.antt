@@ -14,7 +14,7 @@ pub data Command : Type 0 where
 
 -- Why a command is refused.
 pub data Refusal : Type 0 where
-  -- the bytes spell no module that is within the limits
+  -- the bytes encode no module that is within the limits
   Malformed : Refusal
   Unsupported : Refusal
   Limit : Refusal
@@ -27,9 +27,9 @@ pub data Refusal : Type 0 where
   IncompatibleImport : Refusal
   UnknownInstance : Refusal
   UnknownExport : Refusal
-  -- the export is no function, or no global
+  -- the export is not a function, or not a global
   WrongKind : Refusal
-  -- too many or too few, or one that has not its type
+  -- too many or too few, or one that does not have its type
   BadArguments : Refusal
   -- a host function is defined under the name
   NameTaken : Refusal
@@ -41,6 +41,6 @@ pub data Reply : Type 0 where
   -- an instance has this number
   Linked : (number : ℕ) → Reply
   Done : Reply
-  -- a run ended so
+  -- a run ended like this
   Ended : (ending : Ending) → Reply
   Refused : (refusal : Refusal) → Reply

@@ -31,13 +31,13 @@ has_funcref (ty.FuncRef ∷ types) = true
 has_funcref (ty.ExternRef ∷ types) = has_funcref types
 
 module _ {H : Type 0} (host_type : H → FuncType) where
-  -- Why a definition is refused where these names are taken, if it is.
+  -- Why a definition is refused, if it is, when these names are taken.
   abbrev pub fault_of : NamesContents → HostDefinition H → Option Fault
   fault_of names d =
       if has_funcref (host_type d.host).results then Some HostFuncRef
       else (if is_some (host_of names d.module_name d.name) then Some NameTaken else None)
 
-  -- The first fault of definitions, whose functions have the addresses from one on.
+  -- The first fault of definitions, whose functions have the addresses from this one on.
   abbrev pub first_fault : NamesContents → (address : ℕ) → List (HostDefinition H) → Option Fault
   first_fault names address [] = None
   first_fault names address (d ∷ ds) =
@@ -51,14 +51,14 @@ module _ {H : Type 0} (host_type : H → FuncType) where
   with_definitions names address (d ∷ ds) =
       with_definitions (with_host names d.module_name d.name address) (suc address) ds
 
-  -- Their functions, whose numbers count up from one.
+  -- Their functions, whose numbers count up from this one.
   abbrev pub host_functions : (number : ℕ) → List (HostDefinition H) → List FunctionInstance
   host_functions number [] = []
   host_functions number (d ∷ ds) =
       record { ty = host_type d.host; implementation = InHost number } ∷
       host_functions (suc number) ds
 
-  -- A store with functions alone.
+  -- A store with functions only.
   abbrev pub store_of_hosts : (pages entries : ℕ) → List (HostDefinition H) → Store
   store_of_hosts pages entries definitions = record {
     functions = host_functions 0 definitions;
@@ -72,7 +72,7 @@ module _ {H : Type 0} (host_type : H → FuncType) where
     entries = entries;
   }
 
-  -- An embedding to which no command was given.
+  -- An embedding before any command.
   abbrev pub fresh : Setup → List (HostDefinition H) → Embedding H
   fresh setup definitions = record {
     setup = setup;
@@ -86,7 +86,7 @@ module _ {H : Type 0} (host_type : H → FuncType) where
     };
   }
 
-  -- What is created: a fresh embedding, unless a definition is refused; memory may run out whatever is defined.
+  -- What is created: a fresh embedding, unless a definition is refused. Memory may run out for any definitions.
   abbrev pub Creates : Setup → List (HostDefinition H) → Result (Embedding H) Fault → Type 0
   Creates setup definitions (Ok at) =
       (first_fault no_names 0 definitions ≡ None) × (at ≡ fresh setup definitions)

@@ -1,4 +1,4 @@
--- The embedding machine, which is this project's own: what a command to an embedding answers and leaves.
+-- The embedding machine, which is this project's own: the reply to a command, and what the command leaves.
 use Rattle.std.specs.Prelude.{◌≡◌, ℕ, List, [], ◌∷◌, ◌++◌, filter_map, length, reverse, Option, Some, None, Result, Ok, Err, option_and_then, option_map, slice_get}
 use Rattle.core_types.specs.declared.module.Export.{Export}
 use Rattle.core_types.specs.declared.module.Import.{Import}
@@ -22,16 +22,15 @@ use Rattle.meaning.specs.embedding.Names.{HasHosts, NamesContents, export_of, ex
 
 -- ---- states
 
--- What an embedding is set up with: the fuel at first, the bound on open frames, and how many pages a memory and how many entries
--- a table may have.
+-- The setup of an embedding: the initial fuel, the bound on open frames, the most pages of a memory, and the most entries of a table.
 pub record Setup : Type 0 where
   pub fuel : ℕ
   pub depth : ℕ
   pub pages : ℕ
   pub entries : ℕ
 
--- What it was set up with; the modules by number, the addresses of the instances by number, the names, and the state of runs. An
--- instance whose link did not end with values has an address, but no number.
+-- The setup, the modules by number, the addresses of the instances by number, the names, and the state of runs. An instance whose link
+-- did not end with values has an address, but no number.
 pub record Embedding (H : Type 0) : Type 0 where
   pub setup : Setup
   pub modules : List Module
@@ -41,12 +40,12 @@ pub record Embedding (H : Type 0) : Type 0 where
 
 -- ---- modules and imports
 
--- The bytes spell the module, and it is within the limits.
+-- The bytes encode the module, and it is within the limits.
 pub record IsDecoded (bytes : List ℕ) (m : Module) : Type 0 where
   pub spelt : SpellsModule bytes m
   pub small : HasSmallParts bytes m
 
--- Bytes that spell no module within the limits are refused with one of these. Which one is not said.
+-- Bytes that encode no module within the limits are refused with one of these. Which one is unspecified.
 pub data IsOfBytes : Refusal → Type 0 where
   malformed : IsOfBytes Malformed
   unsupported : IsOfBytes Unsupported
@@ -81,7 +80,7 @@ as_global (Ok (value.Global address)) = Ok address
 as_global (Ok e) = Err WrongKind
 as_global (Err refusal) = Err refusal
 
--- What is left where there is something.
+-- The type of what is exported, if there is something.
 abbrev pub type_in : Store → Result Extern Refusal → Option ExternType
 type_in store (Ok e) = extern_type store e
 type_in store (Err refusal) = None
@@ -115,7 +114,7 @@ module _ {H : Type 0} where
   abbrev pub Refuses : Embedding H → Refusal → Reply → Embedding H → Type 0
   Refuses old refusal reply new = (reply ≡ Refused refusal) × (new ≡ old)
 
-  -- The module that bytes spell gets the next number.
+  -- The module that the bytes encode gets the next number.
   pub data Loads (old : Embedding H) (bytes : List ℕ) (reply : Reply) (new : Embedding H) : Type 0
     where
       loaded : {m : Module} → IsDecoded bytes m → IsValid m → reply ≡ Loaded (length old.modules)
@@ -126,7 +125,7 @@ module _ {H : Type 0} where
           → Loads old bytes reply new
       no_memory : Refuses old OutOfMemory reply new → Loads old bytes reply new
 
-  -- The instance at an address is registered under a name, in the place of the one that was.
+  -- The instance at an address is registered under a name, and replaces the one that was.
   pub data Registers (old : Embedding H) (name : List ℕ) (instance : ℕ) (reply : Reply)
       (new : Embedding H) : Type 0 where
     registered : (HasHosts old.names name → ⊥) → reply ≡ Done
@@ -161,8 +160,8 @@ module _ {H : Type 0} where
 
 module _ {H : Type 0} (HostStep : List H → ℕ → Option ℕ → List Val → Store → Answer → Store
     → List H → Type 0) where
-  -- A module is instantiated with what the names of its imports stand for, and the instance gets the next number if its link ends
-  -- with values. Imports that stand for nothing come first, then those that do not match, and then the limits.
+  -- A module is instantiated with what the names of its imports stand for, and the instance gets the next number if its link ends with
+  -- values. Refusals for imports that stand for nothing come first, then for those that do not match, and then for the limits.
   pub data Links (old : Embedding H) (m : Module) (reply : Reply) (new : Embedding H) : Type 0 where
     linked : {externs : List Extern} {state : State H}
         → resolve_imports old.state.store old.names m.imports ≡ Some externs
@@ -196,7 +195,7 @@ module _ {H : Type 0} (HostStep : List H → ℕ → Option ℕ → List Val →
   LinksAt old None reply new = Refuses old UnknownModule reply new
   LinksAt old (Some m) reply new = Links old m reply new
 
-  -- The function at an address is called from outside, within the fuel that is left.
+  -- The function at an address is called from outside, within the fuel left.
   pub data Calls (old : Embedding H) (address : ℕ) (arguments : List Val) (reply : Reply)
       (new : Embedding H) : Type 0 where
     called : {ending : Ending} {state : State H} → TakesArguments old.state.store address arguments
@@ -213,7 +212,7 @@ module _ {H : Type 0} (HostStep : List H → ℕ → Option ℕ → List Val →
   CallsAt old (Ok address) arguments reply new = Calls old address arguments reply new
   CallsAt old (Err refusal) arguments reply new = Refuses old refusal reply new
 
-  -- What a command answers and leaves.
+  -- The reply to a command, and what the command leaves.
   abbrev pub Applies : Embedding H → Command → Reply → Embedding H → Type 0
   Applies old (Load bytes) reply new = Loads old bytes reply new
   Applies old (Link number) reply new = LinksAt old (slice_get old.modules number) reply new
@@ -225,7 +224,7 @@ module _ {H : Type 0} (HostStep : List H → ℕ → Option ℕ → List Val →
       GetsAt old (as_global (export_at old number name)) reply new
   Applies old (SetFuel fuel) reply new = SetsFuel old fuel reply new
 
-  -- What commands in a row answer, one reply a command, and what they leave.
+  -- The replies to commands in a row, one for each command, and what the commands leave.
   pub data AppliesAll : Embedding H → List Command → List Reply → Embedding H → Type 0 where
     none : {at : Embedding H} → AppliesAll at [] [] at
     then_on : {old between last : Embedding H} {command : Command} {commands : List Command}

@@ -10,13 +10,13 @@ use Rattle.core_types.specs.declared.outcome.Extern.{Extern}
 use Rattle.core_types.specs.declared.outcome.Extern.TheVariants as value
 use Rattle.meaning.specs.execution.Store.{ModuleInstance, Store, instance_of}
 
--- ---- what stands under names
+-- ---- what is under names
 
 -- The item under a name, if there is one.
 abbrev pub under : {T : Type 0} → List (List ℕ × T) → (name : List ℕ) → Option T
 under items name = lookup (bytes_eq name) items
 
--- The items with this one under a name: in the place of the one that is there, or else behind all.
+-- The items with this one under a name. It replaces the one that is there, or else is added after all others.
 abbrev pub put_under : {T : Type 0} → List (List ℕ × T) → (name : List ℕ) → T → List (List ℕ × T)
 put_under [] name item = (name, item) ∷ []
 put_under (first ∷ others) name item =
@@ -24,7 +24,7 @@ put_under (first ∷ others) name item =
 
 -- ---- host functions and registered instances
 
--- The addresses of host functions, under the name of a module and a name in it; and numbers of instances, each under a name.
+-- The addresses of host functions, under the name of a module and a name in it, and the numbers of instances, each under a name.
 pub record NamesContents : Type 0 where
   pub hosts : List (List ℕ × List (List ℕ × ℕ))
   pub registered : List (List ℕ × ℕ)
@@ -32,11 +32,11 @@ pub record NamesContents : Type 0 where
 abbrev pub no_names : NamesContents
 no_names = record { hosts = []; registered = [] }
 
--- Host functions are defined under the name of a module. The name comes in with the first of them.
+-- Host functions are defined under the name of a module. The name is added with the first of them.
 abbrev pub HasHosts : NamesContents → (module_name : List ℕ) → Type 0
 HasHosts names module_name = IsSome (under names.hosts module_name)
 
--- The host functions under the name of a module, none where it has none.
+-- The host functions under the name of a module, or an empty list if there are none.
 abbrev pub hosts_of : NamesContents → (module_name : List ℕ) → List (List ℕ × ℕ)
 hosts_of names module_name = unwrap_or (under names.hosts module_name) []
 
@@ -50,21 +50,21 @@ with_host names module_name name address = record names {
   hosts = put_under names.hosts module_name (put_under (hosts_of names module_name) name address);
 }
 
--- The names with an instance registered under a name, in the place of the one that was.
+-- The names with an instance registered under a name. It replaces the one that was.
 abbrev pub with_instance : NamesContents → (name : List ℕ) → (instance : ℕ) → NamesContents
 with_instance names name instance =
     record names { registered = put_under names.registered name instance }
 
 -- ---- exports
 
--- What an export names, by its address in the store (Execution, Runtime Structure, Export Instances).
+-- What an export refers to, by its address in the store (Execution, Runtime Structure, Export Instances).
 abbrev pub extern_of : ModuleInstance → ExportDesc → Option Extern
 extern_of instance (export.Func x) = option_map value.Func (slice_get instance.functions x)
 extern_of instance (export.Table x) = option_map value.Table (slice_get instance.tables x)
 extern_of instance (export.Memory x) = option_map value.Memory (slice_get instance.memories x)
 extern_of instance (export.Global x) = option_map value.Global (slice_get instance.globals x)
 
--- What an instance exports under a name, if it exports something; the names of its exports differ.
+-- What an instance exports under a name, if it exports something. The names of its exports differ.
 abbrev pub export_of : ModuleInstance → (name : List ℕ) → Option Extern
 export_of instance name =
     option_and_then (λ (e : Export). extern_of instance e.desc)

@@ -18,7 +18,7 @@ number_of BadArguments = 11
 number_of NameTaken = 12
 number_of OutOfMemory = 13
 
--- The number of what is wrong with the definition of a host function.
+-- The number of the fault in the definition of a host function.
 abbrev pub fault_number : creation.Fault → ℕ
 fault_number creation.HostFuncRef = 14
 fault_number creation.NameTaken = number_of NameTaken

@@ -1,11 +1,11 @@
--- Configurations: nested labels and frames (Execution, Runtime Structure, Administrative Instructions). Values are listed from
--- the top of the stack; the values of a configuration lie before its leftmost redex, and the rest behind it.
+-- Configurations: nested labels and frames (Execution, Runtime Structure, Administrative Instructions). Values are listed from the top of
+-- the stack. The values of a configuration are before its leftmost redex, and the rest is after it.
 use Rattle.std.specs.Prelude.{ℕ, suc, List, [], ◌++◌, reverse, Option, None}
 use Rattle.core_types.specs.declared.outcome.Val.{Val}
 use Rattle.core_types.specs.declared.op.BlockType.{BlockType}
 use Rattle.meaning.specs.structure.Bodies.{Body, LoopKind, Nested}
 
--- The state of a frame: the address of its module instance, none outside of all modules, and its locals (Activations and Frames).
+-- The state of a frame: the address of its module instance, or none outside of all modules, and its locals (Activations and Frames).
 pub record Frame : Type 0 where
   pub instance : Option ℕ
   pub locals : List Val
@@ -14,25 +14,25 @@ pub record Frame : Type 0 where
 abbrev pub no_frame : Frame
 no_frame = record { instance = None; locals = [] }
 
--- What a branch to a label goes on with: what lies behind the label, or the loop, again.
+-- How a branch to a label continues: with what follows the label, or with the loop again.
 pub data Continuation : Type 0 where
   Onward : Continuation
   Again : (type : BlockType) (inside : Body) → Continuation
 
--- The continuation, and then what lies behind the label.
+-- The continuation, and then what follows the label.
 abbrev pub continue_with : Continuation → Body → Body
 continue_with Onward rest = rest
 continue_with (Again type inside) rest = Nested LoopKind type inside rest
 
--- A label (Labels): how many values a branch to it keeps and what it goes on with; the values under it and the instructions
--- behind it.
+-- A label (Labels): the number of values that a branch to it keeps, how the branch continues, the values under the label, and the
+-- instructions after it.
 pub record Label : Type 0 where
   pub arity : ℕ
   pub continuation : Continuation
   pub values : List Val
   pub rest : Body
 
--- An activation of a function: how many results it gives; the values under it and the instructions behind it.
+-- An activation of a function: the number of its results, the values under it, and the instructions after it.
 pub record Activation : Type 0 where
   pub arity : ℕ
   pub values : List Val
@@ -45,14 +45,14 @@ pub data Configuration : Type 0 where
   -- a call of the function at an address, with its arguments
   Invoking : (arguments : List Val) (address : ℕ) → Configuration
 
--- How many frames are open, which is this project's own measure.
+-- The number of open frames, which is this project's own measure.
 abbrev pub depth : Configuration → ℕ
 depth (Running values rest) = 0
 depth (InLabel label inside) = depth inside
 depth (InFrame activation frame inside) = suc (depth inside)
 depth (Invoking arguments address) = 0
 
--- The results of a host function, put on the innermost values.
+-- The results of a host function, pushed on the innermost values.
 abbrev pub answered : List Val → Configuration → Configuration
 answered results (Running values rest) = Running (reverse results ++ values) rest
 answered results (InLabel label inside) = InLabel label (answered results inside)

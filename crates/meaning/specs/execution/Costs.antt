@@ -1,11 +1,11 @@
--- What a step that executes an instruction costs, which is this project's own. Leaving a label or a frame, and an entry from outside,
+-- The cost of a step that executes an instruction, which is this project's own. Leaving a label or a frame, and an entry from outside,
 -- cost 0.
 use Rattle.std.specs.Prelude.{ℕ, ◌+◌, ◌*◌, ◌/◌}
 
 abbrev pub instruction_cost : ℕ
 instruction_cost = 1
 
--- A bulk instruction on that many entries of tables, and a growth by so many.
+-- A bulk instruction on that many entries of tables, and a growth by that many.
 abbrev pub entries_cost : (count : ℕ) → ℕ
 entries_cost count = instruction_cost + count / 8
 

@@ -1,4 +1,4 @@
--- What the instructions without control do (Execution, Instructions), with the cost of each, which is this project's own.
+-- The effects of the instructions without control (Execution, Instructions), with the cost of each, which is this project's own.
 use Rattle.std.specs.Prelude.{ℕ, zero, suc, ◌+◌, List, [], ◌∷◌, length, Option, Some, None, Result, Ok, Err, slice_get, slice_set, nat_lt, if◌then◌else◌}
 use Rattle.core_types.specs.declared.op.ControlOp.TheVariants.{Unreachable, Nop}
 use Rattle.core_types.specs.declared.op.Conversion.TheVariants.{I32WrapI64, I64ExtendI32S, I64ExtendI32U, I64Extend32S}
@@ -32,8 +32,9 @@ use Rattle.meaning.specs.execution.Tables.{ElementInstance, TableInstance, copy_
 use Rattle.meaning.specs.execution.Store.{DataInstance, GlobalInstance, Store, instance_of, locate, with_data, with_elements, with_global, with_memory, with_table}
 use Rattle.meaning.specs.execution.Values.{null_of}
 
--- What an instruction without control does: at a cost, a new store, locals and values; the same, for which a memory or a table
--- grows; a trap; or nothing, as operands are missing or of another type, or what the instruction names is not there.
+-- The effect of an instruction without control. `Done` is a new store, locals and values, at a cost. `Grown` is the same, and a memory or
+-- a table grows. `Fails` is a trap. `Lacks` is no effect: operands are missing or of another type, or what the instruction names does not
+-- exist.
 pub data Effect : Type 0 where
   Done : (cost : ℕ) (store : Store) (locals values : List Val) → Effect
   Grown : (cost : ℕ) (store : Store) (locals values : List Val) → Effect
@@ -47,7 +48,7 @@ abbrev pub get_local : Store → Frame → Option Val → List Val → Effect
 get_local store frame None values = Lacks
 get_local store frame (Some v) values = Done instruction_cost store frame.locals (v ∷ values)
 
--- local.set and local.tee: the local gets the value; local.tee leaves it on the stack, too.
+-- local.set and local.tee: the local gets the value. local.tee also leaves it on the stack.
 abbrev pub set_local : Store → Frame → ℕ → Val → List Val → Effect
 set_local store frame x v values =
     if nat_lt x (length frame.locals)
@@ -118,7 +119,7 @@ numeric_effect store frame (Convert I64Extend32S) (I64 a ∷ values) =
     Done instruction_cost store frame.locals (I64 (conversion_operator I64Extend32S a) ∷ values)
 numeric_effect store frame op values = Lacks
 
--- select: the first of two values where the i32 over them is not zero, and else the second (Parametric Instructions).
+-- select: the first of two values if the i32 over them is not zero, and otherwise the second (Parametric Instructions).
 abbrev pub select_operand : Store → Frame → List Val → Effect
 select_operand store frame (I32 zero ∷ (b ∷ (a ∷ values))) =
     Done instruction_cost store frame.locals (b ∷ values)
@@ -132,7 +133,7 @@ parametric_effect store frame DropOperand (v ∷ values) =
 parametric_effect store frame Select values = select_operand store frame values
 parametric_effect store frame op values = Lacks
 
--- ---- what was read
+-- ---- values that were read
 
 -- A value that was read on top of the values, or a trap.
 abbrev pub push_read : Store → Frame → Result Val Trap → List Val → Effect
@@ -141,7 +142,7 @@ push_read store frame (Err trap) values = Fails trap
 
 -- ---- references
 
--- 1 for a null, and else 0.
+-- 1 for a null, and otherwise 0.
 abbrev pub null_flag : Option ℕ → ℕ
 null_flag None = 1
 null_flag (Some n) = 0
@@ -183,7 +184,7 @@ write_table store frame cost address table (Ok entries) values =
     values
 write_table store frame cost address table (Err trap) values = Fails trap
 
--- table.grow: the size before, or -1 where the table may not grow so.
+-- table.grow: the size before, or -1 if the table may not grow by that many.
 abbrev pub grow_table : Store → Frame → (address : ℕ) → TableInstance → Val → (count : ℕ)
     → List Val → Effect
 grow_table store frame address table v count values =
@@ -192,7 +193,7 @@ grow_table store frame address table v count values =
     frame.locals (I32 table.ty.limits.min ∷ values)
     else Done instruction_cost store frame.locals (I32 4294967295 ∷ values)
 
--- An instruction on the table at this address alone (Table Instructions).
+-- An instruction on only the table at this address (Table Instructions).
 abbrev pub table_effect : Store → Frame → (address : ℕ) → TableInstance → TableOp → List Val
     → Effect
 table_effect store frame address table (table_op.Get x) (I32 i ∷ values) =
@@ -208,7 +209,7 @@ table_effect store frame address table (table_op.Fill x) (I32 count ∷ (v ∷ (
     (fill_entries table.entries offset v count) values
 table_effect store frame address table op values = Lacks
 
--- On a table of the frame's instance.
+-- An instruction on a table of the frame's instance.
 abbrev pub on_table : Store → Frame → Option (ℕ × TableInstance) → TableOp → List Val → Effect
 on_table store frame None op values = Lacks
 on_table store frame (Some (address, table)) op values =
@@ -275,7 +276,7 @@ store_number store frame address memory op offset (Some n) values =
     write_memory store frame instruction_cost address memory
     (store_into memory.bytes offset (store_width op) n) values
 
--- memory.grow: the size before, in pages, or -1 where the memory may not grow so.
+-- memory.grow: the size before, in pages, or -1 if the memory may not grow by that many.
 abbrev pub grow_memory : Store → Frame → (address : ℕ) → MemoryInstance → (pages : ℕ) → List Val
     → Effect
 grow_memory store frame address memory pages values =
@@ -318,7 +319,7 @@ memory_effect store frame address memory (Init x) values =
     init_memory store frame address memory (data_at store frame x) values
 memory_effect store frame address memory op values = Lacks
 
--- In the memory of the frame's instance.
+-- An instruction in the memory of the frame's instance.
 abbrev pub in_memory : Store → Frame → Option (ℕ × MemoryInstance) → MemoryOp → List Val → Effect
 in_memory store frame None op values = Lacks
 in_memory store frame (Some (address, memory)) op values =

@@ -1,5 +1,5 @@
--- Host functions (Execution, Instructions, Host Functions): objects of any kind, each with a type and a relation of its own between
--- the object before, arguments, the bytes that it is lent, its answer, the bytes then and the object then.
+-- Host functions (Execution, Instructions, Host Functions): objects of any kind, each with a type and its own relation. The relation is
+-- between the object, the arguments and the bytes that it borrows before the call, and its answer, the bytes and the object after it.
 use Rattle.std.specs.Prelude.{◌≡◌, ℕ, List, [], length, map, Option, Some, None, option_map, slice_get, slice_set}
 use Rattle.std.specs.List.{All}
 use Rattle.core_types.specs.declared.types.FuncType.{FuncType}
@@ -11,12 +11,12 @@ use Rattle.meaning.specs.execution.Store.{FunctionInstance, InHost, Store, with_
 use Rattle.meaning.specs.execution.Storage.{AreBytes}
 use Rattle.meaning.specs.execution.Values.{FitsWidth, type_of}
 
--- Results of these types, whose numbers have their widths. A trap has none.
+-- Results of these types, whose numbers have their widths. A trap has no results.
 abbrev pub AnswersWith : Answer → List ValType → Type 0
 AnswersWith (Results values) types = (map type_of values ≡ types) × All FitsWidth values
 AnswersWith (HostTrap code) types = Unit {0}
 
--- The bytes of the memory at an address that is lent, none where none is.
+-- The bytes of the memory that is borrowed, or none if no memory is.
 abbrev pub bytes_in : Option MemoryInstance → List ℕ
 bytes_in None = []
 bytes_in (Some memory) = memory.bytes
@@ -28,7 +28,7 @@ memory_lent store (Some address) = slice_get store.memories address
 abbrev pub lent_bytes : Store → (lent : Option ℕ) → List ℕ
 lent_bytes store lent = bytes_in (memory_lent store lent)
 
--- The store with other bytes in a memory, if it is there.
+-- The store with other bytes in a memory, if the memory exists.
 abbrev pub with_bytes : Store → (address : ℕ) → Option MemoryInstance → List ℕ → Store
 with_bytes store address None bytes = store
 with_bytes store address (Some memory) bytes =
@@ -40,11 +40,11 @@ with_lent_bytes store (Some address) bytes =
     with_bytes store address (slice_get store.memories address) bytes
 
 module _ {H : Type 0} (host_type : H → FuncType) where
-  -- There is a host function of this number and type.
+  -- A host function has this number and type.
   abbrev pub HasType : List H → (number : ℕ) → FuncType → Type 0
   HasType hosts number t = option_map host_type (slice_get hosts number) ≡ Some t
 
-  -- Each host function of the store is there, and has its type.
+  -- Each host function of the store exists, and has its type.
   abbrev pub HostsHaveTypes : Store → List H → Type 0
   HostsHaveTypes store hosts =
       (address number : ℕ) (f : FunctionInstance) → slice_get store.functions address ≡ Some f
@@ -53,8 +53,8 @@ module _ {H : Type 0} (host_type : H → FuncType) where
 
 module _ {H : Type 0} (host_type : H → FuncType)
     (Answers : H → List Val → List ℕ → Answer → List ℕ → H → Type 0) where
-  -- The host function of a number answers: its type stays, and so does the number of bytes that it is lent, and all other hosts. Its
-  -- results have its result types, and the bytes then are bytes.
+  -- The host function of a number answers. Its type stays, and so does the number of bytes that it borrows, and all other host functions.
+  -- Its results have its result types, and the bytes after the call are bytes.
   pub record IsHostCall (hosts : List H) (number : ℕ) (arguments : List Val) (bytes : List ℕ)
       (answer : Answer) (bytes' : List ℕ) (hosts' : List H) : Type 0 where
     pub host : H
@@ -67,7 +67,7 @@ module _ {H : Type 0} (host_type : H → FuncType)
     pub are_bytes : AreBytes bytes'
     pub hosts_are : hosts' ≡ slice_set hosts number host'
 
-  -- It is lent the memory at an address, if there is one, and changes nothing else of the store.
+  -- It borrows the memory at an address, if there is one, and changes nothing else of the store.
   abbrev pub IsHostStep : List H → (number : ℕ) → (lent : Option ℕ) → List Val → Store → Answer
       → Store → List H → Type 0
   IsHostStep hosts number lent arguments store answer store' hosts' =

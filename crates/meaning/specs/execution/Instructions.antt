@@ -20,27 +20,26 @@ use Rattle.meaning.specs.execution.Tables.{TableInstance}
 use Rattle.meaning.specs.execution.Values.{default_of, type_of}
 use Rattle.meaning.specs.validation.Types.{are_same_types, block_type, is_same_function_type, label_types}
 
--- What a configuration does next.
+-- The next step of a configuration.
 pub data Next : Type 0 where
   -- a step that asks for no memory
   Goes : (cost : ℕ) (store : Store) (frame : Frame) (configuration : Configuration) → Next
-  -- a step for which a table or a memory grows, or a frame takes the place of another
+  -- a step for which a table or a memory grows, or a frame replaces another
   Grows : (cost : ℕ) (store : Store) (frame : Frame) (configuration : Configuration) → Next
   -- a step that opens a frame
   Opens : (cost : ℕ) (store : Store) (configuration : Configuration) → Next
-  -- a call of the host function of a number, which is lent the memory at an address, if there is one; the configuration takes
-  -- its results
+  -- a call of the host function of a number, which borrows the memory at an address, if there is one; the configuration takes its results
   CallsHost : (cost number : ℕ) (lent : Option ℕ) (arguments : List Val)
       (configuration : Configuration) → Next
   -- a step to a trap
   Traps : (cost : ℕ) (trap : Trap) → Next
-  -- a branch to the label of this number, counted from here outward, with the values over which it is
+  -- a branch to the label of this number, counted from here outward, with the values before it
   Branches : (label : ℕ) (values : List Val) → Next
-  -- a return with the values over which it is
+  -- a return with the values before it
   Returns : (values : List Val) → Next
-  -- a tail call of this function, which would be lent the memory at an address, if there is one, with the values over which it is
+  -- a tail call of this function, which would borrow the memory at an address, if there is one, with the values before it
   TailCalls : (lent : Option ℕ) (function : FunctionInstance) (values : List Val) → Next
-  -- values alone are left
+  -- only values are left
   Over : (values : List Val) → Next
   -- no case applies
   NotReady : Next
@@ -77,7 +76,7 @@ function_body t code =
     InLabel (record { arity = length t.results; continuation = Onward; values = []; rest = Empty })
     (Running [] code.body)
 
--- A frame around a body, above the values that are no arguments.
+-- A frame around a body, above the values that are not arguments.
 abbrev pub enter_function : ℕ → Store → FuncType → (instance : ℕ) → Code → List Val → Body → Next
 enter_function cost store t instance code values rest =
     Opens cost store
@@ -87,8 +86,7 @@ enter_function cost store t instance code values rest =
       rest = rest;
     }) (frame_of t instance code values) (function_body t code))
 
--- A call of a host function, whose arguments have to have the types of its parameters, and whose results take their place (Host
--- Functions).
+-- A call of a host function. Its arguments must have the types of its parameters, and its results replace them (Host Functions).
 abbrev pub call_host : ℕ → (number : ℕ) → (lent : Option ℕ) → FuncType → List Val → Body → Next
 call_host cost number lent t values rest =
     if are_same_types (map type_of (topmost t.params values)) t.params
@@ -121,15 +119,15 @@ lent_memory store frame = slice_get (instance_of store frame.instance).memories 
 abbrev pub function_at : Store → Frame → ℕ → Option FunctionInstance
 function_at store frame x = item_at store.functions (instance_of store frame.instance).functions x
 
--- What is done with a function that has to be of this type (call_indirect).
+-- The effect of a call of a function that must have this type (call_indirect).
 abbrev pub call_of_type : (call : FunctionInstance → Next) → FuncType → Option FunctionInstance
     → Next
 call_of_type call t None = NotReady
 call_of_type call t (Some f) =
     if is_same_function_type f.ty t then call f else Traps instruction_cost IndirectType
 
--- What is done with the function that an entry of a table refers to: there has to be an entry, it has to be no null, and the
--- function has to be of this type, in this order (call_indirect).
+-- The effect of a call of the function that an entry of a table refers to. There must be an entry, it must not be null, and the function
+-- must have this type, checked in this order (call_indirect).
 abbrev pub call_entry : Store → (call : FunctionInstance → Next) → FuncType → (entry : Option Val)
     → Next
 call_entry store call t None = Traps instruction_cost UndefinedElement
@@ -138,7 +136,7 @@ call_entry store call t (Some (FuncRef (Some address))) =
     call_of_type call t (slice_get store.functions address)
 call_entry store call t (Some v) = NotReady
 
--- What is done with a function and the values under the i32 on top, which is the offset of the entry (call_indirect).
+-- The effect of a call of a function with the values under the topmost i32, which is the offset of the entry (call_indirect).
 abbrev pub call_through : Store → (call : List Val → FunctionInstance → Next) → Option FuncType
     → Option (ℕ × TableInstance) → List Val
     → Next
@@ -153,7 +151,7 @@ tail_call lent (Some f) values = TailCalls lent f values
 
 -- ---- control
 
--- br_if: a branch where the i32 is not zero.
+-- br_if: a branch if the i32 is not zero.
 abbrev pub branch_if : Store → Frame → ℕ → List Val → Body → Next
 branch_if store frame label (I32 zero ∷ values) rest =
     Goes instruction_cost store frame (Running values rest)
@@ -196,7 +194,7 @@ continuation_of BlockKind type inside = Onward
 continuation_of LoopKind type inside = Again type inside
 continuation_of IfKind type inside = Onward
 
--- The label of a block: it has the topmost values inside, and the others under it.
+-- The label of a block. The topmost values are inside, and the others are under it.
 abbrev pub label_of : Kind → BlockType → FuncType → Body → List Val → Body → Label
 label_of kind type t inside values rest = record {
   arity = length (label_types kind t);
@@ -216,7 +214,7 @@ enter_label store frame kind type (Some t) inside values rest =
     (Running (take (length t.params) values) inside))
     else NotReady
 
--- if: the first body where the i32 is not zero, and else the second.
+-- if: the first body if the i32 is not zero, and otherwise the second.
 abbrev pub choose_body : Store → Frame → BlockType → Body → Body → List Val → Body → Next
 choose_body store frame type inside other (I32 zero ∷ values) rest =
     enter_label store frame IfKind type (type_of_block store frame type) other values rest
@@ -224,7 +222,7 @@ choose_body store frame type inside other (I32 (suc n) ∷ values) rest =
     enter_label store frame IfKind type (type_of_block store frame type) inside values rest
 choose_body store frame type inside other values rest = NotReady
 
--- Instructions behind their values.
+-- Instructions after their values.
 abbrev pub step_sequence : Store → Frame → List Val → Body → Next
 step_sequence store frame values Empty = Over values
 step_sequence store frame values (Then op rest) = step_instruction store frame op values rest
@@ -237,7 +235,7 @@ step_sequence store frame values (Nested IfKind type inside rest) =
 step_sequence store frame values (IfElse type inside other rest) =
     choose_body store frame type inside other values rest
 
--- A branch keeps the topmost of its values, which with the continuation take the place of the label.
+-- A branch keeps the topmost of its values. They and the continuation replace the label.
 abbrev pub branch_to_label : Store → Frame → Label → List Val → Next
 branch_to_label store frame label kept =
     if nat_le label.arity (length kept)
@@ -245,7 +243,7 @@ branch_to_label store frame label kept =
     (Running (take label.arity kept ++ label.values) (continue_with label.continuation label.rest))
     else NotReady
 
--- A label around what its inside does. Around values alone it becomes the values (Exiting).
+-- A label around the next step of its inside. Around values only, it becomes the values (Exiting).
 abbrev pub step_in_label : Store → Frame → Label → Next → Next
 step_in_label store frame label (Goes cost store' frame' inside) =
     Goes cost store' frame' (InLabel label inside)
@@ -264,7 +262,7 @@ step_in_label store frame label (Over results) =
     Goes 0 store frame (Running (results ++ label.values) label.rest)
 step_in_label store frame label NotReady = NotReady
 
--- A return keeps the topmost of its values, which take the place of the frame.
+-- A return keeps the topmost of its values, which replace the frame.
 abbrev pub return_from_frame : Store → Frame → Activation → List Val → Next
 return_from_frame store outer activation kept =
     if nat_le activation.arity (length kept)
@@ -272,13 +270,13 @@ return_from_frame store outer activation kept =
     (Running (take activation.arity kept ++ activation.values) activation.rest)
     else NotReady
 
--- A step that opens a frame where one was left: it asks for memory, and no frame more is open.
+-- A step that opens a frame where one was left. It asks for memory, and the number of open frames stays.
 abbrev pub in_place : Frame → Next → Next
 in_place outer (Opens cost store configuration) = Grows cost store outer configuration
 in_place outer other = other
 
--- A tail call keeps the topmost of its values, which are the arguments. They take the place of the frame, and the function is called
--- with them there, in one step (the extension for tail calls, return_call).
+-- A tail call keeps the topmost of its values, which are the arguments. They replace the frame, and the function is called with them
+-- there, in one step (the extension for tail calls, return_call).
 abbrev pub call_in_place : Store → Frame → Activation → (lent : Option ℕ) → FunctionInstance
     → List Val
     → Next
@@ -288,7 +286,7 @@ call_in_place store outer activation lent f kept =
     (take (length f.ty.params) kept ++ activation.values) activation.rest)
     else NotReady
 
--- A frame around what its inside does in it. Around values alone it becomes the values (Returning from a function).
+-- A frame around the next step of its inside. Around values only, it becomes the values (Returning from a function).
 abbrev pub step_in_frame : Store → Frame → Activation → Frame → Next → Next
 step_in_frame store outer activation own (Goes cost store' own' inside) =
     Goes cost store' outer (InFrame activation own' inside)
@@ -308,7 +306,7 @@ step_in_frame store outer activation own (Over results) =
     Goes 0 store outer (Running (results ++ activation.values) activation.rest)
 step_in_frame store outer activation own NotReady = NotReady
 
--- What a configuration does next, within this frame. An entry from outside costs nothing, and lends no memory.
+-- The next step of a configuration, within this frame. An entry from outside costs nothing, and passes no memory.
 abbrev pub next : Store → Frame → Configuration → Next
 next store frame (Running values rest) = step_sequence store frame values rest
 next store frame (InLabel label inside) = step_in_label store frame label (next store frame inside)

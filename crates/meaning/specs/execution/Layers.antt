@@ -4,10 +4,10 @@ use Rattle.meaning.specs.execution.Configurations.{Activation, Frame, Label, Con
 
 pub data Layer : Type 0 where
   AroundLabel : (label : Label) → Layer
-  -- a frame, which itself lies in a frame of this state
+  -- a frame, which itself is in a frame of this state
   AroundFrame : (activation : Activation) (outer : Frame) → Layer
 
--- A configuration inside of these layers, the innermost first, of which the innermost frame has this state.
+-- A configuration within these layers, the innermost first. The innermost frame has this state.
 abbrev pub plug : List Layer → Frame → Configuration → Configuration
 plug [] frame configuration = configuration
 plug (AroundLabel label ∷ layers) frame configuration =
@@ -21,7 +21,7 @@ outermost [] frame = frame
 outermost (AroundLabel label ∷ layers) frame = outermost layers frame
 outermost (AroundFrame activation outer ∷ layers) frame = outermost layers outer
 
--- How many frames are among the layers.
+-- The number of frames among the layers.
 abbrev pub count_frames : List Layer → ℕ
 count_frames [] = zero
 count_frames (AroundLabel label ∷ layers) = count_frames layers

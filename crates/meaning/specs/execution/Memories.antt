@@ -1,4 +1,4 @@
--- What the instructions on a memory do to its bytes (Execution, Memory Instructions). An access that reaches past the end traps
+-- The effects of the instructions on a memory on its bytes (Execution, Memory Instructions). An access that reaches past the end traps
 -- before anything is written.
 use Rattle.std.specs.Prelude.{ℕ, ◌+◌, ◌*◌, ◌%◌, List, ◌++◌, length, replicate, Option, Some, None, Result, Ok, Err, Bool, true, ◌&&◌, nat_le, if◌then◌else◌}
 use Rattle.core_types.specs.declared.op.LoadOp.{LoadOp}
@@ -16,7 +16,7 @@ use Rattle.meaning.specs.validation.Instructions.{load_width}
 use Rattle.meaning.specs.execution.Numerics.{extended}
 use Rattle.meaning.specs.execution.Storage.{items_at, bytes_of_number, number_of_bytes, overwrite}
 
--- The bytes of a page.
+-- The size of a page, in bytes.
 abbrev pub page_size : ℕ
 page_size = 65536
 
@@ -25,13 +25,13 @@ pub record MemoryInstance : Type 0 where
   pub limits : Limits
   pub bytes : List ℕ
 
--- A memory of as many pages as its limits' minimum, all zero (Allocation, Memories).
+-- A memory with the minimum number of pages of its limits, all zero (Allocation, Memories).
 abbrev pub new_memory : Limits → MemoryInstance
 new_memory limits = record { limits = limits; bytes = replicate (page_size * limits.min) 0 }
 
 -- ---- loads and stores
 
--- What a load makes of the number that it read (t.load and t.loadN_sx).
+-- The value of a load, from the number that it read (t.load and t.loadN_sx).
 abbrev pub loaded_value : LoadOp → ℕ → Val
 loaded_value (load.Whole W32) n = I32 n
 loaded_value (load.Whole W64) n = I64 n
@@ -46,7 +46,7 @@ loaded_value (load.Bits16 W64 Unsigned) n = I64 n
 loaded_value (load.Bits32 Signed) n = I64 (extended 32 64 n)
 loaded_value (load.Bits32 Unsigned) n = I64 n
 
--- The value that a load at an offset gives.
+-- The value of a load at an offset.
 abbrev pub load_from : LoadOp → List ℕ → (offset : ℕ) → Result Val Trap
 load_from op bytes offset =
     if nat_le (offset + load_width op) (length bytes)
@@ -89,23 +89,23 @@ copy_bytes bytes source target from count =
 
 -- ---- growth
 
--- The size is not past the declared maximum, if there is one.
+-- The size is not greater than the declared maximum, if there is one.
 abbrev pub is_within : Option ℕ → ℕ → Bool
 is_within None size = true
 is_within (Some max) size = nat_le size max
 
--- Whether a memory or a table of these limits may grow by so many: up to its maximum, to the most that any may have, and to the
--- bound of the embedding.
+-- Whether a memory or a table of these limits may grow by that many. It may grow up to its maximum, to the most that any may have, and to
+-- the bound of the embedding.
 abbrev pub can_grow : (bound most : ℕ) → Limits → (more : ℕ) → Bool
 can_grow bound most limits more =
     nat_le (limits.min + more) bound &&
     (nat_le (limits.min + more) most && is_within limits.max (limits.min + more))
 
--- The limits with so many more as the present size.
+-- The limits with a present size that is greater by that many.
 abbrev pub raised : Limits → (more : ℕ) → Limits
 raised limits more = record { min = limits.min + more; max = limits.max }
 
--- The memory with that many pages of zeros behind its own (growmem).
+-- The memory followed by that many pages of zeros (growmem).
 abbrev pub grow_by : MemoryInstance → (pages : ℕ) → MemoryInstance
 grow_by memory pages = record {
   limits = raised memory.limits pages;

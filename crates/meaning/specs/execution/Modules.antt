@@ -49,20 +49,20 @@ use Rattle.meaning.specs.execution.Values.{null_of}
 
 -- ---- imports
 
--- The type that an import asks for, if it is there.
+-- The type that an import requires, if it exists.
 abbrev pub import_type : Module → ImportDesc → Option ExternType
 import_type m (import.Func x) = option_map (λ (t : FuncType). type.Func t) (slice_get m.types x)
 import_type m (import.Table t) = Some (type.Table t)
 import_type m (import.Memory l) = Some (type.Memory l)
 import_type m (import.Global g) = Some (type.Global g)
 
--- The external value may be given where this type is wanted.
+-- The external value may be given for an import of this type.
 abbrev pub IsGiven : Store → Extern → (wanted : Option ExternType) → Type 0
 IsGiven store e wanted =
     (given ty : ExternType) × (extern_type store e ≡ Some given) × (wanted ≡ Some ty) ×
     Matches given ty
 
--- Each of these imports is given what it asks for. What is given beyond them is not looked at.
+-- Each of these imports is given what it requires. Values after the last import are ignored.
 abbrev pub AreGiven : Store → Module → List Import → List Extern → Type 0
 AreGiven store m [] externs = Unit {0}
 AreGiven store m (i ∷ imports) [] = ⊥
@@ -71,7 +71,7 @@ AreGiven store m (i ∷ imports) (e ∷ externs) =
 
 -- ---- allocation (Allocation)
 
--- That many addresses in a row.
+-- That many consecutive addresses.
 abbrev pub consecutive : (first count : ℕ) → List ℕ
 consecutive first zero = []
 consecutive first (suc count) = first ∷ consecutive (suc first) count
@@ -103,8 +103,8 @@ abbrev pub given_addresses : (Extern → Option ℕ) → List Extern → List �
 given_addresses address_of [] = []
 given_addresses address_of (e ∷ es) = before (address_of e) (given_addresses address_of es)
 
--- The new instance of a module: of each kind it has first what is given for its imports, and then its own objects, in its order,
--- which get the addresses behind those of the store (Modules).
+-- The new instance of a module. For each kind it has first what is given for its imports, and then its own objects, in its order. Its own
+-- objects get the next addresses of the store (Modules).
 abbrev pub new_instance : Store → Module → (given : List Extern) → ModuleInstance
 new_instance store m given = record {
   types = m.types;
@@ -132,7 +132,7 @@ new_function instance m f =
 
 -- ---- constant expressions (Instantiation)
 
--- The value of a constant instruction; the global that it gets has to be there already.
+-- The value of a constant instruction. The global that it reads must already exist.
 abbrev pub constant : Store → ModuleInstance → PlainOp → Option Val
 constant store i (I32Const n) = Some (I32 n)
 constant store i (I64Const n) = Some (I64 n)
@@ -143,12 +143,12 @@ constant store i (Variable (GlobalGet x)) =
     option_map (λ (g : GlobalInstance). g.value) (item_at store.globals i.globals x)
 constant store i op = None
 
--- An integer on top of the operands, if there is one.
+-- An integer pushed on the operands, if there is one.
 abbrev pub with_integer : (ℕ → Val) → Result ℕ Trap → List Val → Option (List Val)
 with_integer integer (Ok n) operands = Some (integer n ∷ operands)
 with_integer integer (Err trap) operands = None
 
--- What an operator makes of the operands, of which the last comes first (Numeric Instructions).
+-- The operands after an operator. The list has the last operand first (Numeric Instructions).
 abbrev pub operate : NumericOp → List Val → Option (List Val)
 operate (Binary W32 op) (I32 b ∷ (I32 a ∷ operands)) =
     with_integer I32 (binary_operator 32 op a b) operands
@@ -156,29 +156,29 @@ operate (Binary W64 op) (I64 b ∷ (I64 a ∷ operands)) =
     with_integer I64 (binary_operator 64 op a b) operands
 operate op operands = None
 
--- What a constant instruction makes of the operands.
+-- The operands after a constant instruction.
 abbrev pub constant_step : Store → ModuleInstance → PlainOp → List Val → Option (List Val)
 constant_step store i (Numeric op) operands = operate op operands
 constant_step store i op operands =
     option_map (λ (v : Val). v ∷ operands) (constant store i op)
 
--- What constant instructions make of the operands, one after the other.
+-- The operands after constant instructions, executed one after the other.
 abbrev pub constant_operands : Store → ModuleInstance → List Op → List Val → Option (List Val)
 constant_operands store i [] operands = Some operands
 constant_operands store i (Plain op ∷ ops) operands =
     option_and_then (constant_operands store i ops) (constant_step store i op operands)
 constant_operands store i (op ∷ ops) operands = None
 
--- The only one of these values, if there is one.
+-- The only one of these values, if there is exactly one.
 abbrev pub only : Option (List Val) → Option Val
 only (Some (v ∷ [])) = Some v
 only values = None
 
--- The value of a constant expression: that which its instructions leave.
+-- The value of a constant expression: the one that its instructions leave.
 abbrev pub constant_value : Store → ModuleInstance → List Op → Option Val
 constant_value store i ops = only (constant_operands store i ops [])
 
--- What all of these have, if each of them has it.
+-- The values of all of these, if each of them has one.
 abbrev pub cons : {A : Type 0} → Option A → Option (List A) → Option (List A)
 cons (Some x) (Some xs) = Some (x ∷ xs)
 cons x xs = None
@@ -225,7 +225,7 @@ abbrev pub new_objects : Store → ModuleInstance → Module → Option ObjectLi
 new_objects store i m = objects_with m (map_all (new_global store i) m.globals)
     (map_all (new_elements store i) m.elements)
 
--- The store with the module's functions, this instance and these objects behind what there is (Modules).
+-- The store with the module's functions, this instance and these objects after the existing ones (Modules).
 abbrev pub with_module : Store → ModuleInstance → Module → ObjectLists → Store
 with_module store i m objects = record {
   functions = store.functions ++ map (new_function (length store.instances) m) m.funcs;
@@ -249,14 +249,14 @@ pub record HasRoom (store : Store) (m : Module) : Type 0 where
   pub elements : length store.elements + length m.elements < 2 ^ 32
   pub datas : length store.datas + length m.datas < 2 ^ 32
 
--- No table of the module has more entries, and no memory more pages than the embedding allows, and there are addresses for all of
+-- No table of the module has more entries, and no memory has more pages, than the embedding allows, and there are addresses for all of
 -- its objects. These limits are this project's own.
 pub record IsWithinLimits (store : Store) (m : Module) : Type 0 where
   pub few_entries : All (λ (t : TableType). t.limits.min ≤ store.entries) m.tables
   pub few_pages : All (λ (l : Limits). l.min ≤ store.pages) m.memories
   pub room : HasRoom store m
 
--- A module may be instantiated: its imports are given what they ask for, and its objects are within the limits.
+-- A module may be instantiated: its imports are given what they require, and its objects are within the limits.
 pub record IsAllowed (store : Store) (m : Module) (externs : List Extern) : Type 0 where
   pub given : AreGiven store m m.imports externs
   pub within : IsWithinLimits store m
@@ -275,7 +275,7 @@ abbrev pub item_count : ElementItems → ℕ
 item_count (Functions indices) = length indices
 item_count (Expressions expressions) = length expressions
 
--- An element segment of this mode under an index: an active one is copied into its table and dropped, a declarative one is dropped.
+-- An element segment of this mode under an index. An active one is copied into its table and dropped, and a declarative one is dropped.
 abbrev pub element_task : (x : ℕ) → ElementItems → ElementMode → List Task
 element_task x items Passive = []
 element_task x items Declarative = Drops (Table (table_op.ElemDrop x)) ∷ []
@@ -283,7 +283,7 @@ element_task x items (Active table offset) =
     Copies offset (item_count items) (Table (table_op.Init x table))
     (Table (table_op.ElemDrop x)) ∷ []
 
--- A data segment of this mode under an index: an active one is copied into the memory and dropped.
+-- A data segment of this mode under an index. An active one is copied into the memory and dropped.
 abbrev pub data_task : (x : ℕ) → (bytes : List ℕ) → DataMode → List Task
 data_task x bytes data_mode.Passive = []
 data_task x bytes (data_mode.Active memory offset) =
@@ -308,12 +308,12 @@ start_task (Some x) = Starts x ∷ []
 abbrev pub tasks_of : Module → List Task
 tasks_of m = element_tasks m.elements ++ (data_tasks m.datas ++ start_task m.start)
 
--- What is run in a frame.
+-- A configuration that is run in a frame.
 pub record Activity : Type 0 where
   pub frame : Frame
   pub configuration : Configuration
 
--- In the frame of the instance at an address.
+-- A configuration in the frame of the instance at an address.
 abbrev pub in_instance : (instance : ℕ) → Configuration → Activity
 in_instance instance configuration =
     record {
@@ -321,8 +321,8 @@ in_instance instance configuration =
       configuration = configuration;
     }
 
--- What a task runs. The operands of a copy are the offset, 0 and how much it copies, as an i32, and cost nothing. The start function
--- is called from outside.
+-- What a task runs. The operands of a copy are the offset, 0 and the number of items to copy, as an i32, and cost nothing. The start
+-- function is called from outside.
 abbrev pub activity : Store → (instance : ℕ) → ModuleInstance → Task → Option Activity
 activity store instance i (Copies offset count init drop) =
     option_map (λ (v : Val). in_instance instance
@@ -333,7 +333,7 @@ activity store instance i (Starts x) =
     option_map (λ (address : ℕ). record { frame = no_frame; configuration = Invoking [] address })
     (slice_get i.functions x)
 
--- The ending is none with values.
+-- The ending has no values.
 abbrev pub HasNoValues : Ending → Type 0
 HasNoValues (WithValues values) = ⊥
 HasNoValues (WithTrap trap) = Unit {0}
@@ -343,12 +343,12 @@ HasNoValues OutOfMemory = Unit {0}
 
 module _ {H : Type 0} (HostStep : List H → ℕ → Option ℕ → List Val → Store → Answer → Store
     → List H → Type 0) (bound : ℕ) where
-  -- A bounded run of this.
+  -- A bounded run of this activity.
   abbrev pub RunOf : State H → Activity → Ending → State H → Type 0
   RunOf old a ending new = Run HostStep bound a.frame old a.configuration ending new
 
-  -- The bounded runs of tasks, one after the other, in the instance at an address. What ends without values ends them all, and
-  -- what was done stays.
+  -- The bounded runs of tasks, one after the other, in the instance at an address. A run that ends without values ends them all, and what
+  -- was done stays.
   pub data RunTasks (instance : ℕ) (i : ModuleInstance) : State H → List Task → Ending → State H
       → Type 0 where
     all_done : {at : State H} → RunTasks instance i at [] (WithValues []) at

@@ -14,7 +14,8 @@ use Rattle.core_types.specs.declared.outcome.Trap.TheVariants.{DivideByZero, Int
 
 -- ---- Signed numbers (Integer Operations, Sign Interpretation). An integer of `bits` bits is a number below 2 ^ bits.
 
--- The signed number that an integer represents: itself below half of 2 ^ bits, and else less 2 ^ bits (signed).
+-- The signed number that an integer represents: itself if it is below half of 2 ^ bits, and otherwise the integer minus 2 ^ bits
+-- (signed).
 abbrev pub signed : ℕ → ℕ → ℤ
 signed bits a = if nat_lt a (2 ^ (bits - 1)) then pos a else pos a -ℤ pos (2 ^ bits)
 
@@ -28,7 +29,7 @@ extended low bits a = integer bits (signed low (a % 2 ^ low))
 
 -- ---- Operators on one integer (Integer Operations)
 
--- How many binary digits a number has, the first of which is 1; of numbers with at most `bits` digits.
+-- The number of binary digits of a number, the first of which is 1. The number has at most `bits` digits.
 unfoldable pub digits : ℕ → ℕ → ℕ
 digits zero a = 0
 digits (suc k) zero = 0
@@ -39,7 +40,7 @@ unfoldable pub twos : ℕ → ℕ → ℕ
 twos zero a = 0
 twos (suc k) a = if a % 2 == 0 then suc (twos k (a / 2)) else 0
 
--- The sum of the bits, and how many there are.
+-- The sum of the bits, and their number.
 unfoldable pub sum_of_bits : ℕ → ℕ → ℕ
 sum_of_bits zero a = 0
 sum_of_bits (suc k) a = a % 2 + sum_of_bits k (a / 2)
@@ -54,16 +55,16 @@ unary_operator bits Extend16S a = extended 16 bits a
 
 -- ---- Operators on two integers (Integer Operations)
 
--- The quotient, rounded toward zero; by zero there is none (idiv_u).
+-- The quotient, rounded toward zero. By zero there is none (idiv_u).
 abbrev pub quotient_unsigned : ℕ → ℕ → Result ℕ Trap
 quotient_unsigned a b = if b == 0 then Err DivideByZero else Ok (a / b)
 
--- What the rounded quotient leaves of a (irem_u).
+-- The remainder of `a` for the rounded quotient (irem_u).
 abbrev pub remainder_unsigned : ℕ → ℕ → Result ℕ Trap
 remainder_unsigned a b = if b == 0 then Err DivideByZero else Ok (a - b * (a / b))
 
--- The quotient of the signed numbers, rounded toward zero; by zero there is none, and 2 ^ (bits - 1) is no signed number of so
--- many bits (idiv_s).
+-- The quotient of the signed numbers, rounded toward zero. By zero there is none, and 2 ^ (bits - 1) is not a signed number of that many
+-- bits (idiv_s).
 abbrev pub quotient_signed : ℕ → ℕ → ℕ → Result ℕ Trap
 quotient_signed bits a b =
     let quotient = int_div (signed bits a) (signed bits b) in
@@ -71,18 +72,18 @@ quotient_signed bits a b =
     else (if int_lt quotient (pos (2 ^ (bits - 1))) then Ok (integer bits quotient)
     else Err IntegerOverflow)
 
--- What the rounded quotient of the signed numbers leaves of a (irem_s).
+-- The remainder of `a` for the rounded quotient of the signed numbers (irem_s).
 abbrev pub remainder_signed : ℕ → ℕ → ℕ → Result ℕ Trap
 remainder_signed bits a b =
     let quotient = int_div (signed bits a) (signed bits b) in
     if b == 0 then Err DivideByZero
     else Ok (integer bits (signed bits a -ℤ (signed bits b *ℤ quotient)))
 
--- The bits moved up by k places, and those that this puts above the highest place come back from the lowest one on (irotl).
+-- The bits moved up by k places. Those that would be above the highest place come back from the lowest one on (irotl).
 abbrev pub rotated_left : ℕ → ℕ → ℕ → ℕ
 rotated_left bits a k = (a * 2 ^ k) % 2 ^ bits + (a * 2 ^ k) / 2 ^ bits
 
--- The bits moved down by k places, and the k lowest ones come back as the highest (irotr).
+-- The bits moved down by k places. The k lowest ones come back as the highest (irotr).
 abbrev pub rotated_right : ℕ → ℕ → ℕ → ℕ
 rotated_right bits a k = a / 2 ^ k + (a % 2 ^ k) * 2 ^ (bits - k)
 

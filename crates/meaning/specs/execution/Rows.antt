@@ -26,7 +26,7 @@ use Rattle.meaning.specs.execution.Instructions.{next}
 use Rattle.meaning.specs.execution.Runs.{Answer, AsksForMemory, Results, HostTrap, Ending, NoHosts, Run, State}
 use Rattle.meaning.specs.execution.Store.{FunctionInstance, InCode, InHost, Store}
 
--- A function of the first instance, without locals of its own.
+-- A function of the first instance, without locals except its parameters.
 abbrev pub function : List ValType → List ValType → Body → FunctionInstance
 function params results body =
     record {
@@ -85,7 +85,7 @@ adder =
 abbrev pub endless : FunctionInstance
 endless = function [] [] (Nested LoopKind block.Empty (Then (Control (Br 0)) Empty) Empty)
 
--- A block of one result, out of which a branch goes over three values.
+-- A block of one result, with a branch out of it after three values are pushed.
 abbrev pub last_of_three : FunctionInstance
 last_of_three =
     function [] (ty.I32 ∷ [])
@@ -97,7 +97,7 @@ last_of_three =
 abbrev pub one_and_two : FunctionInstance
 one_and_two = function [] (ty.I32 ∷ ty.I32 ∷ []) (Then (I32Const 1) (Then (I32Const 2) Empty))
 
--- 7 where the argument is not zero, and else 8.
+-- 7 if the argument is not zero, and otherwise 8.
 abbrev pub seven_or_eight : FunctionInstance
 seven_or_eight =
     function (ty.I32 ∷ []) (ty.I32 ∷ [])
@@ -134,7 +134,7 @@ store_with_host f host_params host_results = record {
   entries = 0;
 }
 
--- The host function that counts its calls and answers the count, if it is lent this memory.
+-- The host function that counts its calls and returns the count, if it borrows this memory.
 abbrev pub CountsCalls : Option ℕ → List ℕ → ℕ → Option ℕ → List Val → Store → Answer → Store
     → List ℕ → Type 0
 CountsCalls memory hosts number lent arguments store answer store' hosts' =
@@ -205,7 +205,7 @@ abbrev pub fills : FunctionInstance
 fills = function [] [] (Then (I32Const 0)
     (Then (I32Const 7) (Then (I32Const 128) (Then (Memory Fill) Empty))))
 
--- It puts the second byte of the data segment at 1, reads both bytes, and sets the global to what it read.
+-- It copies the second byte of the data segment to the address 1, reads both bytes, and sets the global to what it read.
 abbrev pub copies_and_sets : FunctionInstance
 copies_and_sets = function [] (ty.I32 ∷ [])
     (Then (I32Const 1)
@@ -224,12 +224,12 @@ grows_and_reads = function [] (ty.I32 ∷ [])
 
 -- ---- tables and calls through them
 
--- A function that answers 10.
+-- A function that returns 10.
 abbrev pub ten : FunctionInstance
 ten = function [] (ty.I32 ∷ []) (Then (I32Const 10) Empty)
 
--- The store of this function, the one that answers 10 and the one that does nothing, with a table of these entries, which may have
--- four, and an element segment of these references, in one instance. Its type 0 is that of a function that answers an i32.
+-- The store of this function, the one that returns 10 and the one that does nothing, in one instance. It has a table of these entries,
+-- which may have four, and an element segment of these references. Type 0 is that of a function that returns an i32.
 abbrev pub store_with_table : FunctionInstance → (entries references : List Val) → Store
 store_with_table f entries references = record {
   functions = f ∷ ten ∷ nothing ∷ [];
@@ -270,12 +270,12 @@ at address = FuncRef (Some address)
 abbrev pub null : Val
 null = FuncRef None
 
--- It calls the function of an entry, which has to answer an i32.
+-- It calls the function of an entry, which must return an i32.
 abbrev pub calls_entry : FunctionInstance
 calls_entry =
     function (ty.I32 ∷ []) (ty.I32 ∷ []) (Then (local 0) (Then (Control (CallIndirect 0 0)) Empty))
 
--- A call of it for an entry of a table of the function that answers 10, the one that does nothing, and null.
+-- A call of it for an entry of a table of the function that returns 10, the one that does nothing, and null.
 abbrev pub CallsEntry : (offset fuel : ℕ) → Ending → (left : ℕ) → Type 0
 CallsEntry offset fuel ending left =
     Run NoHosts 2 no_frame (with_entries calls_entry (at 1 ∷ at 2 ∷ null ∷ []) [] fuel)
@@ -308,7 +308,7 @@ abbrev pub Asks : Store → List Val → Body → Type 0
 Asks store values rest =
     AsksForMemory (next store (record { instance = Some 0; locals = [] }) (Running values rest))
 
--- The store of a memory without a page, which this many pages bound.
+-- The store of a memory without a page, which may have this many pages.
 abbrev pub store_with_pages : (pages : ℕ) → Store
 store_with_pages pages = record (store_with_memory nothing [] 5) { pages = pages }
 
@@ -316,13 +316,13 @@ store_with_pages pages = record (store_with_memory nothing [] 5) { pages = pages
 abbrev pub store_with_entries : Store
 store_with_entries = store_with_table nothing (null ∷ null ∷ []) []
 
--- One instruction alone.
+-- One instruction only.
 abbrev pub alone : PlainOp → Body
 alone op = Then op Empty
 
 -- ---- tail calls
 
--- It calls itself with one less until it is called with 0, and then answers 9.
+-- It calls itself with one less until it is called with 0, and then returns 9.
 abbrev pub down : FunctionInstance
 down =
     function (ty.I32 ∷ []) (ty.I32 ∷ [])
@@ -331,7 +331,7 @@ down =
     (Then (I32Const 1) (Then (Numeric (Binary W32 Sub)) (Then (Control (ReturnCall 0)) Empty))))
     (Then (I32Const 9) Empty)))
 
--- It calls the second function last, inside of two blocks and above operands.
+-- It calls the second function last, within two blocks and above operands.
 abbrev pub calls_last_inside : FunctionInstance
 calls_last_inside =
     function [] (ty.I32 ∷ [])
@@ -339,13 +339,13 @@ calls_last_inside =
     (Nested BlockKind block.Empty (Then (I32Const 8)
     (Nested BlockKind block.Empty (Then (Control (ReturnCall 1)) Empty) Empty)) Empty))
 
--- It calls the function of an entry last, which has to answer an i32.
+-- It calls the function of an entry last. The function must return an i32.
 abbrev pub calls_entry_last : FunctionInstance
 calls_entry_last =
     function (ty.I32 ∷ []) (ty.I32 ∷ [])
     (Then (local 0) (Then (Control (ReturnCallIndirect 0 0)) Empty))
 
--- The state of it and the function that answers 10.
+-- The state of it and the function that returns 10.
 abbrev pub with_ten : FunctionInstance → (fuel : ℕ) → State ⊥
 with_ten f fuel = record { store = instance_of_two f ten; hosts = []; fuel = fuel }
 
@@ -370,7 +370,7 @@ counting_last count fuel =
       fuel = fuel;
     }
 
--- In a frame of the first instance the next step of this body asks for memory.
+-- In a frame of the first instance, the next step of this body asks for memory.
 abbrev pub AsksInFrame : Store → Body → Type 0
 AsksInFrame store rest =
     AsksForMemory (next store no_frame

@@ -1,5 +1,5 @@
--- Bounded runs, which are this project's own: steps within the fuel and the depth bound, in a frame outside of all others, over
--- any host functions.
+-- Bounded runs, which are this project's own: steps within the fuel and the depth bound, in a frame outside of all others, over any host
+-- functions.
 use Rattle.std.specs.Prelude.{◌≡◌, ℕ, ◌-◌, ◌<◌, ◌≤◌, List, Option, reverse}
 use Rattle.core_types.specs.declared.outcome.Val.{Val}
 use Rattle.core_types.specs.declared.outcome.Trap.{Trap}
@@ -8,7 +8,7 @@ use Rattle.meaning.specs.execution.Configurations.{Configuration, Frame, answere
 use Rattle.meaning.specs.execution.Store.{Store}
 use Rattle.meaning.specs.execution.Instructions.{Next, Goes, Grows, Opens, CallsHost, Traps, Branches, Returns, TailCalls, Over, NotReady, next}
 
--- What the next step costs.
+-- The cost of the next step.
 abbrev pub price : Next → ℕ
 price (Goes cost store frame configuration) = cost
 price (Grows cost store frame configuration) = cost
@@ -34,13 +34,13 @@ IsReady (TailCalls lent function values) = ⊥
 IsReady (Over values) = ⊥
 IsReady NotReady = ⊥
 
--- The step stays within the depth bound, where this many frames are open.
+-- The step stays within the depth bound, if this many frames are open.
 abbrev pub IsWithinBound : (bound frames : ℕ) → Next → Type 0
 IsWithinBound bound frames (Opens cost store configuration) = frames < bound
 IsWithinBound bound frames other = Unit {0}
 
--- The step asks for memory: it opens a frame, as the entry from outside does, or puts one in the place of another, grows a table or
--- a memory, or calls a host function.
+-- The step asks for memory: it opens a frame, as the entry from outside does, replaces a frame, grows a table or a memory, or calls a
+-- host function.
 abbrev pub AsksForMemory : Next → Type 0
 AsksForMemory (Goes cost store frame configuration) = ⊥
 AsksForMemory (Grows cost store frame configuration) = Unit {0}
@@ -53,13 +53,13 @@ AsksForMemory (TailCalls lent function values) = ⊥
 AsksForMemory (Over values) = ⊥
 AsksForMemory NotReady = ⊥
 
--- The state of a run: the store, the host functions, and the fuel that is left.
+-- The state of a run: the store, the host functions, and the fuel left.
 pub record State (H : Type 0) : Type 0 where
   pub store : Store
   pub hosts : List H
   pub fuel : ℕ
 
--- How a host function answers: with results, or with a trap of its own.
+-- How a host function answers: with results, or with its own trap.
 pub data Answer : Type 0 where
   Results : (values : List Val) → Answer
   HostTrap : (code : ℕ) → Answer
@@ -72,8 +72,8 @@ pub data Ending : Type 0 where
   OutOfDepth : Ending
   OutOfMemory : Ending
 
--- HostStep hosts number lent arguments store answer store' hosts': the host function of this number, which is called with these
--- arguments and lent the memory at an address, if there is one, gives this answer, and leaves this store and these host functions.
+-- `HostStep hosts number lent arguments store answer store' hosts'`: the host function of this number is called with these arguments, and
+-- borrows the memory at the address `lent`, if there is one. It gives this answer, and leaves this store and these host functions.
 module _ {H : Type 0} (HostStep : List H → ℕ → Option ℕ → List Val → Store → Answer → Store
     → List H → Type 0) (bound : ℕ) (outside : Frame) where
   -- One step.
@@ -98,7 +98,7 @@ module _ {H : Type 0} (HostStep : List H → ℕ → Option ℕ → List Val →
         → HostStep old.hosts number lent arguments old.store (Results results) new.store new.hosts
         → configuration' ≡ answered results waiting → IsStep old configuration new configuration'
 
-  -- The end of a run at this state and configuration, and the state then.
+  -- The end of a run at this state and configuration, and the state at the end.
   pub data IsEnd (at : State H) (configuration : Configuration) (ending : Ending)
       (last : State H) : Type 0 where
     values_left : {values : List Val} → next at.store outside configuration ≡ Over values
@@ -123,7 +123,7 @@ module _ {H : Type 0} (HostStep : List H → ℕ → Option ℕ → List Val →
         → price (next at.store outside configuration) ≤ at.fuel → ending ≡ OutOfMemory → last ≡ at
         → IsEnd at configuration ending last
 
-  -- From a state and a configuration to an ending and the state then.
+  -- From a state and a configuration to an ending and the state at the end.
   pub data Run : State H → Configuration → Ending → State H → Type 0 where
     end : {at last : State H} {configuration : Configuration} {ending : Ending}
         → IsEnd at configuration ending last → Run at configuration ending last

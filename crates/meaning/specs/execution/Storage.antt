@@ -1,4 +1,4 @@
--- Numbers as bytes, and items that take the place of others (Execution, Numerics, Storage).
+-- Numbers as bytes, and items that replace others (Execution, Numerics, Storage).
 use Rattle.std.specs.Prelude.{ℕ, zero, suc, ◌+◌, ◌*◌, ◌/◌, ◌%◌, ◌^◌, ◌<◌, List, [], ◌∷◌, ◌++◌, take, drop, length}
 use Rattle.std.specs.List.{All}
 
@@ -20,6 +20,6 @@ bytes_of_number (suc count) n = n % 256 ∷ bytes_of_number count (n / 256)
 abbrev pub items_at : {T : Type 0} → List T → (offset count : ℕ) → List T
 items_at items offset count = take count (drop offset items)
 
--- The items with others in place of those from an offset on.
+-- The items, with others instead of those from an offset on.
 abbrev pub overwrite : {T : Type 0} → List T → (offset : ℕ) → List T → List T
 overwrite items offset new = take offset items ++ (new ++ drop (offset + length new) items)

@@ -33,7 +33,7 @@ pub record GlobalInstance : Type 0 where
   pub ty : GlobalType
   pub value : Val
 
--- A data instance: its bytes, none once it was dropped (Data Instances).
+-- A data instance: its bytes. There are none after it was dropped (Data Instances).
 pub record DataInstance : Type 0 where
   pub bytes : List ℕ
 
@@ -48,7 +48,7 @@ pub record ModuleInstance : Type 0 where
   pub datas : List ℕ
   pub exports : List Export
 
--- Objects that a run may change, a list a kind.
+-- Objects that a run may change, one list for each kind.
 pub record ObjectLists : Type 0 where
   pub tables : List TableInstance
   pub memories : List MemoryInstance
@@ -56,8 +56,7 @@ pub record ObjectLists : Type 0 where
   pub elements : List ElementInstance
   pub datas : List DataInstance
 
--- The objects of each kind by address, and how many pages a memory and how many entries a table may have, which is the
--- embedding's.
+-- The objects of each kind by address, the most pages of a memory, and the most entries of a table. The embedding chooses these bounds.
 pub record Store : Type 0 where
   pub functions : List FunctionInstance
   pub instances : List ModuleInstance
@@ -71,7 +70,7 @@ pub record Store : Type 0 where
 
 -- ---- look-ups, which are total
 
--- What is found where there is no instance.
+-- The result of a look-up that finds no instance.
 abbrev pub no_instance : ModuleInstance
 no_instance = record {
   types = [];
@@ -84,7 +83,7 @@ no_instance = record {
   exports = [];
 }
 
--- The module instance at an address; outside of all modules there is none.
+-- The module instance at an address. Outside of all modules there is none.
 abbrev pub instance_of : Store → Option ℕ → ModuleInstance
 instance_of store None = no_instance
 instance_of store (Some address) = unwrap_or (slice_get store.instances address) no_instance
@@ -107,7 +106,7 @@ abbrev pub locate : {T : Type 0} → List T → Option ℕ → Option (ℕ × T)
 locate items None = None
 locate items (Some address) = locate_at address (slice_get items address)
 
--- The type of an external value that is there. The minimum of a table or a memory is its present size (External Typing).
+-- The type of an external value that exists. The minimum of a table or a memory is its present size (External Typing).
 abbrev pub extern_type : Store → Extern → Option ExternType
 extern_type store (value.Func address) =
     option_map (λ (f : FunctionInstance). type.Func f.ty) (slice_get store.functions address)

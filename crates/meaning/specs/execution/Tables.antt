@@ -1,4 +1,4 @@
--- What the instructions on a table do to its entries (Execution, Table Instructions). An access that reaches past the end traps
+-- The effects of the instructions on a table on its entries (Execution, Table Instructions). An access that reaches past the end traps
 -- before anything is written.
 use Rattle.std.specs.Prelude.{ℕ, ◌+◌, List, ◌++◌, length, replicate, slice_get, slice_set, Option, Some, None, Result, Ok, Err, ◌&&◌, nat_le, nat_lt, if◌then◌else◌}
 use Rattle.core_types.specs.declared.outcome.Trap.{Trap}
@@ -10,7 +10,7 @@ use Rattle.meaning.specs.execution.Memories.{raised}
 use Rattle.meaning.specs.execution.Storage.{items_at, overwrite}
 use Rattle.meaning.specs.execution.Values.{null_of}
 
--- How many entries a table may have.
+-- The most entries that a table may have.
 abbrev pub most_entries : ℕ
 most_entries = 4294967295
 
@@ -19,12 +19,12 @@ pub record TableInstance : Type 0 where
   pub ty : TableType
   pub entries : List Val
 
--- An element instance: the type of its references, and these, none once it was dropped (Element Instances).
+-- An element instance: the type of its references, and the references. There are none after it was dropped (Element Instances).
 pub record ElementInstance : Type 0 where
   pub ty : RefType
   pub references : List Val
 
--- A table of as many entries as its limits' minimum, all null (Allocation, Tables).
+-- A table with the minimum number of entries of its limits, all null (Allocation, Tables).
 abbrev pub new_table : TableType → TableInstance
 new_table ty = record { ty = ty; entries = replicate ty.limits.min (null_of ty.element) }
 
@@ -61,7 +61,7 @@ copy_entries entries source target from count =
 
 -- ---- growth
 
--- The table with that many entries of this value behind its own (growtable).
+-- The table followed by that many entries of this value (growtable).
 abbrev pub grow_entries : TableInstance → Val → (count : ℕ) → TableInstance
 grow_entries table v count = record {
   ty = record { element = table.ty.element; limits = raised table.ty.limits count };

@@ -30,7 +30,7 @@ abbrev pub IsExternalNumber : Option ℕ → Type 0
 IsExternalNumber None = Unit {0}
 IsExternalNumber (Some n) = n < 2 ^ 32
 
--- The number of a value has its width. Of the address of a function nothing is said.
+-- The number of a value has its width. The address of a function is not bounded.
 abbrev pub FitsWidth : Val → Type 0
 FitsWidth (I32 n) = n < 2 ^ 32
 FitsWidth (I64 n) = n < 2 ^ 64

@@ -1,4 +1,4 @@
--- What a script asks of an embedding, and when its commands pass.
+-- The commands that a script sends to an embedding, and when they pass.
 use Rattle.std.specs.Prelude.{ℕ, ◌+◌, ◌++◌, ◌==◌, ◌&&◌, List, [], ◌∷◌, Bool, true, false, Option, Some, None, bytes_eq, if◌then◌else◌, nat_eq}
 use Rattle.std.specs.List.{starts_with}
 use Rattle.core_types.specs.Outcome.{trap_text}
@@ -12,7 +12,7 @@ use Rattle.meaning.specs.scripts.Dialogues.{Dialogue, Over, Asks, Report}
 
 -- ---- instances
 
--- The current instance, and what the script's names mean: the number of an instance, or nothing.
+-- The current instance, and the meanings of the script's names. A name means the number of an instance, or nothing.
 pub record Instances : Type 0 where
   pub current : Option ℕ
   pub named : (name : List ℕ) → Option ℕ
@@ -20,12 +20,12 @@ pub record Instances : Type 0 where
 abbrev pub no_instances : Instances
 no_instances = record { current = None; named = λ name. None }
 
--- The instance that a name means; without a name the current one.
+-- The instance that a name means. Without a name, the current one.
 abbrev pub meant : Instances → Option (List ℕ) → Option ℕ
 meant at None = at.current
 meant at (Some name) = at.named name
 
--- The names, where this one, if there is one, means this.
+-- The names, except that this one, if there is one, means this.
 abbrev pub naming : (List ℕ → Option ℕ) → Option (List ℕ) → Option ℕ → (name : List ℕ) → Option ℕ
 naming named None instance other = named other
 naming named (Some name) instance other = if bytes_eq name other then instance else named other
@@ -34,9 +34,9 @@ naming named (Some name) instance other = if bytes_eq name other then instance e
 abbrev pub with_current : Instances → Option (List ℕ) → Option ℕ → Instances
 with_current at name instance = record { current = instance; named = naming at.named name instance }
 
--- ---- what is asked
+-- ---- the commands that are sent
 
--- A module is loaded, and linked where it could be loaded. What follows depends on the last reply.
+-- A module is loaded, and linked if it could be loaded. What follows depends on the last reply.
 abbrev pub linking : (reply : Reply) → (Reply → Dialogue) → Dialogue
 linking (Loaded number) next = Asks (Link number) next
 linking reply next = next reply
@@ -44,7 +44,7 @@ linking reply next = next reply
 abbrev pub load_and_link : (bytes : List ℕ) → (Reply → Dialogue) → Dialogue
 load_and_link bytes next = Asks (Load bytes) (λ reply. linking reply next)
 
--- A command on an instance. Where there is none, nothing is asked, and it is as if that were the reply.
+-- A command on an instance. If there is no instance, no command is sent, and the refusal `UnknownInstance` counts as the reply.
 abbrev pub ask_of : Option ℕ → (ℕ → Command) → (Reply → Dialogue) → Dialogue
 ask_of None command next = next (Refused UnknownInstance)
 ask_of (Some instance) command next = Asks (command instance) next
@@ -55,7 +55,7 @@ act at (Invoke name field arguments) next =
     ask_of (meant at name) (λ instance. Call instance field arguments) next
 act at (Get name field) next = ask_of (meant at name) (λ instance. GetGlobal instance field) next
 
--- What is asked for a task. What follows depends on the last reply.
+-- The commands that are sent for a task. What follows depends on the last reply.
 abbrev pub ask : Files → Instances → Task → (Reply → Dialogue) → Dialogue
 ask files at (Module filename name) next = load_and_link (contents files filename) next
 ask files at (Register name instance) next =
@@ -108,7 +108,7 @@ abbrev pub returns : (expected : List Val) → Reply → Bool
 returns expected (Ended (WithValues values)) = same_values values expected
 returns expected reply = false
 
--- A trap whose text is a beginning of this one.
+-- A trap whose text is a prefix of this one.
 abbrev pub traps : (text : List ℕ) → Reply → Bool
 traps text (Ended (WithTrap trap)) = starts_with nat_eq text (trap_text trap)
 traps text reply = false
@@ -122,7 +122,7 @@ abbrev pub is_invalid : Reply → Bool
 is_invalid (Refused Invalid) = true
 is_invalid reply = false
 
--- The bytes spell no module within the limits.
+-- The bytes encode no module within the limits.
 abbrev pub is_malformed : Reply → Bool
 is_malformed (Refused Malformed) = true
 is_malformed (Refused Unsupported) = true
@@ -154,8 +154,8 @@ abbrev pub linked_instance : Reply → Option ℕ
 linked_instance (Linked number) = Some number
 linked_instance reply = None
 
--- The instances after a task with this last reply. Only a module command changes them: what it linked is the current instance, and
--- its name means it; where it failed, there is no current instance, and its name means nothing.
+-- The instances after a task with this last reply. Only a module command changes them: the instance that it linked is the current one,
+-- and its name means it. If it failed, there is no current instance, and its name means nothing.
 abbrev pub instances_after : Instances → Task → Reply → Instances
 instances_after at (Module filename name) reply = with_current at name (linked_instance reply)
 instances_after at task reply = at
@@ -163,7 +163,7 @@ instances_after at task reply = at
 abbrev pub empty_report : Report
 empty_report = record { passed = 0; failed = 0; skipped = 0; failures = [] }
 
--- The report with one more command that is skipped.
+-- The report with one more skipped command.
 abbrev pub with_skipped : Report → Report
 with_skipped report = record report { skipped = report.skipped + 1 }
 
@@ -173,13 +173,13 @@ with_tried report line true = record report { passed = report.passed + 1 }
 with_tried report line false =
     record report { failed = report.failed + 1; failures = report.failures ++ (line ∷ []) }
 
--- How many commands a report counts.
+-- The number of commands that a report counts.
 abbrev pub counted : Report → ℕ
 counted report = report.passed + report.failed + report.skipped
 
 -- ---- whole scripts
 
--- Where a script is: its instances, and its report so far.
+-- The progress of a script: its instances, and its report so far.
 pub record Progress : Type 0 where
   pub instances : Instances
   pub report : Report
@@ -196,14 +196,14 @@ after_tried at line task reply = record {
   report = with_tried at.report line (passes task reply);
 }
 
--- One command, with this fuel. What follows depends on where the script is then.
+-- One command, with this fuel. What follows depends on the progress after it.
 abbrev pub turn : (fuel : ℕ) → Files → ScriptCommand → Progress → (Progress → Dialogue) → Dialogue
 turn fuel files Skipped at next = next (after_skipped at)
 turn fuel files (Tried line task) at next =
     Asks (SetFuel fuel) (λ done. ask files at.instances task
     (λ reply. next (after_tried at line task reply)))
 
--- What commands ask of an embedding, from this place on, each with this fuel.
+-- The commands that are sent to an embedding, from this place on, each with this fuel.
 abbrev pub dialogue : (fuel : ℕ) → Files → List ScriptCommand → Progress → Dialogue
 dialogue fuel files [] at = Over at.report
 dialogue fuel files (command ∷ commands) at =

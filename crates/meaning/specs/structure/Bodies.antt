@@ -5,14 +5,13 @@ use Rattle.core_types.specs.declared.op.PlainOp.{PlainOp}
 use Rattle.core_types.specs.declared.op.Op.{Op}
 use Rattle.core_types.specs.declared.op.Op.TheVariants.{Plain, Block, Loop, If, Else, End}
 
--- What an instruction with one body is: a block, a loop, or an if without else, whose else body is empty.
+-- The kind of an instruction with one body: a block, a loop, or an if without else, whose else body is empty.
 pub data Kind : Type 0 where
   BlockKind : Kind
   LoopKind : Kind
   IfKind : Kind
 
--- A sequence of instructions: nothing, or a first instruction and the rest. An instruction is one without a body, one with
--- one body, or an if with two.
+-- A sequence of instructions: nothing, or a first instruction and the rest. An instruction has no body, one body, or is an if with two.
 pub data Body : Type 0 where
   Empty : Body
   Then : (op : PlainOp) (rest : Body) → Body
@@ -25,7 +24,7 @@ mark_of BlockKind type = Block type
 mark_of LoopKind type = Loop type
 mark_of IfKind type = If type
 
--- The instructions in order, each body behind a mark and down to an end or an else.
+-- The instructions in order, each body after a mark and down to an end or an else.
 abbrev pub writing : Body → List Op
 writing Empty = []
 writing (Then op rest) = Plain op ∷ writing rest
@@ -33,14 +32,14 @@ writing (Nested kind type inner rest) = mark_of kind type ∷ (writing inner ++ 
 writing (IfElse type inner other rest) =
     If type ∷ (writing inner ++ (Else ∷ (writing other ++ (End ∷ writing rest))))
 
--- The instructions of one body behind those of another.
+-- The instructions of one body, followed by those of another.
 abbrev pub joined : Body → Body → Body
 joined Empty b = b
 joined (Then op rest) b = Then op (joined rest b)
 joined (Nested kind type inner rest) b = Nested kind type inner (joined rest b)
 joined (IfElse type inner other rest) b = IfElse type inner other (joined rest b)
 
--- What is left of a body at a position in flat operations, and the else body behind it if it goes down to an else.
+-- The rest of a body at a position in flat operations, and the else body after it if it goes down to an else.
 pub record Part : Type 0 where
   pub body : Body
   pub other : Option Body
@@ -48,7 +47,7 @@ pub record Part : Type 0 where
 abbrev pub nothing_left : Part
 nothing_left = record { body = Empty; other = None }
 
--- What is left of the body at a position in flat operations, and of each body around it, from the inside out.
+-- The rest of the body at a position in flat operations, and of each body around it, from the inside out.
 pub record Rests : Type 0 where
   pub here : Part
   pub around : List Part
@@ -95,6 +94,6 @@ rests (Else ∷ ops) = record {
 }
 rests (End ∷ ops) = record { here = nothing_left; around = (rests ops).here ∷ (rests ops).around }
 
--- What is left of the body at a position in flat operations: down to its end, its else, or the last operation.
+-- The rest of the body at a position in flat operations: down to its end, its else, or the last operation.
 abbrev pub body_of : List Op → Body
 body_of ops = (rests ops).here.body

@@ -1,4 +1,4 @@
--- What a body is typed in (Validation, Conventions, Contexts).
+-- The context in which a body is typed (Validation, Conventions, Contexts).
 use Rattle.std.specs.Prelude.{ℕ, List, ◌∷◌, Option}
 use Rattle.core_types.specs.declared.types.FuncType.{FuncType}
 use Rattle.core_types.specs.declared.types.GlobalType.{GlobalType}
@@ -14,7 +14,7 @@ pub record Context : Type 0 where
   pub tables : List TableType
   pub memories : List Limits
   pub globals : List GlobalType
-  -- the types of the element segments, and how many data segments there are
+  -- the types of the element segments, and the number of data segments
   pub elements : List RefType
   pub datas : ℕ
   -- the parameters, and then the other locals
@@ -26,6 +26,6 @@ pub record Context : Type 0 where
   -- the functions that ref.func may name
   pub references : List ℕ
 
--- With one more label.
+-- The context with one more label.
 abbrev pub with_label : Context → List ValType → Context
 with_label context types = record context { labels = types ∷ context.labels }

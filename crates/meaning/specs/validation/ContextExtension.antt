@@ -11,8 +11,8 @@ abbrev pub Extends : {X : Type 0} → List X → List X → Type 0
 Extends {X} items more =
     (x : ℕ) (item : X) → slice_get items x ≡ Some item → slice_get more x ≡ Some item
 
--- The second context has all that typing asks of the first. Their tables and memories may differ in
--- their limits. A reference counts only where its function is there.
+-- The second context has all that typing asks of the first. Their tables and memories may differ in their limits. A reference counts only
+-- if its function exists.
 pub record Carries (a b : Context) : Type 0 where
   pub types : Extends a.types b.types
   pub functions : Extends a.functions b.functions

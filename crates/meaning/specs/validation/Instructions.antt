@@ -55,7 +55,7 @@ AllFit (t ∷ ts) (u ∷ us) = Fits t u × AllFit ts us
 AllFit [] (u ∷ us) = ⊥
 AllFit (t ∷ ts) [] = ⊥
 
--- What takes these operands and gives those results leads from one stack to the other: what lies below stays.
+-- An instruction that takes these operands and gives those results leads from one stack to the other. The operands below stay.
 pub record TakesAndGives (operands results before after : List OperandType) : Type 0 where
   pub below : List OperandType
   pub given : List OperandType
@@ -174,7 +174,7 @@ table_rule context (table.ElemDrop segment) operands results =
 abbrev pub HasMemory : Context → Type 0
 HasMemory context = (limits : Limits) × (slice_get context.memories 0 ≡ Some limits)
 
--- How many bytes an access reads or writes.
+-- The number of bytes that an access reads or writes.
 abbrev pub width_in_bytes : Width → ℕ
 width_in_bytes W32 = 4
 width_in_bytes W64 = 8
@@ -229,7 +229,8 @@ memory_rule context (memory.DataDrop segment) operands results =
 abbrev pub IsLabel : Context → ℕ → List ValType → Type 0
 IsLabel context label types = slice_get context.labels label ≡ Some types
 
--- After unreachable, a branch, a return or a tail call any operands may lie, and nothing is said of those below what they take.
+-- After unreachable, a branch, a return or a tail call, any operands may be there. The operands below those that it takes are
+-- unspecified.
 abbrev pub control_rule : Context → ControlOp → List OperandType → List OperandType → Type 0
 control_rule context Unreachable operands results = Unit {0}
 control_rule context Nop operands results = HasFuncType (function_type [] []) operands results

@@ -1,11 +1,11 @@
--- Import matching (Validation, Types, Import Subtyping): which external types may be given where another is wanted. The minimum of a
--- given table or memory is its present size.
+-- Import matching (Validation, Types, Import Subtyping): which external types may be given for a wanted one. The minimum of a given table
+-- or memory is its present size.
 use Rattle.std.specs.Prelude.{◌≡◌, ℕ, ◌≤◌, Option, Some, None}
 use Rattle.core_types.specs.declared.types.ExternType.{ExternType}
 use Rattle.core_types.specs.declared.types.ExternType.TheVariants.{Func, Table, Memory, Global}
 use Rattle.core_types.specs.declared.types.Limits.{Limits}
 
--- The maximum is absent where none is wanted, or else present and at most the wanted one.
+-- If no maximum is wanted, any maximum or none matches. Otherwise the maximum is present and at most the wanted one.
 abbrev pub MaximaMatch : (given wanted : Option ℕ) → Type 0
 MaximaMatch given None = Unit {0}
 MaximaMatch None (Some wanted) = ⊥

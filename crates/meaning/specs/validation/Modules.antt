@@ -89,7 +89,7 @@ memories_of m = imported_memories m.imports ++ m.memories
 abbrev pub globals_of : Module → List GlobalType
 globals_of m = imported_globals m.imports ++ map (λ (g : Global). g.ty) m.globals
 
--- The type of this index, which the rules of a module show to be there.
+-- The type of this index. The rules of a module guarantee that it exists.
 abbrev pub type_at : List FuncType → ℕ → FuncType
 type_at types x = unwrap_or (slice_get types x) (function_type [] [])
 
@@ -135,7 +135,7 @@ named_functions m =
 
 -- ---- contexts
 
--- Where a module's parts are typed, outside of bodies.
+-- The context in which a module's parts are typed, outside of bodies.
 abbrev pub module_context : Module → Context
 module_context m = record {
   types = m.types;
@@ -151,13 +151,14 @@ module_context m = record {
   references = named_functions m;
 }
 
--- Where a function of this type, with these locals besides its parameters, is typed.
+-- The context in which a function of this type, with these locals besides its parameters, is typed.
 abbrev pub body_context : Module → FuncType → List ValType → Context
 body_context m t locals =
     with_label (record (module_context m) { locals = t.params ++ locals; results = Some t.results })
     t.results
 
--- Where a constant expression is typed: the globals are the imported ones, which is this project's own rule for all of them.
+-- The context in which a constant expression is typed. Its globals are the imported ones, which is this project's own rule for all
+-- constant expressions.
 abbrev pub constant_context : Module → Context
 constant_context m = record (module_context m) { globals = imported_globals m.imports }
 
@@ -204,7 +205,7 @@ HasItemsOfType m t (Expressions expressions) =
     All (λ (ops : List Op). IsConstantExpression (constant_context m) ops (reference_type t))
     expressions
 
--- An active segment goes into a table of its type, at an i32 (Element Segments).
+-- An active segment is for a table of its type, at an i32 (Element Segments).
 abbrev pub HasElementMode : Module → RefType → ElementMode → Type 0
 HasElementMode m t Passive = Unit {0}
 HasElementMode m t Declarative = Unit {0}
@@ -216,7 +217,7 @@ pub record IsValidElement (m : Module) (e : ElementSegment) : Type 0 where
   pub items : HasItemsOfType m e.ty e.items
   pub mode : HasElementMode m e.ty e.mode
 
--- An active segment goes into a memory that is there, at an i32 (Data Segments).
+-- An active segment is for a memory that exists, at an i32 (Data Segments).
 abbrev pub HasDataMode : Module → DataMode → Type 0
 HasDataMode m data_mode.Passive = Unit {0}
 HasDataMode m (data_mode.Active x offset) =
@@ -227,7 +228,7 @@ abbrev pub IsValidStart : Module → Option ℕ → Type 0
 IsValidStart m None = Unit {0}
 IsValidStart m (Some x) = slice_get (functions_of m) x ≡ Some (function_type [] [])
 
--- What is exported exists (Exports).
+-- The export refers to something that exists (Exports).
 abbrev pub Exists : Module → ExportDesc → Type 0
 Exists m (export.Func x) = x < length (function_indices m)
 Exists m (export.Table x) = x < length (tables_of m)

@@ -7,7 +7,7 @@ use Rattle.core_types.specs.declared.op.ControlOp.TheVariants.{Unreachable}
 use Rattle.core_types.specs.declared.op.ParametricOp.TheVariants.{DropOperand}
 use Rattle.meaning.specs.structure.Bodies.{Body, Empty, Then}
 
--- A sum of two operands that nothing put on, and what is put on before it is dropped.
+-- A sum of two operands that the body does not push. The sum is dropped.
 abbrev pub sum_dropped : Body
 sum_dropped = Then (Numeric (Binary W32 Add)) (Then (Parametric DropOperand) Empty)
 

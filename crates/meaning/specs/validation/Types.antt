@@ -10,7 +10,7 @@ use Rattle.core_types.specs.declared.types.ValType.{ValType}
 use Rattle.core_types.specs.declared.types.ValType.TheVariants.{I32, I64, FuncRef, ExternRef}
 use Rattle.meaning.specs.structure.Bodies.{Kind, BlockKind, LoopKind, IfKind}
 
--- From the parameters to the results.
+-- A type of functions from the parameters to the results.
 abbrev pub function_type : List ValType → List ValType → FuncType
 function_type params results = record { params = params; results = results }
 
@@ -18,7 +18,7 @@ abbrev pub reference_type : RefType → ValType
 reference_type ref.FuncRef = FuncRef
 reference_type ref.ExternRef = ExternRef
 
--- Whether two types of functions are the same, which goes by their structure (Function Types).
+-- Whether two types of functions are the same, which is decided by their structure (Function Types).
 abbrev pub is_same_type : ValType → ValType → Bool
 is_same_type I32 I32 = true
 is_same_type I64 I64 = true
@@ -40,7 +40,7 @@ block_type types block.Empty = Some (function_type [] [])
 block_type types (block.Value t) = Some (function_type [] (t ∷ []))
 block_type types (block.Index x) = slice_get types x
 
--- What a branch to the label of an instruction with a body carries: the results, and the parameters for a loop.
+-- The types that a branch to the label of an instruction with a body carries: the results, or the parameters for a loop.
 abbrev pub label_types : Kind → FuncType → List ValType
 label_types BlockKind type = type.results
 label_types LoopKind type = type.params
@@ -50,7 +50,7 @@ label_types IfKind type = type.results
 abbrev pub AreOrdered : Limits → Type 0
 AreOrdered limits = elim limits.max [ None ↦ Unit {0} | Some max ↦ limits.min ≤ max ]
 
--- How many pages a memory may have (Memory Types).
+-- The most pages that a memory may have (Memory Types).
 abbrev pub most_pages : ℕ
 most_pages = 65536
 

@@ -40,7 +40,7 @@ module _ {A : Type 0} (f : A → Data) where
 
 -- ---- commands that are read
 
--- Commands before those that there are, if there are any.
+-- Commands before the existing ones, if there are any.
 abbrev prepended : List ScriptCommand → Result (List ScriptCommand) ℕ → Result (List ScriptCommand) ℕ
 prepended cs (Ok rest) = Ok (cs ++ rest)
 prepended cs (Err index) = Err index
@@ -51,7 +51,7 @@ prepended-one cs c index (Ok rest) = ap (λ (all : List ScriptCommand). Ok all) 
 prepended-one cs c index (Err later) = refl
 
 module _ {A : Type 0} (f : A → Data) (xs : List A) where
-  -- The commands so far, before those that there are of the rest.
+  -- The commands so far, before those of the rest.
   abbrev pub CommandsSoFar : ℕ → List ScriptCommand → Type 0
   CommandsSoFar k cs = commands_in 0 (map f xs) ≡ prepended cs (commands_in k (map f (drop k xs)))
 
@@ -93,7 +93,7 @@ module _ {A : Type 0} (f : A → ScriptCommand) (xs : List A) where
       ∙ sym (ap filenames (ap (map f) (take_more xs k x inside) ∙ map-append f (take k xs) (get_or xs k x ∷ [])))
 
   module _ (files : Files) where
-    -- None is missing so far.
+    -- No file is missing so far.
     abbrev pub NoneMissing : ℕ → Type 0
     NoneMissing k = missing_from files 0 (map f xs) ≡ missing_from files k (map f (drop k xs))
 

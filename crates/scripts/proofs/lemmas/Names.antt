@@ -21,7 +21,7 @@ module _ {Z S : Type 0} (old new : HashMap (String Z) (Option ℕ) S) (name : Li
   flattened true before = refl
   flattened false before = refl
 
-  -- A name that is put into a map means the instance then, and all others mean what they meant.
+  -- After a name is put into a map, it means the instance, and all other names mean what they meant.
   pub named-put : UpdatesBy string_eq (λ (k : String Z). bytes_eq name (string_bytes k)) old new (Some instance) → named_in new ≡ naming (named_in old) (Some name) instance
   named-put updates = λ j other. at other j
     where
@@ -40,7 +40,7 @@ or_none : (o : Option (List ℕ)) → o ≡ option_or o None
 or_none None = refl
 or_none (Some bytes) = refl
 
--- A file is there already.
+-- A file exists already.
 module _ (files : Files) (name bytes : List ℕ) where
   kept-same-at : (filename : List ℕ) → is_some (files name) ≡ true → (b : Bool) → bytes_eq filename name ≡ b
       → files filename ≡ option_or (files filename) (if b then Some bytes else None)
@@ -85,7 +85,7 @@ module _ {S : Type 0} (old new : HashMap (Bor (List ℕ)) (Bor (List ℕ)) S) (n
   kept-new absent updates = λ j filename.
       kept-new-at filename absent (hash_map_updates_str name old new (Some bytes) updates filename) (bytes_eq name filename) refl j
 
--- One more file behind the others.
+-- One more file after the others.
 under-append : (files : List (List ℕ × List ℕ)) (name bytes filename : List ℕ)
     → option_or (under files filename) (if bytes_eq filename name then Some bytes else None) ≡ under (files ++ (name, bytes) ∷ []) filename
 under-append [] name bytes filename = by (bytes_eq filename name)

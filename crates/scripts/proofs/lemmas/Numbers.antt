@@ -1,4 +1,4 @@
--- Numbers that texts spell.
+-- Numbers that texts encode.
 use Rattle.std.proofs.Common.{◌≡◌, ℕ, ◌<◌, ◌^◌, List, true, length, arith, rules}
 use Rattle.std.specs.Prelude.{Result, Ok, Err}
 use Rattle.std.specs.Char.{is_ascii_digit}

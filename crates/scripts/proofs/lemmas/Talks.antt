@@ -1,4 +1,4 @@
--- Conversations that go on, break off and come to their end.
+-- Conversations that continue, break off and come to their end.
 use Rattle.std.proofs.Common.{◌≡◌, ℕ, List, [], ◌∷◌, refl, sym, subst}
 use Rattle.std.specs.Prelude.{IfErr, IfOk, Option, Result, Ok, Err}
 use Rattle.std.specs.Result.{IsErrAnd}
@@ -43,7 +43,7 @@ module _ {H : Type 0} (HostStep : List H → ℕ → Option ℕ → List Val →
   taken reply (Ok found) applied takes = rw takes.0 (told reply applied takes.1)
   taken reply (Err fault) applied takes = (takes.0, λ next. lacked (reply_of reply) applied takes.1)
 
-  -- What is said has to be put into a reply, for which there may be no memory.
+  -- The result must be put into a reply, for which memory may run out.
   pub answered : {command : Command} {old new : Embedding H} (said : Reply) (result : Result GivenReply ScriptFault) → AppliesWell HostStep old command said new → (IsForMemory said → ⊥)
       → IfOk result (λ reply. reply_of reply ≡ said) → IfErr result (λ fault. fault ≡ OutOfMemory) → Holds HostStep reply_of (Asks command) old result new
   answered said (Ok reply) applied has is fails = told reply (rw is applied) (rw is has)

@@ -1,31 +1,29 @@
-//! Instructions without a body that lie in a row, between two marks.
+//! Consecutive instructions without a body, between two marks.
 
 ghost use Rattle.std.specs.Prelude.{◌≡◌, ◌<◌, ◌≤◌, ◌+◌, Some, drop, length, slice_get, IfOk};
 ghost use Rattle.core_types.specs.Expressions.{lent_op};
 ghost use Rattle.core_types.specs.declared.op.Op.{Op as Operation};
-ghost use Rattle.sidetable.specs.Flattening.{CanMakeAll, PassesTo, PassesUnlessMark, with_heights};
-ghost use Rattle.sidetable.specs.Labels.{AllStand};
+ghost use Rattle.sidetable.specs.Flattening.{CanPassAll, IsMarkAt, PassesTo, PassesUnlessMark, with_heights};
+ghost use Rattle.sidetable.specs.Labels.{HaveEntries};
 ghost use Rattle.sidetable.specs.Signatures.{signatures_of};
-ghost use Rattle.sidetable.specs.Sizes.{IsMarkAt};
 
 use crate::counts::ModuleTypes;
 use crate::flattening::Flattening;
 use crate::instructions::pack;
-use crate::labels::Label;
 use crate::operand_heights::{Heights, heights_behind};
 use core_types::{Expression, LentOp, OpWith};
 use std::alloc::AllocError;
 
-// Passes an instruction without a body, and answers whether the operation is one. The heights are apart, in hand.
+// Passes an instruction without a body, and returns whether the operation is one. The heights are in local variables.
 #[inline(always)]
 fn pass_plain(
     s: &ModuleTypes<'_>,
-    outermost: Label,
+    outermost: u32,
     f: &mut Flattening,
     heights: &mut Heights,
     op: LentOp<'_>,
 ) -> Result<bool, AllocError>
-    requires { AllStand f.old.tables outermost f.old.levels }
+    requires { HaveEntries f.old.tables outermost f.old.levels }
     ensures { IfOk result (PassesUnlessMark (signatures_of s.now) outermost
         (with_heights f.old heights.old) (lent_op op.entry) (with_heights f.new heights.new)) }
 {
@@ -37,19 +35,19 @@ fn pass_plain(
     Ok(true)
 }
 
-// Passes the operation at an index, as `pass_plain` does. For each that is frequent the compiler makes code of its own, which knows
-// its counts and the parts of its packed form.
+// Passes the operation at an index, as `pass_plain` does. The compiler generates separate code for each frequent operation, with
+// its counts and the parts of its packed form as constants.
 #[inline(always)]
 fn pass_at(
     s: &ModuleTypes<'_>,
-    outermost: Label,
+    outermost: u32,
     f: &mut Flattening,
     heights: &mut Heights,
     code: &Expression,
     index: usize,
 ) -> Result<bool, AllocError>
     requires within { index < length code.now }
-    requires stand { AllStand f.old.tables outermost f.old.levels }
+    requires stand { HaveEntries f.old.tables outermost f.old.levels }
     ensures { (op : Operation) → slice_get code.now index ≡ Some op
         → IfOk result (PassesUnlessMark (signatures_of s.now) outermost
         (with_heights f.old heights.old) op (with_heights f.new heights.new)) }
@@ -77,17 +75,17 @@ fn pass_at(
     }
 }
 
-// Passes the instructions without a body that lie in a row from a position on; answers the position behind them.
+// Passes the consecutive instructions without a body from a position on. Returns the position after them.
 #[inline(always)]
 pub fn pass_row(
     s: &ModuleTypes<'_>,
-    outermost: Label,
+    outermost: u32,
     f: &mut Flattening,
     code: &Expression,
     start: usize,
 ) -> Result<usize, AllocError>
     requires within { start ≤ length code.now }
-    requires can { CanMakeAll (signatures_of s.now) outermost f.old (drop start code.now) }
+    requires can { CanPassAll outermost f.old (drop start code.now) }
     ensures within { IfOk result (λ end. (start ≤ end) × (end ≤ length code.now)) }
     ensures passes { IfOk result (λ end. PassesTo (signatures_of s.now) outermost f.old
         (drop start code.now) (drop end code.now) f.new) }

@@ -16,14 +16,14 @@ module _ (store : Store) where
   pub ValuesHaveTypes-next : (vs : List Val) (ts : List ValType) (k : ℕ) (v : Val) (t : ValType) → k < length vs → k < length ts → ValuesHaveTypes store (take k vs) (take k ts) → ValueHasType store (get_or vs k v) (get_or ts k t) → ValuesHaveTypes store (take (k + 1) vs) (take (k + 1) ts)
   ValuesHaveTypes-next vs ts k v t in_vs in_ts so_far h = rw (take_more vs k v in_vs, take_more ts k t in_ts) (push (take k vs) (take k ts) (get_or vs k v) (get_or ts k t) so_far h)
 
-  -- There are as many values as types.
+  -- There is one value for each type.
   pub length-typed : (vs : List Val) (ts : List ValType) → ValuesHaveTypes store vs ts → length vs ≡ length ts
   length-typed [] [] h = refl
   length-typed [] (t ∷ ts) h = absurd h
   length-typed (v ∷ vs) [] h = absurd h
   length-typed (v ∷ vs) (t ∷ ts) h = ap suc (length-typed vs ts h.1)
 
-  -- A value and the type at its position, where all have their types.
+  -- A value and the type at its position, if all values have their types.
   pub ValuesHaveTypes-at : (vs : List Val) (ts : List ValType) (k : ℕ) (v : Val) (t : ValType) → k < length vs → ValuesHaveTypes store vs ts → ValueHasType store (get_or vs k v) (get_or ts k t)
   ValuesHaveTypes-at [] ts k v t inside h = absurd (omega (arith, inside))
   ValuesHaveTypes-at (w ∷ vs) [] k v t inside h = absurd h

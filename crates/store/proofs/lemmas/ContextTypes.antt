@@ -19,7 +19,7 @@ use Rattle.store.specs.Contents.{AreOfContext, Contents, HasModuleTypes, code_st
 use Rattle.store.proofs.lemmas.Positions.{holds-at, slice_get-seam}
 use Rattle.store.proofs.lemmas.Validity.{Grows, allocation-grows}
 
--- They stay where functions are added.
+-- They stay when functions are added.
 module _ (functions more : List Function) where
   types-stay : (i : Instance) → HasModuleTypes functions i → HasModuleTypes (functions ++ more) i
   types-stay i h = record {

@@ -13,7 +13,7 @@ use Rattle.store.specs.declared.instances.Instance.{Instance}
 use Rattle.store.specs.Contents.{AllFound, IsFound, contents_of, entries_of, entry_function, function_at, host_function, instance_function, module_function, functions_in, instances_in, module_instance_of, no_function, typed_function}
 use Rattle.store.proofs.lemmas.Positions.{slice_get-front, slice_get-seam, holds-at}
 
--- An entry that finds its function finds it still when instances and host functions are added.
+-- An entry that finds its function still finds it when instances and host functions are added.
 instance-behind : (instances new : List Instance) (instance index : ℕ) → IsSome (instance_function instance index (slice_get instances instance)) → slice_get (instances ++ new) instance ≡ slice_get instances instance
 instance-behind instances new instance index h = go (slice_get instances instance) refl h
   where
@@ -48,7 +48,7 @@ AllFound-append : (hosts : List FuncType) (instances : List Instance) (fs gs : L
 AllFound-append hosts instances [] gs h k = k
 AllFound-append hosts instances (f ∷ fs) gs h k = (h.0, AllFound-append hosts instances fs gs h.1 k)
 
--- ---- a host function more
+-- ---- one more host function
 
 module _ (hosts : List FuncType) (instances : List Instance) (t : FuncType) (functions : List FunctionInstance) (found : AllFound hosts instances functions) where
   host-there : slice_get (hosts ++ t ∷ []) (length hosts) ≡ Some t
@@ -72,7 +72,7 @@ module _ (hosts : List FuncType) (instances : List Instance) (t : FuncType) (fun
       let new : function_at (hosts ++ t ∷ []) instances (InHost (length hosts)) ≡ host_function (length hosts) t = ap (λ (there : Option Function). unwrap_or there no_function) host_is in
       rw (all, before, new) refl
 
--- ---- a module more
+-- ---- one more module
 
 module _ (hosts : List FuncType) (instances : List Instance) (i : Instance) (valid : IsValid i.loaded.value.source) where
   abbrev all : List Instance
@@ -129,7 +129,7 @@ module _ (hosts : List FuncType) (instances : List Instance) (i : Instance) (val
         let before : AllFound hosts all functions = rw (append-nil hosts) at (AllFound-behind hosts [] instances (i ∷ []) functions found) in
         subst (AllFound hosts all) (sym behind) (AllFound-append hosts all functions added before (AllFound-new [] i.loaded.value.source.funcs refl))
 
-    -- The functions are those before, with those of the module.
+    -- The functions are those before, followed by those of the module.
     pub functions-added : functions_in (contents_of after all hosts) ≡ functions_in (contents_of functions instances hosts) ++ map (new_function (length (instances_in (contents_of functions instances hosts))) i.loaded.value.source) i.loaded.value.source.funcs
     functions-added =
         let old = map-append (function_at hosts all) functions added in

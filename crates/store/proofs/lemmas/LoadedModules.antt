@@ -14,7 +14,7 @@ module _ (s : Signatures) (ops : List FlatOp) where
   flat-at (f ∷ funcs) (q ∷ packed) zero func p h e g = let same : f ≡ func = cc in let same_packed : q ≡ p = cc in rw (← same, ← same_packed) h.0
   flat-at (f ∷ funcs) (q ∷ packed) (suc k) func p h e g = flat-at funcs packed k func p h.1 e g
 
-  -- There is a flat code for each function.
+  -- There is flat code for each function.
   pub code-within : (funcs : List Func) (packed : List PackedFunction) (k : ℕ) → AreFlat s ops funcs packed → k < length funcs → k < length packed
   code-within [] packed k h inside = absurd (omega (arith, inside))
   code-within (f ∷ funcs) [] k h inside = absurd h

@@ -83,6 +83,6 @@ instance-found : (instances : List Instance) (n k : ℕ) (found : Option Instanc
 instance-found instances n k None there some = absurd cc
 instance-found instances n k (Some i) there some = slice_get_within instances n i there
 
--- It is there where it has a function.
+-- The instance exists if it has a function.
 pub instance-within : (instances : List Instance) (n k : ℕ) → IsSome (instance_function n k (slice_get instances n)) → n < length instances
 instance-within instances n k some = instance-found instances n k (slice_get instances n) refl some

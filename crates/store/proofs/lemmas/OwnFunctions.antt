@@ -1,4 +1,4 @@
--- The functions of an instance's module, behind those that it imports.
+-- The functions of an instance's module, after those that it imports.
 use Rattle.std.proofs.Common.{◌≡◌, ℕ, ◌+◌, ◌-◌, ◌≤◌, List, [], ◌∷◌, ◌++◌, length, ap, ◌∙◌, arith, length-append}
 use Rattle.std.specs.Prelude.{Some, option_map, slice_get}
 use Rattle.std.proofs.lemmas.Option.{slice_get-map}
@@ -20,12 +20,12 @@ use Rattle.store.proofs.lemmas.ContextTypes.{context-types}
 use Rattle.store.proofs.lemmas.Lookups.{function-is, function-there}
 use Rattle.store.proofs.lemmas.Positions.{slice_get-behind, slice_get-front, slice_get-last, consecutive-at}
 
--- The functions of each instance are.
+-- The functions of each instance are in this order.
 abbrev pub AllHaveOwn : List FunctionInstance → List Instance → Type 0
 AllHaveOwn functions instances =
     (number : ℕ) (i : Instance) → slice_get instances number ≡ Some i → HasOwnFunctions functions number i
 
--- They stay where functions are added.
+-- They stay when functions are added.
 pub all-own-stay : (functions more : List FunctionInstance) (instances : List Instance) → AllHaveOwn functions instances → AllHaveOwn (functions ++ more) instances
 all-own-stay functions more instances all number i there =
     let h = all number i there in record {
@@ -35,7 +35,7 @@ all-own-stay functions more instances all number i there =
           (address, record { named = is.named; there = slice_get-front functions more address _ is.there });
     }
 
--- An instance that is added has them.
+-- An added instance has them.
 pub own-added : (functions : List FunctionInstance) (number : ℕ) (i : Instance) → AddsFunctions (length functions) i
     → HasOwnFunctions (functions ++ entries_of number (consecutive 0 (length i.loaded.value.source.funcs))) number i
 own-added functions number i adds =
@@ -59,7 +59,7 @@ pub all-own-with : (functions : List FunctionInstance) (instances : List Instanc
 all-own-with functions instances i all own number j there =
     slice_get-last (λ (n : ℕ) (k : Instance). HasOwnFunctions functions n k) instances i all own number j there
 
--- An instance that is allocated has functions that are given for imports, and behind them those of its module.
+-- An allocated instance has functions that are given for imports, followed by those of its module.
 module _ (code : Contents) (state : StateContents) (i : Instance) (objects : ObjectLists) (a : IsAllocation (store_with code state) i.loaded.value.source (module_instance_of i) objects) where
   abbrev count : ℕ
   count = length i.loaded.value.source.funcs
@@ -82,7 +82,7 @@ module _ (code : Contents) (state : StateContents) (i : Instance) (objects : Obj
   pub adds-functions : i.imported ≡ length i.addresses.functions.items - count → AddsFunctions (length code.functions) i
   adds-functions imported = record { given = given; imported = omega (arith, imported, together); behind = behind }
 
--- A function of its module is what is at the address of such a function.
+-- The function at the address of such a function is a function of its module.
 pub own-callee : (code : Contents) (f : ModuleFunction) (i : Instance) (index address : ℕ) → IsLoaded code f.instance i
     → slice_get code.functions address ≡ Some (InModule f.instance index)
     → slice_get i.loaded.value.source.funcs index ≡ Some f.func.now

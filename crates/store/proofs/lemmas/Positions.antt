@@ -20,7 +20,7 @@ slice_get-behind {A} (x ∷ xs) ys k y e =
     let same : suc (length xs) + k ≡ suc (length xs + k) = omega arith in
     subst (λ (n : ℕ). slice_get (x ∷ xs ++ ys) n ≡ Some y) (sym same) (slice_get-behind xs ys k y e)
 
--- What holds of each item at its position, and of one more at the end.
+-- What holds for each item at its position, and for one more at the end.
 pub slice_get-last : {A : Type 0} (P : ℕ → A → Type 0) (xs : List A) (x : A) → ((k : ℕ) (y : A) → slice_get xs k ≡ Some y → P k y) → P (length xs) x
     → (k : ℕ) (y : A) → slice_get (xs ++ x ∷ []) k ≡ Some y → P k y
 slice_get-last P [] x all last zero y e = let same : x ≡ y = cc in subst (P zero) same last
@@ -31,7 +31,7 @@ slice_get-last P (z ∷ zs) x all last (suc k) y e = slice_get-last (λ (n : ℕ
 pub holds-at : {A : Type 0} (P : A → Type 0) (xs : List A) (k : ℕ) (x : A) → All P xs → slice_get xs k ≡ Some x → P x
 holds-at P xs k x h e = subst P (get_or_from_slice_get xs k x x e) (h k x (slice_get_within xs k x e))
 
--- Numbers in a row.
+-- Consecutive numbers.
 pub consecutive-at : (first count k : ℕ) → k < count → slice_get (consecutive first count) k ≡ Some (first + k)
 consecutive-at first zero k inside = absurd (omega (arith, inside))
 consecutive-at first (suc count) zero inside = ap (λ (n : ℕ). Some n) (omega arith)
@@ -39,7 +39,7 @@ consecutive-at first (suc count) (suc k) inside =
     let same : suc first + k ≡ first + suc k = omega arith in
     consecutive-at (suc first) count k (omega (arith, inside)) ∙ ap (λ (n : ℕ). Some n) same
 
--- Numbers in a row, and the next one.
+-- Consecutive numbers, and the next one.
 pub consecutive-next : (first count : ℕ) → consecutive first count ++ (first + count) ∷ [] ≡ consecutive first (count + 1)
 consecutive-next first zero = let e : first + 0 ≡ first = omega arith in ap (λ (n : ℕ). n ∷ []) e
 consecutive-next first (suc count) =

@@ -1,4 +1,4 @@
--- What is put into a store leaves it valid.
+-- What is added to a store leaves it valid.
 use Rattle.std.proofs.Common.{◌≡◌, ℕ, ◌+◌, ◌<◌, ◌^◌, List, [], ◌∷◌, ◌++◌, length, map, Some, Result, Ok, Err, OnErr, OnOk, ap, ap₂, sym, subst, ◌∙◌}
 use Rattle.core_types.specs.declared.module.Module.{Module}
 use Rattle.core_types.specs.declared.types.FuncType.{FuncType}
@@ -20,12 +20,12 @@ Grows old new = Extends old new × StoreIsValid new
 pub grows-same : (old new : Store) → StoreIsValid old → new ≡ old → Grows old new
 grows-same old new valid same = subst (Grows old) (sym same) (Extends-same old, valid)
 
--- Two facts where all went well, or one where it did not.
+-- Two facts if all went well, or one if it did not.
 pub of-either : {T E : Type 0} (r : Result T E) (P Q R S : Type 0) → OnOk r P → OnOk r Q → OnErr r R → (P → Q → S) → (R → S) → S
 of-either (Ok v) P Q R S p q r well otherwise = well p q
 of-either (Err e) P Q R S p q r well otherwise = otherwise r
 
--- Of the same objects with the same bounds there is the same store, whatever room there is.
+-- The same objects with the same bounds are the same store, whatever room there is.
 pub equal-stores : (code : Contents) (s t : StateContents) → t.contents ≡ s.contents → t.bounds ≡ s.bounds → store_with code t ≡ store_with code s
 equal-stores code s t contents bounds = ap₂ (λ (o : ObjectLists) (b : Bounds). store_with code (record { contents = o; room = s.room; bounds = b })) contents bounds
 

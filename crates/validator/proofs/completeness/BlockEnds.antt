@@ -66,8 +66,8 @@ nothing_under [] [] top e fits = refl
 nothing_under (x ∷ own) [] [] e fits = absurd fits
 nothing_under (x ∷ own) [] (t ∷ top) e fits = absurd cc
 
--- The operands of a typing that has nothing left of a frame fit its end types. So those of the frame
--- cover them, and are all taken for them.
+-- The operands of a typing that has nothing left of a frame fit its end types. So those of the frame cover them, and all of them are
+-- taken.
 pub record Left (l : ControlFrame) (operands : List OperandType) (under theirs : List OperandType) : Type 0 where
   pub own : List OperandType
   pub whole : operands ≡ under ++ own
@@ -115,7 +115,7 @@ module _ {context : Context} {l : ControlFrame} {ls : List ControlFrame} {operan
   pub else_left : {ops : List Op} (p : IsTypingOfRest context l ls operands (op.Else ∷ ops)) → Left l operands p.under p.here.theirs
   else_left {ops = ops} p = left_of p (no_else p.here.rest ops p.later p.here.written).0
 
-  -- Nothing is left to be read: only the function's frame is there.
+  -- Nothing is left to read: only the function's frame is left.
   pub nothing_left : (p : IsTypingOfRest context l ls operands []) → (ls ≡ []) × Left l operands p.under p.here.theirs
   nothing_left p =
       let (none, later) = all_written p.here.rest p.later p.here.written in
@@ -163,7 +163,7 @@ end_alone : {context : Context} {l : ControlFrame} {ls : List ControlFrame} {ope
 end_alone {ls = []} p = absurd (end_outside p)
 end_alone {ls = m ∷ ms} p = (end_by p).1
 
--- An end ends a frame, and the frame around it goes on.
+-- An end ends a frame, and the frame around it continues.
 pub end_goes : {context : Context} {l m : ControlFrame} {ms : List ControlFrame} {operands given new : List OperandType} {ops : List Op} → Takes l.unreachable l.height operands given new → AllFit given (known l.end_types.now) → IsTypingOfRest context l (m ∷ ms) operands (op.End ∷ ops) → IsTypingOfRest context m ms (new ++ known l.end_types.now) ops
 end_goes {l = l} {m} takes fits p =
     let here = left_taken takes fits (end_left p) in
@@ -189,7 +189,7 @@ second_of {context} {l} {m} {ms} {ops = ops} p =
     let (none, is_later) = no_else p.here.rest ops p.later p.here.written in
     else_by (inside context (l ∷ m ∷ ms)) l.kind l.start_types.now l.end_types.now ops p.around.0 (subst (λ (z : List Op). FrameEnd (inside context (l ∷ m ∷ ms)) l.kind l.start_types.now l.end_types.now z p.around.0) (sym is_later) p.around.1)
 
--- An else ends the first body of an if alone.
+-- An else ends only the first body of an if.
 pub else_kind : {context : Context} {l : ControlFrame} {ls : List ControlFrame} {operands : List OperandType} {ops : List Op} → IsTypingOfRest context l ls operands (op.Else ∷ ops) → l.kind ≡ If
 else_kind {ls = []} p = absurd (else_outside p)
 else_kind {ls = m ∷ ms} p = (second_of p).is

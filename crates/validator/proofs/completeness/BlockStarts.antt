@@ -26,7 +26,7 @@ use Rattle.validator.proofs.completeness.Covers.{AllFit-length, Covers-taken}
 use Rattle.validator.proofs.completeness.Instructions.{IsTypingOfRest-parts}
 use Rattle.validator.proofs.completeness.RestBodies.{IsNoEnd, later_begins}
 
--- How the instruction of a mark that is next is typed, up to the body that begins with it.
+-- How the instruction of the next mark is typed, up to the body that begins with it.
 pub record BlockStart (context : Context) (kind : FrameKind) (t : BlockType) (before after : List OperandType) (ops later : List Op) : Type 0 where
   pub s : FuncType
   pub between : List OperandType
@@ -149,7 +149,7 @@ module _ {context : Context} {l : ControlFrame} {ls : List ControlFrame} {operan
       let b = block_start p in
       refuses.at p.under p.here.own p.here.whole p.here.height p.here.theirs b.frame.below b.frame.given p.here.covers b.frame.before_is (subst (λ (z : List OperandType). AllFit b.frame.given z) same b.frame.fits)
 
--- A block begins: its body and what follows it go on as they would.
+-- A block begins: its body and what follows it continue as they would.
 pub begin_goes : {context : Context} {l : ControlFrame} {ls : List ControlFrame} {operands given left : List OperandType} {ops : List Op} (new : ControlFrame) (t : BlockType) (o : Op) (mark : IsMark new.kind t o) → Takes l.unreachable l.height operands given left
     → AllFit given (known (new.start_types.now ++ condition_by new.kind)) → new.height ≡ length left → (p : IsTypingOfRest context l ls operands (o ∷ ops)) → (block_start new.kind t o mark p).s ≡ signature_of new → IsTypingOfRest context new (l ∷ ls) (left ++ known new.start_types.now) ops
 begin_goes {context} {l} {ls} {given = given} {left = left} new t o mark takes fits height p same =
@@ -196,13 +196,13 @@ begin_goes {context} {l} {ls} {given = given} {left = left} new t o mark takes f
 
 -- There is one type of a block, in each context.
 block_same : {lent : BodyContext} {context : Context} (t : BlockType) (found other : FuncType) → Describes lent context
-    → block_type lent.decoded.now.types t ≡ Some found → block_type context.types t ≡ Some other → other ≡ found
+    → block_type lent.types.now t ≡ Some found → block_type context.types t ≡ Some other → other ≡ found
 block_same t found other described is other_is =
     let both : Some other ≡ Some found = sym other_is ∙ ap (λ (types : List FuncType). block_type types t) described.types ∙ is in
     cc
 
 module _ {lent : BodyContext} {old : Stacks} (kind : FrameKind) (t : BlockType) (o : Op) (mark : IsMark kind t o) where
-  pub no_block_type : block_type lent.decoded.now.types t ≡ None → CannotBeNext lent old o
+  pub no_block_type : block_type lent.types.now t ≡ None → CannotBeNext lent old o
   no_block_type none = record {
     at = λ context described ops p.
         let b = block_start kind t o mark p in
@@ -210,7 +210,7 @@ module _ {lent : BodyContext} {old : Stacks} (kind : FrameKind) (t : BlockType) 
         cc;
   }
 
-  pub begin_refused_next : (found : FuncType) (wanted : List ValType) → block_type lent.decoded.now.types t ≡ Some found → wanted ≡ found.params ++ condition_by kind
+  pub begin_refused_next : (found : FuncType) (wanted : List ValType) → block_type lent.types.now t ≡ Some found → wanted ≡ found.params ++ condition_by kind
       → Refuses old.innermost.unreachable old.innermost.height old.operands.items (known wanted) → CannotBeNext lent old o
   begin_refused_next found wanted type same refuses = record {
     at = λ context described ops p.
@@ -220,7 +220,7 @@ module _ {lent : BodyContext} {old : Stacks} (kind : FrameKind) (t : BlockType) 
   }
 
 pub begin_complete : {lent : BodyContext} {old new : Stacks} {given left : List OperandType} (frame : ControlFrame) (t : BlockType) (o : Op)
-    → IsMark frame.kind t o → block_type lent.decoded.now.types t ≡ Some (signature_of frame)
+    → IsMark frame.kind t o → block_type lent.types.now t ≡ Some (signature_of frame)
     → Takes old.innermost.unreachable old.innermost.height old.operands.items given left
     → AllFit given (known (frame.start_types.now ++ condition_by frame.kind)) → frame.height ≡ length left → new.innermost ≡ frame
     → reverse new.outer.items ≡ old.innermost ∷ reverse old.outer.items → new.operands.items ≡ left ++ known frame.start_types.now → KeepsRest lent old new o

@@ -48,7 +48,7 @@ two_given t (u ∷ v ∷ w ∷ us) fit = absurd fit.1.1
 last_type : (t u : ValType) → AreFit t (known (u ∷ [])) → u ≡ t
 last_type t u fits = let same : Known t ≡ Known u = fits.0 in cc
 
--- Where all operands behind an instruction that puts one on top fit a type, it is of this type, and so do those before it.
+-- If all operands after an instruction that pushes one fit a type, the pushed one has it, and those before it fit it.
 pub before-put : (t u : ValType) (operands results before between : List OperandType) → operands ≡ [] → results ≡ known (u ∷ []) → TakesAndGives operands results before between → AreFit t between
     → (u ≡ t) × AreFit t before × (length between ≡ suc (length before))
 before-put t u operands results before between none one frame fits =
@@ -60,7 +60,7 @@ before-put t u operands results before between none one frame fits =
     let same : length before ≡ length frame.below = ap (λ (ts : List OperandType). length ts) before_is in
     (last_type t u last, subst (AreFit t) (sym before_is) below, omega (arith, longer, same))
 
--- Likewise for one that puts an operand in the place of two of its type.
+-- The same for an instruction that replaces two operands of its type with one.
 pub before-operator : (t u : ValType) (operands results before between : List OperandType) → operands ≡ known (u ∷ u ∷ []) → results ≡ known (u ∷ []) → TakesAndGives operands results before between → AreFit t between
     → (u ≡ t) × AreFit t before × (2 ≤ length before) × (suc (length between) ≡ length before)
 before-operator t u operands results before between two one frame fits =
@@ -75,7 +75,7 @@ before-operator t u operands results before between two one frame fits =
 
 -- ---- constant instructions
 
--- Takes two operands of a type, and gives one.
+-- It takes two operands of a type, and gives one.
 abbrev IsOperatorRule : NumericOp → (operands results : List OperandType) → Type 0
 IsOperatorRule op operands results = (u : ValType) × Operates (Numeric op) u × (operands ≡ known (u ∷ u ∷ [])) × (results ≡ known (u ∷ []))
 

@@ -9,7 +9,7 @@ use Rattle.meaning.specs.validation.Instructions.{AllFit, known}
 use Rattle.validator.specs.Operands.{Covers, IsDry, Refuses, TakenFrom, Takes}
 use Rattle.validator.proofs.OperandStack.{Takes-nothing}
 
--- Lists of one length at the end of the same list are the same, and so is what lies before them.
+-- Lists of one length at the end of the same list are the same, and so is what is before them.
 pub same_end : {A : Type 0} (a b c d : List A) → a ++ b ≡ c ++ d → length b ≡ length d → (a ≡ c) × (b ≡ d)
 same_end {A = A} [] b [] d e long = (refl, e)
 same_end {A = A} [] b (z ∷ c) d e long = absurd (omega (arith, ap length e, length-append c d))
@@ -26,7 +26,7 @@ AllFit-length [] (u ∷ us) fits = absurd fits
 AllFit-length (t ∷ ts) [] fits = absurd fits
 AllFit-length (t ∷ ts) (u ∷ us) fits = ap suc (AllFit-length ts us fits.1)
 
--- What fits a list that is joined to another one is joined likewise.
+-- If a list fits two joined lists, its parts fit them.
 pub AllFit-split : (ts more us : List OperandType) → AllFit (ts ++ more) us → (front back : List OperandType) × (us ≡ front ++ back) × AllFit ts front × AllFit more back
 AllFit-split [] more us fits = ([], us, refl, tt, fits)
 AllFit-split (t ∷ ts) more [] fits = absurd fits
@@ -47,7 +47,8 @@ unknown_fit zero (u ∷ us) e = absurd (omega arith)
 unknown_fit (suc n) [] e = absurd (omega arith)
 unknown_fit (suc n) (u ∷ us) e = (tt, unknown_fit n us (omega arith))
 
--- Taking as many operands from a typing's leaves operands that the rest covers, and those taken fit those of the typing.
+-- If the same number of operands is taken from a typing's, the rest covers those that are left, and the taken ones fit those of the
+-- typing.
 pub Covers-taken : (unreachable : Bool) (own given rest theirs below top : List OperandType) → Covers unreachable own theirs → TakenFrom unreachable own given rest → theirs ≡ below ++ top → length top ≡ length given → Covers unreachable rest below × AllFit given top
 Covers-taken unreachable own given rest theirs below top covers (inl parts) e long =
     let (front, back, halves, first, second) = AllFit-split rest given covers.top (rw parts at covers.fits) in
@@ -89,11 +90,11 @@ Refuses-short unreachable height old given new wanted takes (alive, low) less = 
     taken_all own given rest alive nothing (inl parts) = ap length parts ∙ ap (λ (z : List OperandType). length (z ++ given)) nothing
     taken_all own given rest alive nothing (inr (dead, none, more)) = let both : true ≡ false = sym dead ∙ alive in absurd cc
 
--- The frame has no operand, where one is wanted.
+-- The frame has no operand, and one is wanted.
 pub Refuses-dry : (unreachable : Bool) (height : ℕ) (old : List OperandType) (wanted : OperandType) → IsDry unreachable height old → Refuses unreachable height old (wanted ∷ [])
 Refuses-dry unreachable height old wanted dry = Refuses-short unreachable height old [] old (wanted ∷ []) (Takes-nothing unreachable height old) dry (omega arith)
 
--- Where operands of the last types were taken and the one before is refused, all of them are.
+-- If operands of the last types were taken and the one before is refused, all of them are refused.
 pub Refuses-more : (unreachable : Bool) (height : ℕ) (old given new front back : List OperandType) (wanted : OperandType) → Takes unreachable height old given new → AllFit given back → Refuses unreachable height new (wanted ∷ []) → Refuses unreachable height old (front ++ (wanted ∷ back))
 Refuses-more unreachable height old given new front back wanted takes fits refuses = record {
   at = λ under own parts long theirs below top covers e fit.
@@ -106,7 +107,7 @@ Refuses-more unreachable height old given new front back wanted takes fits refus
       refuses.at under rest left long ((below ++ first) ++ one) (below ++ first) one covered.0 refl fit_one;
 }
 
--- The same of types, the last of which were taken.
+-- The same for types, the last of which were taken.
 pub Refuses-down : (unreachable : Bool) (height : ℕ) (old given new : List OperandType) (wanted : List ValType) (left : ℕ) (d : ValType) → left < length wanted → Takes unreachable height old given new → AllFit given (known (drop (left + 1) wanted))
     → Refuses unreachable height new (Known (get_or wanted left d) ∷ []) → Refuses unreachable height old (known wanted)
 Refuses-down unreachable height old given new wanted left d less takes fits refuses =
@@ -114,7 +115,7 @@ Refuses-down unreachable height old given new wanted left d less takes fits refu
     ap known (sym (take-append-drop left wanted)) ∙ map-append Known (take left wanted) (drop left wanted) ∙ ap (λ (z : List ValType). known (take left wanted) ++ known z) (drop_more wanted left d less) in
     subst (λ (z : List OperandType). Refuses unreachable height old z) (sym parts) (Refuses-more unreachable height old given new (known (take left wanted)) (known (drop (left + 1) wanted)) (Known (get_or wanted left d)) takes fits refuses)
 
--- Results that fit those of a typing are put on.
+-- Results that fit those of a typing are pushed.
 pub Covers-put : (unreachable : Bool) (own theirs results others : List OperandType) → Covers unreachable own theirs → AllFit results others → Covers unreachable (own ++ results) (theirs ++ others)
 Covers-put unreachable own theirs results others covers fits = record {
   others = covers.others;
@@ -124,11 +125,11 @@ Covers-put unreachable own theirs results others covers fits = record {
   alone = covers.alone;
 }
 
--- The topmost of the operands wanted is refused.
+-- The topmost of the wanted operands is refused.
 pub Refuses-top : (unreachable : Bool) (height : ℕ) (old front : List OperandType) (wanted : OperandType) → Refuses unreachable height old (wanted ∷ []) → Refuses unreachable height old (front ++ wanted ∷ [])
 Refuses-top unreachable height old front wanted refuses = Refuses-more unreachable height old [] old front [] wanted (Takes-nothing unreachable height old) tt refuses
 
--- Operands are refused under one that was taken.
+-- Operands are refused below one that was taken.
 pub Refuses-under : (unreachable : Bool) (height : ℕ) (old mid wanted : List OperandType) (t topmost : OperandType) → Takes unreachable height old (t ∷ []) mid → Refuses unreachable height mid wanted → Refuses unreachable height old (wanted ++ topmost ∷ [])
 Refuses-under unreachable height old mid wanted t topmost takes refuses = record {
   at = λ under own parts long theirs below top covers e fit.

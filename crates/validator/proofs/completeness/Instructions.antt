@@ -1,4 +1,4 @@
--- Instructions without a body: from what a step does to the stacks to the typings of the rest.
+-- Instructions without a body: from the effect of a step on the stacks to the typings of the rest.
 use Rattle.std.proofs.Common.{◌≡◌, List, ◌++◌, length, reverse, sym, subst, take, ap}
 use Rattle.core_types.specs.declared.op.Op.TheVariants as op
 use Rattle.core_types.specs.declared.op.Op.{Op}
@@ -28,7 +28,7 @@ abbrev pub RuleAt : Context → Stacks → PlainOp → List OperandType → List
 RuleAt context old o operands results = Rule (inside context (control_stack old)) o operands results
 
 module _ {s : BodyContext} {old new : Stacks} where
-  -- As many operands are taken as each rule takes, and where they fit these, results that fit its own are put on.
+  -- The same number of operands is taken as each rule takes. If they fit these, results that fit its own are pushed.
   pub rule_complete : {given left : List OperandType} (o : PlainOp) (results : List OperandType) → new.innermost ≡ old.innermost → new.outer ≡ old.outer → Takes old.innermost.unreachable old.innermost.height old.operands.items given left → new.operands.items ≡ left ++ results
       → ((context : Context) → Describes s context → (theirs others : List OperandType) → RuleAt context old o theirs others → (length given ≡ length theirs) × (AllFit given theirs → AllFit results others)) → KeepsRest s old new (op.Plain o)
   rule_complete {left = left} o results innermost outer takes operands each = record {

@@ -49,7 +49,7 @@ first_goes s ops stacks kind end_types height alone nothing = record {
       (first_possible body kind end_types is.labels height written typed);
 }
 
--- One operation more.
+-- One more operation.
 pub next_goes : (s : BodyContext) (ops : List Op) (old new : Stacks) (o : Op) (rest : List Op) → IsRestTyped s ops old (o ∷ rest) → KeepsRest s old new o → IsRestTyped s ops new rest
 next_goes s ops old new o rest goes leads = record { in_context = λ context is body written typed. leads.on context is rest (goes.in_context context is body written typed) }
 
@@ -58,7 +58,7 @@ pub next_refused : (s : BodyContext) (ops : List Op) (old : Stacks) (o : Op) (re
 next_refused s ops old o rest goes bars = record { in_context = λ context is body written typed. bars.at context is rest (goes.in_context context is body written typed) }
 
 module _ (s : BodyContext) (ops : List Op) (stacks : Stacks) (goes : IsRestTyped s ops stacks []) where
-  -- All were read, and a frame lies within the function's own.
+  -- All operations were read, and a frame is within the function's own.
   pub still_open : 0 < length stacks.outer.items → IsUntyped s ops
   still_open more = record {
     in_context = λ context is body written typed.
@@ -66,7 +66,7 @@ module _ (s : BodyContext) (ops : List Op) (stacks : Stacks) (goes : IsRestTyped
         omega (arith, more, length-reverse stacks.outer.items, ap length alone);
   }
 
-  -- All were read, and the function's own frame cannot end.
+  -- All operations were read, and the function's own frame cannot end.
   pub never_whole : NeverCloses stacks → IsUntyped s ops
   never_whole never = record {
     in_context = λ context is body written typed.

@@ -1,4 +1,4 @@
--- The rules on each index space, from those on what is imported and what is the module's own.
+-- The rules on each index space, from those on what is imported and those on the module's own definitions.
 use Rattle.std.proofs.Common.{ℕ, ◌<◌, List, [], ◌∷◌, ◌++◌, length, map, subst}
 use Rattle.std.proofs.lemmas.List.Elements.{All-nil, All-cons, All-head, All-tail, All-append, All-map, All-weaker}
 use Rattle.std.specs.List.{filter_map, cons_option}

@@ -1,4 +1,4 @@
--- Instructions without a body: from what a step does to the stacks to the typing of what was read.
+-- Instructions without a body: from the effect of a step on the stacks to the typing of what was read.
 use Rattle.std.proofs.Common.{◌≡◌, List, [], ◌∷◌, ◌++◌, reverse, sym, subst, take, ap}
 use Rattle.core_types.specs.declared.op.Op.TheVariants as op
 use Rattle.core_types.specs.declared.op.Op.{Op}
@@ -16,7 +16,7 @@ use Rattle.validator.specs.Soundness.{IsTypingOfRead}
 use Rattle.validator.specs.Steps.{KeepsRead}
 use Rattle.validator.proofs.soundness.ReadBodies.{plain_open, stop_open, took_open}
 
--- What the stacks say, part by part.
+-- What the stacks state, part by part.
 pub IsTypingOfRead-parts : (context : Context) (innermost l : ControlFrame) (outer ls : List ControlFrame) (all operands : List OperandType) (read : List Op) → innermost ≡ l → outer ≡ ls → all ≡ operands → IsTypingOfRead context l ls operands [] read → IsTypingOfRead context innermost outer all [] read
 IsTypingOfRead-parts context innermost l outer ls all operands read same_frame same_frames same_operands opened =
     subst (λ (z : List OperandType). IsTypingOfRead context innermost outer z [] read) (sym same_operands)
@@ -24,7 +24,7 @@ IsTypingOfRead-parts context innermost l outer ls all operands read same_frame s
     (subst (λ (z : ControlFrame). IsTypingOfRead context z ls operands [] read) (sym same_frame) opened))
 
 module _ {s : BodyContext} {old new : Stacks} where
-  -- Operands are taken that fit those of a rule, and its results are put on.
+  -- Operands are taken that fit those of a rule, and its results are pushed.
   pub rule_sound : {given left : List OperandType} (o : PlainOp) (wanted results : List OperandType) → new.innermost ≡ old.innermost → new.outer ≡ old.outer → Takes old.innermost.unreachable old.innermost.height old.operands.items given left → AllFit given wanted
       → new.operands.items ≡ left ++ results → ((context : Context) → Describes s context → Rule (inside context (control_stack old)) o wanted results) → KeepsRead s old new (op.Plain o)
   rule_sound {left = left} o wanted results innermost outer takes fits operands rule = record {

@@ -54,13 +54,13 @@ all_of t height = known (replicate height t)
 all_of-parts : (t : ValType) (m n : ℕ) → all_of t (m + n) ≡ all_of t m ++ all_of t n
 all_of-parts t m n = ap (λ (ts : List ValType). known ts) (sym (replicate-append-replicate m n t)) ∙ map-append Known (replicate m t) (replicate n t)
 
--- One more operand is put on top of that many.
+-- One more operand is pushed on that many.
 puts_one : (t : ValType) (height : ℕ) → TakesAndGives [] (known (t ∷ [])) (all_of t height) (all_of t (suc height))
 puts_one t height =
     let more : suc height ≡ height + 1 = omega (arith) in
     record { below = all_of t height; given = []; before_is = sym (append-nil _); fits = tt; after_is = ap (all_of t) more ∙ all_of-parts t height 1 }
 
--- Two of that many operands are taken, and one is put in their place.
+-- Two of that many operands are replaced with one.
 takes_two : (t : ValType) (height behind : ℕ) → 2 ≤ height → suc behind ≡ height → TakesAndGives (known (t ∷ t ∷ [])) (known (t ∷ [])) (all_of t height) (all_of t behind)
 takes_two t height behind two is =
     let both : height ≡ (height - 2) + 2 = omega (arith, two) in
@@ -74,7 +74,7 @@ takes_two t height behind two is =
     }
 
 module _ {m : Module} {s : IndexSpaces} {context : ConstantContext} (spaces : AreIndexSpaces m s) (marks : HasMarks m s) (lends : IsConstantContext m s context) where
-  -- A function that is marked is there.
+  -- A marked function exists.
   function_there : (x : ℕ) → slice_get s.declared.items x ≡ Some true → (f : FuncType) × (slice_get (map (type_at m.types) (function_indices m)) x ≡ Some f)
   function_there x set =
       let inside : x < length (function_indices m) = omega (arith, slice_get_within s.declared.items x true set, marks.one_for_each, ap length spaces.functions) in

@@ -24,7 +24,7 @@ use Rattle.validator.specs.InstructionTypes.{with_i32}
 use Rattle.validator.specs.Operands.{TakenFrom, Takes}
 use Rattle.validator.specs.Soundness.{Admits, AroundRead, HereRead, IsTypingOfRead, FrameStart}
 
--- Operands that were taken can be put back.
+-- Operands that were taken can be pushed again.
 Admits-taken : (unreachable : Bool) (own given rest hand target : List OperandType) → TakenFrom unreachable own given rest → Admits unreachable (rest ++ (given ++ hand)) target → Admits unreachable (own ++ hand) target
 Admits-taken false own given rest hand target (inl parts) admits = admits ∙ sym (append_assoc rest given hand) ∙ ap (λ (z : List OperandType). z ++ hand) (sym parts)
 Admits-taken false own given rest hand target (inr (dead, nothing, more)) admits = absurd (let e : false ≡ true = dead in cc)
@@ -33,13 +33,13 @@ Admits-taken true own given rest hand target (inr (dead, nothing, (n, parts))) (
     let whole : rest ++ (given ++ hand) ≡ replicate n Unknown ++ (own ++ hand) = ap (λ (z : List OperandType). z ++ (given ++ hand)) nothing ∙ ap (λ (z : List OperandType). z ++ hand) parts ∙ append_assoc (replicate n Unknown) own hand in
     (any ++ replicate n Unknown, is ∙ ap (λ (z : List OperandType). any ++ z) whole ∙ sym (append_assoc any (replicate n Unknown) (own ++ hand)))
 
--- Those in hand can be seen as what they fit.
+-- Those in hand can be treated as what they fit.
 Admits-fit : (unreachable : Bool) (own hand wanted target : List OperandType) → AllFit hand wanted → Admits unreachable (own ++ wanted) target → (other : List OperandType) × Admits unreachable (own ++ hand) other × AllFit other target
 Admits-fit false own hand wanted target fits admits = (own ++ hand, refl, rw admits (AllFit-joined own own hand wanted (AllFit-same own) fits))
 Admits-fit true own hand wanted target fits (any, is) =
     (any ++ (own ++ hand), (any, refl), rw is (AllFit-joined any any (own ++ hand) (own ++ wanted) (AllFit-same any) (AllFit-joined own own hand wanted (AllFit-same own) fits)))
 
--- Others can be in hand, over the same.
+-- Others can be in hand, above the same operands.
 Admits-other : (unreachable : Bool) (own hand other target : List OperandType) → Admits unreachable (own ++ other) target → (any : List OperandType) × Admits unreachable (own ++ hand) (any ++ hand) × (target ≡ any ++ other)
 Admits-other false own hand other target admits = (own, refl, admits)
 Admits-other true own hand other target (any, is) = (any ++ own, (any, append_assoc any own hand), is ∙ sym (append_assoc any own other))
@@ -79,7 +79,7 @@ module _ {context : Context} {l : ControlFrame} {ls : List ControlFrame} where
         };
       }
 
-  -- Those in hand are seen as what they fit.
+  -- Those in hand are treated as what they fit.
   fit_open : {operands hand : List OperandType} {read : List Op} (wanted : List OperandType) → IsTypingOfRead context l ls operands hand read → AllFit hand wanted → IsTypingOfRead context l ls operands wanted read
   fit_open {hand = hand} wanted o fits =
       let h = o.here in
@@ -101,11 +101,11 @@ module _ {context : Context} {l : ControlFrame} {ls : List ControlFrame} where
         };
       }
 
-  -- Operands that fit the types wanted are taken into the hand, which was empty.
+  -- Operands that fit the wanted types are taken into the hand, which was empty.
   pub took_open : {old given new : List OperandType} {read : List Op} (wanted : List OperandType) → IsTypingOfRead context l ls old [] read → Takes l.unreachable l.height old given new → AllFit given wanted → IsTypingOfRead context l ls new wanted read
   took_open {given = given} wanted o takes fits = fit_open wanted (rw (append-nil given) at (take_open o takes)) fits
 
-  -- Those in hand go on the stack.
+  -- Those in hand are pushed on the stack.
   push_open : {operands hand : List OperandType} {read : List Op} → IsTypingOfRead context l ls operands hand read → IsTypingOfRead context l ls (operands ++ hand) [] read
   push_open {hand = hand} o =
       let h = o.here in
@@ -153,7 +153,7 @@ module _ {context : Context} {l : ControlFrame} {ls : List ControlFrame} where
   plain_open {hand = hand} {read = read} o results opened rule =
       push_open (more_open results (Then o Empty) (read ++ op.Plain o ∷ []) opened (λ any. (hand, results, any ++ results, rule, record { below = any; given = hand; before_is = refl; fits = AllFit-same hand; after_is = refl }, AllFit-same (any ++ results))) refl)
 
-  -- An instruction is read that takes what is in hand over anything, and leads to anything: from there on nothing is reached.
+  -- An instruction is read that takes what is in hand over anything, and leads to anything: nothing is reached after it.
   pub stop_open : {operands hand : List OperandType} {read : List Op} (o : PlainOp) → IsTypingOfRead context l ls operands hand read → ((any to : List OperandType) → Rule (inside context (l ∷ ls)) o (any ++ hand) to) → IsTypingOfRead context (unreachable_from_here l) ls (take l.height operands) [] (read ++ op.Plain o ∷ [])
   stop_open {operands = operands} {hand = hand} {read = read} o opened rule =
       let h = opened.here in
@@ -178,7 +178,7 @@ module _ {context : Context} {l : ControlFrame} {ls : List ControlFrame} where
 
   -- ---- a frame whose body is whole
 
-  -- The frame has no operand left but those in hand.
+  -- The frame has no operands left except those in hand.
   dry : {operands hand : List OperandType} {read : List Op} (o : IsTypingOfRead context l ls operands hand read) → length operands ≡ l.height → (o.here.own ≡ []) × (o.under ≡ operands)
   dry o short =
       let nothing : o.here.own ≡ [] = nil_from_length o.here.own (omega (arith, ap length o.here.whole, length-append o.under o.here.own, o.here.height)) in

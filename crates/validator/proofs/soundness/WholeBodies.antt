@@ -24,11 +24,11 @@ first_read s stacks kind start_types end_types height alive alone nothing = reco
   in_context = λ context described. IsTypingOfRead-parts context stacks.innermost stacks.innermost (reverse stacks.outer.items) [] stacks.operands.items [] [] refl (ap (λ (z : List ControlFrame). reverse z) alone) nothing (nothing_open stacks.innermost kind start_types (described.results ∙ ap Some (sym end_types)) height alive);
 }
 
--- One operation more.
+-- One more operation.
 pub next_read : (s : BodyContext) (old new : Stacks) (read : List Op) (o : Op) → IsReadTyped s old read → KeepsRead s old new o → IsReadTyped s new (read ++ o ∷ [])
 next_read s old new read o before reads = record { in_context = λ context described. reads.keeps context described read (before.in_context context described) }
 
--- All were read, and the body of the function's own frame is whole.
+-- All operations were read, and the body of the function's own frame is whole.
 all_read : (s : BodyContext) (stacks : Stacks) (left : List OperandType) (read : List Op) → IsReadTyped s stacks read → stacks.outer.items ≡ [] → Closes stacks left → IsTyped s read
 all_read s stacks left read before alone closes = record {
   in_context = λ context described.

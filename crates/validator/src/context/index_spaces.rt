@@ -1,16 +1,16 @@
 ghost use Rattle.std.specs.List.{filter_map};
 ghost use Rattle.std.specs.Prelude.{IfOk, map, ◌≡◌};
-ghost use Rattle.validator.specs.IndexSpaces.{AreIndexSpaces, function_of, functions_in, global_of, globals_in, memories_in, memory_of, table_of, tables_in};
+ghost use Rattle.validator.specs.IndexSpaces.{AreIndexSpaces, ArePartsOf, AreSpacesOf, function_of, functions_in, global_of, globals_in, memories_in, memory_of, table_of, tables_in};
 ghost use Rattle.validator.specs.References.{HasMarks};
 
-use crate::context::IndexSpaces;
 use crate::context::references::mark_references;
+use crate::context::{IndexSpaces, ModuleParts};
 use core_types::{
     Func, Global as ModuleGlobal, GlobalType, Import, ImportDesc, Limits, Module, TableType,
 };
 use std::alloc::{AllocError, Global};
 
-// The type index of a function that is imported.
+// Returns the type index of an imported function.
 #[tactic(auto, unfolding(crate::specs::IndexSpaces::function_of))]
 fn imported_function(import: &Import) -> Option<u32>
     ensures { result ≡ function_of import.now.desc }
@@ -21,7 +21,6 @@ fn imported_function(import: &Import) -> Option<u32>
     }
 }
 
-// The type of a table that is imported.
 #[tactic(auto, unfolding(crate::specs::IndexSpaces::table_of))]
 fn imported_table(import: &Import) -> Option<TableType>
     ensures { result ≡ table_of import.now.desc }
@@ -32,7 +31,6 @@ fn imported_table(import: &Import) -> Option<TableType>
     }
 }
 
-// The bounds of a memory that is imported.
 #[tactic(auto, unfolding(crate::specs::IndexSpaces::memory_of))]
 fn imported_memory(import: &Import) -> Option<Limits>
     ensures { result ≡ memory_of import.now.desc }
@@ -43,7 +41,6 @@ fn imported_memory(import: &Import) -> Option<Limits>
     }
 }
 
-// The type of a global that is imported.
 #[tactic(auto, unfolding(crate::specs::IndexSpaces::global_of))]
 fn imported_global(import: &Import) -> Option<GlobalType>
     ensures { result ≡ global_of import.now.desc }
@@ -54,7 +51,7 @@ fn imported_global(import: &Import) -> Option<GlobalType>
     }
 }
 
-// The type index of each function, imports first.
+// Returns the type index of each function, imports first.
 fn function_space(alloc: Global, imports: &[Import], funcs: &[Func]) -> Result<Vec<u32>, AllocError>
     ensures { IfOk result (λ space. space.items ≡ functions_in imports.now funcs.now) }
 {
@@ -65,7 +62,7 @@ fn function_space(alloc: Global, imports: &[Import], funcs: &[Func]) -> Result<V
         .collect(alloc)
 }
 
-// The type of each table, imports first.
+// Returns the type of each table, imports first.
 fn table_space(
     alloc: Global,
     imports: &[Import],
@@ -80,7 +77,7 @@ fn table_space(
         .collect(alloc)
 }
 
-// The bounds of each memory, imports first.
+// Returns the bounds of each memory, imports first.
 fn memory_space(
     alloc: Global,
     imports: &[Import],
@@ -95,7 +92,7 @@ fn memory_space(
         .collect(alloc)
 }
 
-// The type of each global, imports first.
+// Returns the type of each global, imports first.
 fn global_space(
     alloc: Global,
     imports: &[Import],
@@ -110,17 +107,18 @@ fn global_space(
         .collect(alloc)
 }
 
-// The index spaces of a module.
-pub fn index_spaces(alloc: Global, decoded: &Module) -> Result<IndexSpaces, AllocError>
-    ensures spaces { IfOk result (AreIndexSpaces decoded.now) }
-    ensures marks { IfOk result (HasMarks decoded.now) }
+// The index spaces of a module, from the type index of each function, imports first, and its other parts.
+pub fn index_spaces(
+    alloc: Global,
+    functions: Vec<u32>,
+    parts: &ModuleParts<'_>,
+) -> Result<IndexSpaces, AllocError>
+    ensures { IfOk result (AreSpacesOf functions.items parts.now) }
 {
-    let imports = decoded.imports.as_slice();
-    let functions = function_space(alloc, imports, decoded.funcs.as_slice())?;
-    let tables = table_space(alloc, imports, decoded.tables.as_slice())?;
-    let memories = memory_space(alloc, imports, decoded.memories.as_slice())?;
-    let globals = global_space(alloc, imports, decoded.globals.as_slice())?;
-    let declared = mark_references(alloc, decoded, functions.len())?;
+    let tables = table_space(alloc, parts.imports, parts.tables)?;
+    let memories = memory_space(alloc, parts.imports, parts.memories)?;
+    let globals = global_space(alloc, parts.imports, parts.globals)?;
+    let declared = mark_references(alloc, parts, functions.len())?;
     Ok(IndexSpaces {
         functions,
         tables,
@@ -128,4 +126,28 @@ pub fn index_spaces(alloc: Global, decoded: &Module) -> Result<IndexSpaces, Allo
         globals,
         declared,
     })
+}
+
+// The parts of a module.
+fn parts_of(decoded: &Module) -> ModuleParts<'_>
+    ensures { ArePartsOf decoded.now result }
+{
+    ModuleParts {
+        imports: decoded.imports.as_slice(),
+        tables: decoded.tables.as_slice(),
+        memories: decoded.memories.as_slice(),
+        globals: decoded.globals.as_slice(),
+        exports: decoded.exports.as_slice(),
+        elements: decoded.elements.as_slice(),
+    }
+}
+
+// The index spaces of a module.
+pub fn module_spaces(alloc: Global, decoded: &Module) -> Result<IndexSpaces, AllocError>
+    ensures spaces { IfOk result (AreIndexSpaces decoded.now) }
+    ensures marks { IfOk result (HasMarks decoded.now) }
+{
+    let parts = parts_of(decoded);
+    let functions = function_space(alloc, parts.imports, decoded.funcs.as_slice())?;
+    index_spaces(alloc, functions, &parts)
 }

@@ -1,16 +1,17 @@
 ghost use Rattle.std.specs.Prelude.{IfOk, List, slice_set, true, ◌∷◌, ◌≡◌};
 ghost use Rattle.core_types.specs.Expressions.{lent_op};
 ghost use Rattle.core_types.specs.declared.op.Op.{Op as Operation};
-ghost use Rattle.meaning.specs.validation.Modules.{named_by, named_by_each, named_by_elements, named_by_exports, named_by_globals, named_by_items, named_functions};
-ghost use Rattle.validator.specs.References.{marks_of, set_marks};
+ghost use Rattle.meaning.specs.validation.Modules.{named_by, named_by_each, named_by_elements, named_by_exports, named_by_globals, named_by_items};
+ghost use Rattle.validator.specs.References.{marks_of, named_in, set_marks};
 
+use crate::context::ModuleParts;
 use core_types::{
     ElementItems, ElementSegment, Export, ExportDesc, Expression, Global as ModuleGlobal, LentOp,
-    Module, PlainOp, ReferenceOp, plain_op,
+    PlainOp, ReferenceOp, plain_op,
 };
 use std::alloc::{AllocError, Global};
 
-// Marks a function, if it is there.
+// Marks a function, if it exists.
 fn mark_function(marks: &mut [bool], index: u32)
     ensures { marks.new ≡ slice_set marks.old index true }
 {
@@ -20,7 +21,6 @@ fn mark_function(marks: &mut [bool], index: u32)
     }
 }
 
-// Marks the functions of these indices.
 fn mark_functions(marks: &mut [bool], indices: &[u32])
     ensures { marks.new ≡ set_marks marks.old indices.now }
 {
@@ -83,7 +83,6 @@ fn mark_items(marks: &mut [bool], items: &ElementItems)
     }
 }
 
-// Marks the functions that the references of segments name.
 fn mark_elements(marks: &mut [bool], elements: &[ElementSegment])
     ensures { marks.new ≡ set_marks marks.old (named_by_elements elements.now) }
 {
@@ -92,7 +91,6 @@ fn mark_elements(marks: &mut [bool], elements: &[ElementSegment])
     }
 }
 
-// Marks the functions that are exported.
 fn mark_exports(marks: &mut [bool], exports: &[Export])
     ensures { marks.new ≡ set_marks marks.old (named_by_exports exports.now) }
 {
@@ -103,25 +101,25 @@ fn mark_exports(marks: &mut [bool], exports: &[Export])
     }
 }
 
-// Marks the functions that a module names outside of bodies and the start.
+// Marks the functions that the parts of a module name.
 #[tactic(auto, using(crate::proofs::References::marked_append))]
-fn mark_module(marks: &mut [bool], decoded: &Module)
-    ensures { marks.new ≡ set_marks marks.old (named_functions decoded.now) }
+fn mark_parts(marks: &mut [bool], parts: &ModuleParts<'_>)
+    ensures { marks.new ≡ set_marks marks.old (named_in parts.now) }
 {
-    mark_globals(marks, decoded.globals.as_slice());
-    mark_elements(marks, decoded.elements.as_slice());
-    mark_exports(marks, decoded.exports.as_slice());
+    mark_globals(marks, parts.globals);
+    mark_elements(marks, parts.elements);
+    mark_exports(marks, parts.exports);
 }
 
-// For each function by index, whether it is named outside of bodies and the start.
+// For each function by index, whether the parts of a module name it.
 pub fn mark_references(
     alloc: Global,
-    decoded: &Module,
+    parts: &ModuleParts<'_>,
     count: usize,
 ) -> Result<Vec<bool>, AllocError>
-    ensures { IfOk result (λ marks. marks.items ≡ marks_of decoded.now count) }
+    ensures { IfOk result (λ marks. marks.items ≡ marks_of (named_in parts.now) count) }
 {
     let mut marks = vec![in alloc; false; count]?;
-    mark_module(&mut marks, decoded);
+    mark_parts(&mut marks, parts);
     Ok(marks)
 }

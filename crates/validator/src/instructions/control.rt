@@ -17,7 +17,7 @@ use crate::instructions::{apply, apply_some};
 use crate::types::takes_gives;
 use core_types::ControlOp;
 
-// A control instruction.
+// Steps over a control instruction.
 #[inline(always)]
 pub fn step_control(
     context: &BodyContext<'_>,

@@ -19,7 +19,7 @@ use crate::types::{
 };
 use core_types::{LoadOp, MemArg, MemoryOp, StoreOp, ValType, Width};
 
-// The bytes that a load reads, as an exponent of 2.
+// Returns the number of bytes that a load reads, as an exponent of 2.
 fn load_exponent(load: LoadOp) -> u32
     ensures { 2 ^ result ≡ width_of_load load }
 {
@@ -32,7 +32,7 @@ fn load_exponent(load: LoadOp) -> u32
     }
 }
 
-// The bytes that a store writes, as an exponent of 2.
+// Returns the number of bytes that a store writes, as an exponent of 2.
 fn store_exponent(store: StoreOp) -> u32
     ensures { 2 ^ result ≡ width_of_store store }
 {
@@ -45,14 +45,14 @@ fn store_exponent(store: StoreOp) -> u32
     }
 }
 
-// Whether an alignment is at most the bytes of an access, both as exponents of 2.
+// Returns whether an alignment is at most the number of bytes of an access, both as exponents of 2.
 fn is_aligned(align: u32, exponent: u32) -> bool
     ensures { IsTrue result ↔ (2 ^ align ≤ 2 ^ exponent) }
 {
     align <= exponent
 }
 
-// The type that a load gives.
+// Returns the type that a load gives.
 fn load_type(load: LoadOp) -> ValType
     ensures { result ≡ type_of_load load }
 {
@@ -64,7 +64,7 @@ fn load_type(load: LoadOp) -> ValType
     }
 }
 
-// The type that a store takes.
+// Returns the type that a store takes.
 fn store_type(store: StoreOp) -> ValType
     ensures { result ≡ type_of_store store }
 {
@@ -76,7 +76,7 @@ fn store_type(store: StoreOp) -> ValType
     }
 }
 
-// The type that a load gives, which takes an i32, if the load is valid.
+// Returns the type that a load gives, if the load is valid. A load takes an i32.
 fn loaded_type(context: &BodyContext<'_>, load: LoadOp, argument: MemArg) -> Option<ValType>
     ensures some { IfSome result (λ t. (labels : List (List AnyType)) → IsTypeOf context.now labels
         (plain.Memory (memory_op.Load load argument)) (function_type (I32 ∷ []) (t ∷ []))) }
@@ -90,7 +90,6 @@ fn loaded_type(context: &BodyContext<'_>, load: LoadOp, argument: MemArg) -> Opt
     Some(load_type(load))
 }
 
-// The type of a load.
 fn type_of_load(
     context: &BodyContext<'_>,
     load: LoadOp,
@@ -102,7 +101,6 @@ fn type_of_load(
     Some(takes_i32_gives(&[], once(ty)))
 }
 
-// The type of a store.
 fn type_of_store(
     context: &BodyContext<'_>,
     store: StoreOp,
@@ -117,7 +115,6 @@ fn type_of_store(
     Some(takes_gives(over_i32(store_type(store)), &[]))
 }
 
-// The type of `memory.init`.
 fn type_of_memory_init(context: &BodyContext<'_>, segment: u32) -> Option<InstructionType<'static>>
     ensures { HasTypeOf context.now (plain.Memory (memory_op.Init segment)) result }
 {
@@ -128,7 +125,7 @@ fn type_of_memory_init(context: &BodyContext<'_>, segment: u32) -> Option<Instru
     Some(takes_i32_gives(twice(ValType::I32), &[]))
 }
 
-// The type of an instruction on the memory or a data segment.
+// Returns the type of an instruction on the memory or a data segment.
 #[inline(always)]
 fn type_of_memory(context: &BodyContext<'_>, op: MemoryOp) -> Option<InstructionType<'static>>
     ensures { HasTypeOf context.now (plain.Memory op) result }
@@ -153,7 +150,7 @@ fn type_of_memory(context: &BodyContext<'_>, op: MemoryOp) -> Option<Instruction
     }
 }
 
-// An instruction on the memory or a data segment.
+// Steps over an instruction on the memory or a data segment.
 #[inline(always)]
 pub fn step_memory(
     context: &BodyContext<'_>,
@@ -165,7 +162,7 @@ pub fn step_memory(
     apply_some(stacks, &type_of_memory(context, op))
 }
 
-// A load with an alignment of eight bits.
+// Steps over a load with an alignment of eight bits.
 #[inline(always)]
 pub fn step_load(
     context: &BodyContext<'_>,
@@ -183,7 +180,7 @@ pub fn step_load(
     apply_unary(stacks, ValType::I32, ty)
 }
 
-// A store with an alignment of eight bits.
+// Steps over a store with an alignment of eight bits.
 #[inline(always)]
 pub fn step_store(
     context: &BodyContext<'_>,

@@ -10,7 +10,6 @@ use crate::instructions::{apply, apply_binary, apply_unary};
 use crate::types::{InstructionType, integer_type, once, takes_gives};
 use core_types::{Conversion, NumericOp, ValType};
 
-// The type of a conversion.
 fn type_of_conversion(op: Conversion) -> InstructionType<'static>
     ensures { lent_type result ≡ numeric_instruction_type (NumericOp.Convert op) }
 {
@@ -24,7 +23,6 @@ fn type_of_conversion(op: Conversion) -> InstructionType<'static>
     }
 }
 
-// A numeric instruction.
 #[inline(always)]
 pub fn step_numeric(stacks: &mut Stacks<'_>, op: NumericOp) -> Result<(), Fault>
     ensures { StepsOver stacks.old stacks.new (plain.Numeric op) result }
@@ -44,7 +42,7 @@ pub fn step_numeric(stacks: &mut Stacks<'_>, op: NumericOp) -> Result<(), Fault>
     }
 }
 
-// A constant of 32 bits.
+// Steps over a 32-bit constant.
 #[inline(always)]
 pub fn step_i32_const(stacks: &mut Stacks<'_>, value: u32) -> Result<(), Fault>
     ensures { StepsOver stacks.old stacks.new (plain.I32Const value) result }
@@ -52,7 +50,7 @@ pub fn step_i32_const(stacks: &mut Stacks<'_>, value: u32) -> Result<(), Fault>
     apply(stacks, &takes_gives(&[], once(ValType::I32)))
 }
 
-// A constant of 64 bits.
+// Steps over a 64-bit constant.
 #[inline(always)]
 pub fn step_i64_const(stacks: &mut Stacks<'_>, value: u64) -> Result<(), Fault>
     ensures { StepsOver stacks.old stacks.new (plain.I64Const value) result }

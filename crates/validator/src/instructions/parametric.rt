@@ -15,7 +15,7 @@ use crate::operands::{pop, pop_fitting};
 use crate::types::{InstructionType, once, takes_i32_gives, twice};
 use core_types::{Items, OperandType, ParametricOp, ValType};
 
-// The operand type of numbers of a type, if numbers have it.
+// Returns the operand type of this type, if it is a numeric type.
 fn numeric_operand(ty: ValType) -> Option<OperandType>
     ensures some { IfSome result (λ t. (t ≡ OperandType.Known ty) × IsNumeric t) }
     ensures none { IfNone result (IsNumeric (OperandType.Known ty) → ⊥) }
@@ -26,7 +26,7 @@ fn numeric_operand(ty: ValType) -> Option<OperandType>
     }
 }
 
-// What a select of two operands gives.
+// Returns the type of the result of a select of two operands.
 pub fn joint(first: OperandType, second: OperandType) -> Option<OperandType>
     ensures some { IfSome result (AreBothNumeric first second) }
     ensures least { IfSome result (λ t. (u : Operand) → AreBothNumeric first second u → Fits t u) }
@@ -46,7 +46,6 @@ pub fn joint(first: OperandType, second: OperandType) -> Option<OperandType>
     }
 }
 
-// A drop.
 fn step_drop(stacks: &mut Stacks<'_>) -> Result<(), Fault>
     ensures { StepsOver stacks.old stacks.new (plain.Parametric parametric.DropOperand) result }
 {
@@ -56,7 +55,7 @@ fn step_drop(stacks: &mut Stacks<'_>) -> Result<(), Fault>
     }
 }
 
-// A select without types.
+// Steps over a select without types.
 fn step_select(stacks: &mut Stacks<'_>) -> Result<(), Fault>
     ensures { StepsOver stacks.old stacks.new (plain.Parametric parametric.Select) result }
 {
@@ -80,7 +79,7 @@ fn step_select(stacks: &mut Stacks<'_>) -> Result<(), Fault>
     Ok(())
 }
 
-// An instruction on operands of any type.
+// Steps over an instruction on operands of any type.
 #[inline(always)]
 pub fn step_parametric(stacks: &mut Stacks<'_>, op: ParametricOp) -> Result<(), Fault>
     ensures { StepsOver stacks.old stacks.new (plain.Parametric op) result }
@@ -91,7 +90,7 @@ pub fn step_parametric(stacks: &mut Stacks<'_>, op: ParametricOp) -> Result<(), 
     }
 }
 
-// A select with types, of which there is one.
+// Returns the type of a select with types, of which there must be one.
 fn type_of_select(types: &[ValType]) -> Option<InstructionType<'static>>
     ensures { (lent : Lent) → HasTypeOf lent (plain.SelectTyped types.now) result }
 {
@@ -101,7 +100,7 @@ fn type_of_select(types: &[ValType]) -> Option<InstructionType<'static>>
     Some(takes_i32_gives(twice(types[0]), once(types[0])))
 }
 
-// A select with types.
+// Steps over a select with types.
 pub fn step_typed_select(stacks: &mut Stacks<'_>, types: &Items<ValType>) -> Result<(), Fault>
     ensures { StepsOver stacks.old stacks.new (plain.SelectTyped types.now) result }
 {

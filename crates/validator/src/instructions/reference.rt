@@ -16,7 +16,7 @@ use crate::operands::pop;
 use crate::types::{InstructionType, once, reference_type, takes_gives};
 use core_types::{OperandType, ReferenceOp, ValType};
 
-// Whether an operand fits some reference type.
+// Returns whether an operand fits some reference type.
 pub fn may_be_reference(given: OperandType) -> bool
     ensures fits { OnTrue result ((t : RefType) × FitsReference given t) }
     ensures none { OnFalse result ((t : RefType) → FitsReference given t → ⊥) }
@@ -30,7 +30,7 @@ pub fn may_be_reference(given: OperandType) -> bool
     }
 }
 
-// A test of a reference.
+// Steps over a test of a reference.
 fn step_is_null(stacks: &mut Stacks<'_>) -> Result<(), Fault>
     ensures { StepsOver stacks.old stacks.new (plain.Reference reference_op.IsNull) result }
 {
@@ -44,7 +44,7 @@ fn step_is_null(stacks: &mut Stacks<'_>) -> Result<(), Fault>
     Ok(())
 }
 
-// The type of `ref.func`, for a function that may be named.
+// Returns the type of `ref.func`, for a function that it may name.
 pub fn type_of_ref_func(context: &BodyContext<'_>, index: u32) -> Option<InstructionType<'static>>
     ensures { HasTypeOf context.now (plain.Reference (reference_op.Func index)) result }
 {
@@ -52,7 +52,7 @@ pub fn type_of_ref_func(context: &BodyContext<'_>, index: u32) -> Option<Instruc
     is_declared(context, index).then_some(takes_gives(&[], once(ValType::FuncRef)))
 }
 
-// An instruction on references.
+// Steps over an instruction on references.
 #[inline(always)]
 pub fn step_reference(
     context: &BodyContext<'_>,

@@ -13,7 +13,7 @@ use crate::types::{
 };
 use core_types::{TableOp, ValType};
 
-// The type of `table.copy`, between tables of one type of elements.
+// Returns the type of `table.copy`, between tables of one type of elements.
 fn type_of_table_copy(
     context: &BodyContext<'_>,
     target: u32,
@@ -30,7 +30,7 @@ fn type_of_table_copy(
     }
 }
 
-// The type of `table.init`, from a segment of the type of the table's elements.
+// Returns the type of `table.init`, from a segment of the type of the table's elements.
 fn type_of_table_init(
     context: &BodyContext<'_>,
     segment: u32,
@@ -47,7 +47,7 @@ fn type_of_table_init(
     }
 }
 
-// The type of an instruction on a table or an element segment.
+// Returns the type of an instruction on a table or an element segment.
 fn type_of_table(context: &BodyContext<'_>, op: TableOp) -> Option<InstructionType<'static>>
     ensures { HasTypeOf context.now (plain.Table op) result }
 {
@@ -81,7 +81,7 @@ fn type_of_table(context: &BodyContext<'_>, op: TableOp) -> Option<InstructionTy
     }
 }
 
-// An instruction on a table or an element segment.
+// Steps over an instruction on a table or an element segment.
 pub fn step_table(
     context: &BodyContext<'_>,
     stacks: &mut Stacks<'_>,

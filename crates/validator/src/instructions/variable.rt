@@ -14,7 +14,7 @@ use crate::instructions::{apply_nullary, apply_some};
 use crate::types::{InstructionType, once, takes_gives};
 use core_types::{Mutability, ValType, VariableOp};
 
-// The type of `global.set`, for a global that may be set.
+// Returns the type of `global.set`, for a mutable global.
 fn type_of_global_set(context: &BodyContext<'_>, index: u32) -> Option<InstructionType<'static>>
     ensures { HasTypeOf context.now (plain.Variable (variable_op.GlobalSet index)) result }
 {
@@ -25,7 +25,7 @@ fn type_of_global_set(context: &BodyContext<'_>, index: u32) -> Option<Instructi
     }
 }
 
-// The type that `local.get` gives, if the local is there.
+// Returns the type that `local.get` gives, if the local exists.
 #[inline(always)]
 fn read_type(context: &BodyContext<'_>, index: u32) -> Option<ValType>
     ensures some { IfSome result (λ t. (labels : List (List AnyType)) → IsTypeOf context.now labels
@@ -36,7 +36,7 @@ fn read_type(context: &BodyContext<'_>, index: u32) -> Option<ValType>
     local_type(context, index)
 }
 
-// A `local.get`.
+// Steps over a `local.get`.
 #[inline(always)]
 fn step_local_get(
     context: &BodyContext<'_>,
@@ -52,7 +52,7 @@ fn step_local_get(
     apply_nullary(stacks, ty)
 }
 
-// The type of an instruction on a local or a global.
+// Returns the type of an instruction on a local or a global.
 fn type_of_variable(context: &BodyContext<'_>, op: VariableOp) -> Option<InstructionType<'static>>
     ensures { HasTypeOf context.now (plain.Variable op) result }
 {
@@ -77,7 +77,7 @@ fn type_of_variable(context: &BodyContext<'_>, op: VariableOp) -> Option<Instruc
     }
 }
 
-// An instruction on a local or a global.
+// Steps over an instruction on a local or a global.
 #[inline(always)]
 pub fn step_variable(
     context: &BodyContext<'_>,

@@ -1,4 +1,4 @@
--- Control instructions without a body are read as they are spelled.
+-- Control instructions without a body are read as they are encoded.
 use Rattle.std.proofs.Common.{List, [], refl, ℕ}
 use Rattle.core_types.specs.declared.op.ControlOp.{ControlOp}
 use Rattle.core_types.specs.declared.op.ControlOp.TheVariants.{Br, BrIf, Call, CallIndirect, Nop, Return, ReturnCall, ReturnCallIndirect, Unreachable}

@@ -1,7 +1,8 @@
 -- Memory instructions are read as they are spelled.
-use Rattle.std.proofs.Common.{List, [], ap, arith, inl, leb, refl, ℕ, ◌++◌, ◌-◌, ◌∙◌, ◌∷◌, ◌≡◌, ◌≤◌}
-use Rattle.std.specs.Prelude.{Option, Some, slice_get}
-use Rattle.std.proofs.lemmas.Bool.{le-leb, leb-true, lt-leb}
+use Rattle.std.proofs.Common.{List, [], ap, arith, inl, refl, ℕ, ◌++◌, ◌∙◌, ◌∷◌, ◌≡◌, ◌≤◌}
+use Rattle.std.specs.Prelude.{Option, Some}
+use Rattle.std.proofs.lemmas.Bool.{le-leb, lt-leb}
+use Rattle.std.proofs.lemmas.Option.{slice_get_within}
 use Rattle.core_types.specs.declared.op.LoadOp.{LoadOp}
 use Rattle.core_types.specs.declared.op.MemArg.{MemArg}
 use Rattle.core_types.specs.declared.op.MemoryOp.{MemoryOp}
@@ -17,30 +18,16 @@ use Rattle.binary.specs.Instructions.{group_at, in_row, load_at, mem_arg, mem_ar
 use Rattle.binary.specs.Values.{expected_at, index_at}
 use Rattle.binary.proofs.exactness.Choices.{IsFront, SoundCase, SoundCases, at_byte, behind_sound, case_sound, mapped_reader, no_case_sound, pair_reader, tag_sound, up_to_sound}
 use Rattle.binary.proofs.exactness.Integers.{unsigned_reader}
-use Rattle.binary.proofs.exactness.Readers.{IsReader, bind_some, if_found}
+use Rattle.binary.proofs.exactness.Readers.{IsReader, bind_some}
 use Rattle.binary.proofs.exactness.Values.{expected_reader, index_reader}
-use Rattle.binary.proofs.exactness.instructions.Numeric.{within_row}
 use Rattle.binary.proofs.exactness.instructions.Opcodes.{group_reached, prefix_sound, prefixed_complete}
+use Rattle.binary.proofs.exactness.instructions.Rows.{in_row_complete, in_row_sound}
 
 mem_arg_reader : IsReader SpellsMemArg mem_arg_at
 unfolding mem_arg_at
 mem_arg_reader =
     mapped_reader mem_arg (pair_reader (unsigned_reader 32) (unsigned_reader 32)) (λ text parts spelt. spelt)
     (λ text m spelt. ((m.align, m.offset), spelt, refl))
-
-in_row_sound : {X : Type 0} (first : ℕ) (row : List (Option X)) (code : ℕ) (x : X)
-    → in_row first row code ≡ Some x → IsOpcode first row x code
-in_row_sound {X} first row code x e =
-    let from = if_found (leb first code) (slice_get row (code - first) >>= λ (x : Option X). x) x e in
-    let item = bind_some (slice_get row (code - first)) (λ (x : Option X). x) x from.1 in
-    let low : first ≤ code = leb-true _ _ from.0 in
-    (code - first, item.1 ∙ ap Some item.2, omega arith)
-
-in_row_complete : {X : Type 0} (first : ℕ) (row : List (Option X)) (code : ℕ) (x : X)
-    → IsOpcode first row x code → in_row first row code ≡ Some x
-in_row_complete first row code x (index, e, is) =
-    let back : code - first ≡ index = omega arith in
-    rw (le-leb first code (omega arith), back, e) refl
 
 access_sound : {X : Type 0} (first : ℕ) (row : List (Option X)) (into : X → MemArg → MemoryOp)
     → ((text : List ℕ) (x : X) (argument : MemArg) (code : ℕ) → IsOpcode first row x code
@@ -96,7 +83,7 @@ prefixed_memory_sound =
     (case_sound (prefix_sound SpellsMemory 10 (λ nothing. memory.Copy) two_zeros_reader (λ text a s. s))
     (case_sound (prefix_sound SpellsMemory 11 (λ nothing. memory.Fill) zero_reader (λ text a s. s)) no_case_sound)))
 
--- ---- what is spelled so is read
+-- ---- what has this encoding is read
 
 memory_reached : (code : ℕ) (bytes : List ℕ) → 0x28 ≤ code → code ≤ 0x3E
     → operation_at code bytes ≡ mapped_case Plain (mapped_case Memory memory_at) code bytes
@@ -116,7 +103,7 @@ load_complete : (text rest : List ℕ) (op : LoadOp) (argument : MemArg) (code :
     → IsFront SpellsByte operation_at text rest (Plain (Memory (memory.Load op argument)))
 unfolding memory_at load_at
 load_complete text rest op argument code is inside parts spelt =
-    let within = within_row loads is.0 (Some op) is.1 in
+    let within = slice_get_within loads is.0 (Some op) is.1 in
     at_byte code inside parts
     (memory_reached code (inside ++ rest) (omega arith) (omega arith)
     ∙ rw (
@@ -130,7 +117,7 @@ store_complete : (text rest : List ℕ) (op : StoreOp) (argument : MemArg) (code
     → IsFront SpellsByte operation_at text rest (Plain (Memory (memory.Store op argument)))
 unfolding memory_at store_at
 store_complete text rest op argument code is inside parts spelt =
-    let within = within_row stores is.0 (Some op) is.1 in
+    let within = slice_get_within stores is.0 (Some op) is.1 in
     at_byte code inside parts
     (memory_reached code (inside ++ rest) (omega arith) (omega arith)
     ∙ rw (

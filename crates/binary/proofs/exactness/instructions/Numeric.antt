@@ -1,118 +1,111 @@
 -- Numeric instructions without an immediate are read as they are spelled.
-use Rattle.std.proofs.Common.{Bool, List, [], ap, arith, cond, eqb, false, inl, inr, length, ltb, refl, subst, suc, sym, true, zero, ℕ, ◌++◌, ◌+◌, ◌-◌, ◌<◌, ◌∙◌, ◌∷◌, ◌≡◌, ◌≤◌, ◌⊎◌}
-use Rattle.std.specs.Prelude.{None, Option, Some, slice_get}
-use Rattle.std.proofs.lemmas.Bool.{eqb-true, le-leb, le-ltb, lt-leb, lt-ltb, ltb-false}
+use Rattle.std.proofs.Common.{List, [], ap, arith, drop, inl, inr, length, refl, subst, suc, sym, zero, ℕ, ◌++◌, ◌+◌, ◌-◌, ◌<◌, ◌∙◌, ◌∷◌, ◌≡◌, ◌≤◌, ◌⊎◌}
+use Rattle.std.specs.Prelude.{None, Option, Some, replicate, slice_get}
+use Rattle.std.proofs.lemmas.Bool.{le-leb, lt-leb}
+use Rattle.std.proofs.lemmas.Option.{slice_get_within}
 use Rattle.core_types.specs.declared.op.Conversion.TheVariants.{I32WrapI64, I64Extend32S, I64ExtendI32S, I64ExtendI32U}
 use Rattle.core_types.specs.declared.op.NumericOp.{NumericOp}
 use Rattle.core_types.specs.declared.op.NumericOp.TheVariants.{Binary, Compare, Convert, Eqz, Unary}
 use Rattle.core_types.specs.declared.op.Op.TheVariants.{Plain}
 use Rattle.core_types.specs.declared.op.PlainOp.TheVariants.{Numeric}
 use Rattle.core_types.specs.declared.op.Width.TheVariants.{W32, W64}
-use Rattle.meaning.specs.binary.Instructions.{IsInRow, SpellsNumeric, binary_ops, bit_counts, comparisons, sign_extensions}
+use Rattle.meaning.specs.binary.Instructions.{IsInRow, IsOpcode, SpellsNumeric, binary_ops, bit_counts, comparisons, sign_extensions}
 use Rattle.meaning.specs.binary.Values.{SpellsByte}
-use Rattle.binary.specs.Instructions.{cases_from_51, cases_from_67, cases_from_6A, cases_from_79, cases_from_7C, cases_from_C0, cases_from_C2, from_row, group_at, numeric_at, numeric_case, numeric_of, one_at, operation_at, row_at, single_case}
+use Rattle.binary.specs.Instructions.{group_at, numeric_at, numeric_of, numeric_row, numerics, operation_at}
 use Rattle.binary.proofs.exactness.Choices.{IsFront, SoundCases, at_byte}
-use Rattle.binary.proofs.exactness.Readers.{Spelling, bind_some, chosen, found, found-injective}
+use Rattle.binary.proofs.exactness.Readers.{bind_some, found, found-injective}
 use Rattle.binary.proofs.exactness.instructions.Opcodes.{group_reached}
+use Rattle.binary.proofs.exactness.instructions.Rows.{in_row_complete, in_row_sound}
 
--- What is read by an opcode is spelled by it.
-record SoundOpcode {V : Type 0} (Spells : Spelling V) (read : ℕ → Option V) : Type 0 where
-  sound : (code : ℕ) (v : V) → read code ≡ Some v → Spells (code ∷ []) v
+-- ---- what is read by an opcode is spelled by it
 
-module _ {V : Type 0} {Spells : Spelling V} where
-  nothing_sound : SoundOpcode Spells (λ code. None)
-  nothing_sound = record { sound = λ code v e. absurd cc }
+-- In a row of opcodes from the first on, each instruction is spelled by its opcode.
+record AreSpelled (first : ℕ) (row : List (Option NumericOp)) : Type 0 where
+  spelled : (code : ℕ) (op : NumericOp) → IsOpcode first row op code → SpellsNumeric (code ∷ []) op
 
-  one_sound : (expected : ℕ) (v : V) {others : ℕ → Option V} → Spells (expected ∷ []) v
-      → SoundOpcode Spells others → SoundOpcode Spells (one_at expected v others)
-  one_sound expected v {others} spelt there = record {
-    sound = λ code w e.
-        elim (chosen (eqb code expected) (Some v) (others code) (Some w) e) [
-          | inl is ↦
-              let same : v ≡ w = cc in
-              let here : Spells (code ∷ []) v =
-              subst (λ (n : ℕ). Spells (n ∷ []) v) (sym (eqb-true code expected is.0)) spelt in
-              subst (λ (x : V). Spells (code ∷ []) x) same here
-          | inr other ↦ there.sound code w other.1
-        ];
-  }
+-- an item of two lists, one after the other, is one of either
+in_either : {X : Type 0} (front back : List X) (place : ℕ) (x : X) → slice_get (front ++ back) place ≡ Some x
+    → (slice_get front place ≡ Some x)
+    ⊎ ((index : ℕ) × (slice_get back index ≡ Some x) × (place ≡ length front + index))
+in_either [] back place x e = inr (place, e, omega arith)
+in_either (y ∷ front) back zero x e = inl e
+in_either (y ∷ front) back (suc place) x e =
+    elim (in_either front back place x e) [
+      | inl there ↦ inl there
+      | inr here ↦ inr (here.0, here.1, omega arith)
+    ]
 
-  row_sound : {X : Type 0} (first : ℕ) (row : List X) (into : X → V) {others : ℕ → Option V}
-      → ((x : X) (bytes : List ℕ) → IsInRow first row x bytes → Spells bytes (into x))
-      → SoundOpcode Spells others → SoundOpcode Spells (row_at first row into others)
-  row_sound {X} first row into {others} spelt there =
-      record { sound = λ code w e. by_low code w (chosen (ltb code first) (others code) _ (Some w) e) }
-    where
-      here : (code : ℕ) (w : V) → first ≤ code → from_row into row (code - first) ≡ Some w
-          → Spells (code ∷ []) w
-      here code w low e =
-          let x = bind_some (slice_get row (code - first)) (λ (x : X). Some (into x)) w e in
-          let same : into x.0 ≡ w = cc in
-          let index : code ≡ first + (code - first) = omega arith in
-          subst (λ (v : V). Spells (code ∷ []) v) same
-          (spelt x.0 (code ∷ []) (code - first, x.1, ap (λ (n : ℕ). n ∷ []) index))
+infixl 10 ◌then◌
+◌then◌ : {first : ℕ} {front back : List (Option NumericOp)} → AreSpelled first front
+    → AreSpelled (first + length front) back → AreSpelled first (front ++ back)
+◌then◌ {first} {front} {back} there here = record {
+  spelled = λ code op (place, e, is).
+      elim (in_either front back place (Some op) e) [
+        | inl in_front ↦ there.spelled code op (place, in_front, is)
+        | inr (index, in_back, at) ↦ here.spelled code op (index, in_back, omega arith)
+      ];
+}
 
-      by_high : (code : ℕ) (w : V) → first ≤ code
-          → ((ltb code (first + length row) ≡ true) × (from_row into row (code - first) ≡ Some w))
-          ⊎ ((ltb code (first + length row) ≡ false) × (others code ≡ Some w))
-          → Spells (code ∷ []) w
-      by_high code w low (inl within) = here code w low within.1
-      by_high code w low (inr above) = there.sound code w above.1
+one_spelled : (code : ℕ) (op : NumericOp) → SpellsNumeric (code ∷ []) op → AreSpelled code (Some op ∷ [])
+one_spelled code op spelt = record { spelled = go }
+  where
+    go : (other : ℕ) (v : NumericOp) → IsOpcode code (Some op ∷ []) v other → SpellsNumeric (other ∷ []) v
+    go other v (zero, e, is) =
+        let same : op ≡ v = cc in
+        let here : code ≡ other = omega arith in
+        subst (λ (n : ℕ). SpellsNumeric (n ∷ []) v) here
+        (subst (λ (o : NumericOp). SpellsNumeric (code ∷ []) o) same spelt)
+    go other v (suc place, e, is) = absurd cc
 
-      by_low : (code : ℕ) (w : V)
-          → ((ltb code first ≡ true) × (others code ≡ Some w))
-          ⊎ ((ltb code first ≡ false)
-          × (cond (ltb code (first + length row)) (from_row into row (code - first)) (others code) ≡ Some w))
-          → Spells (code ∷ []) w
-      by_low code w (inl below) = there.sound code w below.1
-      by_low code w (inr from) =
-          by_high code w (ltb-false _ _ from.0)
-          (chosen (ltb code (first + length row)) _ (others code) (Some w) from.1)
+none_spelled : (first count : ℕ) → AreSpelled first (replicate count None)
+none_spelled first count = record { spelled = λ code op (place, e, is). absurd (nothing count place op e) }
+  where
+    nothing : (count place : ℕ) (op : NumericOp) → slice_get (replicate count None) place ≡ Some (Some op) → ⊥
+    nothing zero place op e = cc
+    nothing (suc count) zero op e = cc
+    nothing (suc count) (suc place) op e = nothing count place op e
 
-cases_sound : SoundOpcode SpellsNumeric numeric_case
-cases_sound =
-    row_sound 0x46 comparisons (Compare W32) (λ x bytes is. is)
-    (row_sound 0x51 comparisons (Compare W64) (λ x bytes is. is)
-    (row_sound 0x67 bit_counts (Unary W32) (λ x bytes is. inl is)
-    (row_sound 0x6A binary_ops (Binary W32) (λ x bytes is. is)
-    (row_sound 0x79 bit_counts (Unary W64) (λ x bytes is. inl is)
-    (row_sound 0x7C binary_ops (Binary W64) (λ x bytes is. is)
-    (row_sound 0xC0 sign_extensions (Unary W32) (λ x bytes is. inr is)
-    (row_sound 0xC2 sign_extensions (Unary W64) (λ x bytes is. inr is)
-    (one_sound 0x45 (Eqz W32) refl
-    (one_sound 0x50 (Eqz W64) refl
-    (one_sound 0xA7 (Convert I32WrapI64) refl
-    (one_sound 0xAC (Convert I64ExtendI32S) refl
-    (one_sound 0xAD (Convert I64ExtendI32U) refl
-    (one_sound 0xC4 (Convert I64Extend32S) refl nothing_sound)))))))))))))
+row_spelled : {X : Type 0} (first : ℕ) (into : X → NumericOp) (row : List X)
+    → ((x : X) (bytes : List ℕ) → IsInRow first row x bytes → SpellsNumeric bytes (into x))
+    → AreSpelled first (numeric_row into row)
+row_spelled {X} first into row spelt = record {
+  spelled = λ code op (place, e, is).
+      let (x, found, same) = operator row place op e in
+      subst (λ (v : NumericOp). SpellsNumeric (code ∷ []) v) same
+      (spelt x (code ∷ []) (place, found, ap (λ (n : ℕ). n ∷ []) is));
+}
+  where
+    operator : (row : List X) (place : ℕ) (op : NumericOp) → slice_get (numeric_row into row) place ≡ Some (Some op)
+        → (x : X) × (slice_get row place ≡ Some x) × (into x ≡ op)
+    operator [] place op e = absurd cc
+    operator (x ∷ row) zero op e = (x, refl, cc)
+    operator (x ∷ row) (suc place) op e = operator row place op e
+
+numerics_spelled : AreSpelled 0x45 numerics
+unfolding numerics
+numerics_spelled =
+    one_spelled 0x45 (Eqz W32) refl
+    then row_spelled 0x46 (Compare W32) comparisons (λ x bytes is. is)
+    then one_spelled 0x50 (Eqz W64) refl
+    then row_spelled 0x51 (Compare W64) comparisons (λ x bytes is. is)
+    then none_spelled 0x5B 12
+    then row_spelled 0x67 (Unary W32) bit_counts (λ x bytes is. inl is)
+    then row_spelled 0x6A (Binary W32) binary_ops (λ x bytes is. is)
+    then row_spelled 0x79 (Unary W64) bit_counts (λ x bytes is. inl is)
+    then row_spelled 0x7C (Binary W64) binary_ops (λ x bytes is. is)
+    then none_spelled 0x8B 28
+    then one_spelled 0xA7 (Convert I32WrapI64) refl
+    then none_spelled 0xA8 4
+    then one_spelled 0xAC (Convert I64ExtendI32S) refl
+    then one_spelled 0xAD (Convert I64ExtendI32U) refl
+    then none_spelled 0xAE 18
+    then row_spelled 0xC0 (Unary W32) sign_extensions (λ x bytes is. inr is)
+    then row_spelled 0xC2 (Unary W64) sign_extensions (λ x bytes is. inr is)
+    then one_spelled 0xC4 (Convert I64Extend32S) refl
 
 opcode_sound : (code : ℕ) (op : NumericOp) → numeric_of code ≡ Some op → SpellsNumeric (code ∷ []) op
 unfolding numeric_of
-opcode_sound code op e = cases_sound.sound code op e
-
--- ---- rows
-
-pub within_row : {X : Type 0} (row : List X) (index : ℕ) (x : X) → slice_get row index ≡ Some x
-    → index < length row
-within_row [] index x e = absurd cc
-within_row (first ∷ row) zero x e = omega arith
-within_row (first ∷ row) (suc index) x e = let less = within_row row index x e in omega arith
-
-module _ {X V : Type 0} (first : ℕ) (row : List X) (into : X → V) (others : ℕ → Option V) where
-  row_hit : (index : ℕ) (x : X) → slice_get row index ≡ Some x
-      → row_at first row into others (first + index) ≡ Some (into x)
-  row_hit index x e =
-      let within = within_row row index x e in
-      let back : first + index - first ≡ index = omega arith in
-      rw
-      (le-ltb (first + index) first (omega arith), lt-ltb (first + index) (first + length row) (omega arith), back, e) refl
-
-  row_above : (code : ℕ) → first + length row ≤ code → row_at first row into others code ≡ others code
-  row_above code more = by_low (ltb code first) refl
-    where
-      by_low : (b : Bool) → ltb code first ≡ b → row_at first row into others code ≡ others code
-      by_low true e = rw e refl
-      by_low false e = rw (e, le-ltb code (first + length row) more) refl
+opcode_sound code op e = numerics_spelled.spelled code op (in_row_sound 0x45 numerics code op e)
 
 pub numeric_sound : SoundCases SpellsByte SpellsNumeric numeric_at
 numeric_sound = record {
@@ -128,7 +121,7 @@ numeric_sound = record {
       };
 }
 
--- ---- what is spelled so is read
+-- ---- what has this encoding is read
 
 at_code : (text rest : List ℕ) (op : NumericOp) (code : ℕ) → 0x45 ≤ code → code ≤ 0xC4 → text ≡ code ∷ []
     → numeric_of code ≡ Some op → IsFront SpellsByte operation_at text rest (Plain (Numeric op))
@@ -145,69 +138,55 @@ at_code text rest op code low high parts reads =
       reads,
     ) refl)
 
--- each row is reached from its first opcode on
-reach_51 : (code : ℕ) → 0x51 ≤ code → numeric_of code ≡ cases_from_51 code
-unfolding numeric_of
-reach_51 code low = row_above 0x46 comparisons (Compare W32) cases_from_51 code (omega arith)
+-- an item of a list from an offset on
+from_offset : {X : Type 0} (list : List X) (offset index place : ℕ) (x : X) → index ≡ offset + place
+    → slice_get (drop offset list) place ≡ Some x → slice_get list index ≡ Some x
+from_offset list zero index place x is e = let same : index ≡ place = omega arith in rw same e
+from_offset [] (suc offset) index place x is e = absurd cc
+from_offset (y ∷ list) (suc offset) zero place x is e = absurd (omega arith)
+from_offset (y ∷ list) (suc offset) (suc index) place x is e = from_offset list offset index place x (omega arith) e
 
-reach_67 : (code : ℕ) → 0x67 ≤ code → numeric_of code ≡ cases_from_67 code
-reach_67 code low =
-    reach_51 code (omega arith) ∙ row_above 0x51 comparisons (Compare W64) cases_from_67 code (omega arith)
-
-reach_6A : (code : ℕ) → 0x6A ≤ code → numeric_of code ≡ cases_from_6A code
-reach_6A code low =
-    reach_67 code (omega arith) ∙ row_above 0x67 bit_counts (Unary W32) cases_from_6A code (omega arith)
-
-reach_79 : (code : ℕ) → 0x79 ≤ code → numeric_of code ≡ cases_from_79 code
-reach_79 code low =
-    reach_6A code (omega arith) ∙ row_above 0x6A binary_ops (Binary W32) cases_from_79 code (omega arith)
-
-reach_7C : (code : ℕ) → 0x7C ≤ code → numeric_of code ≡ cases_from_7C code
-reach_7C code low =
-    reach_79 code (omega arith) ∙ row_above 0x79 bit_counts (Unary W64) cases_from_7C code (omega arith)
-
-reach_C0 : (code : ℕ) → 0xC0 ≤ code → numeric_of code ≡ cases_from_C0 code
-reach_C0 code low =
-    reach_7C code (omega arith) ∙ row_above 0x7C binary_ops (Binary W64) cases_from_C0 code (omega arith)
-
-reach_C2 : (code : ℕ) → 0xC2 ≤ code → numeric_of code ≡ cases_from_C2 code
-reach_C2 code low =
-    reach_C0 code (omega arith) ∙ row_above 0xC0 sign_extensions (Unary W32) cases_from_C2 code (omega arith)
-
-reach_46 : (code : ℕ) → 0x46 ≤ code → numeric_of code ≡ numeric_case code
-unfolding numeric_of
-reach_46 code low = refl
-
-in_row_complete : {X : Type 0} (first : ℕ) (row : List X) (into : X → NumericOp) (others : ℕ → Option NumericOp)
-    → ((code : ℕ) → first ≤ code → numeric_of code ≡ row_at first row into others code) → 0x45 ≤ first
-    → first + length row ≤ 0xC5
-    → (text rest : List ℕ) (x : X) → IsInRow first row x text
+-- an instruction of a row that is a part of all numeric instructions
+in_row_read : {X : Type 0} (first : ℕ) (into : X → NumericOp) (row : List X)
+    → drop (first - 0x45) numerics ≡ numeric_row into row ++ drop (first - 0x45 + length row) numerics
+    → 0x45 ≤ first → first + length row ≤ 0xC5 → (text rest : List ℕ) (x : X) → IsInRow first row x text
     → IsFront SpellsByte operation_at text rest (Plain (Numeric (into x)))
-in_row_complete first row into others reach low high text rest x (index, e, parts) =
-    at_code text rest (into x) (first + index) (omega arith) (omega (arith, within_row row index x e)) parts
-    (reach (first + index) (omega arith) ∙ row_hit first row into others index x e)
+unfolding numeric_of
+in_row_read {X} first into row part low high text rest x (place, e, parts) =
+    let within : place < length row = slice_get_within row place x e in
+    let there : slice_get (drop (first - 0x45) numerics) place ≡ Some (Some (into x)) = rw part (operator row _ place x e) in
+    let opcode : IsOpcode 0x45 numerics (into x) (first + place) =
+    (first - 0x45 + place, from_offset numerics (first - 0x45) _ place _ refl there, omega arith) in
+    at_code text rest (into x) (first + place) (omega arith) (omega arith) parts
+    (in_row_complete 0x45 numerics (first + place) (into x) opcode)
+  where
+    operator : (row : List X) (others : List (Option NumericOp)) (place : ℕ) (x : X) → slice_get row place ≡ Some x
+        → slice_get (numeric_row into row ++ others) place ≡ Some (Some (into x))
+    operator [] others place x e = absurd cc
+    operator (y ∷ row) others zero x e = cc
+    operator (y ∷ row) others (suc place) x e = operator row others place x e
 
 pub numeric_complete : (text rest : List ℕ) (op : NumericOp) → SpellsNumeric text op
     → IsFront SpellsByte operation_at text rest (Plain (Numeric op))
-unfolding numeric_of
+unfolding numeric_of numerics
 numeric_complete text rest (Eqz W32) parts = at_code text rest _ 0x45 (omega arith) (omega arith) parts refl
 numeric_complete text rest (Eqz W64) parts = at_code text rest _ 0x50 (omega arith) (omega arith) parts refl
 numeric_complete text rest (Compare W32 op) is =
-    in_row_complete 0x46 comparisons (Compare W32) cases_from_51 reach_46 (omega arith) (omega arith) text rest op is
+    in_row_read 0x46 (Compare W32) comparisons refl (omega arith) (omega arith) text rest op is
 numeric_complete text rest (Compare W64 op) is =
-    in_row_complete 0x51 comparisons (Compare W64) cases_from_67 reach_51 (omega arith) (omega arith) text rest op is
+    in_row_read 0x51 (Compare W64) comparisons refl (omega arith) (omega arith) text rest op is
 numeric_complete text rest (Unary W32 op) (inl is) =
-    in_row_complete 0x67 bit_counts (Unary W32) cases_from_6A reach_67 (omega arith) (omega arith) text rest op is
+    in_row_read 0x67 (Unary W32) bit_counts refl (omega arith) (omega arith) text rest op is
 numeric_complete text rest (Unary W32 op) (inr is) =
-    in_row_complete 0xC0 sign_extensions (Unary W32) cases_from_C2 reach_C0 (omega arith) (omega arith) text rest op is
+    in_row_read 0xC0 (Unary W32) sign_extensions refl (omega arith) (omega arith) text rest op is
 numeric_complete text rest (Unary W64 op) (inl is) =
-    in_row_complete 0x79 bit_counts (Unary W64) cases_from_7C reach_79 (omega arith) (omega arith) text rest op is
+    in_row_read 0x79 (Unary W64) bit_counts refl (omega arith) (omega arith) text rest op is
 numeric_complete text rest (Unary W64 op) (inr is) =
-    in_row_complete 0xC2 sign_extensions (Unary W64) single_case reach_C2 (omega arith) (omega arith) text rest op is
+    in_row_read 0xC2 (Unary W64) sign_extensions refl (omega arith) (omega arith) text rest op is
 numeric_complete text rest (Binary W32 op) is =
-    in_row_complete 0x6A binary_ops (Binary W32) cases_from_79 reach_6A (omega arith) (omega arith) text rest op is
+    in_row_read 0x6A (Binary W32) binary_ops refl (omega arith) (omega arith) text rest op is
 numeric_complete text rest (Binary W64 op) is =
-    in_row_complete 0x7C binary_ops (Binary W64) cases_from_C0 reach_7C (omega arith) (omega arith) text rest op is
+    in_row_read 0x7C (Binary W64) binary_ops refl (omega arith) (omega arith) text rest op is
 numeric_complete text rest (Convert I32WrapI64) parts =
     at_code text rest _ 0xA7 (omega arith) (omega arith) parts refl
 numeric_complete text rest (Convert I64ExtendI32S) parts =

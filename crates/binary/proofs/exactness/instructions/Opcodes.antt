@@ -1,4 +1,4 @@
--- What lies behind an opcode, or behind the byte FC and a number, is read as it is spelled.
+-- What follows an opcode, or the byte FC and a number, is read as it is encoded.
 use Rattle.std.proofs.Common.{List, ap, append_assoc, arith, inl, inr, refl, ℕ, ◌++◌, ◌<◌, ◌∙◌, ◌∷◌, ◌≡◌, ◌≤◌, ◌⊎◌}
 use Rattle.std.specs.Prelude.{Some}
 use Rattle.std.proofs.lemmas.Bool.{ne_eqb}
@@ -13,7 +13,7 @@ use Rattle.binary.proofs.exactness.Integers.{unsigned_reader}
 use Rattle.binary.proofs.exactness.Readers.{IsReader, Spelling}
 use Rattle.binary.proofs.exactness.Values.{index_reader}
 
--- a number, and what lies behind it
+-- a number, and what follows it
 pub prefix_sound : {A V : Type 0} {Inner : Spelling A} {read : Reading A} (Spells : Spelling V) (n : ℕ) (into : A → V)
     → IsReader Inner read → ((text : List ℕ) (a : A) → SpellsPrefixed n Inner text a → Spells text (into a))
     → SoundCase (SpellsUnsigned 32) (λ text v. Spells (0xFC ∷ text) v) n (mapped_at into read)
@@ -21,7 +21,7 @@ prefix_sound Spells n into reader spelt =
     behind_sound into reader
     (λ front text a f inner. spelt (0xFC ∷ (front ++ text)) a (front ++ text, refl, (front, text, refl, f, inner)))
 
--- the byte FC, a number, and what lies behind them
+-- the byte FC, a number, and what follows them
 pub prefixed_complete : {A : Type 0} {Inner : Spelling A} {read : Reading A} {op : PlainOp} (n : ℕ)
     → IsReader Inner read → (a : A) (text rest : List ℕ)
     → ((bytes : List ℕ) → read bytes ≡ Some (a, rest) → prefixed_at n bytes ≡ Some (op, rest))
@@ -37,7 +37,7 @@ prefixed_complete n reader a text rest reads (inside, parts, (number, content, w
 pub two_indices_reader : IsReader SpellsTwoIndices two_indices_at
 two_indices_reader = pair_reader index_reader index_reader
 
--- the opcodes from 28 on, but for those of constants and the byte FC, are those of groups
+-- the opcodes from 28 on, except those of constants and the byte FC, are those of groups
 pub group_reached : (code : ℕ) (bytes : List ℕ) → 0x28 ≤ code → (code ≤ 0x40) ⊎ ((0x43 ≤ code) × (code < 0xFC))
     → operation_at code bytes ≡ mapped_case Plain group_at code bytes
 unfolding operation_at plain_at

@@ -1,4 +1,4 @@
--- Flat operations are read as they are spelled.
+-- Flat operations are read as they are encoded.
 use Rattle.std.proofs.Common.{List, [], ap, arith, length, length-append, refl, sym, ℕ, ◌++◌, ◌<◌, ◌∙◌, ◌∷◌, ◌≡◌}
 use Rattle.std.specs.Prelude.{Some}
 use Rattle.core_types.specs.declared.op.Op.{Op}
@@ -25,7 +25,7 @@ use Rattle.binary.proofs.exactness.instructions.Reference.{reference_complete, r
 use Rattle.binary.proofs.exactness.instructions.Table.{prefixed_table_sound, table_complete, table_sound}
 use Rattle.binary.proofs.exactness.instructions.Variable.{variable_complete, variable_sound}
 
--- ---- instructions behind the byte FC
+-- ---- instructions after the byte FC
 
 prefixed_cases_sound : SoundCases (SpellsUnsigned 32) (λ text op. SpellsPlain (0xFC ∷ text) op) prefixed_at
 unfolding prefixed_at

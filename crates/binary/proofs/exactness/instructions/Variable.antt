@@ -1,4 +1,4 @@
--- Variable instructions are read as they are spelled.
+-- Variable instructions are read as they are encoded.
 use Rattle.std.proofs.Common.{List, refl, ℕ}
 use Rattle.core_types.specs.declared.op.Op.TheVariants.{Plain}
 use Rattle.core_types.specs.declared.op.PlainOp.TheVariants.{Variable}

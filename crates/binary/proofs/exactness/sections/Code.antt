@@ -1,4 +1,4 @@
--- Functions are read as they are spelled.
+-- Functions are read as they are encoded.
 use Rattle.std.proofs.Common.{List, [], ap, append_assoc, arith, cond, eqb, length, length-append, ltb, map, refl, replicate, subst, suc, sym, zero, ℕ, ◌++◌, ◌+◌, ◌<◌, ◌^◌, ◌∙◌, ◌∷◌, ◌≡◌}
 use Rattle.std.specs.Prelude.{None, Some}
 use Rattle.std.proofs.lemmas.Bool.{eq-eqb, eqb-true, lt-ltb, ltb-true}
@@ -34,7 +34,7 @@ local_group_reader = record {
       λ text rest group spelt. both_complete group_of (unsigned_reader 32) val_type_reader text rest group.0 group.1 spelt;
 }
 
--- what is read behind other locals
+-- what is read after other locals
 record ReadsGroups (front : List ValType) (bytes : List ℕ) (locals : List ValType) (count : ℕ) (rest : List ℕ)
     : Type 0 where
   groups : List (ℕ × ValType)
@@ -166,7 +166,7 @@ code_reader ty =
 abbrev pub type_indices : List Func → List ℕ
 type_indices funcs = map (λ (f : Func). f.ty) funcs
 
--- what is read behind other functions
+-- what is read after other functions
 record ReadsCodes (front : List Func) (bytes : List ℕ) (funcs : List Func) (types : List ℕ) (rest : List ℕ) : Type 0 where
   more : List Func
   reads : Reads (SpellsEach SpellsCode) bytes more rest
@@ -216,7 +216,7 @@ codes_complete text rest front (f ∷ funcs) (first, others, parts, (size, conte
     (codes_complete others rest (front ++ f ∷ []) funcs more)
     ∙ ap (λ (all : List Func). found all rest) (append_assoc front (f ∷ []) funcs)
 
--- As many functions as there are indices of their types.
+-- One function for each index of a type.
 abbrev pub SpellsFunctionsOf : List ℕ → List ℕ → List Func → Type 0
 SpellsFunctionsOf types bytes funcs = SpellsVector SpellsCode bytes funcs × (type_indices funcs ≡ types)
 

@@ -1,4 +1,4 @@
--- Custom sections are skipped as they are spelled.
+-- Custom sections are skipped as they are encoded.
 use Rattle.std.proofs.Common.{Bool, List, [], ap, append_assoc, arith, drop, false, inl, inr, length, length-append, refl, suc, sym, true, zero, ℕ, ◌++◌, ◌<◌, ◌∙◌, ◌∷◌, ◌≡◌, ◌≤◌}
 use Rattle.std.specs.Prelude.{None, Option, Some}
 use Rattle.std.proofs.lemmas.List.{nil_from_length}
@@ -97,7 +97,7 @@ pub after_customs_skips : (bytes rest : List ℕ) → after_customs bytes ≡ So
 unfolding after_customs
 after_customs_skips bytes rest e = customs_at_skips (length bytes) bytes rest (omega arith) e
 
--- Steps that suffice are as good as others.
+-- Any two sufficient numbers of steps give the same result.
 customs_at-steps : (n m : ℕ) (bytes : List ℕ) → length bytes ≤ n → length bytes ≤ m
     → customs_at n bytes ≡ customs_at m bytes
 unfolding customs_at
@@ -120,7 +120,7 @@ customs_at-steps (suc n) (suc m) bytes le_n le_m =
     by_test false e same = rw e refl
     by_test true e same = rw e (by_answer (custom_at (drop 1 bytes)) refl e same)
 
--- Custom sections in front of the bytes change nothing.
+-- Custom sections at the start of the bytes change nothing.
 pub after_customs-append : (customs rest : List ℕ) → IsCustomSections customs
     → after_customs (customs ++ rest) ≡ after_customs rest
 unfolding after_customs customs_at

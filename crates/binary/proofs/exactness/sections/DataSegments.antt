@@ -1,4 +1,4 @@
--- Data segments are read as they are spelled.
+-- Data segments are read as they are encoded.
 use Rattle.std.proofs.Common.{List, ap, refl, ℕ, ◌++◌, ◌∙◌}
 use Rattle.core_types.specs.declared.module.DataMode.TheVariants as data_mode
 use Rattle.core_types.specs.declared.module.DataSegment.{DataSegment}

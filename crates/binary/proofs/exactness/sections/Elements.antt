@@ -1,4 +1,4 @@
--- Element segments are read as they are spelled.
+-- Element segments are read as they are encoded.
 use Rattle.std.proofs.Common.{List, refl, ℕ}
 use Rattle.core_types.specs.declared.module.ElementItems.TheVariants.{Expressions, Functions}
 use Rattle.core_types.specs.declared.module.ElementMode.TheVariants.{Active, Declarative, Passive}

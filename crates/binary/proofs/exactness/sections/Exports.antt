@@ -1,4 +1,4 @@
--- Exports are read as they are spelled.
+-- Exports are read as they are encoded.
 use Rattle.std.proofs.Common.{List, refl, ℕ}
 use Rattle.core_types.specs.declared.module.ExportDesc.{ExportDesc}
 use Rattle.core_types.specs.declared.module.ExportDesc.TheVariants as export

@@ -1,4 +1,4 @@
--- Globals are read as they are spelled.
+-- Globals are read as they are encoded.
 use Rattle.std.proofs.Common.{refl}
 use Rattle.meaning.specs.binary.Modules.{SpellsGlobal}
 use Rattle.binary.specs.Sections.{global_at, global_of}

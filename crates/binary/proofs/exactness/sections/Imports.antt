@@ -1,4 +1,4 @@
--- Imports are read as they are spelled.
+-- Imports are read as they are encoded.
 use Rattle.std.proofs.Common.{List, refl, ℕ}
 use Rattle.core_types.specs.declared.module.ImportDesc.{ImportDesc}
 use Rattle.core_types.specs.declared.module.ImportDesc.TheVariants as import

@@ -1,4 +1,4 @@
--- Sections in their order: the sections from one on, put together from that section and those behind it.
+-- Sections in their order: the sections from one on, combined from that section and those after it.
 use Rattle.std.proofs.Common.{Bool, List, [], ap, cond, drop, eqb, false, inl, inr, length, refl, subst, sym, true, ℕ, ◌++◌, ◌∙◌, ◌∷◌, ◌≡◌, ◌⊎◌}
 use Rattle.std.specs.Prelude.{None, Option, Some}
 use Rattle.std.proofs.lemmas.Bool.{eq-eqb, eqb-true}
@@ -31,14 +31,14 @@ not_among id n ids e = by_case (eqb id n) refl e
     by_case true same e = absurd cc
     by_case false same e = (same, e)
 
--- Behind custom sections comes a section with one of these ids, or nothing.
+-- After custom sections comes a section with one of these ids, or nothing.
 pub record BeginsAmong (ids bytes : List ℕ) : Type 0 where
   pub rest : List ℕ
   pub skips : after_customs bytes ≡ Some (tt, rest)
   pub none : (other : ℕ) → is_among ids other ≡ false → begins_with other rest ≡ false
 
--- The sections from one on: how they are spelled, what their values agree on, and a reader that is sound and complete.
--- It reads the same from other bytes that differ in custom sections only.
+-- The sections from one on: how they are encoded, the relation between their values, and a reader that is sound and complete. It reads
+-- the same from other bytes that differ in custom sections only.
 pub record SectionsReader (ids : List ℕ) (W : Type 0) : Type 1 where
   pub Spells : W → List ℕ → Type 0
   pub Agrees : W → Type 0
@@ -91,12 +91,12 @@ end_of_module = record {
 
 -- ---- one section
 
--- The section is there, or its absence gives the value.
+-- The section exists, or its absence gives the value.
 abbrev pub SpellsOptional : {V : Type 0} → ℕ → (List ℕ → V → Type 0) → Option V → V → List ℕ → Type 0
 SpellsOptional {V} id Content absent v section =
     SpellsTagged id (SpellsSized Content) section v ⊎ ((section ≡ []) × (absent ≡ Some v))
 
--- A section is spelled, and its value fits, where its content is spelled so or its absence gives the value.
+-- A section is encoded, and its value fits, if its content has this encoding or its absence gives the value.
 pub record IsSection {V : Type 0} (id : ℕ) (Spells : V → List ℕ → Type 0) (Fits : V → Type 0) (read : Reading V)
     (absent : Option V) : Type 1 where
   pub Content : List ℕ → V → Type 0
@@ -116,7 +116,7 @@ module _ {V : Type 0} (id : ℕ) (Content : Spelling V) (read : Reading V) (abse
     spelt : IsCustomSections customs
     optional : SpellsOptional id Content absent v section
 
-  -- what section_at does behind custom sections
+  -- what `section_at` does after custom sections
   abbrev behind_customs : Unit {0} × List ℕ → Option (V × List ℕ)
   behind_customs customs =
       cond (begins_with id customs.1) (sized_at read (drop 1 customs.1)) (absent >>= λ v. found v customs.1)
@@ -190,7 +190,7 @@ module _ {V : Type 0} (id : ℕ) (Content : Spelling V) (read : Reading V) (abse
             record { rest = behind.rest; skips = skips; none = λ other none. behind.none other (not_among id other ids none).1 };
       }
 
--- ---- a section, and those behind it
+-- ---- a section, and those after it
 
 module _ {V W : Type 0} {id : ℕ} {ids : List ℕ} {Spells : V → List ℕ → Type 0} {Fits : V → Type 0} {read : Reading V}
     {absent : Option V} (section : IsSection id Spells Fits read absent) (not_zero : eqb id 0 ≡ false)
@@ -284,7 +284,7 @@ module _ {W X : Type 0} {ids : List ℕ} (into : W → X) (parts : X → W) (par
 
 -- ---- the kinds of sections
 
--- One with a vector.
+-- A section with a vector.
 module _ {V : Type 0} {Spells : Spelling V} {read : Reading V} (id : ℕ) (reader : IsReader Spells read) where
   pub vector_into : (values : List V) (section : List ℕ)
       → SpellsOptional id (SpellsVector Spells) (Some []) values section
@@ -306,7 +306,7 @@ module _ {V : Type 0} {Spells : Spelling V} {read : Reading V} (id : ℕ) (reade
         from = vector_from;
       }
 
--- One with a value.
+-- A section with a value.
 module _ {V : Type 0} {Spells : Spelling V} {read : Reading V} (id : ℕ) (reader : IsReader Spells read) where
   abbrev SpellsSome : List ℕ → Option V → Type 0
   SpellsSome bytes None = ⊥

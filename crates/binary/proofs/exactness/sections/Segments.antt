@@ -1,4 +1,4 @@
--- What element and data segments share: the number of a form, and an index with an offset.
+-- What element and data segments have in common: the number of a form, and an index with an offset.
 use Rattle.std.proofs.Common.{List, refl, ℕ, ◌++◌}
 use Rattle.meaning.specs.binary.Conventions.{SpellsPair}
 use Rattle.meaning.specs.binary.Instructions.{SpellsFlat}
@@ -15,7 +15,7 @@ pub target_reader : IsReader (SpellsPair SpellsIndex SpellsFlat) target_at
 unfolding target_at
 target_reader = pair_reader index_reader expression_reader
 
--- the number of a form, and what lies behind it
+-- the number of a form, and what follows it
 pub form_sound : {A V : Type 0} {Inner : Spelling A} {Spells : Spelling V} {read : Reading A} (form : ℕ) (into : A → V)
     → IsReader Inner read → ((text : List ℕ) (a : A) → SpellsForm form Inner text a → Spells text (into a))
     → SoundCase (SpellsUnsigned 32) Spells form (mapped_at into read)

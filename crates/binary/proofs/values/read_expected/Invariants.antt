@@ -2,6 +2,6 @@ use Rattle.std.proofs.Common.{◌≡◌, drop}
 use Rattle.binary.specs.Values.{expected_at}
 use Rattle.binary.proofs.values.read_expected.Given as goal
 
--- reading on gives what the whole reading gives
+-- the rest of the reading gives what the whole reading gives
 abbrev pub invariant-loop-byte : goal.invariant-loop-byte
 invariant-loop-byte l = expected_at (drop l.byte-index l.expected) l.reader ≡ expected_at l.expected l.fn.reader

@@ -12,7 +12,7 @@ use Rattle.embed.specs.Definitions.{definition_of}
 use Rattle.embed.proofs.lemmas.Definitions.{fault-first, faultless-taken, length-functions, names-taken, objects-taken, store-taken}
 use Rattle.embed.proofs.definitions.define_hosts.Goals as goal
 
--- A list in which this is the item behind those that were taken.
+-- A list in which this is the item after those that were taken.
 split : {A : Type 0} (all taken : List A) (x : A) → map (λ y. y) taken ≡ take (length taken) all → length taken < length all → x ≡ get_or all (length taken) x → all ≡ taken ++ x ∷ drop (length taken + 1) all
 split all taken x front inside is =
     sym (take-append-drop (length taken) all)

@@ -6,7 +6,7 @@ use Rattle.meaning.specs.execution.Runs.{NoHosts}
 use Rattle.instantiate.proofs.lemmas.Tasks.{SoFar}
 use Rattle.instantiate.proofs.tasks.run_element_segments.Given as goal
 
--- What runs the rest of the segments runs all of them.
+-- A run of the rest of the segments is a run of all.
 abbrev pub invariant-loop-k : goal.invariant-loop-k
 invariant-loop-k l =
     (l.meter.bound ≡ l.initial.meter.bound)

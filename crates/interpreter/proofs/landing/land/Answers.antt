@@ -4,7 +4,7 @@ use Rattle.std.proofs.Math.Seq.{take-suc, take-suc-set}
 use Rattle.interpreter.specs.Layout.{AreMoved}
 use Rattle.interpreter.proofs.landing.land.Goals as goal
 
--- All but the topmost one were moved.
+-- All operands except the topmost one were moved.
 moved-some : (cells cells' : List ℕ) (top to kept operand : ℕ) → 1 ≤ kept → to + kept ≤ top → top < length cells → get_or cells top 0 ≡ operand
     → take (to + 1 + (kept - 1)) cells' ≡ take (to + 1) cells ++ take (kept - 1) (drop (top + 1 - kept) cells) → length cells' ≡ length cells → AreMoved cells top to kept cells' operand
 moved-some cells cells' top to kept operand some low within there moved size =

@@ -8,7 +8,7 @@ returns-clause-anything c functions =
     let wrong : Results [] ≡ HostTrap 0 = (functions tt [] [] (Results []) (HostTrap 0) [] [] tt tt refl refl refl refl).0 in
     cc
 
--- There is one such answer.
+-- There is only one such answer.
 traps-alike : (a b : Answer) (bytes_a bytes_b : List ℕ) → is_trap a bytes_a ≡ true → is_trap b bytes_b ≡ true → (a ≡ b) × (bytes_a ≡ bytes_b)
 traps-alike (Results vs) b bytes_a bytes_b is is' = absurd cc
 traps-alike (HostTrap (suc n)) b bytes_a bytes_b is is' = absurd cc

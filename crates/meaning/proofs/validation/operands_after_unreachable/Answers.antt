@@ -17,7 +17,7 @@ returns-clause-any c = λ context.
     let added : HasType context sum_dropped two [] = (two, one, one, (refl, refl), record { below = []; given = two; before_is = refl; fits = (refl, (refl, tt)); after_is = refl }, dropped) in
     ([], two, two, tt, record { below = []; given = []; before_is = refl; fits = tt; after_is = refl }, added)
 
--- The last of two operands on a stack is the one that was put on last.
+-- The last of two operands on a stack is the one that was pushed last.
 last_is : (below : List OperandType) (a b t : OperandType) (under : List OperandType) → under ++ t ∷ [] ≡ below ++ (a ∷ b ∷ []) → t ≡ b
 last_is [] a b t [] e = absurd cc
 last_is [] a b t (u ∷ []) e = cc

@@ -6,18 +6,11 @@ use Rattle.sidetable.proofs.flattening.pass_mark.Goals as goal
 
 pub step_mark-requires : goal.step_mark-requires
 step_mark-requires c =
-    let (whole, most, can) = c.requires.can in
+    let (before, opened) = c.requires.can in
     let here = drop_at c.args.code.now c.args.position (mark_op c.in-Some.mark) c.requires.within (rw c.in-Some.ensures.some at c.get.ensures) in
-    (drop (c.args.position + 1) c.args.code.now, whole, most, rw here at can)
+    (drop (c.args.position + 1) c.args.code.now, (before, rw here at opened))
 
 pub returns : goal.returns
 returns c =
     let here = drop_at c.args.code.now c.args.position (mark_op c.in-Some.mark) c.requires.within (rw c.in-Some.ensures.some at c.get.ensures) in
-    on_ok_weaker c.step_mark.result
-    (
-    λ next.
-    record {
-      grows = next.grows;
-      makes = λ whole most first. next.makes (drop (c.args.position + 1) c.args.code.now) whole most (rw here at first);
-    }
-    ) c.step_mark.ensures
+    rw here (on_ok_weaker c.step_mark.result (λ next. next (drop (c.args.position + 1) c.args.code.now)) c.step_mark.ensures)

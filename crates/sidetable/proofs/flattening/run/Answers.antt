@@ -5,13 +5,13 @@ use Rattle.sidetable.proofs.flattening.run.Goals as goal
 
 pub pass_row-requires-clause-can : goal.pass_row-requires-clause-can
 pass_row-requires-clause-can c =
-    let (whole, most, can) = c.requires.can in
-    (whole, most, c.loop-position.invariant.passes.makes whole most can)
+    let (before, opened) = c.requires.can in
+    (before, c.loop-position.invariant.passes.opens before opened)
 
 pub pass_mark-requires-clause-can : goal.pass_mark-requires-clause-can
 pass_mark-requires-clause-can c =
-    let (whole, most, can) = c.requires.can in
-    (whole, most, c.in_ok-position.ensures.passes.makes whole most (c.loop-position.invariant.passes.makes whole most can))
+    let (before, opened) = c.requires.can in
+    (before, c.in_ok-position.ensures.passes.opens before (c.loop-position.invariant.passes.opens before opened))
 
 pub loop-position-preserved-then-position-len : goal.loop-position-preserved-then-position-len
 loop-position-preserved-then-position-len c =

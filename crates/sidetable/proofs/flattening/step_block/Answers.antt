@@ -1,15 +1,20 @@
-use Rattle.std.proofs.Common.{◌∙◌, ◌-◌, ap, arith, refl}
-use Rattle.sidetable.specs.Counts.{changed, height_or_zero}
-use Rattle.sidetable.specs.declared.counts.Counts.{Counts}
-use Rattle.sidetable.specs.declared.operations.PackedOp.TheVariants as packed
+use Rattle.std.proofs.Common.{◌∙◌, ◌-◌, ◌∷◌, [], ap, refl}
+use Rattle.sidetable.specs.Counts.{block_counts, changed, height_or_zero}
 use Rattle.sidetable.specs.Signatures.{signatures_of}
-use Rattle.sidetable.proofs.Passing.{block-passes, entry-same}
+use Rattle.sidetable.specs.declared.counts.Counts.{Counts}
+use Rattle.sidetable.specs.declared.operations.Entry.{Entry}
+use Rattle.sidetable.proofs.Beginning.{block-passes, entry-same}
+use Rattle.sidetable.proofs.Marks.{begins-so}
 use Rattle.sidetable.proofs.flattening.step_block.Goals as goal
 
 pub returns : goal.returns
 returns c =
+    let f = c.args.f.now in
     let counted = c.counts_of_block-c.ensures in
-    block-passes (signatures_of c.args.s.now) c.args.outermost c.args.f.now c.push_operation.new.f c.push.new.self c.push_label.new.tables packed.Enter c.in_ok-label.label c.in_ok-level.level
-    c.take_opening-part.result c.take_opening-part.new.openings c.take_opening-part.ensures c.in_ok-label.ensures.grows c.in_ok-label.ensures.stands c.in_ok-level.ensures.0 c.in_ok-push.ensures.ok c.in_ok-push_operation.ensures c.args.ty refl
-    (c.in_ok-label.ensures.entry ∙ entry-same _ _ _ _ _ _ (omega (arith, c.in_ok-number.ensures, c.in_ok-end.ensures, c.len.ensures)) (c.in_ok-number-2.ensures ∙ ap (λ (x : Counts). x.gives) counted) (c.base.ensures ∙ ap (λ (x : Counts). height_or_zero c.args.f.now.height - x.takes) counted))
-    c.in_ok-level.ensures.1 (c.in_ok-level.ensures.2 ∙ ap (λ (x : Counts). changed x c.args.f.now.height) counted)
+    let entry = entry-same 0 0 c.in_ok-number.field-0 (block_counts (signatures_of c.args.s.now) c.args.ty).gives c.base.result
+    (height_or_zero f.height - (block_counts (signatures_of c.args.s.now) c.args.ty).takes) refl (c.in_ok-number.ensures ∙ ap (λ (x : Counts). x.gives) counted)
+    (c.base.ensures ∙ ap (λ (x : Counts). height_or_zero f.height - x.takes) counted) in
+    block-passes (signatures_of c.args.s.now) c.args.outermost f _ c.args.ty
+    (begins-so f c.push_operation.new.f c.push_pending.new.tables c.push.new.self _ _ _ _ _ c.in_ok-label.ensures.entries (ap (λ (e : Entry). e ∷ []) entry) c.in_ok-push_operation.ensures
+    c.in_ok-push.ensures.ok c.in_ok-label.ensures.number refl refl
+    (c.in_ok-after.ensures ∙ ap (λ (x : Counts). changed x f.height) counted))

@@ -5,7 +5,7 @@ use Rattle.sidetable.specs.Packing.{PacksAlone}
 use Rattle.sidetable.specs.declared.operations.PackedOp.{PackedOp}
 use Rattle.sidetable.proofs.packing.numeric.Goals as goal
 
--- What packs an instruction packs what it is.
+-- What packs an instruction packs any equal one.
 packs-same : (p : PackedOp) (op written : NumericOp) → op ≡ written → PacksAlone p (plain.Numeric op) → PacksAlone p (plain.Numeric written)
 packs-same p op written is packs = subst (λ (o : NumericOp). PacksAlone p (plain.Numeric o)) is packs
 

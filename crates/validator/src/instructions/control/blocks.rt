@@ -25,7 +25,7 @@ fn enter<'a>(stacks: &mut Stacks<'a>, frame: &ControlFrame<'a>) -> Result<(), Al
     push_types(&mut stacks.operands, frame.start_types)
 }
 
-// Whether the instruction of a frame takes an i32 over the operands of its body.
+// Returns whether the instruction of a frame takes an i32 above the operands of its body.
 fn takes_condition(kind: FrameKind) -> bool
     ensures { IsTrue result ↔ (kind ≡ If) }
 {
@@ -35,7 +35,7 @@ fn takes_condition(kind: FrameKind) -> bool
     }
 }
 
-// A block, a loop or an if begins.
+// Steps over the beginning of a block, a loop or an if.
 #[inline(never)]
 pub fn step_begin<'a>(
     context: &BodyContext<'a>,
@@ -45,7 +45,7 @@ pub fn step_begin<'a>(
 ) -> Result<(), Fault>
     ensures { StepsInto context.now stacks.old stacks.new kind block result }
 {
-    let Some(ty) = type_of_block(context.decoded.types.as_slice(), block) else {
+    let Some(ty) = type_of_block(context.types, block) else {
         return Err(Fault::Invalid);
     };
     let taken = InstructionType {
@@ -88,7 +88,7 @@ pub fn finish(stacks: &mut Stacks<'_>) -> Result<(), Fault>
     Ok(())
 }
 
-// The second body of an if begins.
+// Steps over the beginning of the second body of an if.
 #[inline(never)]
 pub fn step_else(stacks: &mut Stacks<'_>) -> Result<(), Fault>
     ensures { StepsAnywhere stacks.old stacks.new flat.Else result }
@@ -103,7 +103,7 @@ pub fn step_else(stacks: &mut Stacks<'_>) -> Result<(), Fault>
     Ok(())
 }
 
-// Whether the frame may end without an else.
+// Returns whether the frame may end without an else.
 fn needs_no_else(frame: &ControlFrame<'_>) -> bool
     ensures { IsTrue result ↔ FrameNeedsNoElse frame.now }
 {
@@ -113,7 +113,7 @@ fn needs_no_else(frame: &ControlFrame<'_>) -> bool
     }
 }
 
-// The innermost frame ends, and its results go to the one around it.
+// Steps over the end of the innermost frame. Its results go to the frame around it.
 #[inline(never)]
 pub fn step_end(stacks: &mut Stacks<'_>) -> Result<(), Fault>
     ensures { StepsAnywhere stacks.old stacks.new flat.End result }

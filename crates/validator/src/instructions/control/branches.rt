@@ -13,7 +13,6 @@ use crate::types::takes_i32_gives;
 use core_types::{BranchTable, OperandType, ValType};
 use std::alloc::Global;
 
-// A branch.
 pub fn step_br(stacks: &mut Stacks<'_>, index: u32) -> Result<(), Fault>
     ensures { StepsOver stacks.old stacks.new (plain.Control (control.Br index)) result }
 {
@@ -27,7 +26,6 @@ pub fn step_br(stacks: &mut Stacks<'_>, index: u32) -> Result<(), Fault>
     Ok(())
 }
 
-// A conditional branch.
 pub fn step_br_if(stacks: &mut Stacks<'_>, index: u32) -> Result<(), Fault>
     ensures { StepsOver stacks.old stacks.new (plain.Control (control.BrIf index)) result }
 {
@@ -37,7 +35,7 @@ pub fn step_br_if(stacks: &mut Stacks<'_>, index: u32) -> Result<(), Fault>
     apply(stacks, &takes_i32_gives(types, types))
 }
 
-// Whether operands may be carried to each of the labels. One that stands many times in a row is looked at once.
+// Returns whether operands can be carried to each of the labels. A label equal to the previous one is not checked again.
 fn fit_labels<'a>(
     given: &[OperandType],
     innermost: &ControlFrame<'a>,
@@ -64,7 +62,7 @@ fn fit_labels<'a>(
     true
 }
 
-// A branch to one of several labels.
+// Steps over a branch to one of several labels.
 pub fn step_br_table(
     alloc: Global,
     stacks: &mut Stacks<'_>,

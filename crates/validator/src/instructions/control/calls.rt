@@ -12,7 +12,6 @@ use crate::operands::pop_types;
 use crate::types::{InstructionType, takes_gives, takes_i32_gives};
 use core_types::{RefType, are_same_types, item};
 
-// The type of `call`.
 pub fn type_of_call<'a>(context: &BodyContext<'a>, index: u32) -> Option<InstructionType<'a>>
     ensures { HasTypeOf context.now (plain.Control (control.Call index)) result }
 {
@@ -20,7 +19,7 @@ pub fn type_of_call<'a>(context: &BodyContext<'a>, index: u32) -> Option<Instruc
     Some(takes_gives(ty.params, ty.results))
 }
 
-// The type of `call_indirect`, through a table of functions.
+// Returns the type of `call_indirect`, through a table of functions.
 pub fn type_of_call_indirect<'a>(
     context: &BodyContext<'a>,
     ty: u32,
@@ -28,7 +27,7 @@ pub fn type_of_call_indirect<'a>(
 ) -> Option<InstructionType<'a>>
     ensures { HasTypeOf context.now (plain.Control (control.CallIndirect ty table)) result }
 {
-    let called = item(context.decoded.types.as_slice(), ty)?;
+    let called = item(context.types, ty)?;
     match table_element(context, table)? {
         RefType::FuncRef => Some(takes_i32_gives(
             called.params.as_slice(),
@@ -38,7 +37,6 @@ pub fn type_of_call_indirect<'a>(
     }
 }
 
-// A return.
 pub fn step_return(context: &BodyContext<'_>, stacks: &mut Stacks<'_>) -> Result<(), Fault>
     ensures { Steps context.now stacks.old stacks.new (flat.Plain (plain.Control control.Return))
         result }
@@ -50,7 +48,7 @@ pub fn step_return(context: &BodyContext<'_>, stacks: &mut Stacks<'_>) -> Result
     Ok(())
 }
 
-// A tail call, from the type that the call has: its results have to be those of the function that the code is in.
+// Steps over a tail call, given the type of the call. Its results must be those of the function that contains it.
 pub fn step_tail_call(
     context: &BodyContext<'_>,
     stacks: &mut Stacks<'_>,

@@ -2,7 +2,7 @@ use Rattle.std.proofs.Common.{◌≡◌, [], drop}
 use Rattle.binary.specs.Sections.{NotesDataOfAll, codes_at}
 use Rattle.binary.proofs.sections.code.read_codes.Given as goal
 
--- reading on gives what the whole reading gives
+-- the rest of the reading gives what the whole reading gives
 abbrev pub invariant-loop-ty : goal.invariant-loop-ty
 invariant-loop-ty l =
     (codes_at (drop l.ty-index l.types) l.funcs.items l.reader ≡ codes_at l.types [] l.fn.reader) × NotesDataOfAll l.data_named l.funcs.items

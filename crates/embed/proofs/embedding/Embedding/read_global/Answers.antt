@@ -11,7 +11,7 @@ returns-clause-gets g c =
     let there = rw c.state.ensures.same at (sym c.in-Some.ensures) in
     get-value (embedding_of c.args.self.now) _ c.in_ok-address.address c.in-Some.variable.now c.value.result c.in_ok-address.ensures there c.value.ensures
 
--- An item is there at each place inside.
+-- There is an item at each place within the list.
 missing : {X : Type 0} (items : List X) (k : ℕ) → k < length items → slice_get items k ≡ None → ⊥
 missing [] k inside is = omega (arith, inside)
 missing (x ∷ items) zero inside is = cc

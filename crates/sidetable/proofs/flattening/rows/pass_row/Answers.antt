@@ -1,15 +1,16 @@
 use Rattle.std.proofs.Common.{◌+◌, ◌<◌, arith, drop, get_or, length, refl}
 use Rattle.std.proofs.lemmas.Option.{slice_get-get_or, slice_get_within}
 use Rattle.core_types.specs.declared.op.Op.TheVariants.{End, Plain}
-use Rattle.sidetable.proofs.Growth.{grows-more}
+use Rattle.sidetable.specs.Flattening.{with_heights}
+use Rattle.sidetable.proofs.Passing.{have-entries, passes-then}
 use Rattle.sidetable.proofs.PlainOps.{drop_at}
 use Rattle.sidetable.proofs.flattening.rows.pass_row.Goals as goal
 use Rattle.sidetable.proofs.flattening.rows.pass_row.Goals.{else-loop-index-test, then-loop-index-test+in_ok-pass_at+then-not-branch}
 
 pub pass_at-requires-clause-stand : goal.pass_at-requires-clause-stand
 pass_at-requires-clause-stand c =
-    let (whole, most, can) = c.requires.can in
-    (c.loop-index.invariant.passes.makes whole most can).stand
+    let (before, opened) = c.requires.can in
+    have-entries before c.args.outermost (with_heights c.loop-index.f c.loop-index.heights) (drop c.loop-index.index c.args.code.now) (c.loop-index.invariant.passes.opens before opened)
 
 pub loop-index-preserved : goal.loop-index-preserved
 loop-index-preserved c =
@@ -24,10 +25,7 @@ loop-index-preserved c =
     record {
       forward = omega (arith, i.forward);
       within = omega (arith, within);
-      passes = record {
-        grows = grows-more _ _ _ i.passes.grows next.grows;
-        makes = λ whole most first. next.makes (drop (index + 1) code) whole most (rw here at (i.passes.makes whole most first));
-      };
+      passes = passes-then _ _ _ _ _ _ _ _ i.passes (rw here (next (drop (index + 1) code)));
     }
 
 pub returns-clause-passes : goal.returns-clause-passes

@@ -30,7 +30,7 @@ returns-in-Ok-clause-functions c =
     rw (c.in-Ok.ensures.pushed, ← c.self.view_is)
     (functions-added c.self.inside.hosts.items c.self.inside.instances.items c.args.instance valid c.self.inside.functions.items c.push_entries.new.functions.items c.self.invariant.found added)
 
--- What was added is taken off again, so the functions are as before.
+-- What was appended is removed again, so the functions are unchanged.
 functions-stay : (c : goal.After-truncate) → c.truncate.new.self.items ≡ c.self.inside.functions.items
 functions-stay c =
     let first : c.len-first.result ≡ length c.self.inside.functions.items = search rules in

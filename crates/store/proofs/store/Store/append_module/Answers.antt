@@ -7,7 +7,7 @@ use Rattle.store.proofs.lemmas.OwnFunctions.{adds-functions, own-within}
 use Rattle.store.proofs.lemmas.Validity.{allocation-grows, grows-same, module-appended, equal-stores}
 use Rattle.store.proofs.store.Store.append_module.Goals as goal
 
--- What holds is a clause on an error.
+-- A fact also holds as a clause on an error.
 on_err : {T E : Type 0} (P : Type 0) (r : Result T E) → P → OnErr r P
 on_err P (Ok v) holds = tt
 on_err P (Err e) holds = holds
@@ -25,7 +25,7 @@ pub append_instance-requires-clause-types : goal.append_instance-requires-clause
 append_instance-requires-clause-types c =
     allocated c.writing_is_read.ensures.whole (store_with c.self.inside.code c.self.inside.state) _ c.args.objects c.self.invariant (rw (← c.self.view_is) at c.requires.linkable)
 
--- The module's functions and objects and its instance are behind what was there.
+-- The module's functions and objects and its instance follow what was there.
 appended : (c : goal.After-append_all) → store_with c.append_instance.new.self c.append_all.new.self ≡ with_module (store_with c.self.inside.code c.self.inside.state) (module_instance (lists_of c.args.addresses) c.args.loaded.value.source) c.args.loaded.value.source c.args.objects
 appended c =
     module-appended c.self.inside.code c.append_instance.new.self c.self.inside.state c.reserve_all.new.self c.append_all.new.self c.args.loaded.value.source (lists_of c.args.addresses) c.args.objects c.in_ok-append_instance.ensures.functions c.in_ok-append_instance.ensures.instances c.reserve_all.ensures.contents c.reserve_all.ensures.bounds c.append_all.ensures.contents c.append_all.ensures.bounds
