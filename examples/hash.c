@@ -1,4 +1,4 @@
-// The SHA-256 digest of a text that is repeated.
+// Computes the SHA-256 digest of a repeated text.
 
 typedef unsigned word;
 typedef unsigned char byte;
@@ -21,7 +21,7 @@ static const word first[8] = {
     0x6a09e667, 0xbb67ae85, 0x3c6ef372, 0xa54ff53a, 0x510e527f, 0x9b05688c, 0x1f83d9ab, 0x5be0cd19,
 };
 
-// The text, which stands in the data of the module.
+// The text, which is in the data of the module.
 static const byte text[3] = "abc";
 
 static word state[8];
@@ -31,7 +31,7 @@ static word rotate(word x, int count) {
     return x >> count | x << (32 - count);
 }
 
-// The words of a block, and those that follow from them.
+// Stores the words of a block, and those that are computed from them.
 static void expand(const byte *block, word *words) {
     for (int i = 0; i < 16; i++) {
         words[i] = (word)block[4 * i] << 24 | (word)block[4 * i + 1] << 16
@@ -44,7 +44,7 @@ static void expand(const byte *block, word *words) {
     }
 }
 
-// Works a block into the state.
+// Updates the state by a block.
 static void compress(const byte *block) {
     word words[64];
     word now[8];
@@ -69,7 +69,7 @@ static void compress(const byte *block) {
     }
 }
 
-// The message: the text so many times, a bit, zeros, and its length in bits. Answers how many bytes it has.
+// Writes the message: the text this many times, a bit, zeros, and its length in bits. Returns its size in bytes.
 static word pad(word times) {
     word length = 3 * times;
     word size = (length + 9 + BLOCK - 1) / BLOCK * BLOCK;
@@ -83,7 +83,7 @@ static word pad(word times) {
     return size;
 }
 
-// Two words of the digest of "abc", repeated so many times, at most 85: the one at an index below 4, and the one behind it.
+// Returns the 64 bits at an index below 4 of the digest of "abc", repeated this many times, at most 85.
 wide digest_part(word times, word index) {
     if (times > MOST / 3) {
         times = MOST / 3;

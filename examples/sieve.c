@@ -1,11 +1,11 @@
-// Primes below a bound, by the sieve of Eratosthenes.
+// Finds the primes below a bound, by the sieve of Eratosthenes.
 
 enum { MOST = 5000 };
 
 // Whether a number is known to be composite.
 static unsigned char composite[MOST];
 
-// Sets the marks of all numbers back.
+// Clears the marks of all numbers below a bound.
 static void clear(unsigned bound) {
     for (unsigned n = 0; n < bound; n++) {
         composite[n] = 0;
@@ -19,7 +19,7 @@ static void mark_multiples(unsigned prime, unsigned bound) {
     }
 }
 
-// How many primes there are below a bound, which counts as MOST where it is more.
+// Returns the number of primes below a bound, which counts as MOST if it is greater.
 unsigned count_primes(unsigned bound) {
     unsigned count = 0;
     if (bound > MOST) {
@@ -37,7 +37,7 @@ unsigned count_primes(unsigned bound) {
     return count;
 }
 
-// The greatest prime below a bound, or 0 where there is none.
+// Returns the greatest prime below a bound, which counts as MOST if it is greater, or 0 if there is none.
 unsigned greatest_prime(unsigned bound) {
     if (bound > MOST) {
         bound = MOST;

@@ -1,10 +1,10 @@
-// A heap sort of numbers that a generator gives.
+// Sorts numbers from a generator by heap sort.
 
 enum { MOST = 512 };
 
 static unsigned numbers[MOST];
 
-// The next number of a linear congruential generator.
+// Returns the next state of a linear congruential generator.
 static unsigned next(unsigned state) {
     return state * 1664525u + 1013904223u;
 }
@@ -15,7 +15,7 @@ static void swap(unsigned i, unsigned j) {
     numbers[j] = kept;
 }
 
-// Lets the number at a root sink until no child is greater.
+// Moves the number at a root down until no child is greater.
 static void sink(unsigned root, unsigned count) {
     for (;;) {
         unsigned child = 2 * root + 1;
@@ -43,7 +43,8 @@ static void sort(unsigned count) {
     }
 }
 
-// Fills the numbers from a seed, sorts them, and answers the one at an index; 4294967295 where the numbers are not in order.
+// Makes numbers from a seed, at most MOST, sorts them, and returns the one at an index, or 0 if there is none. Returns 4294967295 if they
+// are not in order.
 unsigned sorted_at(unsigned seed, unsigned count, unsigned index) {
     if (count > MOST) {
         count = MOST;

@@ -1,4 +1,4 @@
-;; Counts $left down to zero, and answers how often the loop went around. $left begins above zero.
+;; Counts $left down to zero, and returns the number of iterations. $left must begin above zero.
 (module
   (func (export "count") (param $left i32) (result i32) (local $rounds i32)
     loop $again

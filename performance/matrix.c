@@ -1,10 +1,10 @@
-// The product of two square matrices of 64-bit integers.
+// Multiplies two square matrices of 64-bit integers.
 
 enum { MOST = 16 };
 
 static unsigned long long left[MOST][MOST], right[MOST][MOST], product[MOST][MOST];
 
-// Fills both factors: entry (i, j) is i * seed + j on the left, and i + j * seed on the right.
+// Fills both factors: entry (i, j) of the left one is i * seed + j, and that of the right one is i + j * seed.
 static void fill(unsigned size, unsigned seed) {
     for (unsigned i = 0; i < size; i++) {
         for (unsigned j = 0; j < size; j++) {
@@ -36,7 +36,7 @@ static unsigned long long sum_entries(unsigned size) {
     return sum;
 }
 
-// The sum of all entries of so many products, of matrices of this size, at most 16; each seed is one more than that before.
+// Returns the sum of all entries of `times` products of matrices of this size, at most 16. Each seed is one more than the one before.
 unsigned long long product_sum(unsigned size, unsigned seed, unsigned times) {
     unsigned long long sum = 0;
     if (size > MOST) {

@@ -1,16 +1,16 @@
 // Functions that call themselves.
 
-// The Fibonacci number of an index.
+// Returns the Fibonacci number of an index.
 unsigned fibonacci(unsigned index) {
     return index < 2 ? index : fibonacci(index - 1) + fibonacci(index - 2);
 }
 
-// Takeuchi's function.
+// Returns the value of Takeuchi's function.
 int takeuchi(int x, int y, int z) {
     return y < x ? takeuchi(takeuchi(x - 1, y, z), takeuchi(y - 1, z, x), takeuchi(z - 1, x, y)) : z;
 }
 
-// In how many ways queens stand on the rows that are left, where these columns and diagonals are threatened.
+// Returns in how many ways queens can be placed on the remaining rows, if these columns and diagonals are threatened.
 static unsigned place(unsigned all, unsigned columns, unsigned left, unsigned right) {
     unsigned ways = 0;
     if (columns == all) {
@@ -23,7 +23,7 @@ static unsigned place(unsigned all, unsigned columns, unsigned left, unsigned ri
     return ways;
 }
 
-// In how many ways so many queens, at most 31, stand on a board of as many rows and columns, none threatened by another.
+// Returns in how many ways `count` queens, at most 31, can be placed on a board of `count` rows and columns, none threatened by another.
 unsigned queens(unsigned count) {
     return place((1u << count) - 1, 0, 0, 0);
 }

@@ -1,5 +1,5 @@
-;; Counts $left down to zero by tail calls, and answers how often it went around: `count` calls itself, and `count_through` the
-;; function of an entry of a table, which is itself.
+;; Both exports count $left down to zero by tail calls, and return the number of iterations. `count` uses a function that calls itself, and
+;; `count_through` uses one that calls itself through an entry of a table.
 (module
   (type $counts (func (param i32 i32) (result i32)))
   (table 1 funcref)

@@ -1,4 +1,4 @@
-"""Modules in the binary format for the tools that measure: bytes that are put together here."""
+"""Encodes modules in the binary format, for the other tools."""
 
 HEADER = b"\0asm\1\0\0\0"
 I32 = 0x7F
@@ -16,7 +16,7 @@ def number(value):
 
 
 def constant(value):
-    """The instruction i32.const of a number below 2^31."""
+    """Returns the encoding of i32.const with a number below 2^31."""
     out = bytearray(b"\x41")
     while value >= 0x40:
         out.append(value & 0x7F | 0x80)
@@ -25,37 +25,37 @@ def constant(value):
 
 
 def vector(items):
-    """A vector."""
+    """Returns the encoding of a vector of these encoded items."""
     return number(len(items)) + b"".join(items)
 
 
 def sized(content):
-    """Returns bytes after their number."""
+    """Returns bytes, preceded by the encoding of their number."""
     return number(len(content)) + content
 
 
 def function_type(parameters, results):
-    """A function type, whose parameters and results are i32."""
+    """Returns the encoding of a function type with these numbers of i32 parameters and results."""
     return b"\x60" + sized(bytes([I32] * parameters)) + sized(bytes([I32] * results))
 
 
 def export(name, index):
-    """The export of a function."""
+    """Returns the encoding of the export of a function."""
     return sized(name) + b"\0" + number(index)
 
 
 def function(instructions, groups=b"\0"):
-    """The code of a function: its groups of locals, and its instructions without the last `end`."""
+    """Returns the encoding of the code of a function, from its groups of locals and its instructions without the last `end`."""
     return sized(groups + instructions + b"\x0b")
 
 
 def module(sections):
-    """A module of these sections, by their numbers."""
+    """Returns a module with these sections, which are contents by the numbers of the sections."""
     return HEADER + b"".join(bytes([key]) + sized(content) for key, content in sections.items())
 
 
 def one_function(code, parameters=0, results=0, others={}):
-    """A module with one function, which is exported as f, and other sections."""
+    """Returns a module with one function, which is exported as `f`, and with other sections."""
     sections = {
         TYPES: vector([function_type(parameters, results)]),
         FUNCTIONS: vector([b"\0"]),

@@ -1,4 +1,4 @@
-"""What the tools share: how they read their arguments, and which crates there are."""
+"""What the tools share: reading arguments, and the list of crates."""
 import argparse
 import os
 
@@ -6,24 +6,24 @@ ROOT = os.path.abspath(os.path.join(os.path.dirname(__file__), ".."))
 
 
 def parser_of(doc):
-    """Returns a parser of arguments for which `--help` prints a tool's docstring."""
+    """Returns an argument parser whose `--help` prints a tool's docstring."""
     return argparse.ArgumentParser(description=doc, formatter_class=argparse.RawDescriptionHelpFormatter)
 
 
 def no_arguments(doc):
-    """Reads the arguments of a tool that has none but `--help`."""
+    """Reads the arguments of a tool that takes none except `--help`."""
     parser_of(doc).parse_args()
 
 
 def uses_of():
-    """Returns the names of the crates that each crate of crates.txt uses."""
+    """Returns a dictionary from each crate of crates.txt to the names of the crates that it uses."""
     with open(os.path.join(ROOT, "crates.txt"), encoding="utf-8") as file:
         lines = [line.split("#")[0].split(":") for line in file if ":" in line]
     return {name.split()[0]: uses.split() for name, uses in lines}
 
 
 def below(name, uses):
-    """Returns the crates below one, each once, and after those that it uses."""
+    """Returns the crates below a crate, each once, and after those that it uses."""
     found = []
 
     def visit(crate):
@@ -37,7 +37,7 @@ def below(name, uses):
 
 
 def programs(doc, *names):
-    """Returns the paths of the programs that a tool's arguments name, which must exist."""
+    """Returns the paths of the programs that a tool's arguments name. If one is not a file, the tool ends with an error."""
     parser = parser_of(doc)
     for name in names:
         parser.add_argument(name)
@@ -49,7 +49,10 @@ def programs(doc, *names):
 
 
 def program_or(doc, default):
-    """Returns the path of the program that a tool's only argument names, or else of this one, which must exist."""
+    """Returns the path of the program that a tool's only argument names, or else the default.
+
+    If it is not a file, the tool ends with an error.
+    """
     parser = parser_of(doc)
     parser.add_argument("program", nargs="?", default=default)
     path = os.path.abspath(parser.parse_args().program)

@@ -1,6 +1,6 @@
 #!/bin/sh
-# Builds and runs all tests: `make check`. The programs are built over the library in several ways; each has to print no failure. What a
-# missing tool makes impossible is skipped, with a line that says so. Ends with 1 where a test failed.
+# Builds and runs all tests: `make check`. The test programs are built with the library in several ways, and each must run without a
+# failure. Tests whose tools are missing are skipped, with a line that reports it. The status is 1 if a test failed.
 set -u
 cd "$(dirname "$0")" || exit 1
 : "${MAKE:=make}" "${CC:=cc}" "${CFLAGS:=-O2 -g}" "${BUILD:=build}"
@@ -13,7 +13,7 @@ fail() {
   failures=$((failures + 1))
 }
 
-# run TEST COMMAND..: has to end with 0.
+# run TEST COMMAND..: runs a test, whose command must end with status 0.
 run() {
   test_name=$1
   shift
@@ -29,7 +29,7 @@ has() {
   command -v "$1" > /dev/null 2>&1
 }
 
-# build FOLDER FLAGS..: all test programs, over a library that is built with the flags.
+# build FOLDER FLAGS..: builds all test programs, with a library that is built with the flags.
 build() {
   folder=$BUILD/$1
   shift
@@ -41,7 +41,7 @@ build() {
   fi
 }
 
-# deep FOLDER: builds and runs what measures the stack.
+# deep FOLDER: builds and runs the program that measures the use of the stack.
 deep() {
   if [ "$(uname -m)" != x86_64 ]; then
     echo "skipped: it is for x86-64"
@@ -50,7 +50,7 @@ deep() {
   $MAKE BUILD="$BUILD/$1" CC="$CC" CFLAGS="$CFLAGS" "$BUILD/$1/deep" && "$BUILD/$1/deep"
 }
 
-# programs WAY FOLDER COMMAND..: all programs but that which refuses allocations, each behind the command.
+# programs WAY FOLDER COMMAND..: runs all programs except the one that refuses allocations, each as the last argument of the command.
 programs() {
   way_name=$1 programs=$BUILD/$2
   shift 2
@@ -60,12 +60,12 @@ programs() {
   run "$way_name example" compare "$@" "$programs/example" "$plugin"
 }
 
-# compare COMMAND..: its output has to be that of the example.
+# compare COMMAND..: checks that the output of the command is that of the example.
 compare() {
   "$@" > "$BUILD/example.printed" && diff "$BUILD/example.printed" example.out && echo "as it has to be"
 }
 
-# Only the names of the header are seen from outside, in both libraries.
+# Checks that both libraries export exactly the names of the header.
 names() {
   sort "$BUILD/names" > "$BUILD/names.wanted"
   nm -D --defined-only "$BUILD/libtegvurn.so" | awk '{ print $3 }' | sort > "$BUILD/names.so"
@@ -74,8 +74,8 @@ names() {
     echo "$(wc -l < "$BUILD/names.wanted") names"
 }
 
-# The shared library is bound when it is loaded, and read-only then; no code is written, the stack is no code, and no control-flow enforcement
-# is claimed (the Makefile says why).
+# Checks that the shared library is bound when it is loaded, and that its relocated data is read-only afterwards. Checks that no relocation
+# writes to code, that the stack is not executable, and that no control-flow enforcement is claimed (the Makefile explains why).
 hardened() {
   readelf -dW "$BUILD/libtegvurn.so" > "$BUILD/dynamic" && readelf -lW "$BUILD/libtegvurn.so" > "$BUILD/segments" || return 1
   grep -q 'FLAGS.*BIND_NOW' "$BUILD/dynamic" || { echo "not bound when it is loaded"; return 1; }
@@ -86,7 +86,7 @@ hardened() {
   echo "as it has to be"
 }
 
-# The switch of stacks has unwind information: that many bytes of code from its address on.
+# Checks that the switch of stacks has unwind information, which begins at its address.
 unwound() {
   start=$(nm "$BUILD/libtegvurn.so" | awk '$3 == "tegvurn_switch" { print $1 }')
   [ -n "$start" ] || { echo "no tegvurn_switch"; return 1; }
@@ -95,7 +95,7 @@ unwound() {
   echo "as it has to be"
 }
 
-# The header for C++, strictly.
+# Checks that the header compiles as C++ without a warning.
 header() {
   for standard in c++98 c++11 c++20; do
     printf '#include "tegvurn.h"\nint main() { return (int)tegvurn_i32(0).i32; }\n' |
@@ -104,12 +104,12 @@ header() {
   echo "no complaint"
 }
 
-# A C++ exception leaves a callback.
+# Checks that a C++ exception can leave a callback.
 thrown() {
   "${CXX:-c++}" -std=c++11 -Wall -Wextra -I. -o "$BUILD/thrown" thrown.cpp "$BUILD/libtegvurn.a" && "$BUILD/thrown"
 }
 
-# What is installed serves the example, by pkg-config, statically and shared.
+# Builds the example over the installed library, by the flags of pkg-config, shared and static, and runs it.
 installed() {
   place=$(cd "$BUILD" && pwd)/installed
   rm -rf "$place"

@@ -1,7 +1,8 @@
-/* How much of its stack the proved code uses: with modules and scripts that are nested deeply or long, calls to the greatest depth, and many
-   exports.
-   Ends with 1 where it is more than MOST, a part of what there is. For stacks that are switched by assembly. It also compares how the C side
-   and the proved code end the loading of a module that is too large. */
+/* Measures how much of its stack the proved code uses, with deeply nested and long modules and scripts, calls to the greatest depth, and
+   many exports. The status is 1 if it uses more than MOST, which is a fraction of the stack. This works only with stacks that are switched
+   in assembly.
+
+   It also checks that the C side refuses a module that is too large in the same way as the proved code. */
 #include "tegvurn.c"
 #include "test_module.h"
 
@@ -20,7 +21,7 @@ static void check(bool is_so, const char *what) {
   failed++;
 }
 
-/* Bytes that are put together */
+/* The bytes of a module or a script */
 
 static uint8_t bytes[12 * LEVELS];
 static size_t size;
@@ -34,7 +35,7 @@ static void put_often(const char *text, size_t times) {
   for (size_t i = 0; i < times; i++) put(text, strlen(text));
 }
 
-/* A number in four bytes of the binary format. */
+/* Appends a number in four bytes, as the binary format encodes it. */
 static void put_long(size_t number) {
   const uint8_t digits[] = {(uint8_t)(number | 0x80), (uint8_t)(number >> 7 | 0x80), (uint8_t)(number >> 14 | 0x80),
                             (uint8_t)(number >> 21 & 0x7F)};
@@ -43,7 +44,7 @@ static void put_long(size_t number) {
 
 static const char head[] = "\0asm\1\0\0\0";
 
-/* (module (func block .. end ..)), or another beginning of a block. */
+/* Encodes (module (func block .. end ..)), with these bytes in place of `block`. */
 static void spell_blocks(const char *beginning) {
   size_t body = LEVELS * (strlen(beginning) + 1) + 2;
   size = 0;
@@ -57,7 +58,7 @@ static void spell_blocks(const char *beginning) {
   put_often("\x0b", LEVELS + 1);
 }
 
-/* (module (global i32 (i32.add (i32.const 1) (i32.add ..)))): first all constants, and then all sums. */
+/* Encodes (module (global i32 (i32.add (i32.const 1) (i32.add ..)))): first all constants, and then all sums. */
 static void spell_sum(void) {
   size = 0;
   put(head, 8);
@@ -77,7 +78,7 @@ static size_t stack_used(const tegvurn *m) {
   return (size_t)(end - at);
 }
 
-/* An embedding whose stack is painted, all but what is in use while it waits. */
+/* Returns an embedding whose stack is painted, except for the part that is in use while it waits. */
 static tegvurn *begin_painted(void) {
   const tegvurn_config config = {10 * LEVELS, 65535, 16, 100};
   tegvurn *m;
@@ -87,6 +88,7 @@ static tegvurn *begin_painted(void) {
   return m;
 }
 
+/* Checks how much of the stack was used, and frees the embedding. */
 static void end_painted(tegvurn *m, const char *what) {
   size_t used = stack_used(m);
   if (most_used < used) most_used = used;
@@ -94,7 +96,7 @@ static void end_painted(tegvurn *m, const char *what) {
   check(tegvurn_free(m) == TEGVURN_DONE, "it is not freed");
 }
 
-/* Loads and links the module that the bytes spell. */
+/* Loads and links the module in `bytes`. */
 static void load(const char *what) {
   tegvurn *m = begin_painted();
   uint64_t number;
@@ -103,7 +105,7 @@ static void load(const char *what) {
   end_painted(m, what);
 }
 
-/* (module (func $f (export "f") call $f)) */
+/* Calls the export of (module (func $f (export "f") call $f)). */
 static void call_to_the_greatest_depth(void) {
   static const char recursion[] = "\0asm\1\0\0\0\1\4\1\x60\0\0\3\2\1\0\7\5\1\1f\0\0\x0a\6\1\4\0\x10\0\x0b";
   tegvurn *m = begin_painted();
@@ -131,7 +133,7 @@ static void list_many_exports(void) {
   end_painted(m, "many exports");
 }
 
-/* Runs a script that is refused. */
+/* Runs the script in `bytes`, which must be refused. */
 static void refuse_script(const char *what) {
   tegvurn *m = begin_painted();
   tegvurn_report report;
@@ -144,7 +146,8 @@ static bool is_same_end(const tegvurn_end *one, const tegvurn_end *other) {
          one->at == other->at && one->code == other->code && !strcmp(one->text, other->text);
 }
 
-/* Loads as many zeros as are allowed, and one more. The C side refuses only the second module by itself, with the end of the proved code. */
+/* Loads the largest allowed number of zeros, and one more. The C side refuses only the second module itself, with the same end as the
+   proved code. */
 static void load_too_much(void) {
   void *zeros = mmap(NULL, MOST_BYTES + 1, PROT_READ, MAP_PRIVATE | MAP_ANONYMOUS, -1, 0);
   check(zeros != MAP_FAILED, "no zeros");

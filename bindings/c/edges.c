@@ -1,5 +1,5 @@
-/* Edges of the library: who may call, room for results, several embeddings, what callbacks may answer and see, texts, what is kept, many
-   exports, and callbacks that are left. */
+/* Tests of the edges of the library: which threads may call, several embeddings, signal handlers, room for results, what callbacks may
+   return and see, texts, null pointers, what the library keeps, many exports, and callbacks that are left. */
 #define _GNU_SOURCE
 #include "tegvurn.h"
 #include "test_module.h"
@@ -28,10 +28,10 @@ static void check(bool is_so, int line, const char *what) {
 
 /* Embeddings with the module of the tests */
 
-/* What a callback does, which gets this as its context. */
+/* The context of a callback, with what it does. */
 struct asked {
   bool (*ask)(struct asked *, tegvurn_host_call *);
-  tegvurn *embedding; /* its own */
+  tegvurn *embedding; /* the embedding that the callback belongs to */
   void *other;
   uint64_t number;
 };
@@ -55,7 +55,7 @@ static tegvurn_host host_of(const char *name, const tegvurn_type *type, size_t c
   return (tegvurn_host){tegvurn_string("host"), tegvurn_string(name), type, count, type, count, callback, context};
 }
 
-/* An embedding in which the module is instance 0. */
+/* Returns an embedding in which the module is instance 0. */
 static tegvurn *embedding_of(struct asked *asked) {
   const tegvurn_host hosts[] = {host_of("ask", i32_type, 1, ask, asked), host_of("keep", extern_type, 1, ask, asked),
                                 host_of("nothing", NULL, 0, nothing, asked)};
@@ -73,7 +73,7 @@ static tegvurn_status call_one(tegvurn *embedding, const char *name, tegvurn_val
   return tegvurn_call(embedding, 0, tegvurn_string(name), &arg, 1, result, 1, NULL);
 }
 
-/* Whether the last call trapped in a host function with the code. */
+/* Returns whether the last call trapped in a host function with this code. */
 static bool trapped_with(const tegvurn *embedding, uint32_t code) {
   const tegvurn_end *end = tegvurn_last(embedding);
   return end->status == TEGVURN_TRAP && end->number == TEGVURN_HOST_TRAP && end->code == code && !strcmp(end->name, "Host") &&
@@ -82,7 +82,7 @@ static bool trapped_with(const tegvurn *embedding, uint32_t code) {
 
 /* Who may call */
 
-/* Returns whether each call except tegvurn_free returns TEGVURN_BUSY and changes nothing that it was passed. */
+/* Returns whether each call except tegvurn_free returns TEGVURN_BUSY and stores nothing, except that the count of results becomes 0. */
 static bool is_closed(tegvurn *embedding) {
   uint64_t number = 7;
   tegvurn_value value = tegvurn_i32(7);
@@ -162,7 +162,7 @@ static void test_free_elsewhere(void) {
   run_on_thread(free_it, embedding);
 }
 
-/* A thread is not taken for an ended one, even if it gets the same stack and the same addresses of thread-local variables. */
+/* A thread is not confused with one that has ended, even if it gets the same stack and the same addresses of thread-local variables. */
 static void test_ended_thread(void) {
   struct asked asked = {NULL, NULL, NULL, 0};
   run_on_thread(make_it, &asked);
@@ -173,7 +173,7 @@ static void test_ended_thread(void) {
 
 /* Several embeddings */
 
-/* Calls the embedding of the next one, up to the last. */
+/* Calls the embedding of the next callback, unless this one is the last. */
 static bool ask_next(struct asked *asked, tegvurn_host_call *call) {
   struct asked *next = asked->other;
   tegvurn_value result = tegvurn_i32(0);
@@ -232,7 +232,7 @@ static void test_threads(void) {
 static struct { tegvurn *own, *other; } interrupted;
 static volatile sig_atomic_t ticks, busy_ticks, wrong_ticks, is_in_handler;
 
-/* Calls the embedding that may be interrupted, and another one. These calls take no memory, so the handler may make them. */
+/* Calls the embedding that may be interrupted, and another one. These calls allocate no memory, so the handler may make them. */
 static void tick(int number) {
   uint64_t fuel = 0, wanted = 1000 + (uint64_t)ticks;
   (void)number;
@@ -252,7 +252,7 @@ static bool ask_with_signal(struct asked *asked, tegvurn_host_call *call) {
   return true;
 }
 
-/* Sends SIGALRM once every that many microseconds, or never if that is 0. */
+/* Sends SIGALRM at this interval in microseconds, or never if it is 0. */
 static void set_timer(int microseconds) {
   const struct itimerval timer = {{0, microseconds}, {0, microseconds}};
   CHECK(!setitimer(ITIMER_REAL, &timer, NULL));
@@ -345,7 +345,7 @@ static void test_traps(void) {
   tegvurn_free(embedding);
 }
 
-/* Results that are not written, or of another type, make the call trap. The embedding goes on. */
+/* Results that are not written, or that have another type, make the call trap. The embedding stays usable. */
 static void test_wrong_results(void) {
   struct asked asked = {answer_other, NULL, NULL, 0};
   tegvurn *embedding = embedding_of(&asked);
@@ -369,7 +369,7 @@ static void test_wrong_results(void) {
   tegvurn_free(embedding);
 }
 
-/* A host function overwrites what its call lies in; the library keeps its own. */
+/* Overwrites the struct of the call. The library does not use it afterwards. */
 static bool overwrite(struct asked *asked, tegvurn_host_call *call) {
   static tegvurn_value elsewhere;
   (void)asked;
@@ -446,7 +446,8 @@ static void check_rows(const struct row *rows, size_t count, tegvurn_status want
 
 #define CHECK_ROWS(rows, wanted) check_rows((rows), sizeof(rows) / sizeof *(rows), (wanted))
 
-/* Returns how tegvurn_new ends with these host functions, if it gives no embedding and says the same twice. */
+/* Returns the status of tegvurn_new with this host function, if it makes no embedding and *end has the same status and the name BadPointer.
+   Otherwise returns TEGVURN_DONE. */
 static tegvurn_status end_of_new(const tegvurn_host *hosts) {
   tegvurn_end end = {.status = TEGVURN_DONE};
   tegvurn *embedding = (tegvurn *)&config;
@@ -578,7 +579,7 @@ static double seconds(void) {
   return (double)time.tv_sec + (double)time.tv_nsec / 1e9;
 }
 
-/* A module that is too large is refused at once: its bytes cannot be read here. */
+/* A module that is too large is refused at once, without being read: reading these bytes would crash. */
 static void test_too_large(void) {
   static const size_t sizes[] = {67108865, 3u << 30, SIZE_MAX / 2, SIZE_MAX};
   struct asked asked = {NULL, NULL, NULL, 0};
@@ -598,7 +599,7 @@ static void test_too_large(void) {
   CHECK(tegvurn_free(embedding) == TEGVURN_DONE);
 }
 
-/* Arguments and a name that are longer than all that was said before. */
+/* Arguments, a name and a file that are longer than any message before. */
 static void test_long_messages(void) {
   static tegvurn_value args[1000];
   static char name[5000];
@@ -628,7 +629,7 @@ static void *copy_of(const void *bytes, size_t size) {
   return memcpy(copy, bytes, size);
 }
 
-/* Everything that is passed in is freed behind the call. */
+/* Everything that is passed to a call is freed after it. */
 static void test_copies(void) {
   struct asked asked = {NULL, NULL, NULL, 0};
   char *module = copy_of("host", 4), *name = copy_of("ask", 3);
@@ -668,7 +669,7 @@ static bool is_same_type(const tegvurn_export *one, const tegvurn_export *other)
          one->has_maximum == other->has_maximum && one->maximum == other->maximum;
 }
 
-/* Each export is found as it is listed. */
+/* Each export is found by its name as it is listed. */
 static void test_find_export(void) {
   struct asked asked = {NULL, NULL, NULL, 0};
   tegvurn *embedding = embedding_of(&asked);
@@ -697,7 +698,8 @@ static void test_find_export(void) {
   CHECK(tegvurn_free(embedding) == TEGVURN_DONE);
 }
 
-/* Returns an embedding in which instance 0 exports a function of that many parameters and results under that many names. */
+/* Returns an embedding in which instance 0 exports a function under that many names. `types` is the number of its parameters, and of its
+   results. */
 static tegvurn *embedding_with(size_t exports, size_t types) {
   uint8_t *bytes = malloc(EXPORTS_ROOM(exports, types));
   tegvurn *embedding;
@@ -736,7 +738,7 @@ static void test_many_exports(void) {
 #define MORE_EXPORTS 200000
 #define FOUND_OFTEN 1000
 
-/* Finding an export takes the time of a few exports, however many there are. */
+/* Finding an export takes little time, however many exports there are. */
 static void test_find_among_more(void) {
   tegvurn *embedding = embedding_with(MORE_EXPORTS, 1);
   bool is_right = true;
@@ -752,7 +754,7 @@ static void test_find_among_more(void) {
   CHECK(tegvurn_free(embedding) == TEGVURN_DONE);
 }
 
-/* Files are forgotten behind a script, and where one of them is not taken. */
+/* Files are forgotten after a script, and after one of them is not accepted. */
 static void test_files(void) {
   struct asked asked = {NULL, NULL, NULL, 0};
   tegvurn *embedding = embedding_of(&asked);
@@ -777,7 +779,7 @@ static bool add_index(void *context, tegvurn_host_call *call) {
   return call->arg_count == WIDTH && call->result_count == WIDTH;
 }
 
-/* The bytes of (module (import "host" "ask" (func (param i32 ..) (result i32 ..))) (export "f" (func 0))). */
+/* Encodes (module (import "host" "ask" (func (param i32 ..) (result i32 ..))) (export "f" (func 0))), and returns its size. */
 static size_t spell_wide(uint8_t *bytes) {
   static const uint8_t head[] = {0, 'a', 's', 'm', 1, 0, 0, 0, 1, 0xde, 0x04, 1, 0x60}, width[] = {0xac, 0x02};
   static const uint8_t rest[] = {2, 12, 1, 4, 'h', 'o', 's', 't', 3, 'a', 's', 'k', 0, 0, 7, 5, 1, 1, 'f', 0, 0};
@@ -843,7 +845,7 @@ static bool is_left(tegvurn *embedding, const char *name) {
   return is_all_busy(embedding);
 }
 
-/* Counts the mappings and the resident pages of the process, as 0 if the system does not say. */
+/* Counts the mappings and the resident pages of the process. Each count is 0 if the system does not provide it. */
 static void count_memory(long *mappings, long *pages) {
   FILE *maps = fopen("/proc/self/maps", "r"), *sizes = fopen("/proc/self/statm", "r");
   *mappings = *pages = 0;
@@ -921,7 +923,7 @@ static void test_left_by_thread(void) {
   run_on_thread(abandon_it, asked.embedding);
 }
 
-/* An idle embedding is freed, on any thread. */
+/* Abandoning an idle embedding frees it, on any thread. */
 static void test_abandon_idle(void) {
   struct asked asked = {NULL, NULL, NULL, 0};
   tegvurn *embedding;

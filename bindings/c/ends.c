@@ -1,13 +1,12 @@
-/* How the C side takes what the proved code writes, over a stand-in of it: ends that the proved code does not come to, texts that are long,
-   replies that are none, lists of exports that are wrong, what an abandoned embedding reads and writes, and two threads that take one
-   embedding. */
+/* Tests of the C side over a stand-in for the proved code: ends that the proved code never reaches, long texts, invalid replies, wrong
+   lists of exports, reads and writes of an abandoned embedding, and two threads that take one embedding. */
 #include "tegvurn.c"
 
 #include <pthread.h>
 #include <setjmp.h>
 #include <stdio.h>
 
-/* The sizes that the declarations of other languages rest on. */
+/* The declarations in other languages rely on these sizes. */
 #if UINTPTR_MAX == UINT64_MAX
 _Static_assert(sizeof(tegvurn_value) == 16 && sizeof(tegvurn_end) == 168 && sizeof(tegvurn_config) == 24, "sizes");
 _Static_assert(sizeof(tegvurn_host_call) == 56 && sizeof(tegvurn_host) == 80 && sizeof(tegvurn_export) == 88, "sizes");
@@ -23,8 +22,9 @@ static void check(bool is_so, int line, const char *what) {
   else failed++, printf("line %d: %s\n", line, what);
 }
 
-/* The stand-in replies `done` to each order but the one of this number, counted from 0. To that it writes these bytes, and it ends with the
-   status; or it goes on, where that is GOES_ON. Where that is ASKS_FIRST, it asks for a host function before it replies, and goes on. */
+/* The stand-in replies `done` to each order except the one of this number, counted from 0. To that one it replies with these bytes, and
+   then it ends with the status, or continues if the status is GOES_ON. If the status is ASKS_FIRST, it requests a host function, replies
+   `done`, and continues. */
 #define GOES_ON 99
 #define ASKS_FIRST 98
 static int special_order;
@@ -41,10 +41,12 @@ static bool read_whole(void *to, size_t size) {
   return true;
 }
 
-/* Asks for the host function 0, with ten lent bytes, and reads these in pieces of so many. Answers what the last of these reads did. */
+/* The size of the read of the ten borrowed bytes of a requested host function, and what that read returned. */
 static ssize_t lent_piece = 10, last_read;
+/* Whether the stand-in read the byte that the callback wrote, and then an answer with results. */
 static bool was_answered;
 
+/* Requests the host function 0, which borrows ten bytes. */
 static void ask_for_host(void) {
   uint8_t request[HEAD + 2 * NUMBER] = {2 * NUMBER, 0, 0, 0, 0, 0, 0, 0, REQUEST_CALL, 0, 0, 0, 0, 0, 0, 0, 0, 0, 0, 0, 0, 0, 0, 0, 10};
   uint8_t put[HEAD + NUMBER], lent[10] = "0123456789", answer[HEAD];
@@ -54,7 +56,7 @@ static void ask_for_host(void) {
   if (last_read == 10 && lent[9] == 'x') was_answered = read_whole(answer, sizeof answer) && number_at(answer + NUMBER) == 20;
 }
 
-/* What the stand-in found last: the status when it abandoned its own embedding, and what it could read and write after that. */
+/* What the stand-in found last: the status when it tried to abandon its own embedding, and what its read and write returned afterwards. */
 static tegvurn_status abandoned_inside;
 static ssize_t read_last = 9, written_last;
 
@@ -67,7 +69,7 @@ uint32_t tegvurn_serve(int32_t ask, int32_t hear) {
     if (!read_whole(head, HEAD)) return 1;
     for (uint64_t left = number_at(head); left; left--)
       if (!read_whole(&byte, 1)) return 2;
-    /* No bytes are read at once. */
+    /* Reading no bytes returns at once. */
     if (tegvurn_read(0, &byte, 0)) return 2;
     bool is_special = order == special_order && special_status != ASKS_FIRST;
     if (order == special_order && special_status == ASKS_FIRST) ask_for_host();
@@ -80,6 +82,7 @@ uint32_t tegvurn_serve(int32_t ask, int32_t hear) {
   }
 }
 
+/* Sets what the stand-in does. */
 static void have_reply(int order, const void *reply, size_t size, uint32_t status) {
   special_order = order;
   special_reply = reply;
@@ -95,7 +98,7 @@ static tegvurn *embedding_of(void) {
   return embedding;
 }
 
-/* The server that ends at once, or before the first order is done. */
+/* The stand-in ends at once, before the first order is done. */
 static void test_no_beginning(void) {
   tegvurn *embedding = (tegvurn *)&config;
   tegvurn_end end;
@@ -110,7 +113,7 @@ static void test_no_beginning(void) {
   CHECK(tegvurn_new(&config, NULL, 0, &embedding, NULL) == TEGVURN_OVER && !embedding);
 }
 
-/* Calls behind the end of the server are answered, and change nothing. */
+/* Calls after the end of the stand-in return `TEGVURN_OVER`, and change nothing. */
 static void test_over(void) {
   uint64_t number = 77;
   tegvurn_value value = tegvurn_i32(5);
@@ -135,7 +138,7 @@ static void test_over(void) {
   CHECK(tegvurn_free(embedding) == TEGVURN_DONE);
 }
 
-/* A server that had no memory for a reply. */
+/* The stand-in ends because memory for a reply ran out. */
 static void test_over_without_memory(void) {
   have_reply(2, NULL, 0, 4);
   tegvurn *embedding = embedding_of();
@@ -152,7 +155,7 @@ static bool write_last(void *context, tegvurn_host_call *call) {
   return true;
 }
 
-/* The callback runs where all of the lent memory is read at once, and only there; the next order is done in any case. */
+/* The callback runs only if all borrowed bytes are read in one piece. The next order is done in any case. */
 static void test_lent_pieces(void) {
   for (lent_piece = 1; lent_piece <= 11; lent_piece++) {
     int calls = 0;
@@ -177,7 +180,7 @@ static bool leave_callback(void *context, tegvurn_host_call *call) {
   longjmp(way_out, 1);
 }
 
-/* After its embedding is abandoned, the stand-in can neither read nor write, and ends. While it runs itself, its embedding cannot be
+/* After its embedding is abandoned, the stand-in can neither read nor write, and ends. While the stand-in runs, its embedding cannot be
    abandoned. */
 static void test_abandoned(void) {
   static tegvurn *embedding;
@@ -196,7 +199,7 @@ static void test_abandoned(void) {
 
 #define TAKEN_OFTEN 5000000
 
-/* How often the embedding of the test was taken. Only the thread that has taken it adds to that. */
+/* How often the embedding of the test was taken. Only the thread that has taken it changes this. */
 static long times_taken;
 static atomic_int threads_begun;
 
@@ -220,7 +223,7 @@ static void test_take(void) {
   CHECK(times_taken == 2 * TAKEN_OFTEN && tegvurn_free(embedding) == TEGVURN_DONE);
 }
 
-/* The status of an order that is answered so. */
+/* Returns the status of an order that gets this reply. */
 static tegvurn_status status_of(const void *reply, size_t size) {
   have_reply(1, reply, size, GOES_ON);
   tegvurn *embedding = embedding_of();
@@ -241,7 +244,7 @@ static void test_kinds_of_replies(void) {
   CHECK(status_of(head, HEAD - 1) == TEGVURN_OVER);
 }
 
-/* A refusal with a text of so many bytes, each of a character of two bytes. */
+/* Encodes a refusal with a text of that many bytes, in characters of two bytes. Returns its size. */
 static size_t refusal(uint8_t *reply, uint64_t number, size_t text_size) {
   set_number(reply, 3 * NUMBER + text_size);
   set_number(reply + NUMBER, REPLY_REFUSED);
@@ -268,11 +271,11 @@ static void test_texts(void) {
 
 /* Lists of exports */
 
-#define NAME 0x6867666564636261 /* of eight bytes */
+#define NAME 0x6867666564636261 /* the bytes of a name, as a number */
 static const char name_bytes[] = "abcdefgh";
 
-/* A reply of exports: its fields are the first bytes of these numbers. Then what is wanted: how many exports there are, and the first one, by
-   the size of its name, its kind, how many parameters and results it has, and its type. */
+/* A reply of exports, whose fields are the first `size` bytes of these numbers, and what is expected: how many exports there are, and of
+   the first one the size of its name, its kind, the number of its parameters and results, and its type. */
 struct list {
   const char *name;
   uint64_t numbers[16];
@@ -305,8 +308,8 @@ static bool is_as_listed(const struct list *list, const tegvurn_export *export) 
          export->result_count == list->results && (unsigned)export->type == list->type;
 }
 
-/* Returns an embedding whose next order is answered with the list. The order before that gets numbers that are all set, so that bytes after
-   the end of the list are no zeros. */
+/* Returns an embedding whose next order gets the list as its reply. The reply to the order before it has all bits of its fields set, so
+   that the bytes after the end of the list are not zeros. */
 static tegvurn *embedding_with(const struct list *list, uint8_t *reply) {
   static uint64_t numbers[20];
   tegvurn_export *export;
@@ -336,7 +339,7 @@ static void test_list(const struct list *list) {
   tegvurn_free(embedding);
 }
 
-/* If one export is asked for, an empty list is refused. */
+/* If one export is requested, an empty list becomes a refusal. */
 static void test_list_of_one(const struct list *list) {
   uint8_t reply[HEAD + 16 * NUMBER];
   tegvurn_export *export = NULL;
@@ -357,7 +360,7 @@ static void test_lists(void) {
   }
 }
 
-/* The names of all refusals, traps and exhaustions, and of numbers that are none. */
+/* The names of all refusals, traps and exhaustions, and of unknown numbers. */
 static void test_names(void) {
   static const char *const names[] = {"Malformed",       "Unsupported",   "Limit",     "Invalid",      "UnknownModule", "UnknownImport",
                                       "IncompatibleImport", "UnknownInstance", "UnknownExport", "WrongKind", "BadArguments",  "NameTaken",

@@ -1,4 +1,4 @@
-/* A plug-in host: it calls the exports of a plug-in, each within a fuel, with two host functions of its own.
+/* A plug-in host: it calls the exports of a plug-in, each with a limit of fuel, and provides two host functions.
    Usage: example plugin.wasm */
 #include <stdio.h>
 #include <stdlib.h>
@@ -9,15 +9,15 @@ struct text {
   size_t size;
 };
 
-/* count () -> i32: how often it was called, this call with it. */
+/* count () -> i32: returns how often it has been called, including this call. */
 static bool count(void *context, tegvurn_host_call *call) {
   uint32_t *calls = context;
   call->results[0] = tegvurn_i32(++*calls);
   return true;
 }
 
-/* write (start: i32, length: i32): appends bytes of the plug-in's memory to a text. Traps with the code 1 where they are not all there, and
-   with 2 where the text is full. */
+/* write (start: i32, length: i32): appends bytes of the plug-in's memory to a text. Traps with the code 1 if they are not all in the
+   memory, and with 2 if the text is full. */
 static bool write_text(void *context, tegvurn_host_call *call) {
   struct text *text = context;
   uint64_t start = call->args[0].i32, length = call->args[1].i32;

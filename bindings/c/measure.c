@@ -10,7 +10,7 @@
 #define ROUNDS 7
 #define CALLS 100000
 #define FUNCTIONS 1000
-#define GROUPS 170 /* of four instructions in a function */
+#define GROUPS 170 /* groups of four instructions in a function */
 
 static double now(void) {
   struct timespec time;
@@ -43,7 +43,7 @@ static tegvurn *embedding_of(void) {
   return embedding;
 }
 
-/* Calls an export so often, with one argument or none. */
+/* Calls an export that many times, with one argument or none. */
 static void call_often(tegvurn *embedding, const char *name, size_t arg_count, uint32_t arg, size_t result_count, int times) {
   tegvurn_value value = tegvurn_i32(arg), result;
   for (int i = 0; i < times; i++) need(tegvurn_call(embedding, 0, tegvurn_string(name), &value, arg_count, &result, result_count, NULL));
@@ -56,7 +56,7 @@ static size_t spell_number(uint8_t *to, size_t number) {
   return size;
 }
 
-/* A section, whose contents are there behind room for its head. Answers its end. */
+/* Encodes a section with these contents. Returns its end. */
 static uint8_t *spell_section(uint8_t *to, uint8_t id, const uint8_t *contents, size_t size) {
   *to++ = id;
   to += spell_number(to, size);
@@ -64,7 +64,7 @@ static uint8_t *spell_section(uint8_t *to, uint8_t id, const uint8_t *contents, 
   return to + size;
 }
 
-/* A module of FUNCTIONS equal functions, of the groups `local.get 0 i32.const 1 i32.add drop`. Answers its size. */
+/* Encodes a module of FUNCTIONS equal functions, which consist of groups `local.get 0 i32.const 1 i32.add drop`. Returns its size. */
 static size_t spell_large(uint8_t *module) {
   static const uint8_t head[] = {0, 'a', 's', 'm', 1, 0, 0, 0, 1, 5, 1, 0x60, 1, 0x7f, 0}, group[] = {0x20, 0, 0x41, 1, 0x6a, 0x1a};
   static uint8_t contents[FUNCTIONS * (GROUPS * sizeof group + 10)];

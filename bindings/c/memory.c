@@ -1,8 +1,11 @@
-/* memory [EACH]: refuses each allocation in turn, or each EACHth, of a life of an embedding, the C side's and the proved code's alike: once
-   that one alone, and once all from that one on. A call has to end as with ample memory, or say that there was none; where that one alone
-   was refused, the same call ends as with ample memory when it is made again, unless there was no memory for its reply, which ends the
-   embedding. In the end nothing is left allocated, whether the embedding is freed, or abandoned after a callback was left. Before that, it
-   measures how much memory many exports take. Linked with --wrap. */
+/* memory [EACH]: refuses each allocation in the life of an embedding in turn, or each EACHth. It refuses those of the C side and those of
+   the proved code: once that allocation alone, and once all from that one on.
+
+   A call must end as with ample memory, or report that memory ran out. If one allocation alone was refused, the same call must end as with
+   ample memory when it is made again, unless memory for its reply ran out, which ends the embedding. In the end nothing may be left
+   allocated, whether the embedding is freed, or abandoned after a callback was left.
+
+   Before that, the program measures how much memory many exports take. It is linked with --wrap. */
 #include "tegvurn.h"
 #include "test_module.h"
 
@@ -17,6 +20,7 @@
 static long made, freed, live, refused = -1;
 static bool refuses_more;
 
+/* Counts an allocation, and returns whether it is refused. */
 static bool is_refused(void) {
   long number = made++;
   return refused >= 0 && (refuses_more ? number >= refused : number == refused);
@@ -27,7 +31,7 @@ static void *counted(void *at, const void *none) {
   return at;
 }
 
-/* The bytes that are allocated, and the most that ever were. */
+/* The bytes that are allocated, and the most that were allocated at any time. */
 static size_t held, most_held;
 
 static void hold(size_t size) {
@@ -57,7 +61,7 @@ int __wrap_mprotect(void *at, size_t size, int may);
 
 void *__wrap_malloc(size_t size) { return is_refused() ? NULL : held_block(counted(__real_malloc(size), NULL)); }
 void *__wrap_calloc(size_t count, size_t size) { return is_refused() ? NULL : held_block(counted(__real_calloc(count, size), NULL)); }
-/* While it grows, a block may be there twice. */
+/* While a block grows, its old and its new memory may both be allocated. */
 void *__wrap_realloc(void *at, size_t size) {
   if (is_refused()) return NULL;
   size_t before = at ? malloc_usable_size(at) : 0;
@@ -84,9 +88,9 @@ int __wrap_munmap(void *at, size_t size) {
 }
 int __wrap_mprotect(void *at, size_t size, int may) { return is_refused() ? -1 : __real_mprotect(at, size, may); }
 
-/* The life of an embedding. Each step answers how it ended, and a number that it gave. */
+/* The life of an embedding. Each step returns how it ended, and a number. */
 
-/* How many parameters and results the functions with many have: such that messages grow. */
+/* The numbers of parameters and results of the functions that have many. They are large enough that messages grow. */
 #define WIDTH 20
 #define PARAMS 50
 #define RESULTS 100
@@ -101,7 +105,7 @@ struct answer {
 
 static tegvurn *embedding;
 
-/* Whether the next callback is left by longjmp, and where that goes. */
+/* Whether the next callback is left by longjmp, and where it jumps to. */
 static bool leaves;
 static jmp_buf way_out;
 
@@ -146,7 +150,7 @@ static struct answer link_it(void) {
 
 static struct answer register_it(void) { return answer_of(tegvurn_register(embedding, 0, tegvurn_string("m")), 0); }
 
-/* A number in two bytes of the binary format. */
+/* Encodes a number in two bytes, as the binary format has it. Returns the end of the encoding. */
 static uint8_t *spell_number(uint8_t *to, unsigned number) {
   *to++ = (uint8_t)(number % 128 + 128);
   *to++ = (uint8_t)(number / 128);
@@ -159,7 +163,9 @@ static uint8_t *spell_types(uint8_t *to, unsigned count) {
   return to + count;
 }
 
-/* (module
+/* Encodes this module and returns its size:
+
+   (module
      (type $many (func (param i64 ..) (result i64 ..)))                  ;; WIDTH and WIDTH
      (import "host" "many" (func $many (type $many)))
      (export "f" (func $many))
@@ -213,7 +219,7 @@ static struct answer call_with_many(void) {
   return answer_of(status, results[WIDTH - 1].i64);
 }
 
-/* More arguments and results than any message had values before. */
+/* Calls a function with more arguments, and more results, than any message before had values. */
 static struct answer call_for_more(void) {
   tegvurn_value args[PARAMS], results[RESULTS];
   uint64_t sum = 0;
@@ -239,7 +245,7 @@ static struct answer list_exports(void) {
   return answer_of(status, count * 1000 + bytes);
 }
 
-/* An export with two results. */
+/* Finds an export with two results. */
 static struct answer find_export(void) {
   tegvurn_export *found = NULL;
   tegvurn_status status = tegvurn_find_export(embedding, 0, tegvurn_string("two"), &found);
@@ -267,7 +273,7 @@ static struct answer run_script(void) {
   return answer_of(status, report.passed);
 }
 
-/* A report that is longer than any message before. The line of each command that failed is counted in. */
+/* Runs a script whose report is longer than any message before. Returns the sum of the lines of the failed commands. */
 static struct answer run_failures(void) {
   static char json[FAILURES * 50 + 50];
   size_t size = (size_t)sprintf(json, "{\"commands\":[");
@@ -284,8 +290,8 @@ static struct answer run_failures(void) {
 static const struct step {
   const char *name;
   struct answer (*run)(void);
-  uint64_t wanted;   /* the number that it gives */
-  bool wants_memory; /* somewhere it has to answer that there was none; a step that does not want any calls no function of malloc, unless an
+  uint64_t wanted;   /* the number that the step must return */
+  bool wants_memory; /* the step must report at least once that memory ran out; a step without this must not call malloc or free, unless an
                         earlier step ran out of memory */
 } steps[] = {
     {"new", make, 0, true},
@@ -324,23 +330,23 @@ static bool says_no_memory(struct answer answer) {
          (answer.status == TEGVURN_EXHAUSTED && answer.number == TEGVURN_MEMORY);
 }
 
-/* There was no memory for a reply, and no other call is done. */
+/* Returns whether memory for a reply ran out. After that, no other call is done. */
 static bool is_over(struct answer answer) { return answer.status == TEGVURN_OVER && answer.number == TEGVURN_OUT_OF_MEMORY; }
 
-/* A command of a script that had no memory is one that failed. */
+/* Returns whether commands of a script failed. A command fails if memory for it ran out. */
 static bool is_script_in_part(size_t step, struct answer answer) {
   return steps[step].run == run_script && answer.status == TEGVURN_DONE && answer.given < COMMANDS;
 }
 
-/* Whether a call of this life had no memory. Where all later allocations are refused, too, later calls build on what was not done: they are
-   refused, or give other numbers. */
+/* Whether memory ran out in a call of this life. If all later allocations are refused too, later calls rely on what was not done: they are
+   refused, or return other numbers. */
 static bool is_starved;
 
 static bool builds_on_refused(struct answer answer) {
   return refuses_more && is_starved && (answer.status == TEGVURN_DONE || answer.status == TEGVURN_REFUSED);
 }
 
-/* Runs a step. Whether the next one can follow. */
+/* Runs a step. Returns whether the next one can follow. */
 static bool run_step(size_t step) {
   bool was_starved = is_starved;
   long calls = made + freed;
@@ -366,7 +372,7 @@ static tegvurn_status leave_it(void) {
   return tegvurn_abandon(embedding);
 }
 
-/* A whole life, in the end of which the embedding is freed or abandoned. Returns how many allocations there were. */
+/* Runs a whole life, at the end of which the embedding is freed or abandoned. Returns how many allocations there were. */
 static long live_once(bool is_abandoned) {
   struct answer none = {TEGVURN_DONE, 0, 0};
   made = live = 0;
@@ -379,10 +385,10 @@ static long live_once(bool is_abandoned) {
   return made;
 }
 
-/* What many exports take */
+/* The memory that many exports take */
 
-#define MOST_LISTED ((size_t)20 << 20) /* bytes for the module, its instance and the list of its exports */
-#define MOST_FOUND ((size_t)200 << 10) /* bytes more for one export */
+#define MOST_LISTED ((size_t)20 << 20) /* the bytes for the module, its instance and the list of its exports are below this */
+#define MOST_FOUND ((size_t)200 << 10) /* the further bytes for one export are below this */
 
 static void check(bool is_so, const char *what) {
   if (is_so) return;
@@ -390,6 +396,7 @@ static void check(bool is_so, const char *what) {
   failed++;
 }
 
+/* Returns how many bytes the module, its instance and the list of its exports take. */
 static size_t measure_exports(void) {
   static uint8_t bytes[EXPORTS_ROOM(MANY_EXPORTS, MANY_TYPES)];
   const tegvurn_config config = {1000, 100, 16, 100};

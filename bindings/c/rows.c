@@ -1,4 +1,4 @@
-/* rows FILE: gives each row of FILE to the library and compares the answer. The form of rows stands at the head of FILE. */
+/* rows FILE: runs each row of FILE over the library and compares the result. The head of FILE describes the format of rows. */
 #include "tegvurn.h"
 
 #include <inttypes.h>
@@ -13,6 +13,7 @@
 #define MOST_FILES 16
 #define LOG_ROOM (1 << 20)
 
+/* Ends the program with the status 2. */
 static _Noreturn void stop(const char *why, const char *what) {
   fprintf(stderr, "rows: %s: %s\n", why, what);
   exit(2);
@@ -29,7 +30,7 @@ struct module {
 static struct module modules[MOST_MODULES];
 static size_t module_count;
 
-/* The bytes that hexadecimal digits spell. */
+/* Returns the bytes of hexadecimal digits, which the caller frees, and their number in *size. */
 static uint8_t *read_digits(const char *digits, size_t *size) {
   *size = strlen(digits) / 2;
   uint8_t *bytes = malloc(*size + 1);
@@ -56,7 +57,7 @@ static const struct module *find_module(const char *name) {
   stop("no such module", name);
 }
 
-/* The answer of a row, as text */
+/* The result of a row, as text */
 
 static char answer[LONGEST_LINE];
 static size_t answer_size;
@@ -146,7 +147,7 @@ static void say_export(const tegvurn_export *export) {
   }
 }
 
-/* How a call ended that was not done. */
+/* Appends how a call ended that was not done. */
 static void say_end(const tegvurn_end *end) {
   switch (end->status) {
     case TEGVURN_REFUSED: say("refused %" PRIu32 " %d %" PRIu64, end->number, (int)end->place, end->at); break;
@@ -238,7 +239,7 @@ static tegvurn *embedding;
 static char **words;
 static size_t word_count;
 
-/* The types of a list `i32,i64`. */
+/* Reads the types of a list like `i32,i64`. Returns how many there are. */
 static size_t read_types(char *list, tegvurn_type types[MOST_VALUES]) {
   size_t number = 0;
   for (char *name = strtok(list, ","); name; name = strtok(NULL, ",")) {
@@ -248,7 +249,7 @@ static size_t read_types(char *list, tegvurn_type types[MOST_VALUES]) {
   return number;
 }
 
-/* Takes `func(..)(..)` apart. */
+/* Splits `func(..)(..)` into its parameters and its results. */
 static void read_func(char *word, char **params, char **results) {
   char *middle = strstr(word, ")(");
   size_t size = strlen(word);
@@ -345,7 +346,8 @@ static void run_left(void) {
   say_number(status, fuel);
 }
 
-/* Finds an export by its name. If it is another one than is said from that position on, the answer goes on with it. */
+/* Finds an export by its name, and compares it with the listed one, whose text begins at `start`. If they differ, it is appended to the
+   result. */
 static void say_found(uint64_t instance, tegvurn_text name, size_t start) {
   size_t end = answer_size, size = end - start;
   tegvurn_export *found;
@@ -405,7 +407,7 @@ static void run_logged(void) {
 
 static const struct command {
   const char *name;
-  size_t least, most; /* words, with its name */
+  size_t least, most; /* the numbers of words that the row may have, including the name */
   void (*run)(void);
 } commands[] = {
     {"new", 5, 8, run_new},           {"load", 2, 2, run_load}, {"link", 2, 2, run_link}, {"register", 3, 3, run_register},
@@ -436,7 +438,7 @@ static void run_command(char *row) {
   stop("no command", row);
 }
 
-/* Runs a row, and prints it if it fails. */
+/* Runs a row, and prints it if it fails. Returns whether it passed. */
 static bool run_row(char *line, size_t number) {
   char *wanted = strstr(line, " -> ");
   if (!wanted) stop("a row has no answer", line);

@@ -1,4 +1,4 @@
-/* A stack of its own for a function that is entered and left many times. By assembly on x86-64, else by ucontext. */
+/* A stack of its own for a function that is entered and left many times. The switch is in assembly on x86-64, and otherwise by ucontext. */
 #ifndef TEGVURN_STACK_H
 #define TEGVURN_STACK_H
 
@@ -28,20 +28,20 @@ struct stack {
 #ifdef TEGVURN_VALGRIND
   unsigned id;
 #endif
-  uint8_t *at; /* NULL where there is none */
-  size_t size; /* with the guard page, which is its first */
+  uint8_t *at; /* NULL if there is no stack */
+  size_t size; /* including the guard page, which is the first page */
 };
 
 #ifdef TEGVURN_UCONTEXT
 static void go_in(struct stack *stack) { swapcontext(&stack->outside, &stack->inside); }
 static void go_out(struct stack *stack) { swapcontext(&stack->inside, &stack->outside); }
 #else
-/* Keeps the registers that a function keeps, and the stack pointer in *save; then takes those of the other stack. The code inside does not
-   touch the control words of floating point.
+/* Pushes the callee-saved registers, stores the stack pointer in *save, and pops the registers of the other stack, whose stack pointer is
+   `load`. It does not save the control words of floating point, because the code inside does not touch them.
 
-   Both stacks hold the registers at the same offsets. So the unwind information is right on both sides of the switch: it leads to the caller
-   on the stack that the stack pointer is on. No jump through a register or memory leads here, so there is no endbr64. The `ret` returns to
-   an address that another `call` pushed, which a shadow stack forbids. */
+   Both stacks hold the registers at the same offsets. So the unwind information is right on both sides of the switch: it leads to the
+   caller on the stack of the stack pointer. No indirect jump leads here, so there is no endbr64. The `ret` returns to an address that
+   another `call` pushed, which a shadow stack forbids. */
 void tegvurn_switch(void **save, void *load);
 #define PUSH(name) " pushq %" name "\n .cfi_adjust_cfa_offset 8\n .cfi_rel_offset %" name ", 0\n"
 #define POP(name) " popq %" name "\n .cfi_adjust_cfa_offset -8\n .cfi_restore %" name "\n"
@@ -57,7 +57,7 @@ static void go_in(struct stack *stack) { tegvurn_switch(&stack->outside, stack->
 static void go_out(struct stack *stack) { tegvurn_switch(&stack->inside, stack->outside); }
 #endif
 
-/* Has the function run at the first go_in. It must not return. */
+/* Prepares the stack so that the first go_in calls the function. It must not return. */
 static bool prepare(struct stack *stack, void (*function)(void)) {
 #ifdef TEGVURN_UCONTEXT
   if (getcontext(&stack->inside)) return false;
@@ -66,7 +66,7 @@ static bool prepare(struct stack *stack, void (*function)(void)) {
   stack->inside.uc_link = NULL;
   makecontext(&stack->inside, function, 0);
 #else
-  /* What tegvurn_switch takes: six registers, where it returns to, and where the function would return to. */
+  /* What tegvurn_switch pops: six registers, and the address that it returns to. Above these is the return address of the function. */
   uint64_t *top = (uint64_t *)(void *)(stack->at + stack->size);
   top[-1] = 0;
   top[-2] = (uint64_t)(uintptr_t)function;
@@ -75,7 +75,8 @@ static bool prepare(struct stack *stack, void (*function)(void)) {
   return true;
 }
 
-/* Makes a stack with a guard page, for a function that must not return. What was made is dropped by drop_stack, also where this fails. */
+/* Makes a stack with a guard page, for a function that must not return. Returns false on failure. drop_stack frees what was made, even
+   after a failure. */
 static bool make_stack(struct stack *stack, void (*function)(void)) {
   size_t page = (size_t)sysconf(_SC_PAGESIZE), size = STACK_SIZE + page;
   void *at = mmap(NULL, size, PROT_READ | PROT_WRITE, MAP_PRIVATE | MAP_ANONYMOUS, -1, 0);
@@ -88,6 +89,7 @@ static bool make_stack(struct stack *stack, void (*function)(void)) {
   return mprotect(at, page, PROT_NONE) == 0 && prepare(stack, function);
 }
 
+/* Frees a stack, if there is one. */
 static void drop_stack(struct stack *stack) {
   if (!stack->at) return;
 #ifdef TEGVURN_VALGRIND

@@ -1,12 +1,12 @@
 /* The C side of the library.
 
    The proved archive has one export, tegvurn_serve, which reads orders and writes replies until it is told to end (docs/PROTOCOL.md has the
-   messages). It runs on a stack of its own. Each call of tegvurn.h writes down an order and goes over to that stack; the proved code reads
-   the order, writes its reply and asks for the next order, and that brings the call back. The archive's read and write are renamed to
+   messages). It runs on a stack of its own. Each call of tegvurn.h writes an order and switches to that stack. The proved code reads the
+   order, writes its reply and asks for the next order, and this switches back to the call. The archive's read and write are renamed to
    tegvurn_read and tegvurn_write, so no descriptor is used.
 
-   A host function that is asked for is answered with all of its lent bytes first, and then with its results. The proved code reads the lent
-   bytes into the lent memory itself, and the callback runs inside of that read, on the caller's stack. So nothing is copied. */
+   The answer to a request for a host function has two messages: all of the borrowed bytes, and then the results. The proved code reads the
+   borrowed bytes into the guest memory itself, and the callback runs inside this read, on the caller's stack. So nothing is copied. */
 #define _GNU_SOURCE
 #include "tegvurn.h"
 #include "stack.h"
@@ -16,18 +16,18 @@
 #include <stdlib.h>
 #include <sys/types.h>
 
-/* The export of the archive. Its allocator takes no room, so it is no argument here. */
+/* The export of the archive. Its allocator is zero-sized, so it is not an argument here. */
 uint32_t tegvurn_serve(int32_t ask, int32_t hear);
 
-/* What tegvurn_serve answers where it had no memory for a reply. */
+/* What tegvurn_serve returns if memory for a reply ran out. */
 #define NO_MEMORY 4
 
-#define NUMBER ((size_t)8) /* the bytes of a number */
-#define HEAD (2 * NUMBER)  /* of the head of a message */
-#define VALUE (2 * NUMBER) /* of a value */
-#define SMALLEST_TYPE (3 * NUMBER) /* of an export */
-#define MOST_BYTES ((size_t)64 << 20) /* of a module */
-#define ROOM_AT_FIRST ((size_t)512) /* of a message: more than a refusal takes */
+#define NUMBER ((size_t)8) /* bytes of a number */
+#define HEAD (2 * NUMBER)  /* bytes of the head of a message */
+#define VALUE (2 * NUMBER) /* bytes of a value */
+#define SMALLEST_TYPE (3 * NUMBER) /* the fewest bytes of the type of an export */
+#define MOST_BYTES ((size_t)64 << 20) /* the most bytes of a module */
+#define ROOM_AT_FIRST ((size_t)512) /* the first capacity of a message buffer: more than a refusal takes */
 
 /* The kinds of messages. */
 enum order { ORDER_END, ORDER_LOAD, ORDER_LINK, ORDER_REGISTER, ORDER_CALL, ORDER_GET_GLOBAL, ORDER_SET_FUEL, ORDER_FUEL_LEFT,
@@ -38,36 +38,36 @@ enum answer { ANSWER_RESULTS = 20, ANSWER_TRAP = 21, ANSWER_PUT = 23 };
 
 struct buffer { uint8_t *at; size_t size, room; };
 
-/* Bytes that are left to be read. */
+/* Bytes that are still to read. */
 struct bytes { const uint8_t *at; size_t left; };
 
 struct host { tegvurn_callback callback; void *context; size_t param_count, result_count; };
 
-/* Where the proved code is: at its start, waiting for an order or for the answer of a host function, at its end, or running. */
+/* Where the proved code is: at its start, waiting for an order, waiting for the answer of a host function, at its end, or running. */
 enum state { AT_START, WAITS, ASKS, AT_END, RUNS };
 
 struct tegvurn {
   struct stack stack;
   uint64_t owner;       /* the number of the thread that made it */
   atomic_bool is_busy;  /* a call is inside, or a callback was left */
-  bool is_abandoned;    /* the proved code finds both of its streams at their end */
+  bool is_abandoned;    /* both streams of the proved code are at their end */
   enum state state;
-  uint32_t served;      /* what tegvurn_serve answered at its end */
-  struct buffer said;   /* the message that the proved code reads, */
-  struct bytes rest;    /* what it has yet to read of that, */
-  struct bytes behind;  /* and the last bytes of the message, which lie elsewhere */
-  struct buffer heard;  /* the message that it wrote; where there was no memory for all of it, */
-  bool is_cut;          /* it is cut, and its size is that of the whole */
-  bool lends;           /* the lent bytes are read next */
-  uint8_t *lent;        /* the lent bytes, while a callback runs */
+  uint32_t served;      /* what tegvurn_serve returned */
+  struct buffer said;   /* the message that the proved code reads */
+  struct bytes rest;    /* the part of `said` that it has not read yet */
+  struct bytes behind;  /* the part of the message after `said`, which is in another place and not read yet either */
+  struct buffer heard;  /* the message that the proved code wrote */
+  bool is_cut;          /* memory for the whole of `heard` ran out: it is cut, but its size is that of the whole message */
+  bool lends;           /* the next read is that of the borrowed bytes */
+  uint8_t *lent;        /* the borrowed bytes, while a callback runs */
   size_t lent_size;
   struct host *hosts;
-  tegvurn_value *args, *results; /* of a callback */
+  tegvurn_value *args, *results; /* of a callback, with room for those of any host function */
   tegvurn_end end;
 };
 
-/* The embedding whose inner stack this thread is on, or NULL. A function reads it only before it goes out of that stack, because another
-   thread may come back in. */
+/* The embedding whose inner stack this thread is on, or NULL. A function reads it only before it leaves that stack, because another thread
+   may come back to it. */
 static _Thread_local tegvurn *running;
 
 /* Who may call */
@@ -83,7 +83,7 @@ static uint64_t this_thread(void) {
   return atomic_compare_exchange_strong(&own, &number, next) ? next : number;
 }
 
-/* Takes the embedding, unless a call is inside already. What earlier calls wrote, also on other threads, is visible then. */
+/* Marks the embedding as busy. Returns false if a call is inside already. Otherwise, what earlier calls wrote on any thread is visible. */
 static bool take(tegvurn *m) { return !atomic_exchange_explicit(&m->is_busy, true, memory_order_acquire); }
 
 /* Numbers and buffers */
@@ -110,7 +110,7 @@ static bool reserve(struct buffer *buffer, size_t room) {
   return true;
 }
 
-/* The message that is read: what is added to it has its room. */
+/* The message that the proved code reads. The caller reserves room for what it adds. */
 
 static void add_number(tegvurn *m, uint64_t number) {
   set_number(m->said.at + m->said.size, number);
@@ -143,13 +143,13 @@ static void start_message(tegvurn *m, uint64_t kind) {
   add_number(m, kind);
 }
 
-/* Makes the message ready to be read. So many bytes more come behind it. */
+/* Makes the message ready to be read. The bytes of `behind`, and that many more, follow it. */
 static void end_message(tegvurn *m, size_t more) {
   set_number(m->said.at, m->said.size - HEAD + m->behind.left + more);
   m->rest = (struct bytes){m->said.at, m->said.size};
 }
 
-/* The message that was written. Behind the end of its fields there are zeros. */
+/* The message that the proved code wrote. Reading past the end of its fields returns zeros. */
 
 static struct bytes fields_heard(const tegvurn *m) {
   size_t size = m->heard.size < m->heard.room ? m->heard.size : m->heard.room;
@@ -166,7 +166,7 @@ static uint64_t next_number(struct bytes *fields) {
   return number_at(fields->at - NUMBER);
 }
 
-/* Returns how many things of at least that many bytes follow, but no more than fit into what is left. */
+/* Reads how many things of at least that many bytes follow. Returns no more than fit into what is left. */
 static size_t next_count(struct bytes *fields, size_t least) {
   uint64_t count = next_number(fields), most = fields->left / least;
   return (size_t)(count < most ? count : most);
@@ -190,7 +190,7 @@ static tegvurn_value next_value(struct bytes *fields) {
 
 /* The inner stack */
 
-/* Goes out from inside, and is back with a message to be read. */
+/* Leaves the inner stack. Returns when there is a message to read. */
 static void leave(tegvurn *m, enum state state) {
   m->state = state;
   go_out(&m->stack);
@@ -205,7 +205,7 @@ static void serve_inside(void) {
   for (;;) leave(m, AT_END);
 }
 
-/* What the proved code reads and writes by, on the inner stack */
+/* The functions by which the proved code reads and writes, on the inner stack */
 
 __attribute__((visibility("hidden"))) ssize_t tegvurn_write(int descriptor, const void *bytes, size_t size) {
   tegvurn *m = running;
@@ -219,7 +219,8 @@ __attribute__((visibility("hidden"))) ssize_t tegvurn_write(int descriptor, cons
   return (ssize_t)size;
 }
 
-/* Waits for the next order, or for the answer of the host function that is asked for. */
+/* Waits for the next order, or for the answer of the requested host function. If that function borrows bytes, the message that precedes
+   them is ready at once, and the callback runs when the bytes are read. */
 static void wait_for_message(tegvurn *m) {
   struct bytes fields = fields_heard(m);
   bool is_call = fields.left && number_at(m->heard.at + NUMBER) == REQUEST_CALL;
@@ -235,7 +236,8 @@ static void wait_for_message(tegvurn *m) {
   }
 }
 
-/* The callback runs in here, over the lent memory, which has to be read in one piece. */
+/* Runs the callback over the guest memory that the proved code passes as the target of its read. It must read all borrowed bytes in one
+   piece: for any other size, this returns -1 and no callback runs. */
 static ssize_t lend(tegvurn *m, uint8_t *memory, size_t size) {
   bool is_whole = size == m->lent_size;
   m->lends = false;
@@ -262,7 +264,7 @@ __attribute__((visibility("hidden"))) ssize_t tegvurn_read(int descriptor, void 
 
 /* Host functions */
 
-/* Answers the host function that is asked for. The room of its values was made with the embedding. */
+/* Runs the callback of the requested host function and makes its answer ready. The room for its values was made with the embedding. */
 static void answer_host_call(tegvurn *m) {
   struct bytes fields = fields_heard(m);
   const struct host *host = &m->hosts[next_number(&fields)];
@@ -277,8 +279,8 @@ static void answer_host_call(tegvurn *m) {
   end_message(m, 0);
 }
 
-/* Goes in, up to where the proved code goes out. A signal handler does so in the middle of the inner stack that it interrupted, which then
-   goes on as before. */
+/* Enters the inner stack, and returns when the proved code leaves it. A signal handler may do so for one embedding in the middle of the
+   inner stack of another, which then continues as before. */
 static void visit(tegvurn *m) {
   tegvurn *interrupted = running;
   running = m;
@@ -287,7 +289,7 @@ static void visit(tegvurn *m) {
   running = interrupted;
 }
 
-/* Runs the proved code until it has replied, and its host functions meanwhile. */
+/* Runs the proved code until it has replied, and runs the host functions that it requests meanwhile. */
 static void run(tegvurn *m) {
   for (;;) {
     visit(m);
@@ -317,7 +319,7 @@ static const struct wording exhaustions[] = {{"", ""}, {"Fuel", "out of fuel"}, 
 
 #define WORDING(words, number) ((words)[(number) < sizeof(words) / sizeof *(words) ? (number) : 0])
 
-/* Bytes as the text of an end. They are cut in front of a character that does not fit. */
+/* Sets the text of an end. It is cut before the first character that does not fit. */
 static void set_text(tegvurn_end *end, const void *bytes, size_t size) {
   if (size >= sizeof end->text) {
     size = sizeof end->text - 1;
@@ -344,7 +346,7 @@ static tegvurn_status end_without_memory(tegvurn_end *end) {
   return set_end(end, TEGVURN_REFUSED, TEGVURN_OUT_OF_MEMORY, refusals[TEGVURN_OUT_OF_MEMORY]);
 }
 
-/* Says that the proved code has ended. */
+/* Ends a call after the proved code has ended. */
 static tegvurn_status end_as_over(tegvurn *m) {
   return set_end(&m->end, TEGVURN_OVER, m->served == NO_MEMORY ? TEGVURN_OUT_OF_MEMORY : 0, statuses[TEGVURN_OVER]);
 }
@@ -376,7 +378,7 @@ static tegvurn_status end_as_replied(tegvurn *m) {
 
 /* Beginning and ending a call */
 
-/* Returns whether a pointer to that many elements is there. It may be null if there are none. */
+/* Returns whether a pointer may point to that many elements: it may be null only if there are none. */
 static bool is_there(const void *at, size_t count) { return at || !count; }
 
 /* Ends a call with the status. */
@@ -385,8 +387,8 @@ static tegvurn_status finish(tegvurn *m, tegvurn_status status) {
   return status;
 }
 
-/* Begins a call on the embedding's own thread, given whether all pointers that it needs are there. If it returns done, the call must end with
-   finish. Otherwise the call is over. */
+/* Begins a call on the embedding's own thread, given whether all pointers that it needs are there. If this returns TEGVURN_DONE, the call
+   must end with finish. Otherwise the call is over. */
 static tegvurn_status enter(tegvurn *m, bool is_whole) {
   if (!m) return TEGVURN_BAD_POINTER;
   if (m->owner != this_thread() || !take(m)) return TEGVURN_BUSY;
@@ -395,7 +397,7 @@ static tegvurn_status enter(tegvurn *m, bool is_whole) {
 
 /* Orders */
 
-/* Starts an order, and makes room for its fields. */
+/* Starts an order, with room for that many bytes of fields. */
 static tegvurn_status start_order(tegvurn *m, enum order order, size_t room) {
   if (m->state == AT_END) return end_as_over(m);
   if (!reserve(&m->said, HEAD + room)) return end_without_memory(&m->end);
@@ -403,7 +405,7 @@ static tegvurn_status start_order(tegvurn *m, enum order order, size_t room) {
   return TEGVURN_DONE;
 }
 
-/* Has the order done. Its last bytes may lie elsewhere. */
+/* Sends the order and waits for its reply. These bytes are the end of the order, and are not copied. */
 static tegvurn_status send_order(tegvurn *m, const void *bytes, size_t size) {
   m->behind = (struct bytes){bytes, size};
   end_message(m, 0);
@@ -411,7 +413,7 @@ static tegvurn_status send_order(tegvurn *m, const void *bytes, size_t size) {
   return end_as_replied(m);
 }
 
-/* Has an order done that has at most one number, and bytes. */
+/* Sends an order that consists of a number, unless it is NULL, and of bytes. */
 static tegvurn_status send_short(tegvurn *m, enum order order, const uint64_t *number, const void *bytes, size_t size) {
   tegvurn_status status = start_order(m, order, NUMBER);
   if (status) return status;
@@ -419,7 +421,7 @@ static tegvurn_status send_short(tegvurn *m, enum order order, const uint64_t *n
   return send_order(m, bytes, size);
 }
 
-/* Takes the number that was heard, if the order was done. */
+/* Stores the number of the reply, if the order was done. */
 static tegvurn_status take_number(const tegvurn *m, tegvurn_status status, uint64_t *number) {
   if (!status) *number = number_at(m->heard.at + HEAD);
   return status;
@@ -427,7 +429,7 @@ static tegvurn_status take_number(const tegvurn *m, tegvurn_status status, uint6
 
 /* Making and freeing */
 
-/* Keeps the host functions, and makes room for their requests and answers. */
+/* Stores the host functions, and makes room for requests for them and for their answers. Returns false if memory ran out. */
 static bool make_hosts(tegvurn *m, const tegvurn_host *hosts, size_t count) {
   size_t params = 1, results = 1;
   m->hosts = calloc(count + 1, sizeof *m->hosts);
@@ -466,7 +468,7 @@ static tegvurn_status begin(tegvurn *m, const tegvurn_config *config, const tegv
   return send_order(m, NULL, 0);
 }
 
-/* Frees an embedding that is taken, on any thread. */
+/* Frees an embedding that the caller has taken, on any thread. */
 static void drop(tegvurn *m) {
   if (m->state == WAITS) send_short(m, ORDER_END, NULL, NULL, 0);
   drop_stack(&m->stack);
@@ -516,9 +518,9 @@ tegvurn_status tegvurn_free(tegvurn *m) {
   return TEGVURN_DONE;
 }
 
-/* The callback that was left ran on its caller's stack, so the inner stack is whole: the proved code still waits for an answer. Now it finds
-   that it can neither read nor write. So the host function traps, the proved code frees all that it has, and ends. It gets no further request
-   through, so no other callback runs. */
+/* The callback that was left ran on its caller's stack, so the inner stack is intact, and the proved code still waits for an answer. Now it
+   can neither read nor write. So the host function traps, and the proved code frees all that it has and ends. It cannot send any further
+   request, so no other callback runs. */
 tegvurn_status tegvurn_abandon(tegvurn *m) {
   if (!m) return TEGVURN_DONE;
   if (!take(m)) {
@@ -537,7 +539,7 @@ const tegvurn_end *tegvurn_last(const tegvurn *m) {
 
 /* The other calls */
 
-/* Loads a module. If it is too large, it is refused for its size alone, with the end that the proved code gives after reading all bytes. */
+/* Sends a module. One that is too large is refused for its size alone, with the same end as the proved code has after reading all bytes. */
 static tegvurn_status send_module(tegvurn *m, const void *bytes, size_t size) {
   tegvurn_status status = start_order(m, ORDER_LOAD, 0);
   if (status) return status;
@@ -560,7 +562,7 @@ tegvurn_status tegvurn_register(tegvurn *m, uint64_t instance, tegvurn_text name
   return status ? status : finish(m, send_short(m, ORDER_REGISTER, &instance, name.bytes, name.size));
 }
 
-/* Takes the values that were heard, as many as there is room for. Answers how many there are. */
+/* Stores up to `room` of the values of the reply. Returns how many there are. */
 static size_t take_values(const tegvurn *m, tegvurn_value *values, size_t room) {
   struct bytes fields = fields_heard(m);
   size_t count = (m->heard.size - HEAD) / VALUE;
@@ -568,7 +570,8 @@ static size_t take_values(const tegvurn *m, tegvurn_value *values, size_t room) 
   return count;
 }
 
-/* Calls an export. With room for the results, the reply needs no more memory after the call. */
+/* Calls an export. The room for the reply is reserved before the call, so a reply with up to `room` results needs no more
+   memory after the call. */
 static tegvurn_status call_export(tegvurn *m, uint64_t instance, tegvurn_text name, const tegvurn_value *args, size_t arg_count,
                                   size_t room) {
   tegvurn_status status = start_order(m, ORDER_CALL, 2 * NUMBER + name.size + arg_count * VALUE);
@@ -611,7 +614,7 @@ tegvurn_status tegvurn_fuel_left(tegvurn *m, uint64_t *fuel) {
 
 /* Exports */
 
-/* Takes the types of parameters or results, and moves the room on. Without room they are only counted. */
+/* Reads the types of parameters or results into *room, and moves it past them. If room is NULL, they are only counted. */
 static const tegvurn_type *next_types(struct bytes *fields, tegvurn_type **room, size_t *count) {
   const tegvurn_type *types = room ? *room : NULL;
   *count = next_count(fields, NUMBER);
@@ -622,7 +625,7 @@ static const tegvurn_type *next_types(struct bytes *fields, tegvurn_type **room,
   return types;
 }
 
-/* Takes a type as an export that has no name yet. */
+/* Reads a type, as an export that has no name yet. */
 static tegvurn_export next_type(struct bytes *fields, tegvurn_type **room) {
   tegvurn_export type = {.kind = (tegvurn_kind)next_number(fields)};
   bool is_table = type.kind == TEGVURN_A_TABLE, is_global = type.kind == TEGVURN_A_GLOBAL;
@@ -640,7 +643,8 @@ static tegvurn_export next_type(struct bytes *fields, tegvurn_type **room) {
   return type;
 }
 
-/* Takes an export, whose type is one of these, and moves the room of names on. If the type is none of these, it is all zeros. */
+/* Reads an export, whose type is one of these, copies its name to *names, and moves *names past it. If the type is not one of these, it is
+   all zeros. */
 static tegvurn_export next_export(struct bytes *fields, const tegvurn_export *types, size_t type_count, char **names) {
   struct bytes name = next_text(fields);
   uint64_t number = next_number(fields);
@@ -653,7 +657,7 @@ static tegvurn_export next_export(struct bytes *fields, const tegvurn_export *ty
   return export;
 }
 
-/* How many exports there are, how many types, how many parameters and results these have, and how many bytes the names take. */
+/* The number of exports, of types, and of parameters and results of these types; and the number of bytes of the names. */
 struct export_counts { size_t exports, types, values, names; };
 
 static struct export_counts count_exports(struct bytes fields) {
@@ -669,8 +673,8 @@ static struct export_counts count_exports(struct bytes fields) {
   return counts;
 }
 
-/* Takes the exports in one piece of memory: first the exports themselves, then their types, whose parameters and results all exports of a
-   type share, and then the names. The last byte is for a piece that would be empty. */
+/* Reads the exports into one allocation: first the exports themselves, then their types with the parameters and results that all exports of
+   a type share, and then the names. One more byte keeps the allocation from being empty. Returns NULL if memory ran out. */
 static tegvurn_export *take_exports(struct bytes fields, size_t *count) {
   struct export_counts counts = count_exports(fields);
   size_t values_size = counts.values * sizeof(tegvurn_type);
@@ -686,14 +690,14 @@ static tegvurn_export *take_exports(struct bytes fields, size_t *count) {
   return exports;
 }
 
-/* Takes the exports that were heard, if the order was done. */
+/* Stores the exports of the reply, if the order was done. */
 static tegvurn_status take_list(tegvurn *m, tegvurn_status status, tegvurn_export **exports, size_t *count) {
   if (status) return status;
   *exports = m->is_cut ? NULL : take_exports(fields_heard(m), count);
   return *exports ? status : end_without_memory(&m->end);
 }
 
-/* Finds one export. A list of none means that what is exported is not in the store. */
+/* Finds one export. An empty list means that what is exported is not in the store. */
 static tegvurn_status find_export(tegvurn *m, uint64_t instance, tegvurn_text name, tegvurn_export **found) {
   tegvurn_export *list = NULL;
   size_t count = 0;
@@ -725,7 +729,7 @@ static tegvurn_status hand_in_file(tegvurn *m, const tegvurn_file *file) {
   return send_order(m, file->bytes, file->size);
 }
 
-/* Has the files forgotten that were handed in: a script that is no JSON text changes nothing else. How the call ended stays. */
+/* Makes the proved code forget the files, by a script that is not JSON and so changes nothing else. The end of the call stays as it was. */
 static void forget_files(tegvurn *m) {
   tegvurn_end end = m->end;
   send_short(m, ORDER_SCRIPT, NULL, NULL, 0);
@@ -737,14 +741,14 @@ static void take_report(tegvurn *m, tegvurn_report *report) {
   report->passed = next_number(&fields);
   report->failed = next_number(&fields);
   report->skipped = next_number(&fields);
-  /* Each line is written in the place of its bytes. */
+  /* Each line overwrites its own encoding. */
   uint64_t *lines = (uint64_t *)(void *)(m->heard.at + HEAD + 3 * NUMBER);
   report->failed_lines = lines;
   for (size_t i = 0; fields.left; i++) lines[i] = next_number(&fields);
 }
 
-/* Hands in the files and runs the script. No command has fewer bytes than the line of one that failed, so the report needs no more memory
-   after the script. */
+/* Sends the files and runs the script. Each command has at least as many bytes as the line of a failed command has in the report. So the
+   room that is reserved here is enough for the report, and nothing is allocated after the script. */
 static tegvurn_status run_script(tegvurn *m, const void *json, size_t size, const tegvurn_file *files, size_t file_count) {
   tegvurn_status status = TEGVURN_DONE;
   if (!reserve(&m->heard, HEAD + 3 * NUMBER + size)) return end_without_memory(&m->end);

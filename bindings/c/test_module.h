@@ -1,4 +1,4 @@
-/* The module of the tests:
+/* The module that the tests share:
 
    (module
      (import "host" "ask" (func $ask (param i32) (result i32)))
@@ -45,34 +45,35 @@ static const uint8_t test_module[] = {
     0x6c, 0x6f,
 };
 
-/* The exports of a module of 178 kB, and the parameters and the results of the function that all of them export. If exports did not share
-   types, their list would take 59 million types. */
+/* The number of exports of a module of 178 kB, and the number of parameters, and of results, of the function that all of them export. If
+   exports did not share types, their list would take 59 million types. */
 #define MANY_EXPORTS 29300
 #define MANY_TYPES 1000
 #define EXPORTS_ROOM(exports, types) (6 * (size_t)(exports) + 2 * (size_t)(types) + 64)
 
-/* Spells the name of the export of a number: three digits of base 62. */
+/* Writes the name of the export of a number: three digits in base 62. */
 static inline void spell_name(uint8_t *to, size_t number) {
   static const char digits[] = "0123456789ABCDEFGHIJKLMNOPQRSTUVWXYZabcdefghijklmnopqrstuvwxyz";
   for (int i = 2; i >= 0; i--, number /= 62) to[i] = (uint8_t)digits[number % 62];
 }
 
-/* Spells a number in four bytes. */
+/* Encodes a number in four bytes, and returns the end of the encoding. */
 static inline uint8_t *spell_long(uint8_t *to, size_t number) {
   for (int i = 0; i < 4; i++, number >>= 7) *to++ = (uint8_t)((number & 0x7F) | (i < 3 ? 0x80 : 0));
   return to;
 }
 
+/* Encodes a list of i32 types, and returns the end of the encoding. */
 static inline uint8_t *spell_i32s(uint8_t *to, size_t count) {
   to = spell_long(to, count);
   memset(to, 0x7f, count);
   return to + count;
 }
 
-/* Spells a module that exports one function under many names, and returns its size:
+/* Encodes a module that exports one function under many names, and returns its size:
 
    (module
-     (type $f (func (param i32 ..) (result i32 ..)))   ;; that many types each
+     (type $f (func (param i32 ..) (result i32 ..)))   ;; `types` of each
      (func $f (type $f) unreachable)
      (export "000" (func $f)) (export "001" (func $f)) ..) */
 static inline size_t spell_exports(uint8_t *bytes, size_t exports, size_t types) {

@@ -1,4 +1,4 @@
-/* A C++ exception leaves a callback. It goes through the library's frames, and the embedding is abandoned. */
+/* Checks that a C++ exception can leave a callback: it passes through the library's frames, and the embedding is abandoned after it. */
 #include "tegvurn.h"
 #include "test_module.h"
 
@@ -17,7 +17,7 @@ static int thrown_by(tegvurn *embedding) {
   return 0;
 }
 
-/* Makes an embedding, leaves its callback and abandons it. */
+/* Makes an embedding, leaves its callback and abandons it. Returns whether each step was right. */
 static bool is_right() {
   const tegvurn_type i32_type[] = {TEGVURN_I32}, extern_type[] = {TEGVURN_EXTERNREF};
   const tegvurn_host hosts[] = {

@@ -1,4 +1,4 @@
-"""A client of docs/PROTOCOL.md: it runs `wasmserve` as a process, and answers host functions with Python functions.
+"""A client of the protocol in docs/PROTOCOL.md: it runs `wasmserve` as a process, and provides host functions in Python.
 
     def log(memory, start, length):
         print(memory.read(start[1], length[1]))
@@ -11,13 +11,13 @@
         client.order("link", 0)  # ("number", 0)
         client.order("call", 0, "add", ("i32", 1), ("i32", 2))  # ("values", ("i32", 3))
 
-A value is its type and a number without a sign, or None for a null reference. A reply is its name and its fields: ("trap", 9, 7),
-("refused", 1, 1, 8, "malformed module at byte 8"), ("exports", ("add", ("func", ["i32", "i32"], ["i32"]))). Exports of functions that
-are declared at one place share one type, so a change of its lists changes it for all of them.
+A value is a pair of its type and its number, which is unsigned, or None for a null reference. A reply is its name and its fields: ("trap",
+9, 7), ("refused", 1, 1, 8, "malformed module at byte 8"), ("exports", ("add", ("func", ["i32", "i32"], ["i32"]))). Exports of functions
+that are declared at one place share one type, so changing its lists changes it for all of them.
 
 Fields that cannot be sent raise TypeError or ValueError, and nothing is sent. A reply that breaks the protocol raises `ProtocolError`, and
-an order that takes too long TimeoutError. After either of them, and after an interrupt, the process is killed: the next reply could belong
-to the order before it. Every later order raises `ProtocolError`.
+an order that takes too long raises TimeoutError. After either of them, and after an interrupt, the process is killed, because the next
+reply could belong to the order before. Every later order raises `ProtocolError`.
 """
 import contextlib
 import operator
@@ -28,7 +28,7 @@ import threading
 
 TYPES = {"i32": 127, "i64": 126, "funcref": 112, "externref": 111}
 NAMES = {number: name for name, number in TYPES.items()}
-# The orders by their numbers: each with its fields, and the replies if it is not refused.
+# The orders in the order of their numbers, each with its fields and the replies that it can get if it is not refused.
 ORDERS = {
     "end": ("", "done"),
     "load": ("bytes", "number"),
@@ -49,19 +49,19 @@ NUMBERS = {name: number for number, name in enumerate(ORDERS)}
 RUN_HOSTS = ("link", "call", "script")  # the orders that may run host functions
 REPLIES = "done number values trap exhausted refused exports report not_spelt not_now call lent".split()
 RESULTS, TRAPPED, READ, PUT = range(20, 24)  # the kinds of answers to `call`
-HOST_TRAP, BAD_SETUP = 9, 18  # a number of a trap, and one of a refusal
+HOST_TRAP, BAD_SETUP = 9, 18  # the number of a trap, and that of a refusal
 UNKNOWN_EXPORT = ("refused", 9, 0, 0, "nothing is exported under the name")
-SMALLEST_TYPE = 24  # bytes of a type of an export
-MOST = 2**32  # No message has more bytes: it is the largest memory.
-PIECE = 2**20  # bytes that are read at once
+SMALLEST_TYPE = 24  # the fewest bytes of the type of an export
+MOST = 2**32  # No message has more bytes than the largest memory.
+PIECE = 2**20  # the most bytes that are read at once
 
 
 class ProtocolError(Exception):
-    """The process does not keep to the protocol, or has ended."""
+    """The process broke the protocol, or has ended."""
 
 
 class Trap(Exception):
-    """A host function raises it to trap with a code of its own, from 0 to 4,294,967,295."""
+    """A host function raises this to trap with a code of its own, from 0 to 4,294,967,295."""
 
     def __init__(self, code):
         self.code = check_number(code, 32)
@@ -72,7 +72,7 @@ class Trap(Exception):
 
 
 def check_number(number, bits=64):
-    """Returns an integer that fits into this many bits."""
+    """Returns a number as an int. Raises TypeError if it is not an integer, and ValueError if this many bits cannot hold it."""
     if isinstance(number, bool):
         raise TypeError(f"expected an integer, found {number}")
     number = operator.index(number)
@@ -114,7 +114,7 @@ def encode_value(value):
 
 
 def encode_bytes(data):
-    return bytes(memoryview(data))  # not of a number or a text
+    return bytes(memoryview(data))  # memoryview refuses numbers and strings
 
 
 ENCODERS = {
@@ -128,7 +128,7 @@ ENCODERS = {
 
 
 def encode_fields(kinds, fields):
-    """Encodes fields of these kinds. The last kind may be `values`, which is any number of them."""
+    """Encodes fields of these kinds. The last kind may be `values`, for any number of values."""
     if kinds[-1:] == ["values"]:
         kinds = kinds[:-1] + ["value"] * (len(fields) - len(kinds) + 1)
     if len(fields) != len(kinds):
@@ -140,22 +140,22 @@ def encode_fields(kinds, fields):
 
 
 class Fields:
-    """The fields of a reply, which are read one after the other."""
+    """The fields of a reply, which are read in order. A method that cannot read what it should raises ProtocolError."""
 
     def __init__(self, reply, data):
         self.reply, self.data, self.at = reply, data, 0
 
     def left(self):
-        """Returns how many bytes are not read yet."""
+        """Returns the number of bytes that are not read yet."""
         return len(self.data) - self.at
 
     def expect(self, is_so, expected, found):
-        """Raises ProtocolError if something is not so."""
+        """Raises ProtocolError unless `is_so`, with what was expected and found."""
         if not is_so:
             raise ProtocolError(f"the reply `{self.reply}`, at byte {self.at}: expected {expected}, found {found}")
 
     def take(self, count):
-        """Reads bytes."""
+        """Reads this many bytes."""
         self.expect(count <= self.left(), f"{count} bytes", f"the last {self.left()}")
         self.at += count
         return self.data[self.at - count : self.at]
@@ -224,7 +224,7 @@ def read_export_type(fields):
 
 
 def read_exports(fields):
-    """Reads all exports: each is its name and its type. Exports whose types have one number share one type."""
+    """Reads all exports. Each is its name and its type. Exports with the same number of a type share one type."""
     types = [read_export_type(fields) for _ in range(fields.number("a count of types", most=fields.left() // SMALLEST_TYPE))]
     used = set()
     while fields.left():
@@ -259,7 +259,7 @@ READERS = {
 
 
 def read_reply(name, data):
-    """Returns a reply, each field of which is read and checked."""
+    """Reads and checks all fields of a reply. Returns its name and its fields."""
     fields = Fields(name, data)
     reply = (name, *READERS.get(name, lambda _: [])(fields))
     fields.expect(not fields.left(), "the end", f"{fields.left()} bytes more")
@@ -286,14 +286,17 @@ class Memory(Unique):
         return self.size
 
     def check(self, at, count):
-        """Raises IndexError if these bytes are not all lent: the server would end the call."""
+        """Raises IndexError if these bytes are not all in the memory, because the server would then end the call.
+
+        Raises ValueError if the host function has returned.
+        """
         if self.client is None:
             raise ValueError("the host function has returned, so its memory can no longer be used")
         if at < 0 or count < 0 or at + count > self.size:
             raise IndexError(f"expected bytes from 0 to {self.size}, found {count} bytes at {at}")
 
     def read(self, at, count):
-        """Returns `count` bytes from `at` on."""
+        """Returns the `count` bytes from `at` on. Raises IndexError if they are not all in the memory."""
         self.check(at, count)
         fields = encode_number(at) + encode_number(count)
         with self.client.whole():
@@ -304,7 +307,7 @@ class Memory(Unique):
             return data
 
     def write(self, at, data):
-        """Writes bytes from `at` on."""
+        """Writes bytes into the memory from `at` on. If they do not all fit, it writes nothing and raises IndexError."""
         data = encode_bytes(data)
         self.check(at, len(data))
         fields = encode_number(at) + data
@@ -316,13 +319,17 @@ class Client(Unique):
     """A process of the server, and a conversation with it."""
 
     def __init__(self, program, seconds=None, cpu_seconds=None, memory_bytes=None):
-        """Starts the process. Each order with its host functions has `seconds`; the process has the other two in all."""
+        """Starts the process of a program.
+
+        `seconds` limits each order, including the host functions that it runs. `cpu_seconds` and `memory_bytes` limit the process as a
+        whole, in processor time and in memory. None is no limit.
+        """
         self.hosts, self.types = [], []  # the host functions, and the types of their parameters
         self.seconds, self.raised, self.fault, self.turn = seconds, None, None, threading.Lock()
         bounds = [(resource.RLIMIT_CPU, cpu_seconds), (resource.RLIMIT_AS, memory_bytes)]
         bounds = [(limit, check_number(most, 63)) for limit, most in bounds if most is not None]
         self.process = subprocess.Popen([program], bufsize=0, stdin=subprocess.PIPE, stdout=subprocess.PIPE)
-        with self.whole(), contextlib.suppress(ProcessLookupError):  # if it has ended already, the first order says so
+        with self.whole(), contextlib.suppress(ProcessLookupError):  # if it has ended already, the first order reports it
             for limit, most in bounds:
                 resource.prlimit(self.process.pid, limit, (most, most))
 
@@ -333,7 +340,7 @@ class Client(Unique):
         self.close()
 
     def close(self):
-        """Ends the process; returns its status. An order that another thread runs raises ProtocolError."""
+        """Ends the process and returns its status. If another thread runs an order, that order raises ProtocolError."""
         try:
             if self.fault is None and not self.turn.locked():
                 self.order("end")
@@ -346,14 +353,14 @@ class Client(Unique):
         return self.process.returncode
 
     def kill(self, fault):
-        """Ends the process at once. Later orders raise ProtocolError with this fault, or with an earlier one."""
+        """Kills the process. Later orders raise ProtocolError with this fault, or with an earlier one."""
         self.fault = self.fault or fault
         self.process.kill()
         self.process.wait()
 
     @contextlib.contextmanager
     def whole(self):
-        """Kills the process if what is done with it does not come to its end."""
+        """Kills the process if the block raises."""
         try:
             yield
         except BaseException as error:
@@ -362,7 +369,7 @@ class Client(Unique):
 
     @contextlib.contextmanager
     def time_limit(self, name):
-        """Kills the process if an order takes too long."""
+        """Kills the process and raises TimeoutError if the block, which runs an order, takes too long."""
         if self.seconds is None:
             yield
             return
@@ -379,7 +386,7 @@ class Client(Unique):
                 raise TimeoutError(f"expected the reply to `{name}` within {self.seconds} s") from None
 
     def send(self, kind, data):
-        """Writes a message. If the process has ended, reading its reply says so."""
+        """Writes a message. If the process has ended, reading the reply reports it."""
         self.check_fault()
         left = memoryview(encode_number(len(data)) + encode_number(kind) + data)
         with contextlib.suppress(BrokenPipeError):
@@ -387,7 +394,7 @@ class Client(Unique):
                 left = left[self.process.stdin.write(left) :]
 
     def receive(self):
-        """Reads a message; returns its name and its fields."""
+        """Reads a message. Returns its name and its undecoded fields."""
         self.check_fault()
         size, kind = struct.unpack("<QQ", self.read_bytes(16))
         if kind >= len(REPLIES) or size > MOST:
@@ -395,7 +402,7 @@ class Client(Unique):
         return REPLIES[kind], self.read_bytes(size)
 
     def read_bytes(self, count):
-        """Reads that many bytes."""
+        """Reads this many bytes. Raises ProtocolError if the output ends before."""
         parts, left = [], count
         while left:
             parts.append(self.process.stdout.read(min(left, PIECE)))
@@ -411,23 +418,26 @@ class Client(Unique):
             raise ProtocolError(f"the process has ended: {self.fault}")
 
     def define(self, module, name, parameters, results, function):
-        """Defines a host function, which gets the memory and the arguments, and returns a list of values; returns the reply."""
+        """Defines a host function, and returns the reply. The function gets the memory and its arguments, and returns a list of values."""
         reply = self.order("define", module, name, parameters, results)
         if reply[0] == "done":
             self.hosts.append(function)
         return reply
 
     def order(self, name, *fields):
-        """Has an order done; returns the reply. Raises what a host function raises meanwhile, the first exception if there are several."""
+        """Sends an order, runs the host functions that the server requests, and returns the reply.
+
+        If host functions raise exceptions, it raises the first of them after the reply.
+        """
         reply = self.exchange(name, encode_fields(ORDERS[name][0].split(), fields))
         if name == "define" and reply[0] == "done":
             self.types.append(list(fields[2]))
-        if name == "begin" and reply[0] == "refused" and reply[1] != BAD_SETUP:  # the server has dropped them
+        if name == "begin" and reply[0] == "refused" and reply[1] != BAD_SETUP:  # the server has dropped the definitions
             self.hosts, self.types = [], []
         return reply
 
     def exchange(self, name, data):
-        """Sends an order whose fields are encoded; returns the reply."""
+        """Does the same as `order` for an order whose fields are encoded."""
         self.check_fault()
         if self.turn.locked():
             raise RuntimeError("the client is busy with an order")
@@ -442,7 +452,10 @@ class Client(Unique):
             return reply
 
     def receive_reply(self, name, data):
-        """Answers host functions, and returns the reply to the order of this name and these fields."""
+        """Runs the requested host functions, and returns the reply to the order of this name and these fields.
+
+        Raises ProtocolError if it is not a reply to such an order.
+        """
         replies = [*ORDERS[name][1].split(), "refused", "not_spelt", "not_now"]
         while (message := self.receive())[0] == "call" and name in RUN_HOSTS:
             self.answer(*read_reply(*message)[1:])
@@ -457,7 +470,7 @@ class Client(Unique):
         return UNKNOWN_EXPORT if name == "export" and reply == ("exports",) else reply
 
     def answer(self, number, size, *args):
-        """Runs a host function. If one has raised an exception already, the others trap at once."""
+        """Runs a host function and sends its answer. If one has raised an exception during this order, the others trap at once."""
         if number >= len(self.types) or [name for name, _ in args] != self.types[number]:
             raise ProtocolError(f"expected a call of one of {len(self.types)} host functions by its type, found {(number, *args)}")
         trap = (TRAPPED, encode_number(2**32 - 1))
@@ -469,7 +482,7 @@ class Client(Unique):
             self.send(*trap)
 
     def run_host(self, number, size, args):
-        """Returns the kind and the fields of the answer of a host function."""
+        """Runs a host function, and returns the kind and the fields of its answer."""
         memory = Memory(self, size)
         try:
             return RESULTS, b"".join(map(encode_value, self.hosts[number](memory, *args)))

@@ -1,7 +1,8 @@
 #!/usr/bin/env python3
-"""A plug-in host: it calls the exports of a plug-in, each within a fuel, with two host functions of its own. `python3 example.py [PLUGIN]`
+"""A plug-in host: it calls the exports of a plug-in, each with a limit of fuel, and provides two host functions.
 
-It is crates/plugin_host in Python, and runs the plug-in of that crate, whose text is next to it.
+Usage: `python3 example.py [PLUGIN]`. It does the same as crates/plugin_host. Without an argument, it runs the plug-in of that crate, whose
+source text is next to the plug-in.
 """
 import os
 import sys
@@ -13,7 +14,7 @@ CALLS = [("greet",), ("greet",), ("divide", 1, 0), ("write_outside",), ("spin",)
 
 
 class Host:
-    """The host functions: one counts its calls, and one takes a text out of the plug-in's memory."""
+    """The host functions: one counts its calls, and the other copies a text from the plug-in's memory."""
 
     def __init__(self):
         self.calls, self.text = 0, b""
@@ -30,7 +31,7 @@ class Host:
         return []
 
     def functions(self):
-        """The host functions with their types."""
+        """Returns the host functions with their types."""
         return {
             ("host", "count"): (tegvurn.FunctionType([], ["i32"]), self.count),
             ("host", "write"): (tegvurn.FunctionType(["i32", "i32"], []), self.write),
@@ -38,7 +39,7 @@ class Host:
 
 
 def call_export(embedding, plugin, name, *args):
-    """How a call of the plug-in ends, within a fuel."""
+    """Calls the plug-in with its own limit of fuel, and returns the results or the error."""
     embedding.fuel = 1_000
     try:
         return embedding.call(plugin, name, *args)

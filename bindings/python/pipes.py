@@ -1,4 +1,4 @@
-"""Embeddings that `wasmserve` serves over pipes, for the rows: each of them is a process."""
+"""Embeddings for the rows that are served by `wasmserve` over pipes. Each of them is a process."""
 import os
 
 import client
@@ -8,12 +8,12 @@ BUILT = os.path.join(os.path.dirname(os.path.abspath(__file__)), "../../crates/w
 
 
 def program():
-    """The program that the variable WASMSERVE names, or the one that the gate has built."""
+    """Returns the path of the program that the variable WASMSERVE names, or of the one that the gate has built."""
     return os.environ.get("WASMSERVE", BUILT)
 
 
 def answer_with(function):
-    """The host function of a row as one of the client."""
+    """Returns a host function of the rows as one of the client."""
 
     def answer(memory, *args):
         try:
@@ -25,12 +25,12 @@ def answer_with(function):
 
 
 def define(conversation, host):
-    """Defines a host function of a row."""
+    """Defines a host function of the rows, and returns the reply."""
     return conversation.define(host.module, host.name, host.parameters, host.results, answer_with(host.function))
 
 
 def show_reply(name, *fields):
-    """A reply as rows have it."""
+    """Returns a reply in the format of the rows."""
     if name == "values":
         return rows.show_values(fields)
     if name == "exports":
@@ -41,13 +41,13 @@ def show_reply(name, *fields):
 
 
 class Embedding:
-    """What answers rows: a process of its own."""
+    """An embedding that runs rows, in a process of its own."""
 
     def __init__(self, conversation):
         self.conversation = conversation
 
     def order(self, *fields):
-        """The reply to an order, as rows have it."""
+        """Sends an order, and returns its reply in the format of the rows."""
         return show_reply(*self.conversation.order(*fields))
 
     def load(self, module):
@@ -72,7 +72,7 @@ class Embedding:
         return self.order("fuel_left")
 
     def exports(self, instance):
-        """Returns the exports as rows have them. If one is another when it is asked for by its name, returns that one."""
+        """Returns the exports in the format of the rows. If one differs when it is requested by its name, returns that reply instead."""
         listed = self.conversation.order("exports", instance)
         for name, type_ in listed[1:] if listed[0] == "exports" else ():
             found = self.conversation.order("export", instance, name)
@@ -86,18 +86,18 @@ class Embedding:
         return self.order("script", json)
 
     def close(self):
-        """Ends the process."""
+        """Ends the process. Raises ChildProcessError if its status is not 0."""
         if end(self.conversation):
             raise ChildProcessError("the process did not end as it was told")
 
 
 def end(conversation):
-    """Has the process end; returns its status."""
+    """Ends the process, and returns its status."""
     return conversation.close()
 
 
 def begin(conversation, setup, hosts):
-    """An embedding with these host functions in a fresh conversation, and what is answered to its setup."""
+    """Begins an embedding with these host functions in a new conversation. Returns it, or None, and the result of `new`."""
     for host in hosts:
         define(conversation, host)
     reply = conversation.order("begin", *setup)

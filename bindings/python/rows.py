@@ -1,4 +1,7 @@
-"""What the tests share: the rows of bindings/rows.txt, which says what they mean, their host functions, and a module of many exports."""
+"""What the tests share: the rows of bindings/rows.txt, their host functions, and a module of many exports.
+
+The head of rows.txt describes the format of rows.
+"""
 import collections
 import itertools
 import os
@@ -6,18 +9,18 @@ import string
 
 ROWS = os.path.join(os.path.dirname(os.path.abspath(__file__)), "../rows.txt")
 
-# A row: the line it stands in, the words of its command, and its answer.
+# A row: the number of its line, the words of its command, and its expected result.
 Row = collections.namedtuple("Row", "line words answer")
-# A host function: it gets the memory (len, read, write) and the numbers of its arguments, and returns values.
+# A host function. `function` gets the memory (with len, read and write) and the numbers of its arguments, and returns values.
 Host = collections.namedtuple("Host", "module name parameters results function")
 
 
 class HostTrap(Exception):
-    """A host function traps with a code."""
+    """A host function raises this to trap with a code."""
 
 
 def read_rows():
-    """The modules by their names, and the rows."""
+    """Returns the modules by their names, and the rows."""
     modules, rows = {}, []
     with open(ROWS, encoding="utf-8") as file:
         for number, line in enumerate(file, 1):
@@ -30,7 +33,7 @@ def read_rows():
 
 
 DIGITS = string.digits + string.ascii_letters
-# The names of the exports of the module of many exports, and how many parameters and how many results their function has.
+# The names of the exports of the module of many exports, and the number of parameters, and of results, of their function.
 MANY_NAMES = ["".join(digits) for digits in itertools.islice(itertools.product(DIGITS, repeat=3), 29_300)]
 MANY_TYPES = 1_000
 
@@ -41,13 +44,13 @@ def encode_leb(number):
 
 
 def section(number, items):
-    """Returns a section of a module."""
+    """Returns the section of this number with these items."""
     content = encode_leb(len(items)) + b"".join(items)
     return bytes([number]) + encode_leb(len(content)) + content
 
 
 def exports_of_one_function(names, type_count=0):
-    """Returns a module that exports one function under these names of less than 128 bytes.
+    """Returns a module that exports one function under these names, each of fewer than 128 bytes. This is the module:
 
     (module
       (type $f (func (param i32 ..) (result i32 ..)))
@@ -61,7 +64,10 @@ def exports_of_one_function(names, type_count=0):
 
 
 def imports_of_functions(module, names):
-    """Returns a module that imports functions without parameters and results from another one, whose name and names have less than 128 bytes."""
+    """Returns a module that imports functions without parameters and results from the module of this name.
+
+    Each name must have fewer than 128 bytes.
+    """
     imports = [bytes([len(module)]) + module + bytes([len(name)]) + name + b"\0\0" for name in names]
     return b"\0asm\1\0\0\0" + section(1, [b"\x60\0\0"]) + section(2, imports)
 
@@ -72,7 +78,7 @@ def many_exports():
 
 
 def most_memory(process):
-    """Returns the most memory that a process ever had, in KiB."""
+    """Returns the peak memory of a process, in KiB."""
     with open(f"/proc/{process}/status", encoding="utf-8") as file:
         return next(int(line.split()[1]) for line in file if line.startswith("VmHWM:"))
 
@@ -104,7 +110,7 @@ class StandardHosts:
         raise HostTrap(code)
 
     def all(self):
-        """The host functions in their order."""
+        """Returns the host functions in their order."""
         return [
             Host("env", "count", [], ["i32"], self.count),
             Host("env", "add", ["i32", "i32"], ["i32"], lambda _, first, second: [("i32", (first + second) % 2**32)]),
@@ -118,42 +124,45 @@ class StandardHosts:
 
 
 def read_types(text):
-    """The types that `func(i32,i64)(i32)` spells: those of the parameters, and those of the results."""
+    """Reads a function type like `func(i32,i64)(i32)`. Returns the types of the parameters, and those of the results."""
     return [[name for name in part.split(",") if name] for part in text[len("func(") : -1].split(")(")]
 
 
 def read_value(word):
-    """The value that `i32:5` or `funcref:null` spells."""
+    """Reads a value like `i32:5` or `funcref:null`."""
     name, number = word.split(":")
     return name, None if number == "null" else int(number)
 
 
 def show_list(words):
-    """Words with blanks between them."""
+    """Returns words with blanks between them, or `nothing` if there are none."""
     return " ".join(words) or "nothing"
 
 
 def show_values(values):
-    """Values as rows have them."""
+    """Returns values in the format of the rows."""
     return show_list(f"{name}:{'null' if number is None else number}" for name, number in values)
 
 
 def show_type(kind, *parts):
-    """The type of an export as rows have it: of texts, numbers, none, and lists of types for a function."""
+    """Returns the type of an export in the format of the rows.
+
+    The parts of a function type are two lists of types. The parts of other types are strings, numbers and None.
+    """
     if kind == "func":
         return "func" + "".join(f"({','.join(types)})" for types in parts)
     return f"{kind}({','.join(str(part).lower() for part in parts)})"
 
 
 class Rows:
-    """Runs the rows. `begin(setup, hosts)` gives what answers the commands of an embedding, and how it began."""
+    """Runs the rows. `begin(setup, hosts)` returns an embedding that runs commands, or None, and the result of `new`."""
 
     def __init__(self, begin):
         self.begin, self.embedding, self.hosts = begin, None, None
         self.modules, self.rows = read_rows()
 
     def new(self, words):
-        """Begins a fresh embedding."""
+        """Ends the embedding, if there is one, and begins a new one. Returns the result."""
         self.close()
         self.hosts = StandardHosts()
         hosts = self.hosts.all()
@@ -163,12 +172,12 @@ class Rows:
         return answer
 
     def script(self, words):
-        """Runs a script."""
+        """Runs a script, and returns the result."""
         files = [word.split("=") for word in words[1:]]
         return self.embedding.script(bytes.fromhex(words[0]), [(file, self.modules[name]) for file, name in files])
 
     def answer(self, command, *words):
-        """What is answered to a command."""
+        """Runs a command, and returns the result."""
         if command == "new":
             return self.new(words)
         if command == "load":
@@ -188,20 +197,20 @@ class Rows:
         self.embedding = None
 
     def run(self, tests):
-        """Runs all rows, each of them a test."""
+        """Runs all rows, each as a test."""
         for row in self.rows:
             tests.equal(self.answer(*row.words), row.answer, f"rows.txt, line {row.line}: {' '.join(row.words)[:80]}")
         self.close()
 
 
 class Tests:
-    """Counts what passed and what failed."""
+    """Counts the tests that passed and those that failed."""
 
     def __init__(self):
         self.passed, self.failed = 0, 0
 
     def equal(self, found, wanted, name):
-        """A test: what was found is what was wanted."""
+        """Runs a test, which passes if `found` equals `wanted`."""
         if found == wanted:
             self.passed += 1
         else:
@@ -209,6 +218,6 @@ class Tests:
             print(f"failed: {name}\n  wanted {wanted!r}\n  found  {found!r}")
 
     def end(self):
-        """Prints the counts, and gives the status."""
+        """Prints the counts, and returns the status: 0 if tests passed and none failed, or else 1."""
         print(f"{self.passed} passed, {self.failed} failed")
         return 1 if self.failed or not self.passed else 0

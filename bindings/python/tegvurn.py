@@ -1,4 +1,4 @@
-"""Tegvurn for Python: WebAssembly modules are loaded, linked and called within a fuel, by an engine that is proved.
+"""Tegvurn for Python: loads, links and calls WebAssembly modules within a limit of fuel, on a proved engine.
 
     def log(memory, start, length):
         print(memory.read(start, length))
@@ -8,13 +8,13 @@
         instance = embedding.link(embedding.load(wasm))
         print(embedding.call(instance, "add", 1, 2))
 
-This file is all that Python needs besides the library `libtegvurn`, which it finds by an argument, by the variable TEGVURN_LIBRARY, or
-among the libraries of the system.
+Python needs only this file and the library `libtegvurn`. The argument `library` names the library. Otherwise the variable TEGVURN_LIBRARY
+names it, or it is looked up among the libraries of the system.
 
-Types are the texts "i32", "i64", "funcref" and "externref". Values are numbers, and None for a null reference. Integers that come out have
-no sign; those that go in may have one. `Value("i64", 7)` is a value with its type.
+Types are the strings "i32", "i64", "funcref" and "externref". Values are numbers, and None for a null reference. Returned integers are
+unsigned. Integers that are passed in may be negative. `Value("i64", 7)` is a value with its type.
 
-A host function gets the memory of the instance that calls it, a `Memory`, and its arguments. `memory.read(at, count)` and
+A host function gets the memory of the calling instance, a `Memory`, and its arguments. `memory.read(at, count)` and
 `memory.write(at, data)` copy bytes, and raise IndexError for bytes outside of the memory. Once the host function has returned, they raise
 ValueError. A host function returns its results in a list, or raises `HostTrap(code)`. Any other exception is raised again by the call of
 the embedding that ran the host function. Until then, that call runs no other host function: each one traps at once.
@@ -36,7 +36,7 @@ FunctionType = collections.namedtuple("FunctionType", "parameters results")
 TableType = collections.namedtuple("TableType", "references minimum maximum")
 MemoryType = collections.namedtuple("MemoryType", "minimum maximum")
 GlobalType = collections.namedtuple("GlobalType", "value is_mutable")
-# How many commands of a script passed, failed and were skipped, and the lines of those that failed.
+# The numbers of commands of a script that passed, failed and were skipped, and the lines of those that failed.
 Report = collections.namedtuple("Report", "passed failed skipped failed_lines")
 
 _NUMBERS = {"i32": 127, "i64": 126, "funcref": 112, "externref": 111}
@@ -45,12 +45,12 @@ _PLACES = [None, "byte", "import", "section", "function", "command"]
 _DONE, _REFUSED, _TRAP, _EXHAUSTED, _NOT_SPELT, _NO_ROOM, _BUSY, _OVER, _BAD_POINTER = range(9)
 # The code of the trap when a host function raises an exception.
 _RAISED = 2**32 - 1
-# How many functions' types an embedding keeps. With 1,000 parameters and 1,000 results each, they take 17 MB.
+# The most functions whose types an embedding keeps. With 1,000 parameters and 1,000 results each, they take 17 MB.
 _MOST_KEPT = 1_024
 
 
 def _bounded(number, bits):
-    """Returns an integer that fits into this many bits."""
+    """Returns a number as an int. Raises TypeError if it is not an integer, and ValueError if this many bits cannot hold it."""
     if isinstance(number, bool):
         raise TypeError(f"expected an integer, found {number}")
     number = operator.index(number)
@@ -60,7 +60,7 @@ def _bounded(number, bits):
 
 
 class Error(Exception):
-    """A call of an embedding that was not done: its number and its name; the text is in words."""
+    """A call of an embedding was not done. It has a number, a name, and a text that describes it."""
 
     def __init__(self, text, number=0, name=""):
         super().__init__(text)
@@ -68,7 +68,10 @@ class Error(Exception):
 
 
 class Refused(Error):
-    """Nothing has changed. The place is a kind ("byte", "import", "section", "function", "command") or None, and `at` is which of them."""
+    """A call was refused. Nothing has changed, except that some commands of a refused script may have run.
+
+    `place` is a kind of place ("byte", "import", "section", "function" or "command") or None. `at` is which place of that kind, from 0.
+    """
 
     def __init__(self, text, number, name, place, at):
         super().__init__(text, number, name)
@@ -76,7 +79,7 @@ class Refused(Error):
 
 
 class Trap(Error):
-    """A function trapped. The code is that of a host function's trap."""
+    """A function trapped. `code` is the code of a host function's trap, and otherwise 0."""
 
     def __init__(self, text, number, name, code):
         super().__init__(text, number, name)
@@ -88,11 +91,11 @@ class Exhausted(Error):
 
 
 class Busy(Error):
-    """Nothing was done: the embedding runs already, or belongs to another thread."""
+    """Nothing was done, because the embedding is already running or belongs to another thread."""
 
 
 class HostTrap(Exception):
-    """A host function raises it to trap with a code of its own, from 0 to 4,294,967,295."""
+    """A host function raises this to trap with a code of its own, from 0 to 4,294,967,295."""
 
     def __init__(self, code):
         self.code = _bounded(code, 32)
@@ -109,12 +112,12 @@ class _Unique:
 class Memory(_Unique):
     """The memory of the instance that calls a host function.
 
-    Any thread may use it until the host function returns. It may be kept for longer: every use then raises ValueError.
+    Any thread may use it until the host function returns. It may be kept for longer, but every use then raises ValueError.
     """
 
     def __init__(self, address, size):
         self._address, self._size, self._is_lent, self._views = address, size, True, []
-        # A thread holds it while it copies, so that the host function returns only afterwards.
+        # A thread holds the lock while it copies, so that the host function returns only afterwards.
         self._lock = threading.RLock()
 
     def __len__(self):
@@ -128,23 +131,23 @@ class Memory(_Unique):
         return len(self)
 
     def read(self, at, count):
-        """Returns a copy of `count` bytes from `at` on. Raises IndexError if they are not all in the memory."""
+        """Returns a copy of the `count` bytes from `at` on. Raises IndexError if they are not all in the memory."""
         at, count = operator.index(at), operator.index(count)
         with self._lock:
             return self._view(at, count)[at : at + count].tobytes()
 
     def write(self, at, data):
-        """Copies bytes into the memory from `at` on. Raises IndexError, and writes nothing, if they do not all fit."""
+        """Copies bytes into the memory from `at` on. If they do not all fit, it writes nothing and raises IndexError."""
         at, data = operator.index(at), _bytes_of(data)
         with self._lock:
             self._view(at, len(data))[at : at + len(data)] = data
 
     def unsafe_view(self):
-        """Returns a writable memoryview of the whole memory, which nothing copies.
+        """Returns a writable memoryview of the whole memory, without copying it.
 
         Use it only inside the host function. It is released when the host function returns, but what was made from it is not: slices,
         `view.obj`, and other objects over its buffer (`from_buffer`, `numpy.frombuffer`). Using one of these later reads or overwrites
-        memory that belongs to someone else, and can end the process. No other thread may use the view, either.
+        memory that belongs to something else, and can crash the process. No other thread may use the view, either.
         """
         with self._lock:
             self._views.append(memoryview(self._view(0, 0)))
@@ -156,7 +159,10 @@ class Memory(_Unique):
             raise ValueError("the host function has returned, so its memory can no longer be used")
 
     def _view(self, at, count):
-        """Returns a view of the memory, which must have these bytes. The caller holds the lock and keeps no part of the view."""
+        """Returns a view of the memory. The caller holds the lock and keeps no part of the view.
+
+        Raises IndexError if these bytes are not all in the memory, and ValueError if the host function has returned.
+        """
         self._check_lent()
         if at < 0 or count < 0 or at + count > self._size:
             raise IndexError(f"expected bytes from 0 to {self._size}, found {count} bytes at {at}")
@@ -165,7 +171,10 @@ class Memory(_Unique):
         return self._views[0]
 
     def _end(self):
-        """Ends every use: waits until no other thread copies, and releases the views."""
+        """Ends every use: waits until no other thread is copying, and releases the views.
+
+        Raises BufferError if something still uses a view that the host function got.
+        """
         self._is_lent = False
         with self._lock:
             kept = [view for view in self._views if not _release(view)]
@@ -174,7 +183,7 @@ class Memory(_Unique):
 
 
 def _release(view):
-    """Releases a view; returns whether nothing uses it."""
+    """Releases a view. Returns False if something still uses it."""
     try:
         view.release()
     except BufferError:
@@ -274,7 +283,7 @@ class _Report(ctypes.Structure):
 
 
 _AT, _U64, _SIZE = ctypes.c_void_p, ctypes.c_uint64, ctypes.c_size_t
-# The types of what each function of the library takes, and of what it returns if that is not a status.
+# The types of the parameters of each function of the library, and the types of the results that are not a status.
 _FUNCTIONS = {
     "new": [ctypes.POINTER(_Config), ctypes.POINTER(_Host), _SIZE, ctypes.POINTER(_AT), ctypes.POINTER(_End)],
     "free": [_AT],
@@ -295,7 +304,7 @@ _GIVEN = {"last": ctypes.POINTER(_End), "exports_free": None}
 
 
 class _Library:
-    """The functions of a library, and the embeddings that were busy when they were dropped."""
+    """The functions of a library, and the embeddings that were dropped and are not freed yet."""
 
     def __init__(self, path):
         library = ctypes.CDLL(path)
@@ -306,7 +315,7 @@ class _Library:
         self.dropped = collections.deque()
 
     def drop(self, embedding, kept):
-        """Frees an embedding, now or later. Until then, it keeps what the callbacks need."""
+        """Frees an embedding, now or later. Until then, this object keeps what the callbacks need."""
         self.dropped.append((embedding, kept))
         self.free_dropped()
 
@@ -325,7 +334,10 @@ _libraries = {}
 
 
 def _load_library(path):
-    """Returns the library at a path, or the one that the variable names or the system has."""
+    """Returns the library at a path, or else the one that TEGVURN_LIBRARY names, or else the one of the system.
+
+    Raises FileNotFoundError if none of them names a library.
+    """
     path = path or os.environ.get("TEGVURN_LIBRARY") or ctypes.util.find_library("tegvurn")
     if not path:
         raise FileNotFoundError("libtegvurn is not found: name it by `library` or by TEGVURN_LIBRARY")
@@ -335,17 +347,17 @@ def _load_library(path):
 
 
 def _bytes_of(data):
-    """Returns the bytes of a bytes-like object. Numbers and texts are none."""
+    """Returns the bytes of a bytes-like object. Raises TypeError for other objects, such as numbers and strings."""
     return data if isinstance(data, bytes) else bytes(memoryview(data))
 
 
 def _address(data):
-    """Where bytes stand, as long as they live."""
+    """Returns the address of bytes, which is valid as long as they live."""
     return ctypes.cast(ctypes.c_char_p(data), ctypes.c_void_p)
 
 
 def _encode_text(text):
-    """Returns a text for the library, whose bytes live as long as it."""
+    """Returns a string as a text of the library, which keeps its bytes alive."""
     if not isinstance(text, str):
         raise TypeError(f"expected a str, found {text!r}")
     data = text.encode()
@@ -355,24 +367,24 @@ def _encode_text(text):
 
 
 def _read_text(text):
-    """The text that the library has written."""
+    """Returns the string of a text that the library has written."""
     return ctypes.string_at(text.bytes, text.size).decode()
 
 
 def _encode_types(names):
-    """Returns types for the library."""
+    """Returns the numbers of types in an array for the library."""
     return (ctypes.c_uint * len(names))(*(_number_of(name) for name in names))
 
 
 def _number_of(name):
-    """Returns the number of a type."""
+    """Returns the number of a type. Raises ValueError if there is no such type."""
     if name not in _NUMBERS:
         raise ValueError(f"expected one of the types {', '.join(_NUMBERS)}, found {name!r}")
     return _NUMBERS[name]
 
 
 def _name_of(number):
-    """Returns the name of a type that the library has written."""
+    """Returns the name of a type that the library has written. Raises ValueError for an unknown number."""
     if number not in _NAMES:
         raise ValueError(f"expected the number of one of the types {', '.join(_NUMBERS)}, found {number}")
     return _NAMES[number]
@@ -384,7 +396,10 @@ def _read_types(address, count):
 
 
 def _write_value(value, number, type_):
-    """Writes a number, or a value with its type, for the library."""
+    """Writes a number of this type, or a `Value` with its own type, for the library.
+
+    Raises ValueError if the type does not exist or cannot hold the number, and TypeError if the number is not an integer.
+    """
     if isinstance(number, Value):
         type_, number = number
     value.type, value.is_null, value.i64 = _number_of(type_), number is None, 0
@@ -402,7 +417,7 @@ def _write_value(value, number, type_):
 
 
 def _read_value(value):
-    """The number that the library has written, or none."""
+    """Returns the number of a value that the library has written, or None."""
     if value.is_null:
         return None
     return value.i64 if value.type == _NUMBERS["i64"] else value.i32
@@ -433,7 +448,7 @@ def _read_exports(exports, count):
         yield _read_text(export.name), type_
 
 
-# The exceptions for calls whose end the library does not write.
+# The exceptions for the statuses after which the library stores no end.
 _PLAIN_ERRORS = {
     _BUSY: functools.partial(Busy, "the embedding is busy", _BUSY, "Busy"),
     _BAD_POINTER: functools.partial(Error, "a pointer is null", _BAD_POINTER, "BadPointer"),
@@ -446,7 +461,7 @@ def _read_report(report):
 
 
 def _error(status, end):
-    """Returns the exception for how a call ended, which the library has written at `end`."""
+    """Returns the exception for a status. The library has written how the call ended at `end`."""
     if status in _PLAIN_ERRORS or not end:
         return _PLAIN_ERRORS.get(status, functools.partial(Error, "the call was not done"))()
     end = end.contents
@@ -459,16 +474,24 @@ def _error(status, end):
 
 
 class Embedding(_Unique):
-    """A store of modules and instances, with the host functions and the fuel for them."""
+    """A store of modules and instances, with host functions and fuel."""
 
     _at = None  # the embedding of the library, until it is closed
 
     def __init__(self, fuel, depth=1_024, pages=1_024, entries=1_000_000, hosts=(), library=None):
-        """Makes an embedding. The host functions are a type and a function for each module and name, in a dictionary or as its items."""
+        """Makes an embedding.
+
+        `fuel` is the initial fuel. `depth`, `pages` and `entries` are the most open frames, pages of a memory and entries of a table.
+        `hosts` has the host functions: a dictionary, or its items, from pairs of a module and a name to pairs of a type and a function.
+        `library` is the path of the library.
+
+        Raises `Refused` if a number is out of the library's range or a host function is refused, and TypeError or ValueError for wrong
+        arguments.
+        """
         if self._at:
             raise TypeError("the embedding is made already")
-        # `_raised` has the exception of a host function of the running call. Callbacks refer to it, and not to the embedding, so that
-        # dropping the embedding frees it.
+        # `_raised` holds the exception of a host function of the running call. Callbacks refer to this list and not to the embedding, so
+        # that dropping the embedding frees it.
         self._lock, self._raised, self._functions, self._kept = threading.Lock(), [], collections.OrderedDict(), []
         self._library = _load_library(library)
         self._library.free_dropped()
@@ -492,7 +515,7 @@ class Embedding(_Unique):
             self._at = None
 
     def close(self):
-        """Frees the embedding; a closed one stays as it is."""
+        """Frees the embedding. Closing it again does nothing. Raises `Busy` if a call of the embedding runs."""
         self._library.free_dropped()
         self._check_idle()
         with self._lock:
@@ -501,23 +524,26 @@ class Embedding(_Unique):
             self._at = None
 
     def load(self, module):
-        """Loads a module from its bytes; returns its number."""
+        """Loads a module from its bytes, and returns its number."""
         number, module = ctypes.c_uint64(), _bytes_of(module)
         self._do("load", module, len(module), ctypes.byref(number))
         return number.value
 
     def link(self, module):
-        """Links the module of a number and runs its start function; returns the number of the instance."""
+        """Links the module of this number, runs its start function, and returns the number of the instance."""
         number = ctypes.c_uint64()
         self._do("link", _bounded(module, 64), ctypes.byref(number))
         return number.value
 
     def register(self, instance, name):
-        """Registers an instance under a name, by which modules that are linked later import from it."""
+        """Registers an instance under a name. Modules that are linked later import from it by this name."""
         self._do("register", _bounded(instance, 64), _encode_text(name))
 
     def call(self, instance, name, *args):
-        """Calls an exported function; returns its results in a list."""
+        """Calls an exported function, and returns its results in a list.
+
+        An argument is a number, None or a `Value`. Raises `Refused`, `Trap` or `Exhausted`, or the exception of a host function.
+        """
         text, type_ = self._function(instance, name)
         given = (_Value * len(args))()
         for value, arg, wanted in itertools.zip_longest(given, args, type_.parameters[: len(args)]):
@@ -527,14 +553,14 @@ class Embedding(_Unique):
         return [_read_value(value) for value in results]
 
     def get_global(self, instance, name):
-        """The value of an exported global."""
+        """Returns the value of an exported global."""
         value = _Value()
         self._do("get_global", _bounded(instance, 64), _encode_text(name), ctypes.byref(value))
         return _read_value(value)
 
     @property
     def fuel(self):
-        """The fuel that is left. It may be set."""
+        """The fuel that is left. It can be set."""
         fuel = ctypes.c_uint64()
         self._do("fuel_left", ctypes.byref(fuel))
         return fuel.value
@@ -544,9 +570,10 @@ class Embedding(_Unique):
         self._do("set_fuel", _bounded(fuel, 64))
 
     def exports(self, instance):
-        """Returns the types of the exports of an instance by their names, in the order of the module. An unknown instance has none.
+        """Returns a dictionary from the names of an instance's exports to their types, in the order of the module.
 
-        Functions that are declared at one place share one type, so a change of its lists changes it for all of them.
+        It is empty for an unknown instance. Functions that are declared at one place share one type, so changing its lists changes it for
+        all of them.
         """
         found, count = ctypes.POINTER(_Export)(), ctypes.c_size_t()
         self._do("exports", _bounded(instance, 64), ctypes.byref(found), ctypes.byref(count))
@@ -556,7 +583,7 @@ class Embedding(_Unique):
             self._library.exports_free(found)
 
     def find_export(self, instance, name):
-        """Returns the type of one export, however many there are. Raises `Refused` if the instance or the export is unknown."""
+        """Returns the type of one export, without listing the others. Raises `Refused` if the instance or the export is unknown."""
         found = ctypes.POINTER(_Export)()
         self._do("find_export", _bounded(instance, 64), _encode_text(name), ctypes.byref(found))
         try:
@@ -565,19 +592,27 @@ class Embedding(_Unique):
             self._library.exports_free(found)
 
     def script(self, json, files=()):
-        """Runs a command file of wast2json, a text or bytes, with the bytes of its files by their names; returns the report."""
+        """Runs a command file of wast2json, and returns the report.
+
+        `json` is a string or bytes. `files` has the bytes of the files that it names, by their names. If the script is refused, some of its
+        commands may have run.
+        """
         json, report = json.encode() if isinstance(json, str) else _bytes_of(json), _Report()
         given = [(_encode_text(name), _bytes_of(data)) for name, data in dict(files).items()]
         file_array = (_File * len(given))(*(_File(name, _address(data), len(data)) for name, data in given))
         return self._do("script", json, len(json), file_array, len(given), ctypes.byref(report), read=lambda: _read_report(report))
 
     def _check_idle(self):
-        """Raises `Busy` if a call of the embedding runs. One that begins right after it, on another thread, is waited for instead."""
+        """Raises `Busy` if a call of the embedding runs. If another thread begins one right after this, the caller waits for it."""
         if self._lock.locked():
             raise _PLAIN_ERRORS[_BUSY]()
 
     def _do(self, name, *args, read=lambda: None):
-        """Calls a function of the library; returns what `read` reads afterwards. Raises what came of the call, if it was not done."""
+        """Calls a function of the library, and returns what `read` returns after it.
+
+        Raises the exception of a host function, if one raised, or else the exception for how the call ended, if it was not done. Raises
+        ValueError if the embedding is closed.
+        """
         self._library.free_dropped()
         self._check_idle()
         with self._lock:
@@ -592,9 +627,9 @@ class Embedding(_Unique):
             return read()
 
     def _function(self, instance, name):
-        """Returns the name of an exported function for the library, and its type. Other exports have an empty type.
+        """Returns the name of an export for the library, and its type. The type of an export that is not a function is empty here.
 
-        The functions that were found last are kept: a module may export very many names.
+        Only the functions that were found last are kept, because a module may export very many names.
         """
         function = self._functions.get((instance, name))
         if function is None:
@@ -607,7 +642,7 @@ class Embedding(_Unique):
         return function
 
     def _host(self, module, name, type_, function):
-        """A host function for the library. What it points to is kept as long as the embedding."""
+        """Returns a host function for the library. What it points to lives as long as the embedding."""
         params, results = type_
         types = _encode_types(params), _encode_types(results)
         kept = _encode_text(module), _encode_text(name), _Callback(self._callback(results, function)), types
@@ -615,14 +650,14 @@ class Embedding(_Unique):
         return _Host(kept[0], kept[1], types[0], len(params), types[1], len(results), kept[2], None)
 
     def _callback(self, types, function):
-        """Returns what the library calls for a host function with results of these types."""
+        """Returns the callback for a host function with results of these types."""
         raised = self._raised
 
         def callback(_, at):
             try:
                 at.contents.trap = _RAISED
                 return not raised and _run(at.contents, types, function)
-            except BaseException as error:  # it is raised again when the call of the library has ended
+            except BaseException as error:  # raised again after the call of the library
                 raised.append(error)
             return False
 
@@ -630,7 +665,7 @@ class Embedding(_Unique):
 
 
 def _run(call, types, function):
-    """Runs a host function with results of these types; returns whether the results are there."""
+    """Runs a host function with results of these types. Returns True if it wrote them, or False for a trap."""
     memory = Memory(call.memory, call.memory_size)
     try:
         results = function(memory, *(_read_value(call.args[k]) for k in range(call.arg_count)))
@@ -638,7 +673,7 @@ def _run(call, types, function):
         call.trap = _bounded(trap.code, 32)
         return False
     finally:
-        memory._is_lent = False  # An interrupt can come at the next call of a function: no thread may start to copy after it.
+        memory._is_lent = False  # An interrupt can occur at the next call. After it, no thread may start to copy.
         memory._end()
     if len(results) != len(types):
         raise ValueError(f"a host function returned {len(results)} results, and its type has {len(types)}")

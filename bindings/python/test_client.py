@@ -1,8 +1,8 @@
 #!/usr/bin/env python3
-"""Tests of `wasmserve` by the client of client.py, and by bytes: `python3 test_client.py [WASMSERVE]`.
+"""Tests `wasmserve` with the client of client.py, and with raw bytes: `python3 test_client.py [WASMSERVE]`.
 
-The program may be named by the variable WASMSERVE, too; without a name it is the one that the gate has built. It prints how many tests
-passed and failed, and fails where one does.
+The variable WASMSERVE can name the program too. Without a name, it is the one that the gate has built. The tests print how many passed and
+failed. The status is 1 if one failed.
 """
 import contextlib
 import copy
@@ -31,7 +31,7 @@ GIBIBYTE = 2**30
 
 
 def encode(field):
-    """Returns the bytes of a number, a text, types, a value, or bytes as they are."""
+    """Returns the encoding of a number, a string as a text, types or a value. Returns bytes as they are."""
     for type_, kind in ((int, "number"), (str, "text"), (list, "types"), (tuple, "value")):
         if isinstance(field, type_):
             return client.ENCODERS[kind](field)
@@ -39,13 +39,13 @@ def encode(field):
 
 
 def message(kind, *fields):
-    """The bytes of a message."""
+    """Returns the encoding of a message."""
     data = b"".join(map(encode, fields))
     return encode(len(data)) + encode(kind) + data
 
 
 def order(name, *fields):
-    """The bytes of an order."""
+    """Returns the encoding of an order."""
     return message(client.NUMBERS[name], *fields)
 
 
@@ -53,18 +53,18 @@ END, LEFT = order("end"), order("fuel_left")
 BEGIN = order("begin", *SETUP)
 DEFINE_COUNT = order("define", "env", "count", [], ["i32"])
 DEFINED = b"".join(order("define", host.module, host.name, host.parameters, host.results) for host in rows.StandardHosts().all())
-# What the orders in BEGUN are answered.
+# The orders that begin an embedding with the standard host functions, and their replies.
 BEGUN, ANSWERED = DEFINED + BEGIN, [("done",)] * 9
 LEFT_AT_FIRST = ("number", SETUP[0])
 
 
 def read_reply(name, data):
-    """A reply, or a request for a host function, without the text of a refusal."""
+    """Returns a reply or a request for a host function. A refusal is without its text."""
     return client.read_reply(name, data)[: 4 if name == "refused" else None]
 
 
 def read_replies(data):
-    """The replies that bytes spell, refusals without their texts."""
+    """Returns the replies that bytes encode. Refusals are without their texts."""
     replies, at = [], 0
     while at < len(data):
         size, kind = struct.unpack_from("<QQ", data, at)
@@ -74,24 +74,24 @@ def read_replies(data):
 
 
 def converse(data, memory):
-    """The replies to the orders that bytes spell, what was written besides, and the status, within so many bytes of memory."""
+    """Runs the program over these bytes, with a limit of memory in bytes. Returns the replies, standard error and the status."""
     bound = lambda: resource.setrlimit(resource.RLIMIT_AS, (memory, memory))  # noqa: E731
     ran = subprocess.run([PROGRAM], input=data, capture_output=True, timeout=60, preexec_fn=bound)
     return read_replies(ran.stdout), ran.stderr, ran.returncode
 
 
 def check(tests, name, data, replies, status, memory=GIBIBYTE):
-    """A test: the orders that bytes spell are answered so."""
+    """Runs a test: the program gives these replies and this status for these bytes, and writes nothing to standard error."""
     tests.equal(converse(data, memory), (replies, b"", status), name)
 
 
 def test_rows(tests):
-    """The rows over pipes."""
+    """The rows pass over pipes."""
     rows.Rows(lambda setup, hosts: pipes.begin(client.Client(PROGRAM), setup, hosts)).run(tests)
 
 
 def test_ends(tests):
-    """The input ends, or the server is told to end."""
+    """The input ends, or the server is told to end. The status tells which."""
     check(tests, "no input", b"", [], 1)
     check(tests, "told to end", END, [("done",)], 0)
     check(tests, "nothing is read behind the end", END + b"\1\2\3", [("done",)], 0)
@@ -107,7 +107,7 @@ def test_ends(tests):
 
 
 def test_times(tests):
-    """Orders at another time than theirs."""
+    """Orders that are sent out of turn get the reply `not now`."""
     late = [order("load", b""), order("link", 0), order("register", 0, b"m"), order("call", 0, "f"), order("get_global", 0, b"g")]
     late += [order("set_fuel", 1), LEFT, order("exports", 0), order("export", 0, b"f"), order("file", "a", b""), order("script", b"{}")]
     not_now = [("not_now",)] * len(late)
@@ -132,7 +132,7 @@ def test_setups(tests):
     check(tests, "a name twice", DEFINE_COUNT + DEFINE_COUNT + BEGIN + DEFINE_COUNT + BEGIN + count, given, 0)
 
 
-# Fields that spell no order of the kind.
+# Kinds of messages, each with fields that encode no order.
 UNSPELT = [
     (14,), (14, 0, b"a"), (2**32,), (2**64 - 1,), (0, 0), (0, b"a"),
     (2,), (2, bytes(7)), (2, bytes(9)), (2, 0, 0),
@@ -151,20 +151,20 @@ UNSPELT = [
 
 
 def test_spelling(tests):
-    """Bytes that spell no order change nothing, and the conversation goes on."""
+    """Messages that encode no order change nothing, and the conversation continues."""
     given = [("not_spelt",)] + ANSWERED + [("not_spelt",), LEFT_AT_FIRST, ("done",)]
     for fields in UNSPELT:
         check(tests, f"not spelt: {fields}", message(*fields) + BEGUN + message(*fields) + LEFT + END, given, 0)
 
 
-# The orders up to a call of `count`, and up to one of `log` with the memory of `lends`, and what they are answered.
+# The orders up to a call of `count`, and up to one of `log` with the memory of `lends`, each with the replies.
 COUNTING = BEGUN + order("load", MODULES["hosts"]) + order("link", 0) + order("call", 0, "count")
 COUNTED = ANSWERED + [("number", 0), ("number", 0), ("call", 0, 0)]
 LOGGING = BEGUN + order("load", MODULES["lends"]) + order("link", 0) + order("call", 0, "log", ("i32", 8), ("i32", 5))
 LOGGED = ANSWERED + [("number", 0), ("number", 0), ("call", 3, 65_536, ("i32", 8), ("i32", 5))]
 RESULTS, TRAPPED, READ, PUT = client.RESULTS, client.TRAPPED, client.READ, client.PUT
 
-# Answers to `count`, which has one i32 as its results and is lent nothing: each makes the call trap.
+# Answers for `count`, which returns one i32 and borrows no bytes. Each makes the call trap.
 WRONG_ANSWERS = [
     (24,), (2**64 - 1,), (11, 0), (1,), (2, 0), (3, 0, b"env"), (19,),
     (TRAPPED,), (TRAPPED, 2**32), (TRAPPED, 2**64 - 1), (TRAPPED, 7, 7), (TRAPPED, bytes(7)),
@@ -173,7 +173,7 @@ WRONG_ANSWERS = [
     (READ,), (READ, 0), (READ, 0, 1), (READ, 1, 0, 0), (READ, 2**64 - 1, 1), (READ, 1, 2**64 - 1),
     (PUT,), (PUT, bytes(7)), (PUT, 0, b"a"), (PUT, 2**64 - 1, b"a"),
 ]
-# Answers to `log`, which has no results and is lent 65,536 bytes.
+# Answers for `log`, which returns nothing and borrows 65,536 bytes. Each makes the call trap.
 WRONG_RANGES = [
     (READ, 65_536, 1), (READ, 65_535, 2), (READ, 0, 65_537), (READ, 2**64 - 1, 1), (READ, 1, 2**64 - 1), (READ, 2**32, 1),
     (READ, 0, 2**32 + 1), (PUT, 65_536, b"a"), (PUT, 65_535, b"ab"), (PUT, 0, bytes(65_537)), (PUT, 2**64 - 1, b"ab"), (PUT, 2**32, b"a"),
@@ -181,7 +181,7 @@ WRONG_RANGES = [
 
 
 def test_answers(tests):
-    """Answers of `count`, right and wrong; the conversation goes on."""
+    """The answers of `count` are right or wrong, and the conversation continues."""
     again = order("call", 0, "count") + message(RESULTS, ("i32", 5)) + END
     went_on = [("call", 0, 0), ("values", ("i32", 5)), ("done",)]
     for fields in WRONG_ANSWERS:
@@ -194,7 +194,7 @@ def test_answers(tests):
 
 
 def test_lent_bytes(tests):
-    """What `log` reads and puts."""
+    """`log` reads and puts borrowed bytes, in the memory and outside of it."""
     look = order("call", 0, "byte", ("i32", 65_535)) + END
     untouched, seen = [("values", ("i32", 0)), ("done",)], [("values", ("i32", 98)), ("done",)]
     stray = message(READ, 65_536, 1) + message(RESULTS)
@@ -211,7 +211,7 @@ def test_lent_bytes(tests):
 
 
 def raised_by(function, *args):
-    """Returns what a function raises."""
+    """Returns what a function raises, or a text with what it returns."""
     try:
         return f"returned {function(*args)}"
     except BaseException as error:
@@ -238,7 +238,7 @@ class Falsy(Exception):
         return False
 
 
-# What `log` does, and the type of what a call of it raises.
+# What `log` does: a name, a function, and the type of the exception that a call of it raises.
 WRONG_HOSTS = [
     ("reads a byte after the memory", lambda memory: memory.read(65_536, 1), IndexError),
     ("reads a byte before the memory", lambda memory: memory.read(-1, 1), IndexError),
@@ -272,7 +272,7 @@ def iter_falsy():
 
 
 def test_hosts(tests):
-    """What host functions of the client raise passes out of the order after its reply; the conversation goes on."""
+    """Exceptions of host functions leave the order after its reply, and the conversation continues."""
     uses, kept = [], []
 
     def log(memory, *_):
@@ -296,7 +296,7 @@ def test_hosts(tests):
 
 
 def test_first_exception(tests):
-    """After a host function has raised an exception, the same order runs no other one, and raises the first exception."""
+    """After a host function has raised an exception, the same order runs no other host function, and raises the first exception."""
     raised = []
 
     def count(_):
@@ -312,7 +312,7 @@ def test_first_exception(tests):
         tests.equal(raised_by(conversation.order, "call", 0, "count") is raised[1], True, "the exception of the next call")
 
 
-# The exports of `kinds`; and instances and names of exports that are not there, with the refusal.
+# The exports of `kinds`. Then instances and names of exports that do not exist, with the number of the refusal.
 KINDS = [
     ("function", ("func", ["i32"], ["i64"])), ("grow", ("func", [], [])), ("table", ("table", "funcref", 3, 9)),
     ("memory", ("memory", 1, 5)), ("global", ("global", "i64", "var")),
@@ -343,7 +343,7 @@ MOST_SERVED, MOST_SECONDS = 19_500, 1.5  # KiB of the server, and seconds of the
 
 
 def test_many_exports(tests):
-    """Many exports of one function take little memory and time, also when all are listed: they share one type."""
+    """Many exports of one function share one type, so they take little memory and time, even when all are listed."""
     start, name = time.process_time(), rows.MANY_NAMES[-1]
     with client.Client(PROGRAM) as conversation:
         conversation.order("begin", *SETUP)
@@ -358,7 +358,7 @@ def test_many_exports(tests):
     tests.equal((len(types), exports[-1] == found, len(found[1][1])), (1, True, rows.MANY_TYPES), "the type of many exports")
 
 
-# Orders that are refused before anything is sent.
+# Orders that raise an exception before anything is sent, each with the exception.
 WRONG_ORDERS = [
     (ValueError, "call", 0, "add", ("i32", 2**40)), (ValueError, "call", 0, "add", ("i32", -1)),
     (ValueError, "call", 0, "add", ("i64", 2**64)),
@@ -378,7 +378,7 @@ WRONG_ORDERS = [
 
 
 def test_wrong_orders(tests):
-    """Fields that cannot be sent are refused before anything is sent."""
+    """Fields that cannot be sent raise an exception before anything is sent."""
     with begun() as conversation:
         for error, *fields in WRONG_ORDERS:
             found = raised_by(conversation.order, *fields)
@@ -388,13 +388,13 @@ def test_wrong_orders(tests):
         tests.equal(conversation.order("fuel_left")[0], "number", "an order after these")
 
 
-# A server that writes the bytes next to it and waits, one that writes them and ends, and one that only waits.
+# Scripts of false servers: one writes the bytes of the file next to it and waits, one writes them and ends, and one only waits.
 WRITES, CUTS, WAITS = '#!/bin/sh\ncat "$0.reply"\nexec sleep 60\n', '#!/bin/sh\ncat "$0.reply"\n', "#!/bin/sh\nexec sleep 60\n"
 
 
 @contextlib.contextmanager
 def false_server(script, reply=b"", **limits):
-    """A client of a server that is this script."""
+    """Runs a client of a server that is this shell script, and that can write these bytes."""
     with tempfile.TemporaryDirectory() as folder:
         path = os.path.join(folder, "server")
         with open(path + ".reply", "wb") as file:
@@ -412,7 +412,7 @@ def false_server(script, reply=b"", **limits):
 
 NUMBER, VALUES, TRAP, EXHAUSTED, REFUSED, EXPORTS, REPORT, CALL, LENT = 1, 2, 3, 4, 5, 6, 7, 10, 11
 NOTHING = (0, [], [])  # the type of a function
-# Messages that are no replies to an order, by its name and fields.
+# Orders, by name and fields, and messages that are not replies to them.
 BROKEN_REPLIES = {
     ("fuel_left",): [
         (12,), (2**32, 5), (0,), (LENT, 5), (NUMBER,), (NUMBER, bytes(7)), (NUMBER, bytes(9)), (NUMBER, 0, 0), (VALUES, ("i32", 0)),
@@ -453,7 +453,7 @@ BROKEN_REPLIES = {
 
 
 def test_broken_replies(tests):
-    """A reply that breaks the protocol, or that is cut, raises ProtocolError, and ends the process."""
+    """A reply that breaks the protocol or is cut raises ProtocolError and ends the process."""
     for order_fields, reply in [(fields, reply) for fields, replies in BROKEN_REPLIES.items() for reply in replies]:
         with false_server(WRITES, message(*reply)) as conversation:
             found = raised_by(conversation.order, *order_fields)
@@ -472,7 +472,7 @@ def test_broken_replies(tests):
         tests.equal(conversation.order("fuel_left"), ("number", 7), "a right reply")
 
 
-# Right replies to `export` of `f` and to `exports`, and what the client makes of them.
+# Orders `export` and `exports`, right replies to them, and what the client returns.
 TABLE, GLOBAL = (1, 111, 2, 1, 2), (3, 126, 1)
 TABLE_READ, GLOBAL_READ = ("table", "externref", 2, 2), ("global", "i64", "var")
 RIGHT_EXPORTS = [
@@ -487,20 +487,20 @@ RIGHT_EXPORTS = [
 
 
 def test_right_exports(tests):
-    """Right replies to the orders for exports."""
+    """The client reads right replies to the orders `export` and `exports`."""
     for order_fields, reply, wanted in RIGHT_EXPORTS:
         with false_server(WRITES, message(*reply)) as conversation:
             tests.equal(conversation.order(*order_fields), wanted, f"{str(reply)[:60]} for the order {order_fields}")
 
 
-# The `define` of one host function without parameters is done; then a message that asks for a host function wrongly.
+# Wrong requests for a host function, when the only one has an i32 parameter. Then a right request, and wrong replies to `read`.
 BROKEN_CALLS = [(CALL, 1, 0), (CALL, 0, 0, ("i64", 0)), (CALL, 0, 0), (CALL, 0, 2**32 + 1, ("i32", 0)), (CALL, 0, 0, ("i32", 0), 127)]
 ASKED = (CALL, 0, 8, ("i32", 0))
 BROKEN_LENT = [(LENT, b"abc"), (LENT, b"abcde"), (NUMBER, b"abcd"), (VALUES, b"abcd"), (TRAP, 9, 7)]
 
 
 def test_broken_calls(tests):
-    """A request for a host function that breaks the protocol, or lent bytes that do, raise ProtocolError."""
+    """Requests for a host function and replies to `read` that break the protocol raise ProtocolError."""
 
     def host(memory, _):
         try:
@@ -522,7 +522,7 @@ def test_broken_calls(tests):
 
 
 def check_ended(tests, conversation, error, name):
-    """A test: an order raises this error, the process has ended, and every later order raises ProtocolError."""
+    """Runs a test: an order raises this error, the process has ended, and every later order raises ProtocolError."""
     tests.equal(type(error[0]), error[1], name)
     tests.equal(conversation.process.poll() is not None, True, f"the process after {name}")
     tests.equal(type(raised_by(conversation.order, "fuel_left")), client.ProtocolError, f"an order after {name}")
@@ -530,7 +530,7 @@ def check_ended(tests, conversation, error, name):
 
 
 def test_time_limits(tests):
-    """An order that takes too long raises TimeoutError, and ends the process."""
+    """An order that takes too long raises TimeoutError and ends the process."""
     with false_server(WAITS, seconds=0.2) as conversation:
         check_ended(tests, conversation, (raised_by(conversation.order, "fuel_left"), TimeoutError), "an order that is not replied to")
     with false_server(WRITES, message(NUMBER, 7)[:20], seconds=0.2) as conversation:
@@ -546,7 +546,7 @@ def test_time_limits(tests):
 
 
 def looping(**limits):
-    """Returns a client whose call of `loop` does not come to its end."""
+    """Returns a client for whose embedding a call of `loop` does not return in time."""
     conversation = client.Client(PROGRAM, **limits)
     conversation.order("begin", 2**60, 100, 16, 100)
     conversation.order("load", LOOPS)
@@ -555,12 +555,12 @@ def looping(**limits):
 
 
 def interrupt(*_):
-    """Is what an interrupt does."""
+    """Does what an interrupt does."""
     raise KeyboardInterrupt
 
 
 def test_interrupts(tests):
-    """An interrupt ends the process, and passes out of the order."""
+    """An interrupt ends the process and leaves the order."""
     conversation = begun({"log": interrupt})
     found = raised_by(conversation.order, "call", 0, "log", ("i32", 0), ("i32", 0))
     check_ended(tests, conversation, (found, KeyboardInterrupt), "an interrupt in a host function")
@@ -574,7 +574,7 @@ def test_interrupts(tests):
 
 
 def test_limits(tests):
-    """The process is bounded in processor time and in memory."""
+    """The limits of processor time and of memory hold for the process."""
     conversation = looping(seconds=30, cpu_seconds=1)
     found = raised_by(conversation.order, "call", 0, "loop")
     check_ended(tests, conversation, (found, client.ProtocolError), "a call that takes more processor time")
@@ -589,7 +589,7 @@ def test_limits(tests):
 
 
 def test_end(tests):
-    """A client ends its process, also where an exception leaves its block."""
+    """A client ends its process, even if an exception leaves its block."""
     with client.Client(PROGRAM) as conversation:
         pass
     tests.equal((conversation.process.poll(), conversation.close()), (0, 0), "the status after a block")
@@ -620,7 +620,7 @@ def test_scripts(tests):
 
 
 def test_texts(tests):
-    """Refusals say in words why and where."""
+    """The texts of refusals state why and where."""
     conversation = client.Client(PROGRAM)
     conversation.order("begin", *SETUP)
     malformed, unknown = ("refused", 1, 1, 7, "malformed module at byte 7"), ("refused", 5, 0, 0, "there is no module of the number")
@@ -642,7 +642,7 @@ LOOPS = bytes.fromhex("0061736d0100000001040160000003020100070801046c6f6f7000000
 
 
 def test_memory(tests):
-    """There is no memory for what is asked for; the conversation goes on."""
+    """Orders run out of memory, and the conversation continues."""
     large, done = order("begin", 2**40, 100, 65_536, 100), ("done",)
     given = [done, ("number", 0), ("refused", 13, 0, 0), ("number", 1), ("number", 0), ("exhausted", 3), ("values", ("i32", 1)), done]
     grow = order("load", GROWS) + order("link", 1) + order("call", 0, "grow", ("i32", 65_000)) + order("call", 0, "grow", ("i32", 1))
@@ -650,17 +650,17 @@ def test_memory(tests):
 
 
 def spell_leb(number):
-    """The unsigned LEB128 spelling of a number in five bytes."""
+    """Returns the unsigned LEB128 encoding of a number in five bytes."""
     return bytes([number >> 7 * k & 0x7F | 0x80 for k in range(4)] + [number >> 28])
 
 
 def module_of(size):
-    """A module of so many bytes: one custom section."""
+    """Returns a module of this many bytes, which has one custom section."""
     return b"\0asm\1\0\0\0\0" + spell_leb(size - 14) + bytes(size - 14)
 
 
 def test_large_messages(tests):
-    """Large messages, and one that there is no memory for; the conversation goes on."""
+    """Messages are large, or too large for the memory, and the conversation continues."""
     most = 67_108_864
     largest, larger = order("load", module_of(most)), order("load", module_of(most + 1))
     check(tests, "the largest module", BEGIN + largest + END, [("done",), ("number", 0), ("done",)], 0)
@@ -670,7 +670,7 @@ def test_large_messages(tests):
 
 
 def test_no_memory(tests):
-    """The program has less and less memory, until it has none to begin with, and last none to be started."""
+    """The program runs with less and less memory, until it cannot begin, and finally cannot be started."""
     statuses = set()
     for size in range(512, 64, -16):
         bound = lambda: resource.setrlimit(resource.RLIMIT_DATA, (1_024 * size, 1_024 * size))  # noqa: B023, E731
@@ -683,13 +683,13 @@ def test_no_memory(tests):
 
 
 def written_to(output):
-    """What is written besides, and the status, where the replies are written to this descriptor."""
+    """Returns standard error and the status of a program whose replies go to this output."""
     ran = subprocess.run([PROGRAM], input=BEGIN, stdout=output, stderr=subprocess.PIPE, timeout=60)
     return ran.stderr, ran.returncode
 
 
 def dying_client(data, size):
-    """What is written besides, and the status, where a client writes these bytes, reads so many, and dies."""
+    """Returns standard error and the status of a program whose client writes these bytes, reads `size` bytes, and dies."""
     process = subprocess.Popen([PROGRAM], stdin=subprocess.PIPE, stdout=subprocess.PIPE, stderr=subprocess.PIPE)
     process.stdin.write(data)
     process.stdin.flush()
@@ -701,12 +701,12 @@ def dying_client(data, size):
 
 
 def size_of(replies):
-    """How many bytes these replies have."""
+    """Returns how many bytes these replies have."""
     return sum(16 + len(b"".join(encode(field) for field in fields)) for _, *fields in replies)
 
 
 def test_broken_outputs(tests):
-    """The program can't write its replies, and ends."""
+    """The program cannot write its replies, and ends."""
     spin = BEGUN + order("load", MODULES["recursion"]) + order("link", 0) + order("set_fuel", 10**7) + order("call", 0, "spin")
     spinning = ANSWERED + [("number", 0), ("number", 0), ("done",)]
     reading = LOGGING + message(READ, 0, 65_536) + message(READ, 0, 65_536)
@@ -722,7 +722,7 @@ def test_broken_outputs(tests):
 
 
 def main():
-    """Runs all tests, and gives the status."""
+    """Runs all tests, and returns the status."""
     tests = rows.Tests()
     for name, test in list(globals().items()):
         if name.startswith("test_"):

@@ -1,8 +1,8 @@
 #!/usr/bin/env python3
-"""Tests of tegvurn.py: `python3 test_tegvurn.py [LIBRARY]`.
+"""Tests tegvurn.py: `python3 test_tegvurn.py [LIBRARY]`.
 
-The library may be named by the variable TEGVURN_LIBRARY, too; without a name it is the one in bindings/c/build. It prints how many tests
-passed and failed, and fails where one does.
+The variable TEGVURN_LIBRARY can name the library too. Without a name, it is the one in bindings/c/build. The tests print how many passed
+and failed. The status is 1 if one failed.
 """
 import copy
 import ctypes
@@ -30,18 +30,18 @@ import tegvurn  # noqa: E402
 MODULES = rows.read_rows()[0]
 PLACES = [None, "byte", "import", "section", "function", "command"]
 NUMBER = tegvurn.FunctionType([], ["i32"])
-# Loads a module, and calls its `count`.
+# A script that loads a module and calls its `count`.
 COUNT = '{"type":"action","line":2,"action":{"type":"invoke","field":"count","args":[]}}'
 SCRIPT = '{"commands":[{"type":"module","line":1,"filename":"a"},' + COUNT + "]}"
 
 
 def give(value, wanted):
-    """A value of a row as a result: with its type, where that is not the declared one."""
+    """Returns a value of the rows as a result, with its type if that is not the declared one."""
     return value[1] if value[0] == wanted else tegvurn.Value(*value)
 
 
 def answer_with(host):
-    """The host function of a row as one of Python."""
+    """Returns a host function of the rows as one of tegvurn.py."""
 
     def answer(memory, *args):
         try:
@@ -54,7 +54,7 @@ def answer_with(host):
 
 
 def show_export(type_):
-    """The type of an export as rows have it."""
+    """Returns the type of an export in the format of the rows."""
     if isinstance(type_, tegvurn.FunctionType):
         return rows.show_type("func", *type_)
     if isinstance(type_, tegvurn.GlobalType):
@@ -63,7 +63,7 @@ def show_export(type_):
 
 
 def show_error(error):
-    """What an exception says, as rows have it."""
+    """Returns an exception in the format of the rows."""
     if isinstance(error, tegvurn.Refused):
         return f"refused {error.number} {PLACES.index(error.place)} {error.at}"
     if isinstance(error, tegvurn.Trap):
@@ -72,7 +72,7 @@ def show_error(error):
 
 
 def answered(function, *args):
-    """What a function answers, as rows have it."""
+    """Returns what a function returns or raises, in the format of the rows."""
     try:
         return str(function(*args))
     except tegvurn.Error as error:
@@ -80,7 +80,7 @@ def answered(function, *args):
 
 
 class Embedding:
-    """What answers rows: an embedding in this process."""
+    """An embedding that runs rows, in this process."""
 
     def __init__(self, embedding):
         self.embedding, self.close = embedding, embedding.close
@@ -95,7 +95,7 @@ class Embedding:
         return answered(lambda: self.embedding.register(instance, name) or "done")
 
     def show_call(self, instance, name, args):
-        """What a call gives, as rows have it."""
+        """Returns the results of a call in the format of the rows."""
         numbers = self.embedding.call(instance, name, *(tegvurn.Value(*arg) for arg in args))
         return rows.show_values(zip(self.embedding.exports(instance)[name].results, numbers))
 
@@ -103,7 +103,7 @@ class Embedding:
         return answered(self.show_call, instance, name, args)
 
     def show_global(self, instance, name):
-        """The value of a global, as rows have it."""
+        """Returns the value of a global in the format of the rows."""
         number = self.embedding.get_global(instance, name)
         return rows.show_values([(self.embedding.exports(instance)[name].value, number)])
 
@@ -121,7 +121,7 @@ class Embedding:
         return rows.show_list(f"{name}:{show_export(type_)}" for name, type_ in self.embedding.exports(instance).items())
 
     def show_script(self, json, files):
-        """What a script reports, as rows have it."""
+        """Returns the report of a script in the format of the rows."""
         report = self.embedding.script(json, files)
         return " ".join(map(str, ["report", *report[:3], *report.failed_lines]))
 
@@ -130,7 +130,7 @@ class Embedding:
 
 
 def begin(setup, hosts):
-    """An embedding with these host functions, and how it began."""
+    """Begins an embedding with these host functions. Returns it, or None, and the result of `new`."""
     pairs = [((host.module, host.name), ((host.parameters, host.results), answer_with(host))) for host in hosts]
     try:
         return Embedding(tegvurn.Embedding(*setup, hosts=pairs)), "done"
@@ -139,7 +139,7 @@ def begin(setup, hosts):
 
 
 def raised_by(function, *args):
-    """What a function raises."""
+    """Returns what a function raises, or a text with what it returns."""
     try:
         return f"gave {function(*args)}"
     except BaseException as error:
@@ -147,7 +147,7 @@ def raised_by(function, *args):
 
 
 def with_count(count):
-    """An embedding with the instance of `hosts`, where `count` is this function."""
+    """Returns an embedding with the instance of `hosts`, in which `count` is this function."""
     pairs = [((host.module, host.name), ((host.parameters, host.results), answer_with(host))) for host in rows.StandardHosts().all()]
     embedding = tegvurn.Embedding(fuel=1_000, hosts=[(("env", "count"), (NUMBER, count)), *pairs[1:]])
     embedding.link(embedding.load(MODULES["hosts"]))
@@ -155,7 +155,7 @@ def with_count(count):
 
 
 def test_rows(tests):
-    """The rows."""
+    """The rows pass."""
     rows.Rows(begin).run(tests)
 
 
@@ -167,7 +167,7 @@ class Falsy(Exception):
 
 
 class Empty(Exception):
-    """An exception that is empty."""
+    """An exception whose length is 0."""
 
     def __len__(self):
         return 0
@@ -181,7 +181,7 @@ class Unmade(tegvurn.HostTrap):
 
 
 def test_exceptions(tests):
-    """What a host function raises comes back, and the embedding goes on."""
+    """The call raises what a host function raises, and the embedding stays usable."""
     thrown = []
 
     def count(_):
@@ -207,7 +207,7 @@ def test_exceptions(tests):
 
 
 def test_first_exception(tests):
-    """After a host function has raised an exception, the same call runs no other one, and raises the first exception."""
+    """After a host function has raised an exception, the same call runs no other host function, and raises the first exception."""
     raised = []
 
     def count(_):
@@ -221,12 +221,12 @@ def test_first_exception(tests):
         tests.equal(raised_by(embedding.call, 0, "count") is raised[1], True, "the exception of the next call")
 
 
-# Codes of traps, and the exception when a HostTrap is made with one.
+# Wrong codes of traps, each with the exception that making a HostTrap with it raises.
 WRONG_CODES = [("x", TypeError), (1.0, TypeError), (None, TypeError), (True, TypeError), (-1, ValueError), (2**32, ValueError)]
 
 
 def test_trap_codes(tests):
-    """A trap with a wrong code is refused where it is made."""
+    """Making a trap with a wrong code raises an exception."""
     codes = []
 
     def count(_):
@@ -241,11 +241,11 @@ def test_trap_codes(tests):
 
 
 class Interrupt(BaseException):
-    """What the handler of a signal raises."""
+    """The exception that the signal handler raises."""
 
 
 def interrupt(*_):
-    """The handler of a signal."""
+    """Handles a signal by an interrupt."""
     raise Interrupt
 
 
@@ -268,7 +268,7 @@ def test_interrupts(tests):
 
 
 def test_results(tests):
-    """Results that are none of the declared ones."""
+    """Results that do not match the declared types raise exceptions or trap."""
     results = []
     with with_count(lambda _: results) as embedding:
         for wrong, error in (([], ValueError), ([1, 2], ValueError), ([2**32], ValueError), ([None], ValueError), (["a"], TypeError)):
@@ -304,14 +304,14 @@ def test_busy(tests):
 
 
 def with_log(log):
-    """An embedding with the instance of `lends`, where `log` is this function."""
+    """Returns an embedding with the instance of `lends`, in which `log` is this function."""
     hosts = {("env", "log"): ((["i32", "i32"], []), log), ("env", "fill"): ((["i32"] * 3, []), lambda *_: [])}
     embedding = tegvurn.Embedding(fuel=1_000, hosts=hosts)
     embedding.link(embedding.load(MODULES["lends"]))
     return embedding
 
 
-# Uses of a memory of 65,536 bytes with `hello` at 8, and what each of them returns or raises while the host function runs.
+# Uses of a memory of 65,536 bytes with `hello` at 8, each with what it returns or raises while the host function runs.
 MEMORY_USES = [
     ("its length", lambda memory: (len(memory), memory.size), (65_536, 65_536)),
     ("bytes in it", lambda memory: memory.read(8, 5), b"hello"),
@@ -350,7 +350,7 @@ def used(use, memory):
 
 
 def test_memory(tests):
-    """A host function reads and writes memory; after it has returned, every use is refused."""
+    """A host function reads and writes memory. After it has returned, every use raises an exception."""
     kept, found = [], []
 
     def log(memory, *_):
@@ -370,7 +370,7 @@ def test_memory(tests):
 
 
 def test_kept_views(tests):
-    """What still uses an unsafe view when the host function returns is an error; the other views are released."""
+    """If an object still uses an unsafe view when the host function returns, the call raises BufferError. Other views are released."""
     kept = []
 
     def log(memory, *_):
@@ -394,7 +394,7 @@ GROWS = bytes.fromhex(
 
 
 def test_memory_in_use(tests):
-    """A host function returns only when no other thread copies any more."""
+    """A host function returns only when no other thread is copying."""
     ended = []
 
     def log(memory, *_):
@@ -417,7 +417,7 @@ def test_memory_in_use(tests):
 
 
 def test_memory_of_threads(tests):
-    """Another thread reads and writes memory over the end of host functions, while the module moves it. None of them is lost."""
+    """Other threads use the memory beyond the end of host functions, while the module moves it. Each use ends with ValueError."""
     kept, ends = queue.SimpleQueue(), []
 
     def count(memory):
@@ -447,7 +447,7 @@ def test_memory_of_threads(tests):
 
 
 def test_errors(tests):
-    """What exceptions say, and numbers that are out of their range."""
+    """Exceptions have the right fields and texts, and numbers that are out of range raise them."""
     with tegvurn.Embedding(fuel=10) as embedding:
         error = raised_by(embedding.load, MODULES["seven_bytes"])
         found = (type(error), error.number, error.name, error.place, error.at, str(error))
@@ -472,7 +472,7 @@ def test_errors(tests):
     tests.equal(type(raised_by(tegvurn.HostTrap, 2**32)), ValueError, "a code of 2^32")
 
 
-# Wrong uses of an embedding that has the instance of `traps`, and the exception of each.
+# Wrong uses of an embedding that has the instance of `traps`, each with its exception.
 WRONG_USES = [
     ("a call without a name", lambda embedding: embedding.call(0, None), TypeError),
     ("a call by a name of bytes", lambda embedding: embedding.call(0, b"div_s", 1, 1), TypeError),
@@ -535,7 +535,7 @@ KINDS = {
     "memory": tegvurn.MemoryType(1, 5),
     "global": tegvurn.GlobalType("i64", True),
 }
-# An instance and the name of an export that are not there, and how finding it is refused.
+# Instances and names of exports that do not exist, each with the number of the refusal.
 NOT_FOUND = [(1, "function", 8), (2**64 - 1, "function", 8), (0, "functions", 9), (0, "", 9), (0, "function\0", 9), (0, "größe", 9)]
 
 
@@ -548,7 +548,7 @@ def linked(name):
 
 
 def test_find_export(tests):
-    """One export is found by its name as it is listed."""
+    """Each export is found by its name as it is listed."""
     with linked("kinds") as embedding:
         tests.equal(list(embedding.exports(0).items()), list(KINDS.items()), "the exports of each kind")
         for name, type_ in KINDS.items():
@@ -575,7 +575,7 @@ def test_shared_types(tests):
 
 
 def test_called_functions(tests):
-    """A call finds its function alone, and the functions that were called last are kept."""
+    """A call finds its function without listing the exports, and only the functions that were found last are kept."""
     with linked("kinds") as embedding:
         listing, library = embedding._library.exports, embedding._library
         library.exports = None
@@ -593,8 +593,8 @@ def test_called_functions(tests):
         tests.equal(show_error(raised_by(embedding.call, 0, names[0], *[0] * rows.MANY_TYPES)), "trap 1 0", "a call of another")
 
 
-# Loads and links a module of many exports, finds the one that an argument names, calls it, and lists them all. Prints the KiB of memory up
-# to the call and up to the end, the seconds of processor time, and what was found.
+# A program that loads and links a module of many exports, finds the export that its argument names, calls it, and lists all exports. It
+# prints the KiB of memory at the peak up to the call and up to the end, the seconds of processor time, and what it found.
 LISTS = """
 import sys, time, tegvurn
 
@@ -616,12 +616,12 @@ with tegvurn.Embedding(fuel=10_000) as embedding:
     types = {id(type_) for type_ in exports.values()}
     print(len(exports), list(exports).index(name), len(types), exports[name] == found, len(found.parameters), len(found.results))
 """
-# KiB up to the call and up to the end, and seconds. In the end, the names and their dictionary alone take 2,400 KiB.
+# Limits for the KiB up to the call and up to the end, and for the seconds. At the end, the names and their dictionary alone take 2,400 KiB.
 MOST_CALLED, MOST_LISTED, MOST_SECONDS = 5_000, 19_500, 1.5
 
 
 def test_many_exports(tests):
-    """Many exports of one function take little memory and time, also when all are listed: they share one type."""
+    """Many exports of one function share one type, so they take little memory and time, even when all are listed."""
     words = [sys.executable, "-B", "-c", LISTS, rows.MANY_NAMES[-1]]
     ran = subprocess.run(words, input=rows.many_exports(), capture_output=True, timeout=60, cwd=HERE)
     lines = ran.stdout.decode().split("\n")
@@ -630,8 +630,8 @@ def test_many_exports(tests):
     tests.equal(lines[1:], ["29300 29299 1 True 1000 1000", ""], "many exports")
 
 
-# Each row: which names 120,000 exports have, of 32 bytes each. The first is what the others are compared with. With the prefix of the second,
-# a hash that folds 16 bytes at a time from a fixed seed is 0, whatever follows.
+# The names of 120,000 exports, of 32 bytes each. The others are compared with the first. With the prefix of the second, a hash that folds
+# 16 bytes at a time from a fixed seed is 0, whatever follows.
 NAMES = {
     "names at random": lambda k: b"%032x" % (k * 0x9E3779B97F4A7C15 % 2**64),
     "names that collide": lambda k: b"uraablssepsjefdus'&g\"S/ %08d" % k,
@@ -642,7 +642,7 @@ NAMES = {
 
 
 def load_seconds(embedding, module):
-    """Returns the processor time of loading a module, the best of three."""
+    """Returns the seconds of processor time that loading a module takes, the best of three."""
     seconds = []
     for _ in range(3):
         start = time.process_time()
@@ -652,6 +652,7 @@ def load_seconds(embedding, module):
 
 
 def test_export_names(tests):
+    """The names of exports do not affect how long a load takes."""
     with tegvurn.Embedding(fuel=0) as embedding:
         seconds = {
             name: load_seconds(embedding, rows.exports_of_one_function([make(k) for k in range(120_000)])) for name, make in NAMES.items()
@@ -661,7 +662,7 @@ def test_export_names(tests):
 
 
 def test_many_imports(tests):
-    """A module of 200 kB imports from one of 600 kB. If each import went through all exports, the link would take seconds."""
+    """A module of 200 kB imports from one of 600 kB. If each import searched all exports in order, the link would take seconds."""
     names = [b"%07d" % k for k in range(60_000)]
     with tegvurn.Embedding(fuel=0) as embedding:
         exporting = embedding.link(embedding.load(rows.exports_of_one_function(names)))
@@ -674,7 +675,7 @@ def test_many_imports(tests):
 
 
 def test_ends(tests):
-    """How a call ended is read in every form that the library may write."""
+    """How a call ended is read correctly in every form that the library may write."""
     ends = [
         (tegvurn._BAD_POINTER, None, (tegvurn.Error, 8, "BadPointer", "a pointer is null")),
         (tegvurn._BUSY, None, (tegvurn.Busy, 6, "Busy", "the embedding is busy")),
@@ -688,7 +689,7 @@ def test_ends(tests):
 
 
 def count_mappings():
-    """Returns how many mappings this process has."""
+    """Returns the number of mappings of this process."""
     with open("/proc/self/maps", encoding="utf-8") as file:
         return len(file.readlines())
 
@@ -701,7 +702,7 @@ def on_thread(function):
 
 
 def drop(embeddings):
-    """Drops embeddings, also those that are in cycles."""
+    """Drops embeddings, including those that are in cycles."""
     embeddings.clear()
     gc.collect()
 
@@ -722,7 +723,7 @@ MANY = 50
 
 
 def test_drops(tests):
-    """Embeddings that are dropped are freed by the next call of their thread at the latest."""
+    """Dropped embeddings are freed by the next call of their thread at the latest."""
     made = []
     make_simply().close()
     before = count_mappings()
@@ -751,7 +752,7 @@ def test_busy_drops(tests):
     other.close()
 
 
-# A program that ends with embeddings that are idle, in cycles, of threads that have ended, of a thread that runs on, and half made.
+# A program that ends with embeddings that are idle, in cycles, of a thread that has ended, of a thread that still runs, and half made.
 AT_EXIT = """
 import threading, tegvurn
 def make():
@@ -781,13 +782,13 @@ except TypeError:
 
 
 def test_exit(tests):
-    """The end of the program frees what is left, and says nothing."""
+    """The end of the program frees what is left, and prints nothing."""
     ran = subprocess.run([sys.executable, "-B", "-c", AT_EXIT], capture_output=True, text=True, timeout=60, cwd=HERE)
     tests.equal((ran.stdout, ran.stderr, ran.returncode), ("", "", 0), "a program that ends with embeddings")
 
 
 def test_drops_by_other_threads(tests):
-    """Embeddings that another thread drops are freed at once, also when their own thread has ended."""
+    """Embeddings that another thread drops are freed at once, even if their own thread has ended."""
     made = []
     before = count_mappings()
     for make, name in MAKERS:
@@ -799,12 +800,12 @@ def test_drops_by_other_threads(tests):
         tests.equal(count_mappings() - before < MANY, True, f"{name} whose thread has ended")
 
 
-# Functions that the header may declare and that this module does not need: it never leaves a callback.
+# Functions of the header that tegvurn.py does not need. It never leaves a callback.
 NOT_USED = {"abandon"}
 
 
 def test_header(tests):
-    """The functions and the structures are those of the header."""
+    """The functions and structures of tegvurn.py are those of the header."""
     with open(os.path.join(HERE, "../c/tegvurn.h"), encoding="utf-8") as file:
         header = re.sub(r"/\*.*?\*/", "", file.read(), flags=re.DOTALL)
     declared = {name: args.count(",") + 1 for name, args in re.findall(r"TEGVURN_API [^()]*?tegvurn_(\w+)\(([^)]*)\)", header)}
@@ -828,14 +829,14 @@ def test_many(tests):
 
 
 def test_example(tests):
-    """The plug-in host prints what it has to."""
+    """The plug-in host prints what it must."""
     ran = subprocess.run([sys.executable, "-B", os.path.join(HERE, "example.py")], capture_output=True, text=True, timeout=60)
     with open(os.path.join(HERE, "example.out"), encoding="utf-8") as file:
         tests.equal((ran.stdout, ran.stderr, ran.returncode), (file.read(), "", 0), "example.py")
 
 
 def main():
-    """Runs all tests, and gives the status."""
+    """Runs all tests, and returns the status."""
     tests = rows.Tests()
     for name, test in list(globals().items()):
         if name.startswith("test_"):

@@ -1,4 +1,4 @@
-//! Links the C library: from the folder that TEGVURN_LIB_DIR names, or from where `make` in bindings/c puts it.
+//! Links the C library, from the folder that TEGVURN_LIB_DIR names or else from `bindings/c/build`, where `make` in bindings/c builds it.
 
 use std::env;
 use std::path::PathBuf;

@@ -1,4 +1,4 @@
-;; Each type of command of a script, over an instance with memory, table, globals and references.
+;; Uses each type of command of a script, over an instance with a memory, a table, globals and references.
 (module $M
   (memory (export "mem") 1 3)
   (table (export "tab") 4 funcref)

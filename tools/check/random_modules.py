@@ -1,7 +1,8 @@
-"""Random valid modules for `attack`, and changes of their bytes.
+"""Makes random valid modules for `attack`, and changes their bytes.
 
 `Maker(rng, hosts).module()` returns a module over the integer and reference types: functions, tables, a memory, globals, segments, imports
-and exports. Each piece of code is made for the type that it leaves, so the module is valid. `changed(rng, data)` changes some of its bytes.
+and exports. Each piece of code is made for the type of the operand that it pushes, so the module is valid. `changed(rng, data)` changes
+some of its bytes.
 """
 import os
 import sys
@@ -17,7 +18,7 @@ EMPTY = b"\x40"  # the type of a block without results
 UNARY = {"i32": [0x45, 0x67, 0x68, 0x69, 0xC0, 0xC1], "i64": [0x79, 0x7A, 0x7B, 0xC2, 0xC3, 0xC4]}
 BINARY = {"i32": range(0x6A, 0x79), "i64": range(0x7C, 0x8B)}
 COMPARED = {"i32": range(0x46, 0x50), "i64": range(0x51, 0x5B)}
-# Loads and stores by the type: the opcodes, and the greatest alignment of each.
+# The loads and stores of each type: their opcodes, each with its greatest alignment.
 LOADS = {"i32": [(0x28, 2), (0x2C, 0), (0x2D, 0), (0x2E, 1), (0x2F, 1)], "i64": [(0x29, 3), (0x30, 0), (0x33, 1), (0x34, 2), (0x35, 2)]}
 STORES = {"i32": [(0x36, 2), (0x3A, 0), (0x3B, 1)], "i64": [(0x37, 3), (0x3C, 0), (0x3D, 1), (0x3E, 2)]}
 NUMBERS = [0, 1, -1, 2, 7, 8, 100, 255, 4_096, 65_535, 65_536, 2**31 - 1, -(2**31)]
@@ -45,7 +46,7 @@ def limits(minimum, maximum):
 
 
 class Maker:
-    """Makes a module. The host functions are those that it may import: a module, a name, parameters and results of each."""
+    """Makes a module. It may import the host functions, each of which is a module, a name, parameters and results."""
 
     def __init__(self, rng, hosts):
         self.rng = rng
@@ -59,14 +60,14 @@ class Maker:
         self.globals = [(rng.choice(list(TYPES)), rng.random() < 0.7) for _ in range(rng.randrange(4))]
         self.segments = [rng.choice(list(HEAP)) for _ in range(rng.randrange(3))]
         self.data = rng.randrange(3) if self.memory else 0
-        self.locals, self.labels, self.results = [], [], []  # of the function that is made
+        self.locals, self.labels, self.results = [], [], []  # of the current function
 
     def some_types(self, most):
-        """Returns up to that many types, mostly integers."""
+        """Returns up to this many types, mostly integers."""
         return [self.rng.choice(["i32", "i32", "i64", "i64", "externref", "funcref"]) for _ in range(self.rng.randrange(most + 1))]
 
     def some_function_type(self):
-        """Returns the parameters and the results of a function; sometimes those of another one."""
+        """Returns the parameters and the results of a function, which are sometimes those of another one."""
         if self.functions and self.rng.random() < 0.3:
             return self.rng.choice(self.functions)
         return ([], []) if self.rng.random() < 0.2 else (self.some_types(3), self.some_types(2))
@@ -78,18 +79,18 @@ class Maker:
         return number(self.types.index((parameters, results)))
 
     def indices(self, things, wanted):
-        """Returns the indices of things that are wanted."""
+        """Returns the indices of the things for which `wanted` is true."""
         return [index for index, thing in enumerate(things) if wanted(thing)]
 
     def constant(self, name):
-        """Returns code that leaves a constant of a type."""
+        """Returns code that pushes a constant of a type."""
         if name in HEAP:
             return b"\xd0" + HEAP[name]
         value = self.rng.choice([*NUMBERS, self.rng.randrange(-(2**31), 2**31)])
         return (b"\x41" if name == "i32" else b"\x42") + signed(value)
 
     def address(self, depth):
-        """Returns code that leaves an i32 that is often within a page."""
+        """Returns code that pushes an i32 that is often within a page."""
         mask = self.rng.choice([0x7, 0xFF, 0xFFFF, 0x1FFFF])
         return self.expression("i32", depth - 1) + b"\x41" + signed(mask) + b"\x71"
 
@@ -98,11 +99,11 @@ class Maker:
         return bytes([opcode]) + number(self.rng.randrange(align + 1)) + number(self.rng.choice([0, 0, 1, 100, 65_530, 2**32 - 1]))
 
     def expressions(self, names, depth):
-        """Returns code that leaves values of these types."""
+        """Returns code that pushes values of these types."""
         return b"".join(self.expression(name, depth) for name in names)
 
     def expression(self, name, depth):
-        """Returns code that leaves a value of a type."""
+        """Returns code that pushes a value of a type."""
         ways = [self.simple]
         if depth > 0:
             ways += [self.block, self.call, self.chosen, self.teed]
@@ -110,7 +111,7 @@ class Maker:
         return self.rng.choice(ways)(name, depth)
 
     def simple(self, name, _):
-        """Returns a constant, or what gets a local or a global."""
+        """Returns code that pushes a constant, a local or a global."""
         locals_, globals_ = self.indices(self.locals, lambda local: local == name), self.indices(self.globals, lambda item: item[0] == name)
         ways = [lambda: self.constant(name)]
         ways += [lambda: b"\x20" + number(self.rng.choice(locals_))] * (2 * bool(locals_))
@@ -118,18 +119,18 @@ class Maker:
         return self.rng.choice(ways)()
 
     def teed(self, name, depth):
-        """Returns what sets a local and leaves the value."""
+        """Returns code that pushes a value, and sets a local to it if there is one of its type."""
         locals_ = self.indices(self.locals, lambda local: local == name)
         value = self.expression(name, depth - 1)
         return value + b"\x22" + number(self.rng.choice(locals_)) if locals_ else value
 
     def chosen(self, name, depth):
-        """Returns a select."""
+        """Returns code with a select."""
         code = self.expressions([name, name, "i32"], depth - 1)
         return code + (b"\x1c\1" + TYPES[name] if name in HEAP or self.rng.random() < 0.3 else b"\x1b")
 
     def block(self, name, depth):
-        """Returns a block, a loop or an if that leaves a value."""
+        """Returns a block, a loop or an if that pushes a value."""
         kind = self.rng.choice([2, 3, 4])
         start = (self.expression("i32", depth - 1) if kind == 4 else b"") + bytes([kind]) + TYPES[name]
         self.labels.append([] if kind == 3 else [name])
@@ -145,7 +146,7 @@ class Maker:
         return value + self.expression("i32", depth) + b"\x0d\0" if kind != 3 and self.rng.random() < 0.4 else value
 
     def integer(self, name, depth):
-        """Returns an operation that leaves an integer."""
+        """Returns an operation that pushes an integer."""
         other = "i64" if name == "i32" else "i32"
         ways = [
             lambda: self.expression(name, depth - 1) + bytes([self.rng.choice(UNARY[name])]),
@@ -163,7 +164,7 @@ class Maker:
         return self.expressions([name, name], depth - 1) + bytes([self.rng.choice(COMPARED[name])])
 
     def asked(self, depth):
-        """Returns a question about a reference, a table or the memory."""
+        """Returns code that pushes an i32 about a reference, a table or the memory."""
         ways = [lambda: self.expression(self.rng.choice(list(HEAP)), depth - 1) + b"\xd1"]
         if self.memory:
             ways += [lambda: b"\x3f\0", lambda: b"\x41" + signed(self.rng.randrange(3)) + b"\x40\0"]
@@ -173,22 +174,22 @@ class Maker:
         return self.rng.choice(ways)()
 
     def grown_table(self, table, depth):
-        """Returns what grows a table."""
+        """Returns code that grows a table."""
         return self.expression(self.tables[table][0], depth - 1) + b"\x41" + signed(self.rng.randrange(4)) + b"\xfc\x0f" + number(table)
 
     def reference(self, name, depth):
-        """Returns what leaves a reference."""
+        """Returns code that pushes a reference."""
         tables = self.indices(self.tables, lambda table: table[0] == name)
         if tables and self.rng.random() < 0.6:
             return self.small(depth) + b"\x25" + number(self.rng.choice(tables))
         return b"\xd2" + number(self.rng.randrange(len(self.functions))) if name == "funcref" else self.constant(name)
 
     def small(self, depth):
-        """Returns what leaves an i32 that is often an index of a table."""
+        """Returns code that pushes an i32 that is often an index of a table."""
         return self.expression("i32", depth - 1) + b"\x41\x07\x71"
 
     def call(self, name, depth):
-        """Returns a call of a function whose first result is of a type."""
+        """Returns a call of a function whose first result has this type. Its other results are dropped."""
         functions = self.indices(self.functions, lambda function: function[1][:1] == [name])
         if not functions:
             return self.simple(name, depth)
@@ -210,7 +211,7 @@ class Maker:
         return b"".join(self.statement(depth) for _ in range(self.rng.choice([0, 1, 1, 2])))
 
     def statement(self, depth):
-        """Returns code that leaves nothing."""
+        """Returns code that pushes nothing."""
         if depth <= 0:
             return b"\x01"
         ways = [self.dropped, self.set, self.nested, self.branch, self.called_for_nothing]
@@ -221,7 +222,7 @@ class Maker:
         return self.expression(self.rng.choice(list(TYPES)), depth - 1) + b"\x1a"
 
     def set(self, depth):
-        """Returns what sets a local or a global."""
+        """Returns code that sets a local or a global."""
         places = [(b"\x21", index, name) for index, name in enumerate(self.locals)]
         places += [(b"\x24", index, name) for index, (name, is_mutable) in enumerate(self.globals) if is_mutable]
         if not places:
@@ -267,7 +268,7 @@ class Maker:
         return self.address(depth) + self.expression(name, depth - 1) + self.access(*self.rng.choice(STORES[name]))
 
     def moved(self, depth):
-        """Returns what fills or copies memory, or uses a data segment."""
+        """Returns code that fills or copies memory, or uses a data segment."""
         operands = self.address(depth) + self.address(depth) + self.small(depth)
         ways = [operands + b"\xfc\x0a\0\0", operands + b"\xfc\x0b\0"]
         if self.data:
@@ -276,7 +277,7 @@ class Maker:
         return self.rng.choice(ways)
 
     def table_statement(self, depth):
-        """Returns what sets, fills, copies or initializes a table."""
+        """Returns code that sets, fills, copies or initializes a table."""
         table = self.rng.randrange(len(self.tables))
         name, index, value = self.tables[table][0], number(table), self.expression(self.tables[table][0], depth - 1)
         alike = self.indices(self.tables, lambda other: other[0] == name)
@@ -324,7 +325,7 @@ class Maker:
         return b"\0" + self.offset() + data if self.rng.random() < 0.5 else b"\1" + data
 
     def exports(self):
-        """Returns exports of some of everything, under different names."""
+        """Returns exports of most functions, tables, memories and globals, under different names."""
         counts = [len(self.functions), len(self.tables), int(bool(self.memory)), len(self.globals)]
         things = [(kind, index) for kind, count in enumerate(counts) for index in range(count)]
         names = [*NAMES, *(f"{kind}{index}" for kind, index in things)]

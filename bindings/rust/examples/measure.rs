@@ -6,9 +6,9 @@ use tegvurn::{Config, Engine, Error, FuncType, Instance, Linker, Module, Store, 
 const ROUNDS: u32 = 7;
 const CALLS: u32 = 100_000;
 const FUNCTIONS: usize = 1_000;
-const GROUPS: usize = 170; // of four instructions in a function
+const GROUPS: usize = 170; // groups of four instructions in a function
 
-/// The module of `bindings/c/test_module.h`, where its text stands.
+/// The module of `bindings/c/test_module.h`, which has its text.
 #[rustfmt::skip]
 const TEST_MODULE: &[u8] = &[
     0x00, 0x61, 0x73, 0x6d, 0x01, 0x00, 0x00, 0x00, 0x01, 0x1b, 0x06, 0x60, 0x01, 0x7f, 0x01, 0x7f,
@@ -31,7 +31,7 @@ const TEST_MODULE: &[u8] = &[
     0x00, 0x41, 0x08, 0x0b, 0x05, 0x68, 0x65, 0x6c, 0x6c, 0x6f,
 ];
 
-/// A store with the host functions of the module, and much fuel.
+/// Returns a store with the host functions of the module, and the most fuel.
 fn store_with_hosts() -> Result<Store<()>, Error> {
     let engine = Engine::new(Config {
         fuel: u64::MAX,
@@ -54,7 +54,7 @@ fn store_with_hosts() -> Result<Store<()>, Error> {
     Store::new(linker, ())
 }
 
-/// Appends an unsigned number as the binary format spells it.
+/// Appends an unsigned number in the encoding of the binary format.
 fn push_number(module: &mut Vec<u8>, mut number: usize) {
     while number >= 128 {
         module.push((number % 128 + 128) as u8);
@@ -70,7 +70,7 @@ fn push_section(module: &mut Vec<u8>, id: u8, contents: &[u8]) {
     module.extend(contents);
 }
 
-/// A module of equal functions, of the groups `local.get 0 i32.const 1 i32.add drop`.
+/// Returns a module of equal functions, which consist of groups `local.get 0 i32.const 1 i32.add drop`.
 fn large_module() -> Vec<u8> {
     let group = [0x20, 0, 0x41, 1, 0x6a, 0x1a];
     let mut module = b"\0asm\x01\0\0\0\x01\x05\x01\x60\x01\x7f\0".to_vec();
@@ -89,7 +89,7 @@ fn large_module() -> Vec<u8> {
     module
 }
 
-/// The nanoseconds that work takes, the best of several rounds.
+/// Returns the nanoseconds that work takes, the best of several rounds.
 fn best_of(mut work: impl FnMut() -> Result<(), Error>) -> Result<f64, Error> {
     let mut best = f64::INFINITY;
     for _ in 0..ROUNDS {

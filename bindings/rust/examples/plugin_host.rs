@@ -1,25 +1,28 @@
-//! A plug-in host: it calls the exports of a plug-in, each within a fuel, with two host functions of its own.
+//! A plug-in host: it calls the exports of a plug-in, each with a limit of fuel, and provides two host functions.
 //! Usage: `cargo run --example plugin_host plugin.wasm`.
 
 use std::error::Error;
 use tegvurn::{Config, Engine, FuncType, HostTrap, Instance, Linker, Module, Store, Val, ValType};
 
-/// What the host functions keep.
+/// The state of the host functions.
 #[derive(Default)]
 struct Host {
     calls: i32,
     text: Vec<u8>,
 }
 
-/// The bytes of a memory from a start, so many of them, if they are all there.
+/// Returns `length` bytes of a memory from `start` on, or `None` if they are not all in the memory.
 fn bytes_at(memory: &[u8], start: &Val, length: &Val) -> Option<Vec<u8>> {
     let start = start.i32()? as u32 as usize;
     let end = start.checked_add(length.i32()? as u32 as usize)?;
     memory.get(start..end).map(<[u8]>::to_vec)
 }
 
-/// `count () -> i32`: how often it was called; and `write (start: i32, length: i32)`: appends bytes of the plug-in's memory to a text, and
-/// traps with the code 1 where they are not all there.
+/// Returns the host functions:
+///
+/// - `count () -> i32` returns how often it has been called, including this call.
+/// - `write (start: i32, length: i32)` appends bytes of the plug-in's memory to a text. It traps with the code 1 if they are not all in the
+///   memory.
 fn host_functions(engine: &Engine) -> Linker<Host> {
     let mut linker = Linker::<Host>::new(engine);
     linker.func_new(
@@ -45,7 +48,7 @@ fn host_functions(engine: &Engine) -> Linker<Host> {
     linker
 }
 
-/// Calls an export within a fuel, and says how the call ended.
+/// Calls an export with its own limit of fuel. Returns how the call ended.
 fn call_export(
     store: &mut Store<Host>,
     plugin: Instance,

@@ -1,7 +1,7 @@
-//! Values that clones share, as in an `Arc`. An `Arc` aborts if its allocation fails; here that is an error.
+//! Values that clones share, as with `Arc`. If the allocation of an `Arc` fails, the process aborts; here, it is an error.
 //!
-//! The unsafe code relies on this: a block lives as long as its count says that it has owners, each [`Counted`] is one of them, and after the
-//! block is made, only its count changes.
+//! The unsafe code relies on three facts. A block lives as long as its count is that of one owner or more. Each [`Counted`] is one of the
+//! owners. After a block is made, only its count changes.
 #![allow(unsafe_code)]
 #![warn(unsafe_op_in_unsafe_fn)]
 
@@ -19,11 +19,11 @@ struct Block<T> {
 
 /// One of the owners of a value. The last one drops it.
 pub(crate) struct Counted<T> {
-    // A boxed slice of one block.
+    // A boxed slice with one block.
     at: NonNull<[Block<T>]>,
 }
 
-// Owners on several threads share the value, and any of them may drop it.
+// SAFETY: owners on several threads share the value, and any of them may drop it, so the value must be `Send` and `Sync`.
 unsafe impl<T: Send + Sync> Send for Counted<T> {}
 unsafe impl<T: Send + Sync> Sync for Counted<T> {}
 
@@ -60,7 +60,7 @@ impl<T> Deref for Counted<T> {
 
 impl<T> Clone for Counted<T> {
     fn clone(&self) -> Counted<T> {
-        // Owners that are forgotten must not make the count wrap.
+        // Forgotten owners must not make the count wrap.
         if self.block().owners.fetch_add(1, Ordering::Relaxed) > usize::MAX / 2 {
             process::abort();
         }
@@ -70,7 +70,7 @@ impl<T> Clone for Counted<T> {
 
 impl<T> Drop for Counted<T> {
     fn drop(&mut self) {
-        // What other owners did with the value happened before the last one drops it.
+        // The ordering ensures that all uses of the value by other owners happen before the last owner drops it.
         if self.block().owners.fetch_sub(1, Ordering::AcqRel) == 1 {
             drop(unsafe { Box::from_raw(self.at.as_ptr()) });
         }

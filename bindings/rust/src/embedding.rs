@@ -1,9 +1,13 @@
-//! The C library, and all that is unsafe in this crate except shared values (`counted.rs`). The declarations are those of tegvurn.h.
+//! The C library, and all unsafe code of this crate except that of shared values (`counted.rs`). The declarations are those of tegvurn.h.
 //!
-//! The C library's requirements are met as follows. Pointers and counts are those of slices that live during the call, and none is null. Host
-//! functions live as long as the embedding. No panic unwinds into C: a closure's panic is caught and kept, and nothing is dropped between C's
-//! call and the catch. The lent memory is a slice that ends with the closure's call. An embedding stays on its thread, since it holds pointers
-//! and is neither `Send` nor `Sync`. A callback always returns, so nothing has to be abandoned.
+//! The requirements of the C library are met as follows:
+//!
+//! - Pointers and counts are those of slices that live during the call, and no pointer is null.
+//! - Host functions live as long as the embedding.
+//! - No panic unwinds into C: a closure's panic is caught and kept, and nothing is dropped between C's call and the catch.
+//! - The borrowed memory is a slice that ends with the closure's call.
+//! - An embedding stays on its thread, because it holds pointers and is neither `Send` nor `Sync`.
+//! - A callback always returns, so nothing needs to be abandoned.
 #![allow(unsafe_code)]
 #![warn(unsafe_op_in_unsafe_fn)]
 
@@ -180,7 +184,7 @@ extern "C" {
     ) -> u32;
 }
 
-// The sizes of the C library's structs on 64 bits. `ends.c` has them, too.
+// The sizes of the C library's structs on 64-bit targets. `ends.c` checks the same sizes.
 #[cfg(target_pointer_width = "64")]
 const _: () = {
     assert!(size_of::<RawValue>() == 16);
@@ -198,7 +202,7 @@ const REFUSED: u32 = 1;
 const TRAP: u32 = 2;
 const EXHAUSTED: u32 = 3;
 
-// The code of the trap behind which a panic goes on.
+// The code of the trap of a closure that panicked. The panic continues after the call.
 const PANICKED: u32 = u32::MAX;
 
 // Values and types
@@ -251,8 +255,10 @@ fn raw_value(value: Val) -> RawValue {
     }
 }
 
+/// Returns the value that C encodes like this.
+///
 /// # Safety
-/// The member of its type is written.
+/// The member of the union for its type is initialized.
 unsafe fn value_of(raw: &RawValue) -> Val {
     let reference = || {
         if raw.is_null {
@@ -269,8 +275,10 @@ unsafe fn value_of(raw: &RawValue) -> Val {
     }
 }
 
+/// Returns the elements at a pointer as a slice.
+///
 /// # Safety
-/// There are so many elements at the pointer, for so long, and any pointer will do where there are none.
+/// There are `count` elements at the pointer, for the lifetime of the slice. If `count` is 0, any pointer is valid.
 unsafe fn slice_of<'a, E>(at: *const E, count: usize) -> &'a [E] {
     if count == 0 {
         return &[];
@@ -296,12 +304,15 @@ fn owned(text: &str) -> Result<String, TryReserveError> {
     Ok(owned)
 }
 
-/// A name that is kept.
+/// Returns a copy of a name.
+///
+/// # Errors
+/// Refused with [`Cause::OutOfMemory`] if the allocation fails.
 pub(crate) fn kept(name: &str) -> Result<String, Error> {
     owned(name).map_err(|_| out_of_memory())
 }
 
-/// A refusal, in words if there is memory for them.
+/// Returns a refusal. Its text is empty if there is no memory for it.
 pub(crate) fn refused(cause: Cause, place: Option<Place>, text: &str) -> Error {
     Error::Refused(Refusal {
         cause,
@@ -314,8 +325,8 @@ fn out_of_memory() -> Error {
     refused(Cause::OutOfMemory, None, "out of memory")
 }
 
-// The error of a status that is not done, with how the last call ended. The C library keeps no end for some statuses, as busy: then it is the
-// end of an earlier call.
+// Returns the error for a status other than done, given how the last call ended. For some statuses, such as busy, the C library stores no
+// end, so that `last` is the end of an earlier call.
 fn error_of_status(status: u32, last: &RawEnd) -> Error {
     if last.status == status {
         error_of(last)
@@ -328,7 +339,7 @@ fn error_of(end: &RawEnd) -> Error {
     let index = (end.number as usize).wrapping_sub(1);
     match end.status {
         REFUSED => {
-            // The text ends with a zero byte.
+            // SAFETY: the text ends with a zero byte.
             let text = unsafe { CStr::from_ptr(end.text.as_ptr()) }.to_string_lossy();
             match Cause::ALL.get(index) {
                 Some(&cause) => refused(cause, place_of(end.place, end.at), &text),
@@ -346,21 +357,23 @@ fn error_of(end: &RawEnd) -> Error {
 
 // Host functions
 
-// What closures share: the data, and the first panic of one of them in the call that runs.
+// What closures share: the data, and the first panic of a closure in the running call.
 struct Shared<T> {
     data: T,
     panic: Option<Box<dyn Any + Send>>,
 }
 
-// A host function, which its calls get as their context.
+// A host function. Each call of it gets this as its context.
 struct Host<T> {
     function: HostFunction<T>,
     results: Vec<ValType>,
     shared: NonNull<Shared<T>>,
 }
 
+/// Runs a host function: the callback that the C library calls.
+///
 /// # Safety
-/// The context is a `Host<T>` that no one else uses, and nobody uses what it shares.
+/// The context is a `Host<T>`, and nothing else uses it, or what it shares, during the call.
 unsafe extern "C" fn call_host<T>(context: *mut c_void, call: *mut RawHostCall) -> bool {
     let (host, call) = unsafe { (&mut *context.cast::<Host<T>>(), &mut *call) };
     let shared = unsafe { &mut *host.shared.as_ptr() };
@@ -387,8 +400,10 @@ unsafe extern "C" fn call_host<T>(context: *mut c_void, call: *mut RawHostCall) 
     }
 }
 
+/// Calls a closure with the arguments and the memory of a call, and writes its results.
+///
 /// # Safety
-/// The call is one of the C library's, of a host function with these results.
+/// The C library made the call, of a host function with these result types.
 unsafe fn call_closure<T>(
     function: &mut HostFunction<T>,
     result_types: &[ValType],
@@ -412,13 +427,13 @@ unsafe fn call_closure<T>(
     Ok(())
 }
 
-// The host functions of an embedding, and what they share.
+// The host functions of an embedding, and what they share. Both are freed on drop.
 struct Hosts<T> {
     shared: NonNull<Shared<T>>,
     list: Vec<NonNull<Host<T>>>,
 }
 
-// What the C library is told of a host function.
+// The names and the type of a host function, as the C library gets them.
 struct Signature {
     module: String,
     name: String,
@@ -462,7 +477,7 @@ impl<T: 'static> Hosts<T> {
         (hosts, signatures)
     }
 
-    // Begins an embedding with them.
+    // Makes an embedding with these host functions.
     fn begin(&self, config: Config, signatures: &[Signature]) -> Result<NonNull<Handle>, Error> {
         let raw_hosts: Vec<RawHost> = signatures
             .iter()
@@ -550,7 +565,7 @@ impl<T: 'static> Embedding<T> {
         unsafe { &mut self.hosts.shared.as_mut().data }
     }
 
-    // Returns how a call ended. The panic of a closure continues.
+    // Returns how a call ended. If a closure panicked, its panic continues here.
     fn done(&mut self, status: u32) -> Result<(), Error> {
         if let Some(panic) = unsafe { self.hosts.shared.as_mut() }.panic.take() {
             panic::resume_unwind(panic);
@@ -587,7 +602,7 @@ impl<T: 'static> Embedding<T> {
         self.done(status)
     }
 
-    /// Calls a function that has as many results as there are places.
+    /// Calls a function. The number of its results must be that of the places in `results`.
     pub(crate) fn call(
         &mut self,
         instance: u64,
@@ -645,7 +660,7 @@ impl<T: 'static> Embedding<T> {
         list.map_err(|_| out_of_memory())
     }
 
-    /// The type of one export.
+    /// Returns the type of one export.
     pub(crate) fn find_export(&mut self, instance: u64, name: &str) -> Result<ExternType, Error> {
         let mut found = ptr::null_mut();
         let status = unsafe {
@@ -692,11 +707,13 @@ impl<T: 'static> Embedding<T> {
     }
 }
 
-// Exports, whose number and size the module decides: if an allocation fails, that is an error
+// Exports. The module decides their number and size, so a failed allocation is an error here.
 
-// The types of functions that are known, by the arrays of the C library. Exports with the same arrays share a type.
+// The function types made so far, by their arrays in the C library. Exports with the same arrays share a type.
 type Known = HashMap<(*const u32, usize, *const u32, usize), FuncType>;
 
+/// Copies a list of exports.
+///
 /// # Safety
 /// The exports are those of one list of the C library.
 unsafe fn exports_of(raw: &[RawExport]) -> Result<Vec<Export>, TryReserveError> {
@@ -713,8 +730,10 @@ unsafe fn exports_of(raw: &[RawExport]) -> Result<Vec<Export>, TryReserveError> 
     Ok(list)
 }
 
+/// Returns the type of an exported function, and adds it to `known`.
+///
 /// # Safety
-/// The export is a function of the C library's list whose types are known.
+/// The export is a function in the list of the C library that `known` belongs to.
 unsafe fn func_type_of(raw: &RawExport, known: &mut Known) -> Result<FuncType, TryReserveError> {
     let arrays = (raw.params, raw.param_count, raw.results, raw.result_count);
     if let Some(ty) = known.get(&arrays) {
@@ -735,8 +754,10 @@ unsafe fn func_type_of(raw: &RawExport, known: &mut Known) -> Result<FuncType, T
     Ok(ty)
 }
 
+/// Returns the type of an export.
+///
 /// # Safety
-/// The export is one of the C library's list whose types are known.
+/// The export is in the list of the C library that `known` belongs to.
 unsafe fn extern_type_of(
     raw: &RawExport,
     known: &mut Known,
@@ -758,8 +779,8 @@ unsafe fn extern_type_of(
 
 impl<T> Drop for Embedding<T> {
     fn drop(&mut self) {
-        // Safe code cannot drop an embedding during a call, since the call borrows it mutably. If it is busy all the same, the C library keeps
-        // it and still calls the host functions, so they are leaked.
+        // Safe code cannot drop an embedding during a call, because the call borrows it mutably. If it is busy all the same, the C library
+        // keeps it and still calls the host functions, so they are leaked.
         if unsafe { tegvurn_free(self.handle.as_ptr()) } == DONE {
             unsafe { ManuallyDrop::drop(&mut self.hosts) };
         }
@@ -776,7 +797,7 @@ mod tests {
     const MODULE: &[u8] =
         b"\0asm\x01\0\0\0\x01\x04\x01\x60\0\0\x02\x0c\x01\x04host\x03ask\0\0\x07\x05\x01\x01f\0\0";
 
-    /// An embedding whose host function does this.
+    /// Returns an embedding whose host function does this.
     fn embedding_of(ask: impl FnMut() + 'static) -> Embedding<()> {
         let mut ask = ask;
         let definition = Definition {
@@ -798,7 +819,7 @@ mod tests {
         embedding
     }
 
-    // No safe code comes to this, so the closure takes a copy of its own embedding.
+    // No safe code can do this, so the closure makes a copy of its own embedding.
     #[test]
     fn a_busy_embedding_keeps_its_host_functions_when_it_is_dropped() {
         let own = Rc::new(Cell::new(ptr::null::<Embedding<()>>()));

@@ -1,4 +1,4 @@
-//! How calls end that are not done.
+//! Errors: how a call ends that is not done.
 
 use std::error;
 use std::fmt::{self, Display, Formatter};
@@ -7,75 +7,75 @@ use std::fmt::{self, Display, Formatter};
 #[derive(Clone, Debug, PartialEq, Eq)]
 #[non_exhaustive]
 pub enum Error {
-    /// The call is refused, and nothing has changed.
+    /// The call was refused, and nothing has changed, except that some commands of a refused script may have run.
     Refused(Refusal),
     /// A function trapped. What it did before stays.
     Trap(Trap),
     /// A function ran out of something. What it did before stays.
     Exhausted(Exhaustion),
-    /// There are not as many places for results as the function has. It was not called.
+    /// The number of places for results is not the number of results. The function was not called.
     ResultCount {
-        /// How many results the function has.
+        /// The number of results of the function.
         wanted: usize,
-        /// How many places there are.
+        /// The number of places for results.
         given: usize,
     },
-    /// What is used belongs to another store.
+    /// The module, instance, function or global belongs to another store.
     OtherStore,
-    /// The store has ended, by a fault of the library.
+    /// The store has ended, because memory ran out or by a fault of the library.
     Over,
 }
 
-/// Why a call is refused, and where.
+/// Why a call was refused, and where.
 #[derive(Clone, Debug, PartialEq, Eq)]
 pub struct Refusal {
     /// The cause.
     pub cause: Cause,
-    /// The place, if there is one.
+    /// The place, if the refusal has one.
     pub place: Option<Place>,
-    /// The refusal in words, as `malformed module at byte 11`.
+    /// A description of the refusal, such as `malformed module at byte 11`.
     pub text: String,
 }
 
-/// Why a call is refused.
+/// Why a call was refused.
 #[derive(Clone, Copy, Debug, PartialEq, Eq, Hash)]
 #[non_exhaustive]
 pub enum Cause {
-    /// The bytes spell no module.
+    /// The bytes encode no module.
     Malformed = 1,
-    /// The bytes use what is left out.
+    /// The bytes use an unsupported feature.
     Unsupported = 2,
-    /// A limit is passed.
+    /// A limit is exceeded.
     Limit = 3,
-    /// No typing accepts the module.
+    /// The module is invalid.
     Invalid = 4,
     /// There is no such module.
     UnknownModule = 5,
-    /// The names of an import stand for nothing.
+    /// Nothing has the names of an import.
     UnknownImport = 6,
-    /// What the names of an import stand for is of another type.
+    /// What has the names of an import has another type.
     IncompatibleImport = 7,
     /// There is no such instance.
     UnknownInstance = 8,
     /// Nothing is exported under the name.
     UnknownExport = 9,
-    /// What is exported is no function, or no global.
+    /// The export is not a function, or not a global.
     WrongKind = 10,
-    /// The arguments are not those of the function.
+    /// The arguments do not match the parameters of the function.
     BadArguments = 11,
-    /// A host function has the name.
+    /// A host function already has the name.
     NameTaken = 12,
-    /// There was no memory.
+    /// An allocation failed.
     OutOfMemory = 13,
     /// A host function has a funcref result.
     HostFuncRef = 14,
-    /// A script is no JSON text.
+    /// A script is not JSON.
     NotJson = 15,
-    /// A command of a script has not its form.
+    /// A command of a script does not have the form of a command.
     BadCommand = 16,
     /// A file of a script is missing.
     MissingFile = 17,
-    /// A number of the configuration is out of its range.
+    /// A number of the configuration is out of range.
     BadSetup = 18,
 }
 
@@ -101,13 +101,13 @@ impl Cause {
         Cause::BadSetup,
     ];
 
-    /// The number of the cause.
+    /// Returns the number of the cause.
     pub fn number(self) -> u32 {
         self as u32
     }
 }
 
-/// A place. All count from 0.
+/// The place of a refusal. The places of each kind count from 0.
 #[derive(Clone, Copy, Debug, PartialEq, Eq, Hash)]
 #[non_exhaustive]
 pub enum Place {
@@ -117,19 +117,19 @@ pub enum Place {
     Import(u64),
     /// A section, by its id.
     Section(u64),
-    /// A function among the module's own.
+    /// A function among the module's own functions.
     Function(u64),
     /// A command of the script.
     Command(u64),
 }
 
-/// Why a function gave up.
+/// Why a function trapped.
 #[derive(Clone, Copy, Debug, PartialEq, Eq, Hash)]
 #[non_exhaustive]
 pub enum Trap {
     /// The instruction `unreachable`.
     Unreachable,
-    /// An integer divide by zero.
+    /// An integer division or remainder by zero.
     DivideByZero,
     /// An integer overflow.
     IntegerOverflow,
@@ -137,18 +137,18 @@ pub enum Trap {
     MemoryBounds,
     /// An access outside of a table.
     TableBounds,
-    /// An indirect call of no entry of the table.
+    /// An indirect call at an index outside of the table.
     UndefinedElement,
     /// An indirect call of a null entry.
     UninitializedElement,
     /// An indirect call of a function of another type.
     IndirectType,
-    /// A host function's, with its code.
+    /// A trap of a host function, with its code.
     Host(u32),
 }
 
 impl Trap {
-    /// The trap of a number, with the code of a host function's.
+    /// Returns the trap of a number. The code is that of a host function's trap.
     pub(crate) fn of_number(number: u32, code: u32) -> Option<Trap> {
         Some(match number {
             1 => Trap::Unreachable,
@@ -164,7 +164,7 @@ impl Trap {
         })
     }
 
-    /// The number of the trap.
+    /// Returns the number of the trap.
     pub fn number(self) -> u32 {
         match self {
             Trap::Unreachable => 1,
@@ -208,7 +208,7 @@ pub enum Exhaustion {
 }
 
 impl Exhaustion {
-    /// The number of the exhaustion.
+    /// Returns the number of the exhaustion.
     pub fn number(self) -> u32 {
         self as u32
     }

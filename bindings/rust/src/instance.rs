@@ -1,4 +1,4 @@
-//! Modules, instances and what they export.
+//! Modules, instances, and what instances export.
 
 use crate::embedding::{kept, refused};
 use crate::error::{Cause, Error};
@@ -37,14 +37,17 @@ pub struct Global {
 /// What an instance exports under a name.
 #[derive(Clone, Debug, PartialEq, Eq)]
 pub struct Export {
-    /// The name.
+    /// The name of the export.
     pub name: String,
-    /// What it is.
+    /// The type of the export.
     pub ty: ExternType,
 }
 
 impl Module {
-    /// Loads a module, which is valid then.
+    /// Decodes and validates a module, and loads it into the store.
+    ///
+    /// # Errors
+    /// The call is refused if the bytes are not a valid module that the engine supports, if a limit is exceeded, or if memory runs out.
     pub fn new<T>(store: &mut Store<T>, bytes: &[u8]) -> Result<Module, Error> {
         Ok(Module {
             store: store.id,
@@ -52,7 +55,7 @@ impl Module {
         })
     }
 
-    /// Its number in the store, from 0.
+    /// Returns its number in the store, from 0.
     pub fn number(self) -> u64 {
         self.number
     }
@@ -64,6 +67,10 @@ fn wrong_kind() -> Error {
 
 impl Instance {
     /// Links a module to the store's host functions and registered instances, and runs its start function.
+    ///
+    /// # Errors
+    /// The call is refused, a segment or the start function of the module traps or exhausts something, or the module belongs to
+    /// [another store](Error::OtherStore).
     pub fn new<T>(store: &mut Store<T>, module: &Module) -> Result<Instance, Error> {
         store.own(module.store)?;
         Ok(Instance {
@@ -72,37 +79,40 @@ impl Instance {
         })
     }
 
-    /// Its number in the store, from 0.
+    /// Returns its number in the store, from 0.
     pub fn number(self) -> u64 {
         self.number
     }
 
-    /// Registers it under a name, by which modules that are linked later import from it.
+    /// Registers the instance under a name. Modules that are linked later import from it by this name.
+    ///
+    /// # Errors
+    /// The call is refused with [`Cause::NameTaken`] if it is the module name of a host function, or with [`Cause::OutOfMemory`].
     pub fn register<T>(self, store: &mut Store<T>, name: &str) -> Result<(), Error> {
         store.own(self.store)?;
         store.embedding.register(self.number, name)
     }
 
-    /// Returns what it exports. Functions that are declared at one place share one type in the list.
+    /// Returns what the instance exports. Functions that are declared at one place share one type in the list.
     ///
     /// # Errors
-    /// The call is refused with [`Cause::OutOfMemory`] if there is no memory for the list.
+    /// The call is refused with [`Cause::OutOfMemory`] if an allocation for the list fails.
     pub fn exports<T>(self, store: &mut Store<T>) -> Result<Vec<Export>, Error> {
         store.own(self.store)?;
         store.embedding.exports(self.number)
     }
 
-    // The type of what it exports under a name.
+    // Returns the type of what the instance exports under a name.
     fn export_type<T>(self, store: &mut Store<T>, name: &str) -> Result<ExternType, Error> {
         store.own(self.store)?;
         store.embedding.find_export(self.number, name)
     }
 
-    /// Returns the function that it exports under a name, however many other exports there are.
+    /// Returns the function that the instance exports under a name. The cost hardly depends on the number of other exports.
     ///
     /// # Errors
-    /// The call is refused with [`Cause::UnknownExport`], [`Cause::WrongKind`], or [`Cause::OutOfMemory`] if there is no memory for the
-    /// function's type and name.
+    /// The call is refused with [`Cause::UnknownExport`], with [`Cause::WrongKind`], or with [`Cause::OutOfMemory`] if an allocation for
+    /// the function's type and name fails.
     pub fn get_func<T>(self, store: &mut Store<T>, name: &str) -> Result<Func, Error> {
         match self.export_type(store, name)? {
             ExternType::Func(ty) => Ok(Func {
@@ -114,7 +124,7 @@ impl Instance {
         }
     }
 
-    /// Returns the global that it exports under a name, however many other exports there are.
+    /// Returns the global that the instance exports under a name. The cost hardly depends on the number of other exports.
     ///
     /// # Errors
     /// As for [`Instance::get_func`].
@@ -130,12 +140,19 @@ impl Instance {
 }
 
 impl Func {
-    /// Its type.
+    /// Returns the type of the function.
     pub fn ty(&self) -> &FuncType {
         &self.ty
     }
 
-    /// Calls it. There are as many places for results as it has results.
+    /// Calls the function with these arguments, and replaces `results` by its results.
+    ///
+    /// # Errors
+    /// Returns [`Error::ResultCount`], without calling the function, if the length of `results` is not the number of its results. Otherwise
+    /// the call may be refused, trap, or exhaust something; `results` is then unchanged.
+    ///
+    /// # Panics
+    /// If a host function panics, its panic continues here.
     pub fn call<T>(
         &self,
         store: &mut Store<T>,
@@ -154,7 +171,7 @@ impl Func {
 }
 
 impl Global {
-    /// Its value.
+    /// Returns the value of the global.
     pub fn get<T>(&self, store: &mut Store<T>) -> Result<Val, Error> {
         store.own(self.instance.store)?;
         store.embedding.get_global(self.instance.number, &self.name)

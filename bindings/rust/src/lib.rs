@@ -1,8 +1,8 @@
-//! WebAssembly modules are loaded, linked and called within a fuel, by an engine that is proved. This crate is safe on the outside; what is
-//! under it is the C library of `bindings/c`.
+//! Loads, links and calls WebAssembly modules within a limit of fuel, on a proved engine. This crate is a safe interface to the C library
+//! of `bindings/c`.
 //!
-//! Host functions are closures, which a [`Linker`] keeps by their names. A [`Store`] is made with them. [`Module::new`] loads a module into
-//! the store, [`Instance::new`] links it, and [`Func::call`] calls what an instance exports. Each of these spends the store's fuel.
+//! Host functions are closures, which a [`Linker`] stores by their names. A [`Store`] is made with them. [`Module::new`] loads a module
+//! into the store, [`Instance::new`] links it, and [`Func::call`] calls what an instance exports. Links and calls spend the store's fuel.
 //!
 //! ```no_run
 //! use tegvurn::{Config, Engine, FuncType, Instance, Linker, Module, Store, Val, ValType};

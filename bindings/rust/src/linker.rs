@@ -1,22 +1,22 @@
-//! The bounds of a store, and its host functions.
+//! What a store is made with: its bounds and its host functions.
 
 use crate::types::{FuncType, Val};
 
 /// The bounds of a store.
 #[derive(Clone, Copy, Debug, PartialEq, Eq)]
 pub struct Config {
-    /// The fuel at first.
+    /// The initial fuel.
     pub fuel: u64,
-    /// Open frames at most: 1 to 65,535.
+    /// The most open frames: 1 to 65,535.
     pub depth: u32,
-    /// Pages of a memory at most: 0 to 65,536.
+    /// The most pages of a memory: 0 to 65,536.
     pub pages: u32,
-    /// Entries of a table at most: 0 to 10,000,000.
+    /// The most entries of a table: 0 to 10,000,000.
     pub entries: u32,
 }
 
 impl Default for Config {
-    /// No fuel, 1,000 frames, 1,024 pages (64 MiB) and 10,000 entries.
+    /// Returns bounds of no fuel, 1,000 frames, 1,024 pages (64 MiB) and 10,000 entries.
     fn default() -> Config {
         Config {
             fuel: 0,
@@ -27,33 +27,34 @@ impl Default for Config {
     }
 }
 
-/// What stores are made by: their bounds.
+/// The bounds of stores.
 #[derive(Clone, Debug)]
 pub struct Engine {
     config: Config,
 }
 
 impl Engine {
-    /// An engine of these bounds. Whether they are in their ranges is said where a store is made.
+    /// Returns an engine with these bounds. They are checked when a store is made: [`Store::new`](crate::Store::new) refuses bounds that
+    /// are out of range.
     pub fn new(config: Config) -> Engine {
         Engine { config }
     }
 
-    /// The bounds.
+    /// Returns the bounds.
     pub fn config(&self) -> &Config {
         &self.config
     }
 }
 
-/// What a host function is given beside its arguments.
+/// What a host function gets in addition to its arguments.
 pub struct Caller<'a, T> {
     /// The store's data.
     pub data: &'a mut T,
-    /// The memory of the instance that calls. It is empty where there is none.
+    /// The memory of the calling instance. It is empty if there is none.
     pub memory: &'a mut [u8],
 }
 
-/// The trap of a host function, with a code of its own.
+/// A trap of a host function, with a code that the host chooses.
 #[derive(Clone, Copy, Debug, PartialEq, Eq, Hash)]
 pub struct HostTrap(pub u32);
 
@@ -74,7 +75,7 @@ pub struct Linker<T> {
 }
 
 impl<T: 'static> Linker<T> {
-    /// A linker without host functions.
+    /// Returns a linker without host functions.
     pub fn new(engine: &Engine) -> Linker<T> {
         Linker {
             engine: engine.clone(),
@@ -84,9 +85,10 @@ impl<T: 'static> Linker<T> {
 
     /// Defines a host function, which modules import by these names.
     ///
-    /// The closure finds the results as zeros and null references of the declared types, and replaces them by its own. If these have other
-    /// types, the call traps with the code 4294967295. If the closure panics, the call traps, no closure is called again before the store's
-    /// call has ended, and then the panic continues.
+    /// The closure gets results that are zeros and null references of the declared types, and replaces them with its own. If its own have
+    /// other types, the call traps with the code 4294967295.
+    ///
+    /// If the closure panics, its call traps, no closure is called again until the store's call has ended, and then the panic continues.
     pub fn func_new(
         &mut self,
         module: &str,

@@ -1,4 +1,4 @@
-//! Stores: what modules are loaded into, and linked in.
+//! Stores, into which modules are loaded and in which they are linked.
 
 use crate::embedding::Embedding;
 use crate::error::{Cause, Error};
@@ -6,25 +6,33 @@ use crate::instance::Instance;
 use crate::linker::Linker;
 use std::sync::atomic::{AtomicU64, Ordering};
 
-/// A store: modules and instances, host functions with their data, and fuel. It stays on its thread.
+/// A store: modules and instances, host functions with their data, and fuel. It is neither `Send` nor `Sync`, so it stays on its thread.
 pub struct Store<T: 'static> {
     pub(crate) embedding: Embedding<T>,
     pub(crate) id: u64,
 }
 
-/// How the commands of a script went.
+/// The outcome of the commands of a script.
 #[derive(Clone, Debug, PartialEq, Eq)]
 pub struct Report {
-    /// How many commands passed.
+    /// The number of commands that passed.
     pub passed: u64,
-    /// How many were skipped.
+    /// The number of commands that were skipped.
     pub skipped: u64,
-    /// The line of each that failed.
+    /// The line of each command that failed.
     pub failed_lines: Vec<u64>,
 }
 
 impl<T: 'static> Store<T> {
-    /// A store with the bounds and the host functions of the linker.
+    /// Makes a store with the bounds and the host functions of the linker.
+    ///
+    /// # Errors
+    /// The call is refused with one of these causes:
+    ///
+    /// - [`Cause::BadSetup`] if a bound is out of range
+    /// - [`Cause::NameTaken`] if two host functions have the same names
+    /// - [`Cause::HostFuncRef`] if a host function has a funcref result
+    /// - [`Cause::OutOfMemory`]
     pub fn new(linker: Linker<T>, data: T) -> Result<Store<T>, Error> {
         static NEXT: AtomicU64 = AtomicU64::new(0);
         let embedding = Embedding::new(*linker.engine.config(), linker.definitions, data)?;
@@ -34,12 +42,12 @@ impl<T: 'static> Store<T> {
         })
     }
 
-    /// The data of the host functions.
+    /// Borrows the data of the host functions.
     pub fn data(&self) -> &T {
         self.embedding.data()
     }
 
-    /// The data of the host functions.
+    /// Borrows the data of the host functions mutably.
     pub fn data_mut(&mut self) -> &mut T {
         self.embedding.data_mut()
     }
@@ -49,19 +57,25 @@ impl<T: 'static> Store<T> {
         self.embedding.set_fuel(fuel)
     }
 
-    /// The fuel that is left.
+    /// Returns the fuel that is left.
     pub fn get_fuel(&mut self) -> Result<u64, Error> {
         self.embedding.fuel_left()
     }
 
-    /// Runs a script, a command file as wast2json writes it, with the files that it names.
+    /// Runs a script, a command file as wast2json writes it, with the files that it names: each has a name and its bytes.
+    ///
+    /// # Errors
+    /// The script may be refused after some of its commands have run.
     pub fn run_script(&mut self, json: &[u8], files: &[(&str, &[u8])]) -> Result<Report, Error> {
         self.embedding.script(json, files)
     }
 
-    /// The instance of a number, from 0; also one that a script linked.
+    /// Returns the instance of a number, from 0. It may be one that a script linked.
+    ///
+    /// # Errors
+    /// The call is refused with [`Cause::UnknownInstance`] if there is no such instance.
     pub fn instance(&mut self, number: u64) -> Result<Instance, Error> {
-        // What is refused here is the name, where there is such an instance.
+        // If there is such an instance, only the empty name can be refused here.
         match self.embedding.get_global(number, "") {
             Err(Error::Refused(refusal)) if refusal.cause == Cause::UnknownInstance => {
                 Err(Error::Refused(refusal))

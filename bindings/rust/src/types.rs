@@ -14,7 +14,7 @@ pub enum ValType {
     I64,
     /// A reference to a function.
     FuncRef,
-    /// A reference to something of the host's.
+    /// A reference to something that belongs to the host.
     ExternRef,
 }
 
@@ -25,14 +25,14 @@ pub enum Val {
     I32(i32),
     /// A 64-bit integer.
     I64(i64),
-    /// A reference to the function of this number in the store, or to none.
+    /// A reference to the function of this number in the store, or null.
     FuncRef(Option<u32>),
-    /// A reference by a number of the host's, or to nothing.
+    /// A reference by a number that the host chooses, or null.
     ExternRef(Option<u32>),
 }
 
 impl Val {
-    /// The type of the value.
+    /// Returns the type of the value.
     pub fn ty(self) -> ValType {
         match self {
             Val::I32(_) => ValType::I32,
@@ -42,7 +42,7 @@ impl Val {
         }
     }
 
-    /// Zero, or a reference to nothing.
+    /// Returns zero, or the null reference, of a type.
     pub fn default_of(ty: ValType) -> Val {
         match ty {
             ValType::I32 => Val::I32(0),
@@ -52,7 +52,7 @@ impl Val {
         }
     }
 
-    /// The integer, if it is one of 32 bits.
+    /// Returns the integer, if the value is an i32.
     pub fn i32(self) -> Option<i32> {
         match self {
             Val::I32(number) => Some(number),
@@ -60,7 +60,7 @@ impl Val {
         }
     }
 
-    /// The integer, if it is one of 64 bits.
+    /// Returns the integer, if the value is an i64.
     pub fn i64(self) -> Option<i64> {
         match self {
             Val::I64(number) => Some(number),
@@ -93,20 +93,20 @@ impl From<u64> for Val {
     }
 }
 
-/// The type of a function. A clone shares its parameters and results, so it takes no memory.
+/// The type of a function. A clone shares its parameters and results, so cloning allocates nothing.
 #[derive(Clone)]
 pub struct FuncType {
     signature: Counted<Signature>,
 }
 
-// The parameters, and the results after them.
+// The parameters, followed by the results.
 struct Signature {
     types: Vec<ValType>,
     param_count: usize,
 }
 
 impl FuncType {
-    /// The type of these parameters and results.
+    /// Returns the type with these parameters and results.
     pub fn new(
         params: impl IntoIterator<Item = ValType>,
         results: impl IntoIterator<Item = ValType>,
@@ -119,7 +119,7 @@ impl FuncType {
         }
     }
 
-    // The type of that many parameters and the results after them.
+    // Returns the type whose first `param_count` types are its parameters, and the others its results.
     pub(crate) fn try_new(
         types: Vec<ValType>,
         param_count: usize,
@@ -129,12 +129,12 @@ impl FuncType {
         })
     }
 
-    /// The parameters.
+    /// Returns the parameters.
     pub fn params(&self) -> &[ValType] {
         &self.signature.types[..self.signature.param_count]
     }
 
-    /// The results.
+    /// Returns the results.
     pub fn results(&self) -> &[ValType] {
         &self.signature.types[self.signature.param_count..]
     }
@@ -165,12 +165,12 @@ impl Hash for FuncType {
     }
 }
 
-/// The size of a table or of a memory, now and at most.
+/// The present size of a table or a memory, and its maximum.
 #[derive(Clone, Copy, Debug, PartialEq, Eq, Hash)]
 pub struct Limits {
-    /// Entries or pages, now.
+    /// The present number of entries or pages.
     pub minimum: u64,
-    /// Entries or pages at most, if there is a bound.
+    /// The most entries or pages, if there is a maximum.
     pub maximum: Option<u64>,
 }
 
@@ -187,7 +187,7 @@ pub enum ExternType {
     Global {
         /// The type of its value.
         ty: ValType,
-        /// Whether it may be set.
+        /// Whether the global is mutable.
         is_mutable: bool,
     },
 }

@@ -1,5 +1,5 @@
-//! Host functions that panic, that borrow memory, and that keep things; stores that are mixed up; allocations that fail, and how many there are;
-//! and the example.
+//! Tests of host functions that panic, borrow memory or own values, of stores that are confused with one another, of failed allocations and
+//! their number, and of the example.
 
 #![warn(unsafe_op_in_unsafe_fn)]
 
@@ -13,9 +13,13 @@ use tegvurn::{
     Module, Place, Store, Trap, Val, ValType,
 };
 
-/// `(module (import "host" "ask" (func $ask (param i32) (result i32))) (memory 1) (data (i32.const 8) "hello")
+/// The module
+///
+/// ```wat
+/// (module (import "host" "ask" (func $ask (param i32) (result i32))) (memory 1) (data (i32.const 8) "hello")
 ///   (func (export "ask") (param i32) (result i32) local.get 0 call $ask)
-///   (func (export "byte") (param i32) (result i32) local.get 0 i32.load8_u))`
+///   (func (export "byte") (param i32) (result i32) local.get 0 i32.load8_u))
+/// ```
 const MODULE: &[u8] = &[
     0x00, 0x61, 0x73, 0x6d, 0x01, 0x00, 0x00, 0x00, 0x01, 0x06, 0x01, 0x60, 0x01, 0x7f, 0x01, 0x7f,
     0x02, 0x0c, 0x01, 0x04, 0x68, 0x6f, 0x73, 0x74, 0x03, 0x61, 0x73, 0x6b, 0x00, 0x00, 0x03, 0x03,
@@ -32,7 +36,7 @@ const BOUNDS: Config = Config {
     entries: 100,
 };
 
-/// A store whose host function `ask` is this closure, and the instance of the module.
+/// Returns a store whose host function `ask` is this closure, and the instance of the module.
 fn store_of(
     ask: impl FnMut(&mut u32, &mut [u8], i32) -> Result<Val, HostTrap> + 'static,
 ) -> (Store<u32>, Instance) {
@@ -78,7 +82,7 @@ fn a_panic_goes_on_behind_the_call() {
     assert_eq!(*store.data(), 3);
 }
 
-/// A command of a script that calls `ask` with this number.
+/// Returns a command of a script that calls `ask` with this number.
 fn ask_command(number: i32) -> String {
     format!(
         r#"{{"type":"action","line":1,"action":{{"type":"invoke","field":"ask","args":[{{"type":"i32","value":"{number}"}}]}}}}"#
@@ -95,7 +99,7 @@ fn script(store: &mut Store<u32>, numbers: &[i32]) -> Result<tegvurn::Report, Er
     store.run_script(json.as_bytes(), &[("a", MODULE)])
 }
 
-/// What a closure panics with: dropping it panics, too.
+/// The payload of a panic. Dropping it panics too.
 struct Bomb(i32);
 
 impl Drop for Bomb {
@@ -268,17 +272,17 @@ fn refusals_say_where() {
     }
 }
 
-/// An allocator that counts allocations of a thread, and refuses them.
+/// An allocator that counts the allocations of each thread, and can refuse them.
 struct Refusing;
 
 #[derive(Clone, Copy)]
 enum Refused {
     None,
-    /// The one after that many, and also all later ones if the flag is set.
+    /// The allocation after that many others, and also all later ones if the flag is set.
     After(usize, bool),
 }
 
-/// The bytes that a thread holds, the most that it ever held, and how many allocations it made.
+/// The bytes that a thread holds, the most bytes that it held at any time, and the number of its allocations.
 #[derive(Clone, Copy)]
 struct Counts {
     held: isize,
@@ -302,7 +306,7 @@ fn count(size: isize) {
     });
 }
 
-/// Runs something. Returns also how many bytes it held at most, and how many allocations it made.
+/// Runs a closure. Returns its result, the most bytes that it held in addition at any time, and the number of its allocations.
 fn counted<R>(run: impl FnOnce() -> R) -> (R, isize, usize) {
     let before = COUNTS.with(|counts| {
         let held = counts.get().held;
@@ -351,7 +355,7 @@ fn with_refused<R>(refused: Refused, run: impl FnOnce() -> R) -> R {
     result
 }
 
-/// Refuses each allocation in turn, alone and with all later ones. Returns how many there are.
+/// Runs a closure with each of its allocations refused in turn, alone and together with all later ones. Returns how many there are.
 fn refuse_each<R: PartialEq + std::fmt::Debug>(mut run: impl FnMut() -> Result<R, Error>) -> usize {
     let wanted = run().expect("a result");
     let mut refusals = 0;
@@ -393,7 +397,7 @@ fn exports_are_refused_when_an_allocation_fails() {
     }
 }
 
-/// A number in four bytes of the binary format.
+/// Encodes a number in four bytes, as the binary format has it.
 fn four_bytes(number: usize) -> [u8; 4] {
     let digit = |shift: u32| (number >> shift) as u8 & 0x7f;
     [
@@ -404,13 +408,13 @@ fn four_bytes(number: usize) -> [u8; 4] {
     ]
 }
 
-/// A section or another part whose size comes first.
+/// Encodes a section, or another part whose size precedes its content.
 fn sized(head: &[u8], content: &[u8]) -> Vec<u8> {
     [head, &four_bytes(content.len()), content].concat()
 }
 
-/// `(module (func $f (param i32 ..) (result i32 ..) unreachable) (export "000" (func $f)) (export "001" (func $f)) ..)`, with that many exports,
-/// and that many parameters and results.
+/// Encodes `(module (func $f (param i32 ..) (result i32 ..) unreachable) (export "000" (func $f)) (export "001" (func $f)) ..)`. `types` is
+/// the number of parameters, and of results.
 fn exports_module(exports: usize, types: usize) -> Vec<u8> {
     let i32s = sized(&[], &vec![0x7f; types]);
     let mut entries = four_bytes(exports).to_vec();
@@ -429,7 +433,7 @@ fn exports_module(exports: usize, types: usize) -> Vec<u8> {
     .concat()
 }
 
-/// Three digits of base 36.
+/// Returns the name of an export: three digits in base 36.
 fn export_name(number: usize) -> String {
     let digit = |number: usize| char::from_digit(number as u32 % 36, 36).expect("a digit");
     [digit(number / 1296), digit(number / 36), digit(number)]

@@ -1,4 +1,4 @@
-//! Each row of the file that the libraries share, whose head says its form.
+//! Runs each row of `bindings/rows.txt`, which all libraries share. The head of that file describes the format of rows.
 
 use std::collections::HashMap;
 use std::fmt::Write;
@@ -9,7 +9,7 @@ use tegvurn::{
 
 const ROWS: &str = include_str!("../../rows.txt");
 
-// The text of answers
+// The text of results
 
 fn type_name(ty: ValType) -> &'static str {
     match ty {
@@ -239,8 +239,8 @@ fn standard_hosts(engine: &Engine) -> Linker<State> {
 
 // The rows
 
-/// What rows speak of: the store, and its modules by number. A row may name a module that there is not, for which this crate has no handle:
-/// its answer is given here.
+/// The state of the rows: the modules of the file by name, the store, and the modules of the store by number. A row may name a number
+/// without a module, for which this crate has no handle. The result of such a row is made here ([`unknown_module`]).
 #[derive(Default)]
 struct Rows {
     bytes: HashMap<String, Vec<u8>>,
@@ -268,7 +268,7 @@ fn call(store: &mut Store<State>, function: Func, args: &[Val]) -> Result<Vec<Va
     Ok(results)
 }
 
-// An export is found by its name as it is listed.
+// Checks that an export is found by its name as it is listed.
 fn find(store: &mut Store<State>, instance: Instance, export: &Export) {
     let func = instance.get_func(store, &export.name);
     let global = instance.get_global(store, &export.name);
