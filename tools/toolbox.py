@@ -1,8 +1,13 @@
-"""What the tools share: reading arguments, and the list of crates."""
+"""What the tools share: reading arguments, the list of crates, and what was built from which files."""
 import argparse
+import hashlib
 import os
+import shutil
+import subprocess
 
 ROOT = os.path.abspath(os.path.join(os.path.dirname(__file__), ".."))
+# The programs and the library, as they are built.
+BUILT = [f"crates/{name}/out/{name}" for name in ("wasmrun", "wasminfo", "wasmserve")] + ["crates/tegvurn/out/libtegvurn.a"]
 
 
 def parser_of(doc):
@@ -34,6 +39,58 @@ def below(name, uses):
 
     visit(name)
     return found
+
+
+def version():
+    """Returns the version of the repository."""
+    with open(os.path.join(ROOT, "VERSION"), encoding="utf-8") as file:
+        return file.read().strip()
+
+
+def sources_of(crate):
+    """Returns the paths of the files that a crate is made from, with those of the crates below it."""
+    crates = [*below(crate, uses_of()), crate]
+    folders = [os.path.join(ROOT, "crates", name, part) for name in crates for part in ("src", "specs", "proofs")]
+    return sorted(os.path.join(at, name) for folder in folders for at, _, names in os.walk(folder) for name in names)
+
+
+def digest_of(crate, built):
+    """Returns a digest of the files that a crate is made from, of the toolchain, and of what was built."""
+    digest = hashlib.sha256(os.path.realpath(shutil.which("rt") or "").encode())
+    for path in [os.path.join(ROOT, "crates.txt"), *sources_of(crate), built]:
+        with open(path, "rb") as file:
+            digest.update(os.path.relpath(path, ROOT).encode() + b"\0" + hashlib.sha256(file.read()).digest())
+    return digest.hexdigest()
+
+
+def note_sources(crate, built):
+    """Notes beside what was built of a crate which files it was built from."""
+    with open(f"{built}.sources", "w", encoding="utf-8") as file:
+        file.write(digest_of(crate, built))
+
+
+def is_current(crate, built):
+    """Returns whether something was built from the files of a crate as they are: by what was noted, or by file times without a note."""
+    if not os.path.exists(built):
+        return False
+    note = f"{built}.sources"
+    if os.path.exists(note):
+        with open(note, encoding="utf-8") as file:
+            if file.read() == digest_of(crate, built):
+                return True
+        if os.path.getmtime(note) >= os.path.getmtime(built):
+            return False
+    return max(map(os.path.getmtime, sources_of(crate))) < os.path.getmtime(built)
+
+
+def clone_built(clone):
+    """Clones the repository into a folder, with the programs and the library that were built here, if they were."""
+    subprocess.run(["git", "clone", "--quiet", ROOT, clone], check=True)
+    for built in BUILT:
+        for path in (built, f"{built}.sources"):
+            if os.path.exists(os.path.join(ROOT, path)):
+                os.makedirs(os.path.dirname(os.path.join(clone, path)), exist_ok=True)
+                shutil.copy(os.path.join(ROOT, path), os.path.join(clone, path))
 
 
 def programs(doc, *names):

@@ -109,10 +109,9 @@ thrown() {
   "${CXX:-c++}" -std=c++11 -Wall -Wextra -I. -o "$BUILD/thrown" thrown.cpp "$BUILD/libtegvurn.a" && "$BUILD/thrown"
 }
 
-# Builds the example over the installed library, by the flags of pkg-config, shared and static, and runs it.
-installed() {
-  place=$(cd "$BUILD" && pwd)/installed
-  rm -rf "$place"
+# Builds the example over the library installed in a folder, by the flags of pkg-config, shared and static, and runs it.
+installed_in() {
+  place=$1
   $MAKE BUILD="$BUILD" CC="$CC" install PREFIX="$place" > /dev/null || return 1
   flags=$(PKG_CONFIG_PATH=$place/lib/pkgconfig pkg-config --cflags --libs tegvurn) || return 1
   # shellcheck disable=SC2086
@@ -122,6 +121,15 @@ installed() {
   # shellcheck disable=SC2086
   $CC -std=c11 -static -o "$place/example" example.c $flags || return 1
   compare "$place/example" "$plugin"
+}
+
+# Installs the library outside of the repository, in which the gate takes no links, and checks that it works there.
+installed() {
+  folder=$(mktemp -d) || return 1
+  installed_in "$folder"
+  ended=$?
+  rm -rf "$folder"
+  return $ended
 }
 
 run "global names" names

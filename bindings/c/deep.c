@@ -82,7 +82,7 @@ static size_t stack_used(const tegvurn *m) {
 static tegvurn *begin_painted(void) {
   const tegvurn_config config = {10 * LEVELS, 65535, 16, 100};
   tegvurn *m;
-  check(tegvurn_new(&config, NULL, 0, &m, NULL) == TEGVURN_DONE, "no embedding");
+  check(tegvurn_new(&config, NULL, 0, &m, NULL) == TEGVURN_STATUS_DONE, "no embedding");
   uint8_t *lowest = m->stack.at + m->stack.size - STACK_SIZE;
   memset(lowest, PAINT, (size_t)((uint8_t *)m->stack.inside - lowest));
   return m;
@@ -93,15 +93,15 @@ static void end_painted(tegvurn *m, const char *what) {
   size_t used = stack_used(m);
   if (most_used < used) most_used = used;
   if (used > MOST) printf("%zu bytes are too much: %s\n", used, what), failed++;
-  check(tegvurn_free(m) == TEGVURN_DONE, "it is not freed");
+  check(tegvurn_free(m) == TEGVURN_STATUS_DONE, "it is not freed");
 }
 
 /* Loads and links the module in `bytes`. */
 static void load(const char *what) {
   tegvurn *m = begin_painted();
   uint64_t number;
-  check(tegvurn_load(m, bytes, size, &number) == TEGVURN_DONE, "it is not loaded");
-  check(tegvurn_link(m, number, &number) == TEGVURN_DONE, "it is not linked");
+  check(tegvurn_load(m, bytes, size, &number) == TEGVURN_STATUS_DONE, "it is not loaded");
+  check(tegvurn_link(m, number, &number) == TEGVURN_STATUS_DONE, "it is not linked");
   end_painted(m, what);
 }
 
@@ -110,10 +110,10 @@ static void call_to_the_greatest_depth(void) {
   static const char recursion[] = "\0asm\1\0\0\0\1\4\1\x60\0\0\3\2\1\0\7\5\1\1f\0\0\x0a\6\1\4\0\x10\0\x0b";
   tegvurn *m = begin_painted();
   uint64_t number;
-  check(tegvurn_load(m, recursion, sizeof recursion - 1, &number) == TEGVURN_DONE, "it is not loaded");
-  check(tegvurn_link(m, number, &number) == TEGVURN_DONE, "it is not linked");
-  check(tegvurn_call(m, number, tegvurn_string("f"), NULL, 0, NULL, 0, NULL) == TEGVURN_EXHAUSTED, "it is not exhausted");
-  check(tegvurn_last(m)->number == TEGVURN_DEPTH, "it is exhausted otherwise");
+  check(tegvurn_load(m, recursion, sizeof recursion - 1, &number) == TEGVURN_STATUS_DONE, "it is not loaded");
+  check(tegvurn_link(m, number, &number) == TEGVURN_STATUS_DONE, "it is not linked");
+  check(tegvurn_call(m, number, tegvurn_string("f"), NULL, 0, NULL, 0, NULL) == TEGVURN_STATUS_EXHAUSTED, "it is not exhausted");
+  check(tegvurn_last(m)->number == TEGVURN_EXHAUSTION_DEPTH, "it is exhausted otherwise");
   end_painted(m, "a recursion to the depth of 65,535");
 }
 
@@ -124,10 +124,10 @@ static void list_many_exports(void) {
   uint64_t number;
   size_t count = 0;
   size = spell_exports(bytes, MANY_EXPORTS, MANY_TYPES);
-  check(tegvurn_load(m, bytes, size, &number) == TEGVURN_DONE, "it is not loaded");
-  check(tegvurn_link(m, number, &number) == TEGVURN_DONE, "it is not linked");
-  check(tegvurn_exports(m, number, &exports, &count) == TEGVURN_DONE && count == MANY_EXPORTS, "its exports are not listed");
-  check(tegvurn_find_export(m, number, tegvurn_string("000"), &found) == TEGVURN_DONE, "no export is found");
+  check(tegvurn_load(m, bytes, size, &number) == TEGVURN_STATUS_DONE, "it is not loaded");
+  check(tegvurn_link(m, number, &number) == TEGVURN_STATUS_DONE, "it is not linked");
+  check(tegvurn_exports(m, number, &exports, &count) == TEGVURN_STATUS_DONE && count == MANY_EXPORTS, "its exports are not listed");
+  check(tegvurn_find_export(m, number, tegvurn_string("000"), &found) == TEGVURN_STATUS_DONE, "no export is found");
   tegvurn_exports_free(exports);
   tegvurn_exports_free(found);
   end_painted(m, "many exports");
@@ -137,7 +137,7 @@ static void list_many_exports(void) {
 static void refuse_script(const char *what) {
   tegvurn *m = begin_painted();
   tegvurn_report report;
-  check(tegvurn_script(m, bytes, size, NULL, 0, &report) == TEGVURN_REFUSED, "it is not refused");
+  check(tegvurn_script(m, bytes, size, NULL, 0, &report) == TEGVURN_STATUS_REFUSED, "it is not refused");
   end_painted(m, what);
 }
 
@@ -156,8 +156,8 @@ static void load_too_much(void) {
     uint64_t number;
     send_short(m, ORDER_LOAD, NULL, zeros, MOST_BYTES + more);
     tegvurn_end proved = m->end;
-    check((proved.number == TEGVURN_LIMIT) == (more == 1), "another size is the greatest");
-    check(tegvurn_load(m, zeros, MOST_BYTES + more, &number) == TEGVURN_REFUSED, "it is not refused");
+    check((proved.number == TEGVURN_REFUSAL_LIMIT) == (more == 1), "another size is the greatest");
+    check(tegvurn_load(m, zeros, MOST_BYTES + more, &number) == TEGVURN_STATUS_REFUSED, "it is not refused");
     check(is_same_end(&m->end, &proved), "the C side refuses it in another way");
     end_painted(m, "a module that is too large");
   }

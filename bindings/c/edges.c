@@ -48,7 +48,7 @@ static bool nothing(void *context, tegvurn_host_call *call) {
   return true;
 }
 
-static const tegvurn_type i32_type[] = {TEGVURN_I32}, extern_type[] = {TEGVURN_EXTERNREF}, func_type[] = {TEGVURN_FUNCREF};
+static const tegvurn_type i32_type[] = {TEGVURN_TYPE_I32}, extern_type[] = {TEGVURN_TYPE_EXTERNREF}, func_type[] = {TEGVURN_TYPE_FUNCREF};
 static const tegvurn_config config = {1000000, 100, 16, 100};
 
 static tegvurn_host host_of(const char *name, const tegvurn_type *type, size_t count, tegvurn_callback callback, void *context) {
@@ -61,9 +61,9 @@ static tegvurn *embedding_of(struct asked *asked) {
                                 host_of("nothing", NULL, 0, nothing, asked)};
   tegvurn *embedding;
   uint64_t module = 9, instance = 9;
-  CHECK(tegvurn_new(&config, hosts, 3, &embedding, NULL) == TEGVURN_DONE);
-  CHECK(tegvurn_load(embedding, test_module, sizeof test_module, &module) == TEGVURN_DONE && module == 0);
-  CHECK(tegvurn_link(embedding, module, &instance) == TEGVURN_DONE && instance == 0);
+  CHECK(tegvurn_new(&config, hosts, 3, &embedding, NULL) == TEGVURN_STATUS_DONE);
+  CHECK(tegvurn_load(embedding, test_module, sizeof test_module, &module) == TEGVURN_STATUS_DONE && module == 0);
+  CHECK(tegvurn_link(embedding, module, &instance) == TEGVURN_STATUS_DONE && instance == 0);
   asked->embedding = embedding;
   return embedding;
 }
@@ -76,32 +76,32 @@ static tegvurn_status call_one(tegvurn *embedding, const char *name, tegvurn_val
 /* Returns whether the last call trapped in a host function with this code. */
 static bool trapped_with(const tegvurn *embedding, uint32_t code) {
   const tegvurn_end *end = tegvurn_last(embedding);
-  return end->status == TEGVURN_TRAP && end->number == TEGVURN_HOST_TRAP && end->code == code && !strcmp(end->name, "Host") &&
+  return end->status == TEGVURN_STATUS_TRAP && end->number == TEGVURN_TRAP_HOST && end->code == code && !strcmp(end->name, "Host") &&
          !strcmp(end->text, "host trap");
 }
 
 /* Who may call */
 
-/* Returns whether each call except tegvurn_free returns TEGVURN_BUSY and stores nothing, except that the count of results becomes 0. */
+/* Returns whether each call except tegvurn_free finds the embedding busy and stores nothing, except that the count of results becomes 0. */
 static bool is_closed(tegvurn *embedding) {
   uint64_t number = 7;
   tegvurn_value value = tegvurn_i32(7);
   tegvurn_export *exports = NULL;
   tegvurn_report report = {7, 7, 7, NULL};
   size_t count = 7, kept = 7;
-  return tegvurn_load(embedding, test_module, sizeof test_module, &number) == TEGVURN_BUSY &&
-         tegvurn_link(embedding, 0, &number) == TEGVURN_BUSY &&
-         tegvurn_register(embedding, 0, tegvurn_string("m")) == TEGVURN_BUSY &&
-         tegvurn_call(embedding, 0, tegvurn_string("empty"), NULL, 0, &value, 1, &count) == TEGVURN_BUSY && count == 0 &&
-         tegvurn_get_global(embedding, 0, tegvurn_string("number"), &value) == TEGVURN_BUSY &&
-         tegvurn_set_fuel(embedding, 7) == TEGVURN_BUSY && tegvurn_fuel_left(embedding, &number) == TEGVURN_BUSY &&
-         tegvurn_exports(embedding, 0, &exports, &kept) == TEGVURN_BUSY && kept == 7 &&
-         tegvurn_find_export(embedding, 0, tegvurn_string("number"), &exports) == TEGVURN_BUSY && !exports &&
-         tegvurn_script(embedding, "{}", 2, NULL, 0, &report) == TEGVURN_BUSY && report.passed == 7 && number == 7 && value.i32 == 7;
+  return tegvurn_load(embedding, test_module, sizeof test_module, &number) == TEGVURN_STATUS_BUSY &&
+         tegvurn_link(embedding, 0, &number) == TEGVURN_STATUS_BUSY &&
+         tegvurn_register(embedding, 0, tegvurn_string("m")) == TEGVURN_STATUS_BUSY &&
+         tegvurn_call(embedding, 0, tegvurn_string("empty"), NULL, 0, &value, 1, &count) == TEGVURN_STATUS_BUSY && count == 0 &&
+         tegvurn_get_global(embedding, 0, tegvurn_string("number"), &value) == TEGVURN_STATUS_BUSY &&
+         tegvurn_set_fuel(embedding, 7) == TEGVURN_STATUS_BUSY && tegvurn_fuel_left(embedding, &number) == TEGVURN_STATUS_BUSY &&
+         tegvurn_exports(embedding, 0, &exports, &kept) == TEGVURN_STATUS_BUSY && kept == 7 &&
+         tegvurn_find_export(embedding, 0, tegvurn_string("number"), &exports) == TEGVURN_STATUS_BUSY && !exports &&
+         tegvurn_script(embedding, "{}", 2, NULL, 0, &report) == TEGVURN_STATUS_BUSY && report.passed == 7 && number == 7 && value.i32 == 7;
 }
 
-/* Returns whether each call returns TEGVURN_BUSY. */
-static bool is_all_busy(tegvurn *embedding) { return is_closed(embedding) && tegvurn_free(embedding) == TEGVURN_BUSY; }
+/* Returns whether each call returns TEGVURN_STATUS_BUSY. */
+static bool is_all_busy(tegvurn *embedding) { return is_closed(embedding) && tegvurn_free(embedding) == TEGVURN_STATUS_BUSY; }
 
 /* Runs a function on a new thread and waits for its end. */
 static void run_on_thread(void *(*function)(void *), void *argument) {
@@ -120,7 +120,7 @@ static void *find_busy(void *embedding) {
 }
 
 static void *free_it(void *embedding) {
-  CHECK(tegvurn_free(embedding) == TEGVURN_DONE);
+  CHECK(tegvurn_free(embedding) == TEGVURN_STATUS_DONE);
   return NULL;
 }
 
@@ -133,7 +133,7 @@ static void *make_it(void *asked) {
 static bool ask_busily(struct asked *asked, tegvurn_host_call *call) {
   CHECK(is_all_busy(asked->embedding));
   run_on_thread(find_busy, asked->embedding);
-  CHECK(tegvurn_last(asked->embedding)->status == TEGVURN_DONE);
+  CHECK(tegvurn_last(asked->embedding)->status == TEGVURN_STATUS_DONE);
   call->results[0] = tegvurn_i32(call->args[0].i32 + 1);
   return true;
 }
@@ -142,14 +142,14 @@ static void test_busy(void) {
   struct asked asked = {ask_busily, NULL, NULL, 0};
   tegvurn *embedding = embedding_of(&asked);
   tegvurn_value result;
-  CHECK(call_one(embedding, "ask", tegvurn_i32(41), &result) == TEGVURN_DONE && result.i32 == 42);
-  CHECK(call_one(embedding, "byte", tegvurn_i32(0), &result) == TEGVURN_DONE && result.i32 == 0);
+  CHECK(call_one(embedding, "ask", tegvurn_i32(41), &result) == TEGVURN_STATUS_DONE && result.i32 == 42);
+  CHECK(call_one(embedding, "byte", tegvurn_i32(0), &result) == TEGVURN_STATUS_DONE && result.i32 == 0);
   run_on_thread(find_closed, embedding);
-  CHECK(call_one(embedding, "trap", tegvurn_i32(0), &result) == TEGVURN_REFUSED);
+  CHECK(call_one(embedding, "trap", tegvurn_i32(0), &result) == TEGVURN_STATUS_REFUSED);
   run_on_thread(find_closed, embedding);
-  CHECK(tegvurn_last(embedding)->number == TEGVURN_BAD_ARGUMENTS);
-  CHECK(tegvurn_free(embedding) == TEGVURN_DONE);
-  CHECK(tegvurn_free(NULL) == TEGVURN_DONE);
+  CHECK(tegvurn_last(embedding)->number == TEGVURN_REFUSAL_BAD_ARGUMENTS);
+  CHECK(tegvurn_free(embedding) == TEGVURN_STATUS_DONE);
+  CHECK(tegvurn_free(NULL) == TEGVURN_STATUS_DONE);
 }
 
 /* Any thread may free an idle embedding. */
@@ -158,7 +158,7 @@ static void test_free_elsewhere(void) {
   tegvurn_value result;
   run_on_thread(free_it, embedding_of(&asked));
   tegvurn *embedding = embedding_of(&asked);
-  CHECK(call_one(embedding, "ask", tegvurn_i32(5), &result) == TEGVURN_DONE && result.i32 == 5);
+  CHECK(call_one(embedding, "ask", tegvurn_i32(5), &result) == TEGVURN_STATUS_DONE && result.i32 == 5);
   run_on_thread(free_it, embedding);
 }
 
@@ -168,7 +168,7 @@ static void test_ended_thread(void) {
   run_on_thread(make_it, &asked);
   CHECK(is_closed(asked.embedding));
   run_on_thread(find_closed, asked.embedding);
-  CHECK(tegvurn_free(asked.embedding) == TEGVURN_DONE);
+  CHECK(tegvurn_free(asked.embedding) == TEGVURN_STATUS_DONE);
 }
 
 /* Several embeddings */
@@ -192,14 +192,14 @@ static void test_nested(void) {
     embedding_of(&asked[i]);
   }
   for (uint32_t round = 1; round <= 3; round++) {
-    CHECK(call_one(asked[0].embedding, "ask", tegvurn_i32(100), &result) == TEGVURN_DONE && result.i32 == 100 + DEPTH - 1);
+    CHECK(call_one(asked[0].embedding, "ask", tegvurn_i32(100), &result) == TEGVURN_STATUS_DONE && result.i32 == 100 + DEPTH - 1);
     for (int i = 0; i < DEPTH; i++)
-      CHECK(call_one(asked[i].embedding, "byte", tegvurn_i32(0), &result) == TEGVURN_DONE && result.i32 == round);
+      CHECK(call_one(asked[i].embedding, "byte", tegvurn_i32(0), &result) == TEGVURN_STATUS_DONE && result.i32 == round);
   }
-  for (int i = 0; i < DEPTH; i += 2) CHECK(tegvurn_free(asked[i].embedding) == TEGVURN_DONE);
+  for (int i = 0; i < DEPTH; i += 2) CHECK(tegvurn_free(asked[i].embedding) == TEGVURN_STATUS_DONE);
   for (int i = 1; i < DEPTH; i += 2) {
-    CHECK(call_one(asked[i].embedding, "byte", tegvurn_i32(8), &result) == TEGVURN_DONE && result.i32 == 'h');
-    CHECK(tegvurn_free(asked[i].embedding) == TEGVURN_DONE);
+    CHECK(call_one(asked[i].embedding, "byte", tegvurn_i32(8), &result) == TEGVURN_STATUS_DONE && result.i32 == 'h');
+    CHECK(tegvurn_free(asked[i].embedding) == TEGVURN_STATUS_DONE);
   }
 }
 
@@ -213,7 +213,7 @@ static void *call_often(void *start) {
     is_right = is_right && !call_one(embedding, "ask", tegvurn_i32(number), &result) && result.i32 == number;
   }
   CHECK(is_right);
-  CHECK(tegvurn_free(embedding) == TEGVURN_DONE);
+  CHECK(tegvurn_free(embedding) == TEGVURN_STATUS_DONE);
   return NULL;
 }
 
@@ -239,7 +239,7 @@ static void tick(int number) {
   if (is_in_handler) return;
   is_in_handler = 1;
   tegvurn_status own = tegvurn_fuel_left(interrupted.own, &fuel);
-  if (own == TEGVURN_BUSY) busy_ticks++;
+  if (own == TEGVURN_STATUS_BUSY) busy_ticks++;
   else if (own) wrong_ticks++;
   if (tegvurn_set_fuel(interrupted.other, wanted) || tegvurn_fuel_left(interrupted.other, &fuel) || fuel != wanted) wrong_ticks++;
   ticks++;
@@ -265,7 +265,7 @@ static void test_signals(void) {
   bool is_right = true;
   interrupted.own = embedding_of(&asked), interrupted.other = embedding_of(&other);
   CHECK(!sigaction(SIGALRM, &action, NULL));
-  CHECK(call_one(interrupted.own, "ask", tegvurn_i32(7), &result) == TEGVURN_DONE && result.i32 == 0);
+  CHECK(call_one(interrupted.own, "ask", tegvurn_i32(7), &result) == TEGVURN_STATUS_DONE && result.i32 == 0);
   CHECK(ticks == 1 && busy_ticks == 1);
   set_timer(3000);
   while (is_right && ticks < TICKS) {
@@ -276,7 +276,7 @@ static void test_signals(void) {
   /* A signal may still be on its way. */
   CHECK(signal(SIGALRM, SIG_IGN) == tick);
   CHECK(is_right && busy_ticks > 1 && wrong_ticks == 0);
-  CHECK(tegvurn_free(interrupted.own) == TEGVURN_DONE && tegvurn_free(interrupted.other) == TEGVURN_DONE);
+  CHECK(tegvurn_free(interrupted.own) == TEGVURN_STATUS_DONE && tegvurn_free(interrupted.other) == TEGVURN_STATUS_DONE);
 }
 
 /* Values, results and their room */
@@ -288,14 +288,15 @@ static void test_room(void) {
   for (size_t room = 0; room <= 3; room++) {
     tegvurn_value results[3] = {tegvurn_i32(77), tegvurn_i32(77), tegvurn_i32(77)};
     size_t count = 99;
-    CHECK(tegvurn_call(embedding, 0, two, NULL, 0, room ? results : NULL, room, &count) == (room < 2 ? TEGVURN_NO_ROOM : TEGVURN_DONE));
+    tegvurn_status wanted = room < 2 ? TEGVURN_STATUS_NO_ROOM : TEGVURN_STATUS_DONE;
+    CHECK(tegvurn_call(embedding, 0, two, NULL, 0, room ? results : NULL, room, &count) == wanted);
     CHECK(count == 2 && results[2].i32 == 77);
-    CHECK(room < 1 ? results[0].i32 == 77 : results[0].type == TEGVURN_I32 && results[0].i32 == 1);
-    CHECK(room < 2 ? results[1].i32 == 77 : results[1].type == TEGVURN_I64 && results[1].i64 == 0xFFFFFFFFFFFFFFFEu);
-    CHECK(tegvurn_last(embedding)->status == (room < 2 ? TEGVURN_NO_ROOM : TEGVURN_DONE));
+    CHECK(room < 1 ? results[0].i32 == 77 : results[0].type == TEGVURN_TYPE_I32 && results[0].i32 == 1);
+    CHECK(room < 2 ? results[1].i32 == 77 : results[1].type == TEGVURN_TYPE_I64 && results[1].i64 == 0xFFFFFFFFFFFFFFFEu);
+    CHECK(tegvurn_last(embedding)->status == wanted);
   }
-  CHECK(tegvurn_call(embedding, 0, two, NULL, 0, NULL, 0, NULL) == TEGVURN_NO_ROOM);
-  CHECK(tegvurn_call(embedding, 0, tegvurn_string("empty"), NULL, 0, NULL, 0, NULL) == TEGVURN_DONE);
+  CHECK(tegvurn_call(embedding, 0, two, NULL, 0, NULL, 0, NULL) == TEGVURN_STATUS_NO_ROOM);
+  CHECK(tegvurn_call(embedding, 0, tegvurn_string("empty"), NULL, 0, NULL, 0, NULL) == TEGVURN_STATUS_DONE);
   tegvurn_free(embedding);
 }
 
@@ -303,18 +304,18 @@ static void test_references(void) {
   struct asked asked = {NULL, NULL, NULL, 0};
   tegvurn *embedding = embedding_of(&asked);
   tegvurn_value result;
-  CHECK(call_one(embedding, "keep", tegvurn_null(TEGVURN_EXTERNREF), &result) == TEGVURN_DONE);
-  CHECK(result.type == TEGVURN_EXTERNREF && result.is_null);
+  CHECK(call_one(embedding, "keep", tegvurn_null(TEGVURN_TYPE_EXTERNREF), &result) == TEGVURN_STATUS_DONE);
+  CHECK(result.type == TEGVURN_TYPE_EXTERNREF && result.is_null);
   const uint32_t numbers[] = {0, 1, 7, 0xFFFFFFFFu};
   for (int i = 0; i < 4; i++) {
-    CHECK(call_one(embedding, "keep", tegvurn_ref(TEGVURN_EXTERNREF, numbers[i]), &result) == TEGVURN_DONE);
-    CHECK(result.type == TEGVURN_EXTERNREF && !result.is_null && result.ref == numbers[i]);
+    CHECK(call_one(embedding, "keep", tegvurn_ref(TEGVURN_TYPE_EXTERNREF, numbers[i]), &result) == TEGVURN_STATUS_DONE);
+    CHECK(result.type == TEGVURN_TYPE_EXTERNREF && !result.is_null && result.ref == numbers[i]);
   }
-  CHECK(tegvurn_call(embedding, 0, tegvurn_string("null"), NULL, 0, &result, 1, NULL) == TEGVURN_DONE);
-  CHECK(result.type == TEGVURN_FUNCREF && result.is_null);
-  CHECK(call_one(embedding, "keep", tegvurn_null(TEGVURN_FUNCREF), &result) == TEGVURN_REFUSED);
-  CHECK(tegvurn_get_global(embedding, 0, tegvurn_string("number"), &result) == TEGVURN_DONE);
-  CHECK(result.type == TEGVURN_I64 && !result.is_null && result.i64 == (uint64_t)-7);
+  CHECK(tegvurn_call(embedding, 0, tegvurn_string("null"), NULL, 0, &result, 1, NULL) == TEGVURN_STATUS_DONE);
+  CHECK(result.type == TEGVURN_TYPE_FUNCREF && result.is_null);
+  CHECK(call_one(embedding, "keep", tegvurn_null(TEGVURN_TYPE_FUNCREF), &result) == TEGVURN_STATUS_REFUSED);
+  CHECK(tegvurn_get_global(embedding, 0, tegvurn_string("number"), &result) == TEGVURN_STATUS_DONE);
+  CHECK(result.type == TEGVURN_TYPE_I64 && !result.is_null && result.i64 == (uint64_t)-7);
   tegvurn_free(embedding);
 }
 
@@ -336,12 +337,13 @@ static void test_traps(void) {
   const uint32_t codes[] = {0, 13, 0x80000000u, 0xFFFFFFFFu};
   for (int i = 0; i < 4; i++) {
     asked.number = codes[i];
-    CHECK(call_one(embedding, "ask", tegvurn_i32(5), &result) == TEGVURN_TRAP && trapped_with(embedding, codes[i]));
-    CHECK(tegvurn_set_fuel(embedding, 1000) == TEGVURN_DONE && tegvurn_last(embedding)->code == 0);
+    CHECK(call_one(embedding, "ask", tegvurn_i32(5), &result) == TEGVURN_STATUS_TRAP && trapped_with(embedding, codes[i]));
+    CHECK(tegvurn_set_fuel(embedding, 1000) == TEGVURN_STATUS_DONE && tegvurn_last(embedding)->code == 0);
   }
-  CHECK(tegvurn_call(embedding, 0, tegvurn_string("trap"), NULL, 0, NULL, 0, NULL) == TEGVURN_TRAP);
+  CHECK(tegvurn_call(embedding, 0, tegvurn_string("trap"), NULL, 0, NULL, 0, NULL) == TEGVURN_STATUS_TRAP);
   const tegvurn_end *end = tegvurn_last(embedding);
-  CHECK(end->number == TEGVURN_UNREACHABLE && end->code == 0 && !strcmp(end->name, "Unreachable") && !strcmp(end->text, "unreachable"));
+  CHECK(end->number == TEGVURN_TRAP_UNREACHABLE && end->code == 0);
+  CHECK(!strcmp(end->name, "Unreachable") && !strcmp(end->text, "unreachable"));
   tegvurn_free(embedding);
 }
 
@@ -349,22 +351,23 @@ static void test_traps(void) {
 static void test_wrong_results(void) {
   struct asked asked = {answer_other, NULL, NULL, 0};
   tegvurn *embedding = embedding_of(&asked);
-  tegvurn_value result, others[] = {tegvurn_i64(0), tegvurn_null(TEGVURN_EXTERNREF), tegvurn_ref(TEGVURN_FUNCREF, 0), tegvurn_i32(0)};
+  const tegvurn_value reference = tegvurn_ref(TEGVURN_TYPE_FUNCREF, 0);
+  tegvurn_value result, others[] = {tegvurn_i64(0), tegvurn_null(TEGVURN_TYPE_EXTERNREF), reference, tegvurn_i32(0)};
   others[3].type = (tegvurn_type)5;
   for (int i = -1; i < 4; i++) {
     asked.other = i < 0 ? NULL : &others[i];
-    CHECK(call_one(embedding, "ask", tegvurn_i32(5), &result) == TEGVURN_TRAP && trapped_with(embedding, TEGVURN_WRONG_RESULTS));
-    asked.other = &(tegvurn_value){.type = TEGVURN_I32, .i32 = 6};
-    CHECK(call_one(embedding, "ask", tegvurn_i32(5), &result) == TEGVURN_DONE && result.type == TEGVURN_I32 && result.i32 == 6);
+    CHECK(call_one(embedding, "ask", tegvurn_i32(5), &result) == TEGVURN_STATUS_TRAP && trapped_with(embedding, TEGVURN_WRONG_RESULTS));
+    asked.other = &(tegvurn_value){.type = TEGVURN_TYPE_I32, .i32 = 6};
+    CHECK(call_one(embedding, "ask", tegvurn_i32(5), &result) == TEGVURN_STATUS_DONE && result.type == TEGVURN_TYPE_I32 && result.i32 == 6);
     asked.other = NULL;
-    CHECK(call_one(embedding, "ask", tegvurn_i32(5), &result) == TEGVURN_TRAP && trapped_with(embedding, TEGVURN_WRONG_RESULTS));
+    CHECK(call_one(embedding, "ask", tegvurn_i32(5), &result) == TEGVURN_STATUS_TRAP && trapped_with(embedding, TEGVURN_WRONG_RESULTS));
   }
-  tegvurn_value number = tegvurn_i32(0), function = tegvurn_null(TEGVURN_FUNCREF);
+  tegvurn_value number = tegvurn_i32(0), function = tegvurn_null(TEGVURN_TYPE_FUNCREF);
   asked.other = &number;
-  CHECK(call_one(embedding, "keep", tegvurn_null(TEGVURN_EXTERNREF), &result) == TEGVURN_TRAP);
+  CHECK(call_one(embedding, "keep", tegvurn_null(TEGVURN_TYPE_EXTERNREF), &result) == TEGVURN_STATUS_TRAP);
   CHECK(trapped_with(embedding, TEGVURN_WRONG_RESULTS));
   asked.other = &function;
-  CHECK(call_one(embedding, "keep", tegvurn_null(TEGVURN_EXTERNREF), &result) == TEGVURN_TRAP);
+  CHECK(call_one(embedding, "keep", tegvurn_null(TEGVURN_TYPE_EXTERNREF), &result) == TEGVURN_STATUS_TRAP);
   CHECK(trapped_with(embedding, TEGVURN_WRONG_RESULTS));
   tegvurn_free(embedding);
 }
@@ -391,17 +394,17 @@ static void test_memory(void) {
   struct asked asked = {look, NULL, NULL, 0};
   tegvurn *embedding = embedding_of(&asked);
   tegvurn_value result;
-  CHECK(call_one(embedding, "ask_outside", tegvurn_i32(0), &result) == TEGVURN_DONE && result.i32 == 1 && asked.number == 0);
-  CHECK(call_one(embedding, "ask", tegvurn_i32(1), &result) == TEGVURN_DONE && result.i32 == 1 && asked.number == 65536);
-  CHECK(call_one(embedding, "byte", tegvurn_i32(9), &result) == TEGVURN_DONE && result.i32 == 'a');
-  CHECK(call_one(embedding, "byte", tegvurn_i32(10), &result) == TEGVURN_DONE && result.i32 == 'l');
-  CHECK(call_one(embedding, "byte", tegvurn_i32(65535), &result) == TEGVURN_DONE && result.i32 == 'a');
-  CHECK(call_one(embedding, "ask_outside", tegvurn_i32(0), &result) == TEGVURN_DONE && result.i32 == 1 && asked.number == 0);
+  CHECK(call_one(embedding, "ask_outside", tegvurn_i32(0), &result) == TEGVURN_STATUS_DONE && result.i32 == 1 && asked.number == 0);
+  CHECK(call_one(embedding, "ask", tegvurn_i32(1), &result) == TEGVURN_STATUS_DONE && result.i32 == 1 && asked.number == 65536);
+  CHECK(call_one(embedding, "byte", tegvurn_i32(9), &result) == TEGVURN_STATUS_DONE && result.i32 == 'a');
+  CHECK(call_one(embedding, "byte", tegvurn_i32(10), &result) == TEGVURN_STATUS_DONE && result.i32 == 'l');
+  CHECK(call_one(embedding, "byte", tegvurn_i32(65535), &result) == TEGVURN_STATUS_DONE && result.i32 == 'a');
+  CHECK(call_one(embedding, "ask_outside", tegvurn_i32(0), &result) == TEGVURN_STATUS_DONE && result.i32 == 1 && asked.number == 0);
   asked.ask = overwrite;
-  CHECK(call_one(embedding, "ask", tegvurn_i32(1), &result) == TEGVURN_DONE && result.i32 == 3);
+  CHECK(call_one(embedding, "ask", tegvurn_i32(1), &result) == TEGVURN_STATUS_DONE && result.i32 == 3);
   tegvurn_value often = tegvurn_i32(1000);
   asked.number = 0;
-  CHECK(tegvurn_call(embedding, 0, tegvurn_string("loop"), &often, 1, NULL, 0, NULL) == TEGVURN_DONE && asked.number == 1000);
+  CHECK(tegvurn_call(embedding, 0, tegvurn_string("loop"), &often, 1, NULL, 0, NULL) == TEGVURN_STATUS_DONE && asked.number == 1000);
   tegvurn_free(embedding);
 }
 
@@ -422,15 +425,26 @@ static void test_new(void) {
   tegvurn *embedding = (tegvurn *)&config;
   tegvurn_end end;
   wrong.depth = 0;
-  CHECK(tegvurn_new(&wrong, NULL, 0, &embedding, &end) == TEGVURN_REFUSED && !embedding);
-  CHECK(end.status == TEGVURN_REFUSED && end.number == TEGVURN_BAD_SETUP && !strcmp(end.name, "BadSetup") && *end.text);
-  CHECK(tegvurn_new(&wrong, NULL, 0, &embedding, NULL) == TEGVURN_REFUSED && !embedding);
-  CHECK(new_with(host_of("ask", i32_type, 1, ask, &asked), &end) == TEGVURN_DONE && end.status == TEGVURN_DONE && !*end.text);
-  CHECK(new_with(host_of("ask", func_type, 1, ask, &asked), &end) == TEGVURN_REFUSED && end.number == TEGVURN_HOST_FUNCREF);
+  CHECK(tegvurn_new(&wrong, NULL, 0, &embedding, &end) == TEGVURN_STATUS_REFUSED && !embedding);
+  CHECK(end.status == TEGVURN_STATUS_REFUSED && end.number == TEGVURN_REFUSAL_BAD_SETUP && !strcmp(end.name, "BadSetup") && *end.text);
+  CHECK(tegvurn_new(&wrong, NULL, 0, &embedding, NULL) == TEGVURN_STATUS_REFUSED && !embedding);
+  CHECK(new_with(host_of("ask", i32_type, 1, ask, &asked), &end) == TEGVURN_STATUS_DONE && end.status == TEGVURN_STATUS_DONE && !*end.text);
+  CHECK(new_with(host_of("ask", func_type, 1, ask, &asked), &end) == TEGVURN_STATUS_REFUSED && end.number == TEGVURN_REFUSAL_HOST_FUNCREF);
   CHECK(!strcmp(end.name, "HostFuncRef"));
-  CHECK(new_with(host_of("ask", no_type, 1, ask, &asked), &end) == TEGVURN_NOT_SPELT && end.number == 0 && !strcmp(end.name, "NotSpelt"));
-  CHECK(new_with(host_of("\xff", i32_type, 1, ask, &asked), &end) == TEGVURN_NOT_SPELT);
-  CHECK(new_with(host_of("", NULL, 0, ask, &asked), &end) == TEGVURN_DONE);
+  CHECK(new_with(host_of("ask", no_type, 1, ask, &asked), &end) == TEGVURN_STATUS_NOT_SPELT && end.number == 0);
+  CHECK(!strcmp(end.name, "NotSpelt"));
+  CHECK(new_with(host_of("\xff", i32_type, 1, ask, &asked), &end) == TEGVURN_STATUS_NOT_SPELT);
+  CHECK(new_with(host_of("", NULL, 0, ask, &asked), &end) == TEGVURN_STATUS_DONE);
+}
+
+static void test_defaults(void) {
+  const tegvurn_config defaults = TEGVURN_DEFAULT_CONFIG;
+  CHECK(defaults.fuel == 1000000000 && defaults.depth == 1024 && defaults.pages == 1024 && defaults.entries == 1000000);
+  tegvurn *embedding;
+  uint64_t fuel = 0;
+  CHECK(tegvurn_new(&defaults, NULL, 0, &embedding, NULL) == TEGVURN_STATUS_DONE);
+  CHECK(tegvurn_fuel_left(embedding, &fuel) == TEGVURN_STATUS_DONE && fuel == defaults.fuel);
+  tegvurn_free(embedding);
 }
 
 /* Calls with null pointers */
@@ -447,12 +461,12 @@ static void check_rows(const struct row *rows, size_t count, tegvurn_status want
 #define CHECK_ROWS(rows, wanted) check_rows((rows), sizeof(rows) / sizeof *(rows), (wanted))
 
 /* Returns the status of tegvurn_new with this host function, if it makes no embedding and *end has the same status and the name BadPointer.
-   Otherwise returns TEGVURN_DONE. */
+   Otherwise returns TEGVURN_STATUS_DONE. */
 static tegvurn_status end_of_new(const tegvurn_host *hosts) {
-  tegvurn_end end = {.status = TEGVURN_DONE};
+  tegvurn_end end = {.status = TEGVURN_STATUS_DONE};
   tegvurn *embedding = (tegvurn *)&config;
   tegvurn_status status = tegvurn_new(&config, hosts, 1, &embedding, &end);
-  return !embedding && end.status == status && !strcmp(end.name, "BadPointer") ? status : TEGVURN_DONE;
+  return !embedding && end.status == status && !strcmp(end.name, "BadPointer") ? status : TEGVURN_STATUS_DONE;
 }
 
 static void test_new_without_pointers(void) {
@@ -473,7 +487,7 @@ static void test_new_without_pointers(void) {
       {"new without results", end_of_new(&results)},
       {"new without a callback", end_of_new(&callback)},
   };
-  CHECK_ROWS(rows, TEGVURN_BAD_POINTER);
+  CHECK_ROWS(rows, TEGVURN_STATUS_BAD_POINTER);
 }
 
 static void test_calls_without_embedding(void) {
@@ -495,9 +509,9 @@ static void test_calls_without_embedding(void) {
       {"script", tegvurn_script(NULL, "{}", 2, NULL, 0, &report)},
       {"how the last call ended", tegvurn_last(NULL)->status},
   };
-  CHECK_ROWS(rows, TEGVURN_BAD_POINTER);
+  CHECK_ROWS(rows, TEGVURN_STATUS_BAD_POINTER);
   CHECK(!strcmp(tegvurn_last(NULL)->name, "BadPointer") && !strcmp(tegvurn_last(NULL)->text, "a pointer is null"));
-  CHECK(tegvurn_free(NULL) == TEGVURN_DONE);
+  CHECK(tegvurn_free(NULL) == TEGVURN_STATUS_DONE);
   tegvurn_exports_free(NULL);
 }
 
@@ -512,7 +526,7 @@ static void test_calls_without_pointers(void) {
   tegvurn_report report;
   size_t count = 7;
   uint64_t fuel = 0, left = 0;
-  CHECK(tegvurn_fuel_left(embedding, &fuel) == TEGVURN_DONE);
+  CHECK(tegvurn_fuel_left(embedding, &fuel) == TEGVURN_STATUS_DONE);
   const struct row rows[] = {
       {"load without bytes", tegvurn_load(embedding, NULL, 1, &left)},
       {"load without a module", tegvurn_load(embedding, test_module, sizeof test_module, NULL)},
@@ -535,13 +549,13 @@ static void test_calls_without_pointers(void) {
       {"script without a report", tegvurn_script(embedding, "{}", 2, NULL, 0, NULL)},
       {"how the last call ended", tegvurn_last(embedding)->status},
   };
-  CHECK_ROWS(rows, TEGVURN_BAD_POINTER);
+  CHECK_ROWS(rows, TEGVURN_STATUS_BAD_POINTER);
   const tegvurn_end *end = tegvurn_last(embedding);
   CHECK(end->number == 0 && !strcmp(end->name, "BadPointer") && !strcmp(end->text, "a pointer is null"));
   CHECK(left == 0 && value.i32 == 7 && !exports && count == 0);
-  CHECK(tegvurn_fuel_left(embedding, &left) == TEGVURN_DONE && left == fuel);
-  CHECK(tegvurn_link(embedding, 1, &left) == TEGVURN_REFUSED && end->number == TEGVURN_UNKNOWN_MODULE);
-  CHECK(tegvurn_free(embedding) == TEGVURN_DONE);
+  CHECK(tegvurn_fuel_left(embedding, &left) == TEGVURN_STATUS_DONE && left == fuel);
+  CHECK(tegvurn_link(embedding, 1, &left) == TEGVURN_STATUS_REFUSED && end->number == TEGVURN_REFUSAL_UNKNOWN_MODULE);
+  CHECK(tegvurn_free(embedding) == TEGVURN_STATUS_DONE);
 }
 
 static void test_texts(void) {
@@ -550,26 +564,27 @@ static void test_texts(void) {
   tegvurn_value value = tegvurn_i32(1);
   tegvurn_export *export = NULL;
   uint64_t number;
-  CHECK(tegvurn_register(embedding, 0, tegvurn_string("\xc3")) == TEGVURN_NOT_SPELT);
-  CHECK(tegvurn_register(embedding, 0, (tegvurn_text){"", 0}) == TEGVURN_DONE);
-  CHECK(tegvurn_register(embedding, 0, tegvurn_string("host")) == TEGVURN_REFUSED);
+  CHECK(tegvurn_register(embedding, 0, tegvurn_string("\xc3")) == TEGVURN_STATUS_NOT_SPELT);
+  CHECK(tegvurn_register(embedding, 0, (tegvurn_text){"", 0}) == TEGVURN_STATUS_DONE);
+  CHECK(tegvurn_register(embedding, 0, tegvurn_string("host")) == TEGVURN_STATUS_REFUSED);
   CHECK(!strcmp(tegvurn_last(embedding)->name, "NameTaken") && !strcmp(tegvurn_last(embedding)->text, "a host function has the name"));
-  CHECK(tegvurn_get_global(embedding, 0, tegvurn_string("\xff"), &value) == TEGVURN_NOT_SPELT && value.i32 == 1);
-  CHECK(tegvurn_get_global(embedding, 0, (tegvurn_text){"number\0x", 8}, &value) == TEGVURN_REFUSED);
-  CHECK(tegvurn_last(embedding)->number == TEGVURN_UNKNOWN_EXPORT);
-  CHECK(tegvurn_get_global(embedding, 0, (tegvurn_text){"numbers", 6}, &value) == TEGVURN_DONE);
-  CHECK(call_one(embedding, "\xff", value, &value) == TEGVURN_NOT_SPELT);
-  CHECK(tegvurn_find_export(embedding, 0, tegvurn_string("\xff"), &export) == TEGVURN_NOT_SPELT && !export);
+  CHECK(tegvurn_get_global(embedding, 0, tegvurn_string("\xff"), &value) == TEGVURN_STATUS_NOT_SPELT && value.i32 == 1);
+  CHECK(tegvurn_get_global(embedding, 0, (tegvurn_text){"number\0x", 8}, &value) == TEGVURN_STATUS_REFUSED);
+  CHECK(tegvurn_last(embedding)->number == TEGVURN_REFUSAL_UNKNOWN_EXPORT);
+  CHECK(tegvurn_get_global(embedding, 0, (tegvurn_text){"numbers", 6}, &value) == TEGVURN_STATUS_DONE);
+  CHECK(call_one(embedding, "\xff", value, &value) == TEGVURN_STATUS_NOT_SPELT);
+  CHECK(tegvurn_find_export(embedding, 0, tegvurn_string("\xff"), &export) == TEGVURN_STATUS_NOT_SPELT && !export);
   value.type = (tegvurn_type)5;
-  CHECK(call_one(embedding, "ask", value, &value) == TEGVURN_NOT_SPELT);
-  CHECK(tegvurn_load(embedding, "\0asm\1\0\0", 7, &number) == TEGVURN_REFUSED);
+  CHECK(call_one(embedding, "ask", value, &value) == TEGVURN_STATUS_NOT_SPELT);
+  CHECK(tegvurn_load(embedding, "\0asm\1\0\0", 7, &number) == TEGVURN_STATUS_REFUSED);
   const tegvurn_end *end = tegvurn_last(embedding);
-  CHECK(end->number == TEGVURN_MALFORMED && end->place == TEGVURN_BYTE && end->at == 7 && !strcmp(end->text, "malformed module at byte 7"));
-  CHECK(tegvurn_set_fuel(embedding, 0) == TEGVURN_DONE && end->status == TEGVURN_DONE && end->number == 0);
-  CHECK(end->place == TEGVURN_NOWHERE && end->at == 0 && !*end->text && !strcmp(end->name, "Done"));
-  CHECK(tegvurn_load(embedding, NULL, 0, &number) == TEGVURN_REFUSED && end->place == TEGVURN_BYTE && end->at == 0);
-  CHECK(call_one(embedding, "byte", tegvurn_i32(0), &value) == TEGVURN_EXHAUSTED);
-  CHECK(end->number == TEGVURN_FUEL && !strcmp(end->name, "Fuel") && !strcmp(end->text, "out of fuel"));
+  CHECK(end->number == TEGVURN_REFUSAL_MALFORMED && end->place == TEGVURN_PLACE_BYTE && end->at == 7);
+  CHECK(!strcmp(end->text, "malformed module at byte 7"));
+  CHECK(tegvurn_set_fuel(embedding, 0) == TEGVURN_STATUS_DONE && end->status == TEGVURN_STATUS_DONE && end->number == 0);
+  CHECK(end->place == TEGVURN_PLACE_NONE && end->at == 0 && !*end->text && !strcmp(end->name, "Done"));
+  CHECK(tegvurn_load(embedding, NULL, 0, &number) == TEGVURN_STATUS_REFUSED && end->place == TEGVURN_PLACE_BYTE && end->at == 0);
+  CHECK(call_one(embedding, "byte", tegvurn_i32(0), &value) == TEGVURN_STATUS_EXHAUSTED);
+  CHECK(end->number == TEGVURN_EXHAUSTION_FUEL && !strcmp(end->name, "Fuel") && !strcmp(end->text, "out of fuel"));
   tegvurn_free(embedding);
 }
 
@@ -589,14 +604,14 @@ static void test_too_large(void) {
   for (int i = 0; i < 4; i++) {
     uint64_t module = 77;
     double start = seconds();
-    CHECK(tegvurn_load(embedding, bytes, sizes[i], &module) == TEGVURN_REFUSED && module == 77);
+    CHECK(tegvurn_load(embedding, bytes, sizes[i], &module) == TEGVURN_STATUS_REFUSED && module == 77);
     CHECK(seconds() - start < 0.1);
     const tegvurn_end *end = tegvurn_last(embedding);
-    CHECK(end->status == TEGVURN_REFUSED && end->number == TEGVURN_LIMIT && !strcmp(end->name, "Limit"));
-    CHECK(end->place == TEGVURN_NOWHERE && end->at == 0 && end->code == 0 && !strcmp(end->text, "a limit is passed"));
+    CHECK(end->status == TEGVURN_STATUS_REFUSED && end->number == TEGVURN_REFUSAL_LIMIT && !strcmp(end->name, "Limit"));
+    CHECK(end->place == TEGVURN_PLACE_NONE && end->at == 0 && end->code == 0 && !strcmp(end->text, "a limit is passed"));
   }
   munmap(bytes, sizes[1]);
-  CHECK(tegvurn_free(embedding) == TEGVURN_DONE);
+  CHECK(tegvurn_free(embedding) == TEGVURN_STATUS_DONE);
 }
 
 /* Arguments, a name and a file that are longer than any message before. */
@@ -608,16 +623,16 @@ static void test_long_messages(void) {
   for (int i = 0; i < 1000; i++) args[i] = tegvurn_i64(1);
   memset(name, 'a', sizeof name);
   tegvurn *embedding = embedding_of(&asked);
-  CHECK(tegvurn_call(embedding, 0, tegvurn_string("empty"), args, 1000, NULL, 0, NULL) == TEGVURN_REFUSED);
-  CHECK(tegvurn_last(embedding)->number == TEGVURN_BAD_ARGUMENTS);
+  CHECK(tegvurn_call(embedding, 0, tegvurn_string("empty"), args, 1000, NULL, 0, NULL) == TEGVURN_STATUS_REFUSED);
+  CHECK(tegvurn_last(embedding)->number == TEGVURN_REFUSAL_BAD_ARGUMENTS);
   tegvurn_free(embedding);
   embedding = embedding_of(&asked);
-  CHECK(tegvurn_call(embedding, 0, (tegvurn_text){name, sizeof name}, NULL, 0, NULL, 0, NULL) == TEGVURN_REFUSED);
-  CHECK(tegvurn_last(embedding)->number == TEGVURN_UNKNOWN_EXPORT);
+  CHECK(tegvurn_call(embedding, 0, (tegvurn_text){name, sizeof name}, NULL, 0, NULL, 0, NULL) == TEGVURN_STATUS_REFUSED);
+  CHECK(tegvurn_last(embedding)->number == TEGVURN_REFUSAL_UNKNOWN_EXPORT);
   tegvurn_free(embedding);
   embedding = embedding_of(&asked);
   const tegvurn_file file = {{name, sizeof name}, name, sizeof name};
-  CHECK(tegvurn_script(embedding, "{\"commands\":[]}", 15, &file, 1, &report) == TEGVURN_DONE && report.passed == 0);
+  CHECK(tegvurn_script(embedding, "{\"commands\":[]}", 15, &file, 1, &report) == TEGVURN_STATUS_DONE && report.passed == 0);
   tegvurn_free(embedding);
 }
 
@@ -639,23 +654,23 @@ static void test_copies(void) {
   *host = (tegvurn_host){{module, 4}, {name, 3}, types, 1, types, 1, ask, &asked};
   tegvurn *embedding;
   uint64_t number;
-  CHECK(tegvurn_new(&config, host, 1, &embedding, NULL) == TEGVURN_DONE);
+  CHECK(tegvurn_new(&config, host, 1, &embedding, NULL) == TEGVURN_STATUS_DONE);
   free(module), free(name), free(types), free(host);
   /* (module (import "host" "ask" (func (param i32) (result i32))) (export "f" (func 0))) */
   static const char bytes[] = "\0asm\1\0\0\0\1\6\1\x60\1\x7f\1\x7f\2\x0c\1\4host\3ask\0\0\7\5\1\1f\0\0";
   void *copy = copy_of(bytes, sizeof bytes - 1);
-  CHECK(tegvurn_load(embedding, copy, sizeof bytes - 1, &number) == TEGVURN_DONE);
+  CHECK(tegvurn_load(embedding, copy, sizeof bytes - 1, &number) == TEGVURN_STATUS_DONE);
   free(copy);
-  CHECK(tegvurn_link(embedding, number, &number) == TEGVURN_DONE);
-  tegvurn_value *value = copy_of(&(tegvurn_value){.type = TEGVURN_I32, .i32 = 9}, sizeof *value), result;
-  CHECK(tegvurn_call(embedding, number, tegvurn_string("f"), value, 1, &result, 1, NULL) == TEGVURN_DONE && result.i32 == 9);
+  CHECK(tegvurn_link(embedding, number, &number) == TEGVURN_STATUS_DONE);
+  tegvurn_value *value = copy_of(&(tegvurn_value){.type = TEGVURN_TYPE_I32, .i32 = 9}, sizeof *value), result;
+  CHECK(tegvurn_call(embedding, number, tegvurn_string("f"), value, 1, &result, 1, NULL) == TEGVURN_STATUS_DONE && result.i32 == 9);
   free(value);
   tegvurn_export *exports;
   size_t count;
-  CHECK(tegvurn_exports(embedding, number, &exports, &count) == TEGVURN_DONE && count == 1);
-  CHECK(tegvurn_free(embedding) == TEGVURN_DONE);
-  CHECK(!strcmp(exports[0].name.bytes, "f") && exports[0].name.size == 1 && exports[0].kind == TEGVURN_A_FUNCTION);
-  CHECK(exports[0].param_count == 1 && exports[0].params[0] == TEGVURN_I32 && exports[0].results[0] == TEGVURN_I32);
+  CHECK(tegvurn_exports(embedding, number, &exports, &count) == TEGVURN_STATUS_DONE && count == 1);
+  CHECK(tegvurn_free(embedding) == TEGVURN_STATUS_DONE);
+  CHECK(!strcmp(exports[0].name.bytes, "f") && exports[0].name.size == 1 && exports[0].kind == TEGVURN_KIND_FUNCTION);
+  CHECK(exports[0].param_count == 1 && exports[0].params[0] == TEGVURN_TYPE_I32 && exports[0].results[0] == TEGVURN_TYPE_I32);
   tegvurn_exports_free(exports);
 }
 
@@ -675,27 +690,27 @@ static void test_find_export(void) {
   tegvurn *embedding = embedding_of(&asked);
   tegvurn_export *exports, *export, *unchanged = NULL;
   size_t count;
-  CHECK(tegvurn_exports(embedding, 0, &exports, &count) == TEGVURN_DONE && count == 12);
+  CHECK(tegvurn_exports(embedding, 0, &exports, &count) == TEGVURN_STATUS_DONE && count == 12);
   for (size_t i = 0; i < count; i++) {
     const char *name = exports[i].name.bytes;
-    check(tegvurn_find_export(embedding, 0, tegvurn_string(name), &export) == TEGVURN_DONE, __LINE__, name);
+    check(tegvurn_find_export(embedding, 0, tegvurn_string(name), &export) == TEGVURN_STATUS_DONE, __LINE__, name);
     check(export->name.size == strlen(name) && !strcmp(export->name.bytes, name) && is_same_type(export, &exports[i]), __LINE__, name);
     tegvurn_exports_free(export);
   }
   tegvurn_exports_free(exports);
   const struct { const char *name; uint64_t instance; tegvurn_text text; tegvurn_refusal refusal; } rows[] = {
-      {"find in an unknown instance", 1, tegvurn_string("ask"), TEGVURN_UNKNOWN_INSTANCE},
-      {"find in the last instance", UINT64_MAX, tegvurn_string("ask"), TEGVURN_UNKNOWN_INSTANCE},
-      {"find an unknown export", 0, tegvurn_string("asks"), TEGVURN_UNKNOWN_EXPORT},
-      {"find an empty name", 0, {NULL, 0}, TEGVURN_UNKNOWN_EXPORT},
-      {"find a name and a zero byte", 0, {"ask\0", 4}, TEGVURN_UNKNOWN_EXPORT},
+      {"find in an unknown instance", 1, tegvurn_string("ask"), TEGVURN_REFUSAL_UNKNOWN_INSTANCE},
+      {"find in the last instance", UINT64_MAX, tegvurn_string("ask"), TEGVURN_REFUSAL_UNKNOWN_INSTANCE},
+      {"find an unknown export", 0, tegvurn_string("asks"), TEGVURN_REFUSAL_UNKNOWN_EXPORT},
+      {"find an empty name", 0, {NULL, 0}, TEGVURN_REFUSAL_UNKNOWN_EXPORT},
+      {"find a name and a zero byte", 0, {"ask\0", 4}, TEGVURN_REFUSAL_UNKNOWN_EXPORT},
   };
   for (size_t i = 0; i < sizeof rows / sizeof *rows; i++) {
     tegvurn_status status = tegvurn_find_export(embedding, rows[i].instance, rows[i].text, &unchanged);
     const tegvurn_end *end = tegvurn_last(embedding);
-    check(status == TEGVURN_REFUSED && end->number == rows[i].refusal && *end->text && !unchanged, __LINE__, rows[i].name);
+    check(status == TEGVURN_STATUS_REFUSED && end->number == rows[i].refusal && *end->text && !unchanged, __LINE__, rows[i].name);
   }
-  CHECK(tegvurn_free(embedding) == TEGVURN_DONE);
+  CHECK(tegvurn_free(embedding) == TEGVURN_STATUS_DONE);
 }
 
 /* Returns an embedding in which instance 0 exports a function under that many names. `types` is the number of its parameters, and of its
@@ -705,9 +720,9 @@ static tegvurn *embedding_with(size_t exports, size_t types) {
   tegvurn *embedding;
   uint64_t number;
   if (!bytes) exit(2);
-  CHECK(tegvurn_new(&config, NULL, 0, &embedding, NULL) == TEGVURN_DONE);
-  CHECK(tegvurn_load(embedding, bytes, spell_exports(bytes, exports, types), &number) == TEGVURN_DONE);
-  CHECK(tegvurn_link(embedding, number, &number) == TEGVURN_DONE && number == 0);
+  CHECK(tegvurn_new(&config, NULL, 0, &embedding, NULL) == TEGVURN_STATUS_DONE);
+  CHECK(tegvurn_load(embedding, bytes, spell_exports(bytes, exports, types), &number) == TEGVURN_STATUS_DONE);
+  CHECK(tegvurn_link(embedding, number, &number) == TEGVURN_STATUS_DONE && number == 0);
   free(bytes);
   return embedding;
 }
@@ -719,17 +734,18 @@ static void test_many_exports(void) {
   uint8_t name[4] = {0};
   size_t count;
   bool is_right = true;
-  CHECK(tegvurn_exports(embedding, 0, &exports, &count) == TEGVURN_DONE && count == MANY_EXPORTS);
+  CHECK(tegvurn_exports(embedding, 0, &exports, &count) == TEGVURN_STATUS_DONE && count == MANY_EXPORTS);
   spell_name(name, MANY_EXPORTS - 1);
-  CHECK(tegvurn_find_export(embedding, 0, tegvurn_string((char *)name), &last) == TEGVURN_DONE);
-  CHECK(tegvurn_free(embedding) == TEGVURN_DONE);
+  CHECK(tegvurn_find_export(embedding, 0, tegvurn_string((char *)name), &last) == TEGVURN_STATUS_DONE);
+  CHECK(tegvurn_free(embedding) == TEGVURN_STATUS_DONE);
   for (size_t i = 0; i < count; i++) {
     spell_name(name, i);
     is_right = is_right && exports[i].name.size == 3 && !memcmp(exports[i].name.bytes, name, 4) &&
                exports[i].params == exports[0].params && exports[i].results == exports[0].results;
   }
   CHECK(is_right && is_same_type(&exports[0], last) && is_same_type(&exports[count - 1], last));
-  for (size_t i = 0; i < MANY_TYPES; i++) is_right = is_right && last->params[i] == TEGVURN_I32 && last->results[i] == TEGVURN_I32;
+  for (size_t i = 0; i < MANY_TYPES; i++)
+    is_right = is_right && last->params[i] == TEGVURN_TYPE_I32 && last->results[i] == TEGVURN_TYPE_I32;
   CHECK(is_right && last->param_count == MANY_TYPES && last->result_count == MANY_TYPES && !memcmp(last->name.bytes, name, 4));
   tegvurn_exports_free(exports);
   tegvurn_exports_free(last);
@@ -751,7 +767,7 @@ static void test_find_among_more(void) {
     tegvurn_exports_free(export);
   }
   CHECK(is_right && seconds() - start < 0.5);
-  CHECK(tegvurn_free(embedding) == TEGVURN_DONE);
+  CHECK(tegvurn_free(embedding) == TEGVURN_STATUS_DONE);
 }
 
 /* Files are forgotten after a script, and after one of them is not accepted. */
@@ -762,12 +778,15 @@ static void test_files(void) {
   const tegvurn_file files[] = {{{"a", 1}, test_module, sizeof test_module}, {{"\xff", 1}, "", 0}};
   tegvurn_report report = {7, 7, 7, NULL};
   const tegvurn_end *end = tegvurn_last(embedding);
-  CHECK(tegvurn_script(embedding, json, sizeof json - 1, files, 2, &report) == TEGVURN_NOT_SPELT && end->status == TEGVURN_NOT_SPELT);
-  CHECK(tegvurn_script(embedding, json, sizeof json - 1, NULL, 0, &report) == TEGVURN_REFUSED && end->number == TEGVURN_MISSING_FILE);
-  CHECK(!strcmp(end->name, "MissingFile") && end->place == TEGVURN_COMMAND && end->at == 0 && report.passed == 7);
-  CHECK(tegvurn_script(embedding, json, sizeof json - 1, files, 1, &report) == TEGVURN_DONE);
+  CHECK(tegvurn_script(embedding, json, sizeof json - 1, files, 2, &report) == TEGVURN_STATUS_NOT_SPELT);
+  CHECK(end->status == TEGVURN_STATUS_NOT_SPELT);
+  CHECK(tegvurn_script(embedding, json, sizeof json - 1, NULL, 0, &report) == TEGVURN_STATUS_REFUSED);
+  CHECK(end->number == TEGVURN_REFUSAL_MISSING_FILE && !strcmp(end->name, "MissingFile"));
+  CHECK(end->place == TEGVURN_PLACE_COMMAND && end->at == 0 && report.passed == 7);
+  CHECK(tegvurn_script(embedding, json, sizeof json - 1, files, 1, &report) == TEGVURN_STATUS_DONE);
   CHECK(report.passed == 1 && report.failed == 0 && report.skipped == 0);
-  CHECK(tegvurn_script(embedding, json, sizeof json - 1, NULL, 0, &report) == TEGVURN_REFUSED && end->number == TEGVURN_MISSING_FILE);
+  CHECK(tegvurn_script(embedding, json, sizeof json - 1, NULL, 0, &report) == TEGVURN_STATUS_REFUSED);
+  CHECK(end->number == TEGVURN_REFUSAL_MISSING_FILE);
   tegvurn_free(embedding);
 }
 
@@ -787,7 +806,7 @@ static size_t spell_wide(uint8_t *bytes) {
   memcpy(to, head, sizeof head), to += sizeof head;
   for (int i = 0; i < 2; i++) {
     memcpy(to, width, sizeof width), to += sizeof width;
-    memset(to, TEGVURN_I32, WIDTH), to += WIDTH;
+    memset(to, TEGVURN_TYPE_I32, WIDTH), to += WIDTH;
   }
   memcpy(to, rest, sizeof rest);
   return (size_t)(to - bytes) + sizeof rest;
@@ -797,19 +816,19 @@ static void test_wide(void) {
   static tegvurn_type types[WIDTH];
   static tegvurn_value args[WIDTH], results[WIDTH];
   uint8_t bytes[2 * WIDTH + 100];
-  for (uint32_t i = 0; i < WIDTH; i++) types[i] = TEGVURN_I32, args[i] = tegvurn_i32(i);
+  for (uint32_t i = 0; i < WIDTH; i++) types[i] = TEGVURN_TYPE_I32, args[i] = tegvurn_i32(i);
   tegvurn_host host = host_of("ask", types, WIDTH, add_index, NULL);
   tegvurn *embedding;
   uint64_t number;
   size_t count;
-  CHECK(tegvurn_new(&config, &host, 1, &embedding, NULL) == TEGVURN_DONE);
-  CHECK(tegvurn_load(embedding, bytes, spell_wide(bytes), &number) == TEGVURN_DONE);
-  CHECK(tegvurn_link(embedding, number, &number) == TEGVURN_DONE);
+  CHECK(tegvurn_new(&config, &host, 1, &embedding, NULL) == TEGVURN_STATUS_DONE);
+  CHECK(tegvurn_load(embedding, bytes, spell_wide(bytes), &number) == TEGVURN_STATUS_DONE);
+  CHECK(tegvurn_link(embedding, number, &number) == TEGVURN_STATUS_DONE);
   for (size_t room = WIDTH; room; room = room / 2) {
     bool is_right = true;
     memset(results, 0, sizeof results);
     CHECK(tegvurn_call(embedding, number, tegvurn_string("f"), args, WIDTH, results, room, &count) ==
-          (room < WIDTH ? TEGVURN_NO_ROOM : TEGVURN_DONE));
+          (room < WIDTH ? TEGVURN_STATUS_NO_ROOM : TEGVURN_STATUS_DONE));
     for (uint32_t i = 0; i < WIDTH; i++) is_right = is_right && results[i].i32 == (i < room ? 2 * i : 0);
     CHECK(is_right && count == WIDTH);
   }
@@ -863,7 +882,7 @@ static void test_left_often(void) {
   for (int i = 0; i < LEFT_OFTEN; i++) {
     if (i == LEFT_OFTEN / 10) count_memory(&mappings_before, &pages_before);
     tegvurn *embedding = embedding_of(&asked);
-    is_right = is_right && is_left(embedding, i % 2 ? "ask" : "ask_outside") && tegvurn_abandon(embedding) == TEGVURN_DONE;
+    is_right = is_right && is_left(embedding, i % 2 ? "ask" : "ask_outside") && tegvurn_abandon(embedding) == TEGVURN_STATUS_DONE;
   }
   count_memory(&mappings, &pages);
   CHECK(is_right && asked.number == LEFT_OFTEN);
@@ -876,11 +895,11 @@ static void test_left_nested(void) {
   tegvurn_value result;
   embedding_of(&inner), embedding_of(&outer), embedding_of(&other);
   CHECK(is_left(outer.embedding, "ask") && is_all_busy(inner.embedding));
-  CHECK(tegvurn_abandon(outer.embedding) == TEGVURN_DONE && is_all_busy(inner.embedding));
-  CHECK(call_one(other.embedding, "ask", tegvurn_i32(1), &result) == TEGVURN_DONE && result.i32 == 1);
-  CHECK(tegvurn_abandon(inner.embedding) == TEGVURN_DONE);
-  CHECK(call_one(other.embedding, "ask", tegvurn_i32(2), &result) == TEGVURN_DONE && result.i32 == 2);
-  CHECK(tegvurn_free(other.embedding) == TEGVURN_DONE);
+  CHECK(tegvurn_abandon(outer.embedding) == TEGVURN_STATUS_DONE && is_all_busy(inner.embedding));
+  CHECK(call_one(other.embedding, "ask", tegvurn_i32(1), &result) == TEGVURN_STATUS_DONE && result.i32 == 1);
+  CHECK(tegvurn_abandon(inner.embedding) == TEGVURN_STATUS_DONE);
+  CHECK(call_one(other.embedding, "ask", tegvurn_i32(2), &result) == TEGVURN_STATUS_DONE && result.i32 == 2);
+  CHECK(tegvurn_free(other.embedding) == TEGVURN_STATUS_DONE);
 }
 
 /* The remaining commands of a script call no host function. */
@@ -891,9 +910,9 @@ static void test_left_script(void) {
   const tegvurn_file file = {{"a", 1}, test_module, sizeof test_module};
   static tegvurn_report report;
   embedding_of(&asked);
-  if (!setjmp(way_out)) CHECK(tegvurn_script(asked.embedding, json, sizeof json - 1, &file, 1, &report) == TEGVURN_BUSY);
+  if (!setjmp(way_out)) CHECK(tegvurn_script(asked.embedding, json, sizeof json - 1, &file, 1, &report) == TEGVURN_STATUS_BUSY);
   CHECK(is_all_busy(asked.embedding) && asked.number == 1);
-  CHECK(tegvurn_abandon(asked.embedding) == TEGVURN_DONE && asked.number == 1);
+  CHECK(tegvurn_abandon(asked.embedding) == TEGVURN_STATUS_DONE && asked.number == 1);
 }
 
 static bool end_thread(struct asked *asked, tegvurn_host_call *call) {
@@ -909,7 +928,7 @@ static void *call_to_the_end(void *asked) {
 }
 
 static void *abandon_it(void *embedding) {
-  CHECK(tegvurn_abandon(embedding) == TEGVURN_DONE);
+  CHECK(tegvurn_abandon(embedding) == TEGVURN_STATUS_DONE);
   return NULL;
 }
 
@@ -918,7 +937,7 @@ static void test_left_by_thread(void) {
   struct asked asked = {end_thread, NULL, NULL, 0};
   run_on_thread(call_to_the_end, &asked);
   CHECK(is_all_busy(asked.embedding));
-  CHECK(tegvurn_abandon(asked.embedding) == TEGVURN_DONE);
+  CHECK(tegvurn_abandon(asked.embedding) == TEGVURN_STATUS_DONE);
   run_on_thread(call_to_the_end, &asked);
   run_on_thread(abandon_it, asked.embedding);
 }
@@ -927,9 +946,9 @@ static void test_left_by_thread(void) {
 static void test_abandon_idle(void) {
   struct asked asked = {NULL, NULL, NULL, 0};
   tegvurn *embedding;
-  CHECK(tegvurn_abandon(NULL) == TEGVURN_DONE);
-  CHECK(tegvurn_new(&config, NULL, 0, &embedding, NULL) == TEGVURN_DONE && tegvurn_abandon(embedding) == TEGVURN_DONE);
-  CHECK(tegvurn_abandon(embedding_of(&asked)) == TEGVURN_DONE);
+  CHECK(tegvurn_abandon(NULL) == TEGVURN_STATUS_DONE);
+  CHECK(tegvurn_new(&config, NULL, 0, &embedding, NULL) == TEGVURN_STATUS_DONE && tegvurn_abandon(embedding) == TEGVURN_STATUS_DONE);
+  CHECK(tegvurn_abandon(embedding_of(&asked)) == TEGVURN_STATUS_DONE);
   run_on_thread(abandon_it, embedding_of(&asked));
 }
 
@@ -946,6 +965,7 @@ int main(void) {
   test_wrong_results();
   test_memory();
   test_new();
+  test_defaults();
   test_new_without_pointers();
   test_calls_without_embedding();
   test_calls_without_pointers();

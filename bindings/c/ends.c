@@ -103,17 +103,17 @@ static void test_no_beginning(void) {
   tegvurn *embedding = (tegvurn *)&config;
   tegvurn_end end;
   have_reply(0, NULL, 0, 4);
-  CHECK(tegvurn_new(&config, NULL, 0, &embedding, &end) == TEGVURN_REFUSED && !embedding);
-  CHECK(end.status == TEGVURN_REFUSED && end.number == TEGVURN_OUT_OF_MEMORY && !strcmp(end.name, "OutOfMemory"));
+  CHECK(tegvurn_new(&config, NULL, 0, &embedding, &end) == TEGVURN_STATUS_REFUSED && !embedding);
+  CHECK(end.status == TEGVURN_STATUS_REFUSED && end.number == TEGVURN_REFUSAL_OUT_OF_MEMORY && !strcmp(end.name, "OutOfMemory"));
   CHECK(!strcmp(end.text, "out of memory"));
   have_reply(0, NULL, 0, 0);
-  CHECK(tegvurn_new(&config, NULL, 0, &embedding, &end) == TEGVURN_OVER && !embedding);
-  CHECK(end.status == TEGVURN_OVER && !strcmp(end.name, "Over"));
+  CHECK(tegvurn_new(&config, NULL, 0, &embedding, &end) == TEGVURN_STATUS_OVER && !embedding);
+  CHECK(end.status == TEGVURN_STATUS_OVER && !strcmp(end.name, "Over"));
   have_reply(0, NULL, 0, 3);
-  CHECK(tegvurn_new(&config, NULL, 0, &embedding, NULL) == TEGVURN_OVER && !embedding);
+  CHECK(tegvurn_new(&config, NULL, 0, &embedding, NULL) == TEGVURN_STATUS_OVER && !embedding);
 }
 
-/* Calls after the end of the stand-in return `TEGVURN_OVER`, and change nothing. */
+/* Calls after the end of the stand-in return `TEGVURN_STATUS_OVER`, and change nothing. */
 static void test_over(void) {
   uint64_t number = 77;
   tegvurn_value value = tegvurn_i32(5);
@@ -122,29 +122,29 @@ static void test_over(void) {
   size_t count = 3;
   have_reply(2, NULL, 0, 0);
   tegvurn *embedding = embedding_of();
-  CHECK(embedding && tegvurn_set_fuel(embedding, 1) == TEGVURN_DONE);
-  CHECK(tegvurn_set_fuel(embedding, 1) == TEGVURN_OVER);
-  CHECK(tegvurn_load(embedding, "", 0, &number) == TEGVURN_OVER && number == 77);
-  CHECK(tegvurn_link(embedding, 0, &number) == TEGVURN_OVER && number == 77);
-  CHECK(tegvurn_register(embedding, 0, tegvurn_string("m")) == TEGVURN_OVER);
-  CHECK(tegvurn_call(embedding, 0, tegvurn_string("f"), NULL, 0, &value, 1, &count) == TEGVURN_OVER && !count && value.i32 == 5);
-  CHECK(tegvurn_get_global(embedding, 0, tegvurn_string("g"), &value) == TEGVURN_OVER && value.i32 == 5);
-  CHECK(tegvurn_fuel_left(embedding, &number) == TEGVURN_OVER && number == 77);
-  CHECK(tegvurn_exports(embedding, 0, &exports, &count) == TEGVURN_OVER);
-  CHECK(tegvurn_find_export(embedding, 0, tegvurn_string("f"), &exports) == TEGVURN_OVER);
-  CHECK(tegvurn_script(embedding, "", 0, NULL, 0, &report) == TEGVURN_OVER);
+  CHECK(embedding && tegvurn_set_fuel(embedding, 1) == TEGVURN_STATUS_DONE);
+  CHECK(tegvurn_set_fuel(embedding, 1) == TEGVURN_STATUS_OVER);
+  CHECK(tegvurn_load(embedding, "", 0, &number) == TEGVURN_STATUS_OVER && number == 77);
+  CHECK(tegvurn_link(embedding, 0, &number) == TEGVURN_STATUS_OVER && number == 77);
+  CHECK(tegvurn_register(embedding, 0, tegvurn_string("m")) == TEGVURN_STATUS_OVER);
+  CHECK(tegvurn_call(embedding, 0, tegvurn_string("f"), NULL, 0, &value, 1, &count) == TEGVURN_STATUS_OVER && !count && value.i32 == 5);
+  CHECK(tegvurn_get_global(embedding, 0, tegvurn_string("g"), &value) == TEGVURN_STATUS_OVER && value.i32 == 5);
+  CHECK(tegvurn_fuel_left(embedding, &number) == TEGVURN_STATUS_OVER && number == 77);
+  CHECK(tegvurn_exports(embedding, 0, &exports, &count) == TEGVURN_STATUS_OVER);
+  CHECK(tegvurn_find_export(embedding, 0, tegvurn_string("f"), &exports) == TEGVURN_STATUS_OVER);
+  CHECK(tegvurn_script(embedding, "", 0, NULL, 0, &report) == TEGVURN_STATUS_OVER);
   const tegvurn_end *end = tegvurn_last(embedding);
-  CHECK(end->status == TEGVURN_OVER && !end->number && !strcmp(end->text, "the embedding has ended"));
-  CHECK(tegvurn_free(embedding) == TEGVURN_DONE);
+  CHECK(end->status == TEGVURN_STATUS_OVER && !end->number && !strcmp(end->text, "the embedding has ended"));
+  CHECK(tegvurn_free(embedding) == TEGVURN_STATUS_DONE);
 }
 
 /* The stand-in ends because memory for a reply ran out. */
 static void test_over_without_memory(void) {
   have_reply(2, NULL, 0, 4);
   tegvurn *embedding = embedding_of();
-  CHECK(embedding && tegvurn_set_fuel(embedding, 1) == TEGVURN_DONE);
+  CHECK(embedding && tegvurn_set_fuel(embedding, 1) == TEGVURN_STATUS_DONE);
   for (int i = 0; i < 2; i++) {
-    CHECK(tegvurn_set_fuel(embedding, 1) == TEGVURN_OVER && tegvurn_last(embedding)->number == TEGVURN_OUT_OF_MEMORY);
+    CHECK(tegvurn_set_fuel(embedding, 1) == TEGVURN_STATUS_OVER && tegvurn_last(embedding)->number == TEGVURN_REFUSAL_OUT_OF_MEMORY);
   }
   tegvurn_free(embedding);
 }
@@ -164,10 +164,10 @@ static void test_lent_pieces(void) {
     bool is_whole = lent_piece == 10;
     have_reply(2, NULL, 0, ASKS_FIRST);
     was_answered = false;
-    CHECK(tegvurn_new(&config, &host, 1, &embedding, NULL) == TEGVURN_DONE);
-    CHECK(tegvurn_set_fuel(embedding, 1) == TEGVURN_DONE && calls == is_whole && last_read == (is_whole ? 10 : -1));
-    CHECK(was_answered == is_whole && abandoned_inside == TEGVURN_BUSY);
-    CHECK(tegvurn_set_fuel(embedding, 1) == TEGVURN_DONE && calls == is_whole);
+    CHECK(tegvurn_new(&config, &host, 1, &embedding, NULL) == TEGVURN_STATUS_DONE);
+    CHECK(tegvurn_set_fuel(embedding, 1) == TEGVURN_STATUS_DONE && calls == is_whole && last_read == (is_whole ? 10 : -1));
+    CHECK(was_answered == is_whole && abandoned_inside == TEGVURN_STATUS_BUSY);
+    CHECK(tegvurn_set_fuel(embedding, 1) == TEGVURN_STATUS_DONE && calls == is_whole);
     tegvurn_free(embedding);
   }
 }
@@ -189,11 +189,11 @@ static void test_abandoned(void) {
   lent_piece = 10;
   have_reply(2, NULL, 0, ASKS_FIRST);
   was_answered = false;
-  CHECK(tegvurn_new(&config, &host, 1, &embedding, NULL) == TEGVURN_DONE);
-  CHECK(abandoned_inside == TEGVURN_BUSY);
-  if (!setjmp(way_out)) CHECK(tegvurn_set_fuel(embedding, 1) == TEGVURN_BUSY);
-  CHECK(calls == 1 && tegvurn_set_fuel(embedding, 1) == TEGVURN_BUSY && tegvurn_free(embedding) == TEGVURN_BUSY);
-  CHECK(embedding->state == ASKS && tegvurn_abandon(embedding) == TEGVURN_DONE && calls == 1);
+  CHECK(tegvurn_new(&config, &host, 1, &embedding, NULL) == TEGVURN_STATUS_DONE);
+  CHECK(abandoned_inside == TEGVURN_STATUS_BUSY);
+  if (!setjmp(way_out)) CHECK(tegvurn_set_fuel(embedding, 1) == TEGVURN_STATUS_BUSY);
+  CHECK(calls == 1 && tegvurn_set_fuel(embedding, 1) == TEGVURN_STATUS_BUSY && tegvurn_free(embedding) == TEGVURN_STATUS_BUSY);
+  CHECK(embedding->state == ASKS && tegvurn_abandon(embedding) == TEGVURN_STATUS_DONE && calls == 1);
   CHECK(!was_answered && read_last == 0 && written_last == -1);
 }
 
@@ -208,7 +208,7 @@ static void *take_often(void *embedding) {
   for (int times = 0; times < TAKEN_OFTEN;) {
     if (!take(embedding)) continue;
     times_taken++, times++;
-    finish(embedding, TEGVURN_DONE);
+    finish(embedding, TEGVURN_STATUS_DONE);
   }
   return NULL;
 }
@@ -220,14 +220,14 @@ static void test_take(void) {
   tegvurn *embedding = embedding_of();
   for (int i = 0; i < 2; i++) CHECK(!pthread_create(&threads[i], NULL, take_often, embedding));
   for (int i = 0; i < 2; i++) CHECK(!pthread_join(threads[i], NULL));
-  CHECK(times_taken == 2 * TAKEN_OFTEN && tegvurn_free(embedding) == TEGVURN_DONE);
+  CHECK(times_taken == 2 * TAKEN_OFTEN && tegvurn_free(embedding) == TEGVURN_STATUS_DONE);
 }
 
 /* Returns the status of an order that gets this reply. */
 static tegvurn_status status_of(const void *reply, size_t size) {
   have_reply(1, reply, size, GOES_ON);
   tegvurn *embedding = embedding_of();
-  tegvurn_status status = embedding ? tegvurn_set_fuel(embedding, 1) : TEGVURN_OVER;
+  tegvurn_status status = embedding ? tegvurn_set_fuel(embedding, 1) : TEGVURN_STATUS_OVER;
   tegvurn_free(embedding);
   return status;
 }
@@ -235,13 +235,13 @@ static tegvurn_status status_of(const void *reply, size_t size) {
 static void test_kinds_of_replies(void) {
   uint8_t head[HEAD] = {0};
   for (unsigned kind = 0; kind < 12; kind++) {
-    static const tegvurn_status wanted[] = {TEGVURN_DONE,    TEGVURN_DONE, TEGVURN_DONE, TEGVURN_TRAP,      TEGVURN_EXHAUSTED,
-                                            TEGVURN_REFUSED, TEGVURN_DONE, TEGVURN_DONE, TEGVURN_NOT_SPELT, TEGVURN_OVER,
-                                            TEGVURN_OVER,    TEGVURN_OVER};
+    static const tegvurn_status wanted[] = {TEGVURN_STATUS_DONE,      TEGVURN_STATUS_DONE,    TEGVURN_STATUS_DONE, TEGVURN_STATUS_TRAP,
+                                            TEGVURN_STATUS_EXHAUSTED, TEGVURN_STATUS_REFUSED, TEGVURN_STATUS_DONE, TEGVURN_STATUS_DONE,
+                                            TEGVURN_STATUS_NOT_SPELT, TEGVURN_STATUS_OVER,    TEGVURN_STATUS_OVER, TEGVURN_STATUS_OVER};
     head[NUMBER] = (uint8_t)kind;
     if (kind != REQUEST_CALL) CHECK(status_of(head, HEAD) == wanted[kind]);
   }
-  CHECK(status_of(head, HEAD - 1) == TEGVURN_OVER);
+  CHECK(status_of(head, HEAD - 1) == TEGVURN_STATUS_OVER);
 }
 
 /* Encodes a refusal with a text of that many bytes, in characters of two bytes. Returns its size. */
@@ -249,7 +249,7 @@ static size_t refusal(uint8_t *reply, uint64_t number, size_t text_size) {
   set_number(reply, 3 * NUMBER + text_size);
   set_number(reply + NUMBER, REPLY_REFUSED);
   set_number(reply + HEAD, number);
-  set_number(reply + HEAD + NUMBER, TEGVURN_BYTE);
+  set_number(reply + HEAD + NUMBER, TEGVURN_PLACE_BYTE);
   set_number(reply + HEAD + 2 * NUMBER, 11);
   for (size_t i = 0; i < text_size; i++) reply[HEAD + 3 * NUMBER + i] = i % 2 ? 0xA4 : 0xC3;
   return HEAD + 3 * NUMBER + text_size;
@@ -261,9 +261,9 @@ static void test_texts(void) {
   for (size_t i = 0; i < sizeof rows / sizeof *rows; i++) {
     have_reply(1, reply, refusal(reply, 1, rows[i].size), GOES_ON);
     tegvurn *embedding = embedding_of();
-    CHECK(tegvurn_set_fuel(embedding, 1) == TEGVURN_REFUSED);
+    CHECK(tegvurn_set_fuel(embedding, 1) == TEGVURN_STATUS_REFUSED);
     const tegvurn_end *end = tegvurn_last(embedding);
-    CHECK(end->number == 1 && !strcmp(end->name, "Malformed") && end->place == TEGVURN_BYTE && end->at == 11 && end->code == 0);
+    CHECK(end->number == 1 && !strcmp(end->name, "Malformed") && end->place == TEGVURN_PLACE_BYTE && end->at == 11 && end->code == 0);
     CHECK(strlen(end->text) == rows[i].kept && !memcmp(end->text, reply + HEAD + 3 * NUMBER, rows[i].kept));
     tegvurn_free(embedding);
   }
@@ -317,7 +317,7 @@ static tegvurn *embedding_with(const struct list *list, uint8_t *reply) {
   set_number((uint8_t *)&numbers[1], REPLY_REFUSED);
   have_reply(1, numbers, sizeof numbers, GOES_ON);
   tegvurn *embedding = embedding_of();
-  CHECK(tegvurn_find_export(embedding, 0, tegvurn_string("f"), &export) == TEGVURN_REFUSED);
+  CHECK(tegvurn_find_export(embedding, 0, tegvurn_string("f"), &export) == TEGVURN_STATUS_REFUSED);
   set_number(reply, list->size);
   set_number(reply + NUMBER, REPLY_EXPORTS);
   for (size_t i = 0; i < 16; i++) set_number(reply + HEAD + i * NUMBER, list->numbers[i]);
@@ -331,7 +331,7 @@ static void test_list(const struct list *list) {
   size_t count = 77;
   tegvurn *embedding = embedding_with(list, reply);
   tegvurn_status status = tegvurn_exports(embedding, 0, &exports, &count);
-  check(status == TEGVURN_DONE && count == list->count, __LINE__, list->name);
+  check(status == TEGVURN_STATUS_DONE && count == list->count, __LINE__, list->name);
   if (!status && count) check(is_as_listed(list, &exports[0]), __LINE__, list->name);
   for (size_t i = 1; i < count && !status; i++)
     check(exports[i].params == exports[0].params || exports[i].kind != exports[0].kind, __LINE__, list->name);
@@ -346,9 +346,9 @@ static void test_list_of_one(const struct list *list) {
   tegvurn *embedding = embedding_with(list, reply);
   tegvurn_status status = tegvurn_find_export(embedding, 0, tegvurn_string("f"), &export);
   const tegvurn_end *end = tegvurn_last(embedding);
-  bool is_unknown = end->number == TEGVURN_UNKNOWN_EXPORT && !strcmp(end->name, "UnknownExport") && *end->text;
-  if (list->count) check(status == TEGVURN_DONE && is_as_listed(list, export), __LINE__, list->name);
-  else check(status == TEGVURN_REFUSED && end->status == status && is_unknown && !export, __LINE__, list->name);
+  bool is_unknown = end->number == TEGVURN_REFUSAL_UNKNOWN_EXPORT && !strcmp(end->name, "UnknownExport") && *end->text;
+  if (list->count) check(status == TEGVURN_STATUS_DONE && is_as_listed(list, export), __LINE__, list->name);
+  else check(status == TEGVURN_STATUS_REFUSED && end->status == status && is_unknown && !export, __LINE__, list->name);
   tegvurn_exports_free(export);
   tegvurn_free(embedding);
 }

@@ -37,7 +37,7 @@ static void call_export(tegvurn *embedding, uint64_t plugin, const char *name, c
   size_t count;
   tegvurn_set_fuel(embedding, 1000);
   tegvurn_status status = tegvurn_call(embedding, plugin, tegvurn_string(name), args, arg_count, &result, 1, &count);
-  if (status != TEGVURN_DONE) printf("%s: %s\n", name, tegvurn_last(embedding)->text);
+  if (status != TEGVURN_STATUS_DONE) printf("%s: %s\n", name, tegvurn_last(embedding)->text);
   else if (count == 1) printf("%s: %u\n", name, result.i32);
   else printf("%s: done\n", name);
 }
@@ -47,15 +47,15 @@ static tegvurn_status run(tegvurn *embedding, const void *bytes, size_t size) {
   const tegvurn_value one_and_zero[] = {tegvurn_i32(1), tegvurn_i32(0)};
   uint64_t module, plugin;
   tegvurn_status status = tegvurn_load(embedding, bytes, size, &module);
-  if (status == TEGVURN_DONE) status = tegvurn_link(embedding, module, &plugin);
-  if (status != TEGVURN_DONE) return status;
+  if (status == TEGVURN_STATUS_DONE) status = tegvurn_link(embedding, module, &plugin);
+  if (status != TEGVURN_STATUS_DONE) return status;
   call_export(embedding, plugin, "greet", NULL, 0);
   call_export(embedding, plugin, "greet", NULL, 0);
   call_export(embedding, plugin, "divide", one_and_zero, 2);
   call_export(embedding, plugin, "write_outside", NULL, 0);
   call_export(embedding, plugin, "spin", NULL, 0);
   call_export(embedding, plugin, "nosuch", NULL, 0);
-  return TEGVURN_DONE;
+  return TEGVURN_STATUS_DONE;
 }
 
 int main(int argc, char **argv) {
@@ -67,7 +67,7 @@ int main(int argc, char **argv) {
 
   uint32_t calls = 0;
   struct text text = {"", 0};
-  const tegvurn_type numbers[] = {TEGVURN_I32, TEGVURN_I32};
+  const tegvurn_type numbers[] = {TEGVURN_TYPE_I32, TEGVURN_TYPE_I32};
   const tegvurn_host hosts[] = {
       {tegvurn_string("host"), tegvurn_string("count"), NULL, 0, numbers, 1, count, &calls},
       {tegvurn_string("host"), tegvurn_string("write"), numbers, 2, NULL, 0, write_text, &text},
@@ -75,10 +75,10 @@ int main(int argc, char **argv) {
   const tegvurn_config config = {.fuel = 1000, .depth = 100, .pages = 16, .entries = 100};
   tegvurn *embedding;
   tegvurn_end end;
-  if (tegvurn_new(&config, hosts, 2, &embedding, &end) != TEGVURN_DONE) return printf("no embedding: %s\n", end.text), EXIT_FAILURE;
+  if (tegvurn_new(&config, hosts, 2, &embedding, &end) != TEGVURN_STATUS_DONE) return printf("no embedding: %s\n", end.text), EXIT_FAILURE;
   tegvurn_status status = run(embedding, bytes, size);
-  if (status != TEGVURN_DONE) printf("no plug-in: %s\n", tegvurn_last(embedding)->text);
+  if (status != TEGVURN_STATUS_DONE) printf("no plug-in: %s\n", tegvurn_last(embedding)->text);
   printf("it wrote: %.*s\n", (int)text.size, text.bytes);
   tegvurn_free(embedding);
-  return status == TEGVURN_DONE ? EXIT_SUCCESS : EXIT_FAILURE;
+  return status == TEGVURN_STATUS_DONE ? EXIT_SUCCESS : EXIT_FAILURE;
 }

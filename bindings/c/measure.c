@@ -31,7 +31,7 @@ static bool echo(void *context, tegvurn_host_call *call) {
 }
 
 static tegvurn *embedding_of(void) {
-  static const tegvurn_type number[] = {TEGVURN_I32}, reference[] = {TEGVURN_EXTERNREF};
+  static const tegvurn_type number[] = {TEGVURN_TYPE_I32}, reference[] = {TEGVURN_TYPE_EXTERNREF};
   const tegvurn_host hosts[] = {
       {tegvurn_string("host"), tegvurn_string("ask"), number, 1, number, 1, echo, NULL},
       {tegvurn_string("host"), tegvurn_string("keep"), reference, 1, reference, 1, echo, NULL},

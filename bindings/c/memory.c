@@ -121,9 +121,9 @@ static struct answer answer_of(tegvurn_status status, uint64_t given) {
 }
 
 static struct answer make(void) {
-  static const tegvurn_type number[] = {TEGVURN_I32}, reference[] = {TEGVURN_EXTERNREF};
+  static const tegvurn_type number[] = {TEGVURN_TYPE_I32}, reference[] = {TEGVURN_TYPE_EXTERNREF};
   static tegvurn_type many[WIDTH];
-  for (int i = 0; i < WIDTH; i++) many[i] = TEGVURN_I64;
+  for (int i = 0; i < WIDTH; i++) many[i] = TEGVURN_TYPE_I64;
   const tegvurn_host hosts[] = {
       {tegvurn_string("host"), tegvurn_string("ask"), number, 1, number, 1, echo, NULL},
       {tegvurn_string("host"), tegvurn_string("keep"), reference, 1, reference, 1, echo, NULL},
@@ -159,7 +159,7 @@ static uint8_t *spell_number(uint8_t *to, unsigned number) {
 
 static uint8_t *spell_types(uint8_t *to, unsigned count) {
   to = spell_number(to, count);
-  memset(to, TEGVURN_I64, count);
+  memset(to, TEGVURN_TYPE_I64, count);
   return to + count;
 }
 
@@ -226,7 +226,7 @@ static struct answer call_for_more(void) {
   for (int i = 0; i < PARAMS; i++) args[i] = tegvurn_i64(0);
   memset(results, 0, sizeof results);
   tegvurn_status status = tegvurn_call(embedding, 1, tegvurn_string("g"), args, PARAMS, results, RESULTS, NULL);
-  for (int i = 0; i < RESULTS; i++) sum += results[i].type == TEGVURN_I64 ? results[i].i64 : 1000;
+  for (int i = 0; i < RESULTS; i++) sum += results[i].type == TEGVURN_TYPE_I64 ? results[i].i64 : 1000;
   return answer_of(status, sum);
 }
 
@@ -323,19 +323,21 @@ static void fail(size_t step, struct answer answer, const char *why) {
   failed++;
 }
 
-static bool is_as_wanted(size_t step, struct answer answer) { return answer.status == TEGVURN_DONE && answer.given == steps[step].wanted; }
+static bool is_as_wanted(size_t step, struct answer answer) {
+  return answer.status == TEGVURN_STATUS_DONE && answer.given == steps[step].wanted;
+}
 
 static bool says_no_memory(struct answer answer) {
-  return (answer.status == TEGVURN_REFUSED && answer.number == TEGVURN_OUT_OF_MEMORY) ||
-         (answer.status == TEGVURN_EXHAUSTED && answer.number == TEGVURN_MEMORY);
+  return (answer.status == TEGVURN_STATUS_REFUSED && answer.number == TEGVURN_REFUSAL_OUT_OF_MEMORY) ||
+         (answer.status == TEGVURN_STATUS_EXHAUSTED && answer.number == TEGVURN_EXHAUSTION_MEMORY);
 }
 
 /* Returns whether memory for a reply ran out. After that, no other call is done. */
-static bool is_over(struct answer answer) { return answer.status == TEGVURN_OVER && answer.number == TEGVURN_OUT_OF_MEMORY; }
+static bool is_over(struct answer answer) { return answer.status == TEGVURN_STATUS_OVER && answer.number == TEGVURN_REFUSAL_OUT_OF_MEMORY; }
 
 /* Returns whether commands of a script failed. A command fails if memory for it ran out. */
 static bool is_script_in_part(size_t step, struct answer answer) {
-  return steps[step].run == run_script && answer.status == TEGVURN_DONE && answer.given < COMMANDS;
+  return steps[step].run == run_script && answer.status == TEGVURN_STATUS_DONE && answer.given < COMMANDS;
 }
 
 /* Whether memory ran out in a call of this life. If all later allocations are refused too, later calls rely on what was not done: they are
@@ -343,7 +345,7 @@ static bool is_script_in_part(size_t step, struct answer answer) {
 static bool is_starved;
 
 static bool builds_on_refused(struct answer answer) {
-  return refuses_more && is_starved && (answer.status == TEGVURN_DONE || answer.status == TEGVURN_REFUSED);
+  return refuses_more && is_starved && (answer.status == TEGVURN_STATUS_DONE || answer.status == TEGVURN_STATUS_REFUSED);
 }
 
 /* Runs a step. Returns whether the next one can follow. */
@@ -374,7 +376,7 @@ static tegvurn_status leave_it(void) {
 
 /* Runs a whole life, at the end of which the embedding is freed or abandoned. Returns how many allocations there were. */
 static long live_once(bool is_abandoned) {
-  struct answer none = {TEGVURN_DONE, 0, 0};
+  struct answer none = {TEGVURN_STATUS_DONE, 0, 0};
   made = live = 0;
   is_starved = false;
   embedding = NULL;
@@ -405,18 +407,18 @@ static size_t measure_exports(void) {
   uint64_t number;
   live = 0;
   most_held = held;
-  check(tegvurn_new(&config, NULL, 0, &embedding, NULL) == TEGVURN_DONE, "many exports: no embedding");
-  check(tegvurn_load(embedding, bytes, size, &number) == TEGVURN_DONE, "many exports: not loaded");
-  check(tegvurn_link(embedding, number, &number) == TEGVURN_DONE, "many exports: not linked");
+  check(tegvurn_new(&config, NULL, 0, &embedding, NULL) == TEGVURN_STATUS_DONE, "many exports: no embedding");
+  check(tegvurn_load(embedding, bytes, size, &number) == TEGVURN_STATUS_DONE, "many exports: not loaded");
+  check(tegvurn_link(embedding, number, &number) == TEGVURN_STATUS_DONE, "many exports: not linked");
   size_t linked = most_held = held;
-  check(tegvurn_find_export(embedding, number, tegvurn_string("7cZ"), &found) == TEGVURN_DONE, "many exports: none is found");
+  check(tegvurn_find_export(embedding, number, tegvurn_string("7cZ"), &found) == TEGVURN_STATUS_DONE, "many exports: none is found");
   check(most_held - linked < MOST_FOUND, "many exports: one takes too much memory");
-  check(tegvurn_exports(embedding, number, &exports, &count) == TEGVURN_DONE && count == MANY_EXPORTS, "many exports: not listed");
+  check(tegvurn_exports(embedding, number, &exports, &count) == TEGVURN_STATUS_DONE && count == MANY_EXPORTS, "many exports: not listed");
   size_t listed = most_held - before;
   check(listed < MOST_LISTED, "many exports: their list takes too much memory");
   tegvurn_exports_free(found);
   tegvurn_exports_free(exports);
-  check(tegvurn_free(embedding) == TEGVURN_DONE && !live && held == before, "many exports: something is left allocated");
+  check(tegvurn_free(embedding) == TEGVURN_STATUS_DONE && !live && held == before, "many exports: something is left allocated");
   return listed;
 }
 

@@ -73,16 +73,16 @@ __attribute__((format(printf, 1, 2))) static void say(const char *form, ...) {
 
 static const char *type_name(tegvurn_type type) {
   switch (type) {
-    case TEGVURN_I32: return "i32";
-    case TEGVURN_I64: return "i64";
-    case TEGVURN_FUNCREF: return "funcref";
-    case TEGVURN_EXTERNREF: return "externref";
+    case TEGVURN_TYPE_I32: return "i32";
+    case TEGVURN_TYPE_I64: return "i64";
+    case TEGVURN_TYPE_FUNCREF: return "funcref";
+    case TEGVURN_TYPE_EXTERNREF: return "externref";
   }
   return "none";
 }
 
 static tegvurn_type read_type(const char *name) {
-  const tegvurn_type types[] = {TEGVURN_I32, TEGVURN_I64, TEGVURN_FUNCREF, TEGVURN_EXTERNREF};
+  const tegvurn_type types[] = {TEGVURN_TYPE_I32, TEGVURN_TYPE_I64, TEGVURN_TYPE_FUNCREF, TEGVURN_TYPE_EXTERNREF};
   for (size_t i = 0; i < 4; i++)
     if (!strcmp(name, type_name(types[i]))) return types[i];
   stop("no type", name);
@@ -102,15 +102,15 @@ static tegvurn_value read_value(char *word) {
   tegvurn_type type = read_type(word);
   const char *number = colon + 1;
   if (!strcmp(number, "null")) return tegvurn_null(type);
-  if (type == TEGVURN_I32) return tegvurn_i32((uint32_t)read_number(number));
-  if (type == TEGVURN_I64) return tegvurn_i64(read_number(number));
+  if (type == TEGVURN_TYPE_I32) return tegvurn_i32((uint32_t)read_number(number));
+  if (type == TEGVURN_TYPE_I64) return tegvurn_i64(read_number(number));
   return tegvurn_ref(type, (uint32_t)read_number(number));
 }
 
 static void say_value(tegvurn_value value) {
   const char *name = type_name(value.type);
-  if (value.type == TEGVURN_I32) say("%s:%" PRIu32, name, value.i32);
-  else if (value.type == TEGVURN_I64) say("%s:%" PRIu64, name, value.i64);
+  if (value.type == TEGVURN_TYPE_I32) say("%s:%" PRIu32, name, value.i32);
+  else if (value.type == TEGVURN_TYPE_I64) say("%s:%" PRIu64, name, value.i64);
   else if (value.is_null) say("%s:null", name);
   else say("%s:%" PRIu32, name, value.ref);
 }
@@ -130,29 +130,29 @@ static void say_limits(const tegvurn_export *export) {
 static void say_export(const tegvurn_export *export) {
   say("%.*s:", (int)export->name.size, export->name.bytes);
   switch (export->kind) {
-    case TEGVURN_A_FUNCTION:
+    case TEGVURN_KIND_FUNCTION:
       say("func");
       say_types(export->params, export->param_count);
       say_types(export->results, export->result_count);
       break;
-    case TEGVURN_A_TABLE:
+    case TEGVURN_KIND_TABLE:
       say("table(%s,", type_name(export->type));
       say_limits(export);
       break;
-    case TEGVURN_A_MEMORY:
+    case TEGVURN_KIND_MEMORY:
       say("memory(");
       say_limits(export);
       break;
-    case TEGVURN_A_GLOBAL: say("global(%s,%s)", type_name(export->type), export->is_mutable ? "var" : "const"); break;
+    case TEGVURN_KIND_GLOBAL: say("global(%s,%s)", type_name(export->type), export->is_mutable ? "var" : "const"); break;
   }
 }
 
 /* Appends how a call ended that was not done. */
 static void say_end(const tegvurn_end *end) {
   switch (end->status) {
-    case TEGVURN_REFUSED: say("refused %" PRIu32 " %d %" PRIu64, end->number, (int)end->place, end->at); break;
-    case TEGVURN_TRAP: say("trap %" PRIu32 " %" PRIu32, end->number, end->code); break;
-    case TEGVURN_EXHAUSTED: say("exhausted %" PRIu32, end->number); break;
+    case TEGVURN_STATUS_REFUSED: say("refused %" PRIu32 " %d %" PRIu64, end->number, (int)end->place, end->at); break;
+    case TEGVURN_STATUS_TRAP: say("trap %" PRIu32 " %" PRIu32, end->number, end->code); break;
+    case TEGVURN_STATUS_EXHAUSTED: say("exhausted %" PRIu32, end->number); break;
     default: say("%s", end->name); break;
   }
   if (!*end->name || !*end->text) say(" without words");
@@ -265,8 +265,8 @@ static tegvurn_host host_of(const char *name, const tegvurn_type *params, size_t
 }
 
 static void run_new(void) {
-  static const tegvurn_type ints[] = {TEGVURN_I32, TEGVURN_I32, TEGVURN_I32}, refs[] = {TEGVURN_EXTERNREF};
-  static const tegvurn_type wide_first[] = {TEGVURN_I64, TEGVURN_I32}, wide_last[] = {TEGVURN_I32, TEGVURN_I64};
+  static const tegvurn_type ints[] = {TEGVURN_TYPE_I32, TEGVURN_TYPE_I32, TEGVURN_TYPE_I32}, refs[] = {TEGVURN_TYPE_EXTERNREF};
+  static const tegvurn_type wide_first[] = {TEGVURN_TYPE_I64, TEGVURN_TYPE_I32}, wide_last[] = {TEGVURN_TYPE_I32, TEGVURN_TYPE_I64};
   tegvurn_type params[MOST_VALUES], results[MOST_VALUES];
   tegvurn_host hosts[9] = {
       host_of("count", NULL, 0, ints, 1, count),  host_of("add", ints, 2, ints, 1, add),

@@ -19,7 +19,7 @@ static int thrown_by(tegvurn *embedding) {
 
 /* Makes an embedding, leaves its callback and abandons it. Returns whether each step was right. */
 static bool is_right() {
-  const tegvurn_type i32_type[] = {TEGVURN_I32}, extern_type[] = {TEGVURN_EXTERNREF};
+  const tegvurn_type i32_type[] = {TEGVURN_TYPE_I32}, extern_type[] = {TEGVURN_TYPE_EXTERNREF};
   const tegvurn_host hosts[] = {
       {tegvurn_string("host"), tegvurn_string("ask"), i32_type, 1, i32_type, 1, leave, NULL},
       {tegvurn_string("host"), tegvurn_string("keep"), extern_type, 1, extern_type, 1, leave, NULL},
@@ -28,10 +28,10 @@ static bool is_right() {
   const tegvurn_config config = {1000, 100, 16, 100};
   tegvurn *embedding;
   uint64_t number;
-  return tegvurn_new(&config, hosts, 3, &embedding, NULL) == TEGVURN_DONE &&
-         tegvurn_load(embedding, test_module, sizeof test_module, &number) == TEGVURN_DONE &&
-         tegvurn_link(embedding, number, &number) == TEGVURN_DONE && thrown_by(embedding) == 7 &&
-         tegvurn_free(embedding) == TEGVURN_BUSY && tegvurn_abandon(embedding) == TEGVURN_DONE;
+  return tegvurn_new(&config, hosts, 3, &embedding, NULL) == TEGVURN_STATUS_DONE &&
+         tegvurn_load(embedding, test_module, sizeof test_module, &number) == TEGVURN_STATUS_DONE &&
+         tegvurn_link(embedding, number, &number) == TEGVURN_STATUS_DONE && thrown_by(embedding) == 7 &&
+         tegvurn_free(embedding) == TEGVURN_STATUS_BUSY && tegvurn_abandon(embedding) == TEGVURN_STATUS_DONE;
 }
 
 int main() {

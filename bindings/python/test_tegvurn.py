@@ -1,9 +1,10 @@
 #!/usr/bin/env python3
-"""Tests tegvurn.py: `python3 test_tegvurn.py [LIBRARY]`.
+"""Tests the package tegvurn: `python3 test_tegvurn.py [LIBRARY]`.
 
 The variable TEGVURN_LIBRARY can name the library too. Without a name, it is the one in bindings/c/build. The tests print how many passed
 and failed. The status is 1 if one failed.
 """
+import ast
 import copy
 import ctypes
 import gc
@@ -41,7 +42,7 @@ def give(value, wanted):
 
 
 def answer_with(host):
-    """Returns a host function of the rows as one of tegvurn.py."""
+    """Returns a host function of the rows as one of the package."""
 
     def answer(memory, *args):
         try:
@@ -775,7 +776,7 @@ class Last:
         kept[1].fuel
 last = Last()
 try:
-    tegvurn.Embedding()
+    tegvurn.Embedding(nosuch=1)
 except TypeError:
     tegvurn.Embedding.__new__(tegvurn.Embedding)
 """
@@ -800,12 +801,12 @@ def test_drops_by_other_threads(tests):
         tests.equal(count_mappings() - before < MANY, True, f"{name} whose thread has ended")
 
 
-# Functions of the header that tegvurn.py does not need. It never leaves a callback.
-NOT_USED = {"abandon"}
+# Functions of the header that the package does not need. It never leaves a callback.
+NOT_USED = {"abandon", "version"}
 
 
 def test_header(tests):
-    """The functions and structures of tegvurn.py are those of the header."""
+    """The functions and structures of the package are those of the header."""
     with open(os.path.join(HERE, "../c/tegvurn.h"), encoding="utf-8") as file:
         header = re.sub(r"/\*.*?\*/", "", file.read(), flags=re.DOTALL)
     declared = {name: args.count(",") + 1 for name, args in re.findall(r"TEGVURN_API [^()]*?tegvurn_(\w+)\(([^)]*)\)", header)}
@@ -816,6 +817,99 @@ def test_header(tests):
         fields = re.search(rf"typedef struct tegvurn_{in_c} {{(.*?)}} tegvurn_{in_c};", header, re.DOTALL)[1]
         wanted = re.findall(r"(\w+)(?:\[\w+\])?;", fields)
         tests.equal([field[0] for field in getattr(tegvurn, "_" + name)._fields_], wanted, f"the fields of tegvurn_{in_c}")
+
+
+def test_version(tests):
+    """The package and the library have the version of the repository."""
+    with open(os.path.join(HERE, "../../VERSION"), encoding="utf-8") as file:
+        version = file.read().strip()
+    version_of = ctypes.CDLL(os.environ["TEGVURN_LIBRARY"]).tegvurn_version
+    version_of.restype = ctypes.c_char_p
+    tests.equal((tegvurn.__version__, version_of().decode()), (version, version), "the version")
+
+
+def arguments_of(function):
+    """Returns the names of a function's arguments, and how many have defaults."""
+    args = function.args
+    rest = [arg.arg for arg in (args.vararg, args.kwarg) if arg]
+    return [arg.arg for arg in args.args] + rest, len(args.defaults)
+
+
+def declared_in(path):
+    """Returns the public classes of a file, each with the arguments of its methods."""
+    with open(path, encoding="utf-8") as file:
+        classes = [node for node in ast.parse(file.read()).body if isinstance(node, ast.ClassDef) and not node.name.startswith("_")]
+    is_public = lambda name: not name.startswith("_") or name.endswith("__")  # noqa: E731
+    methods = lambda node: [it for it in node.body if isinstance(it, ast.FunctionDef) and is_public(it.name)]  # noqa: E731
+    return {node.name: [(it.name, *arguments_of(it)) for it in methods(node)] for node in classes}
+
+
+def test_types(tests):
+    """The classes, methods and arguments of the package are those that its stub declares."""
+    stub = declared_in(os.path.join(HERE, "tegvurn/__init__.pyi"))
+    for name, methods in declared_in(os.path.join(HERE, "tegvurn/__init__.py")).items():
+        tests.equal(stub.pop(name, None), methods, f"the types of {name}")
+    fields = {name: list(getattr(tegvurn, name)._fields) for name in stub}
+    wanted = ["FunctionType", "GlobalType", "MemoryType", "Report", "TableType", "Value"]
+    tests.equal(sorted(fields), wanted, "the tuples of the stub")
+
+
+# (module
+#   (table 1 funcref) (memory 1)
+#   (func $f (export "frames") (param i32) local.get 0 if local.get 0 i32.const 1 i32.sub call $f end)
+#   (func (export "pages") (param i32) (result i32) local.get 0 memory.grow)
+#   (func (export "entries") (param i32) (result i32) ref.null func local.get 0 table.grow 0))
+BOUNDED = b"\0asm\1\0\0\0" + b"".join(
+    rows.section(number, items)
+    for number, items in [
+        (1, [b"\x60\1\x7f\0", b"\x60\1\x7f\1\x7f"]),
+        (3, [b"\0", b"\1", b"\1"]),
+        (4, [b"\x70\0\1"]),
+        (5, [b"\0\1"]),
+        (7, [b"\6frames\0\0", b"\5pages\0\1", b"\7entries\0\2"]),
+        (10, [b"\x0e\0 \0\4@ \0A\1k\x10\0\x0b\x0b", b"\6\0 \0@\0\x0b", b"\x09\0\xd0p \0\xfc\x0f\0\x0b"]),
+    ]
+)
+
+
+def test_defaults(tests):
+    """The defaults are those of docs/SPECIFICATION.md."""
+    with tegvurn.Embedding() as embedding:
+        tests.equal(embedding.fuel, 1_000_000_000, "the default fuel")
+        embedding.link(embedding.load(BOUNDED))
+        tests.equal(embedding.call(0, "frames", 1_023), [], "1,024 frames")
+        error = raised_by(embedding.call, 0, "frames", 1_024)
+        tests.equal((type(error), error.number), (tegvurn.Exhausted, tegvurn.ExhaustionNumber.DEPTH), "1,025 frames")
+        for name, most in (("pages", 1_024), ("entries", 1_000_000)):
+            found = [embedding.call(0, name, more) for more in (most - 1, 1)]
+            tests.equal(found, [[1], [2**32 - 1]], f"{most} {name}, and one more")
+
+
+def test_numbers(tests):
+    """The classes of numbers name the numbers of errors."""
+    with with_count(lambda _: [1]) as embedding:
+        for number, name, function in (
+            (tegvurn.RefusalNumber.UNKNOWN_EXPORT, "UnknownExport", lambda: embedding.call(0, "nosuch")),
+            (tegvurn.RefusalNumber.MALFORMED, "Malformed", lambda: embedding.load(b"")),
+            (tegvurn.TrapNumber.HOST, "Host", lambda: embedding.call(0, "fail", 7)),
+        ):
+            error = raised_by(function)
+            tests.equal((error.number, error.name), (number, name), f"the number of {name}")
+        embedding.fuel = 0
+        tests.equal(raised_by(embedding.call, 0, "count").number, tegvurn.ExhaustionNumber.FUEL, "the number of an exhaustion")
+
+
+# (module (import "m" "f" (func (result i32))) (export "f" (func 0)))
+IMPORTED = b"\0asm\1\0\0\0" + rows.section(1, [b"\x60\0\1\x7f"]) + rows.section(2, [b"\1m\1f\0\0"]) + rows.section(7, [b"\1f\0\0"])
+
+
+def test_later_types(tests):
+    """A host function keeps the types that it was defined with."""
+    results = ["i32"]
+    with tegvurn.Embedding(hosts={("m", "f"): (([], results), lambda _: [5, 6])}) as embedding:
+        embedding.link(embedding.load(IMPORTED))
+        results.append("i32")
+        tests.equal(type(raised_by(embedding.call, 0, "f")), ValueError, "a result too many, after the list of types has grown")
 
 
 def test_many(tests):

@@ -1,7 +1,7 @@
 //! Modules, instances, and what instances export.
 
 use crate::embedding::{kept, refused};
-use crate::error::{Cause, Error};
+use crate::error::{self, Cause, Error};
 use crate::store::Store;
 use crate::types::{ExternType, FuncType, Val};
 
@@ -62,7 +62,7 @@ impl Module {
 }
 
 fn wrong_kind() -> Error {
-    refused(Cause::WrongKind, None, "the export is of another kind")
+    refused(Cause::WrongKind, None, error::WRONG_KIND)
 }
 
 impl Instance {

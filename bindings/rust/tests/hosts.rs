@@ -217,6 +217,23 @@ fn what_closures_keep_is_dropped_where_there_is_no_store() {
 }
 
 #[test]
+fn the_defaults_are_those_of_the_specification() {
+    let Config {
+        fuel,
+        depth,
+        pages,
+        entries,
+    } = Config::default();
+    assert_eq!(
+        (fuel, depth, pages, entries),
+        (1_000_000_000, 1_024, 1_024, 1_000_000)
+    );
+    let engine = Engine::new(Config::default());
+    let mut store = Store::new(Linker::<()>::new(&engine), ()).expect("a store");
+    assert_eq!(store.get_fuel(), Ok(fuel));
+}
+
+#[test]
 fn stores_are_not_mixed() {
     let (mut one, instance) = store_of(|_, _, number| Ok(Val::I32(number)));
     let (mut other, _) = store_of(|_, _, number| Ok(Val::I32(number)));

@@ -1,20 +1,21 @@
--- What holds of a host function that a stranger answers.
+-- What holds for a host function that an untrusted client executes.
 use Rattle.std.specs.Prelude.{◌≡◌, ◌⊎◌, ◌+◌, ◌-◌, ◌^◌, ℕ, List, length}
 use Rattle.meaning.specs.execution.Runs.{Answer, Results, HostTrap}
 use Rattle.callback.specs.declared.callback.Callback.{Callback}
 
--- The client was asked once, and nothing else of the object changed.
+-- The client was asked once, and nothing else in the object changed.
 abbrev pub AsksOnce : Callback → Callback → Type 0
 AsksOnce callback callback' = callback' ≡ record callback {
   asking = record callback.asking { requests = callback.asking.requests + 1 };
 }
 
--- The client was asked as often as can be counted, so it is not asked again: a trap without an answer, which changes nothing.
+-- No more requests can be counted, so the client is not asked. The call ends with the trap without an answer, and changes nothing.
 abbrev pub AsksNoMore : Callback → List ℕ → (code : ℕ) → List ℕ → Callback → Type 0
 AsksNoMore callback bytes code then callback' = (callback.asking.requests ≡ 2 ^ 64 - 1)
     × (code ≡ 0xFFFF_FFFF) × (then ≡ bytes) × (callback' ≡ callback)
 
--- It is asked once, and may answer anything of its types and write anything into the bytes that it is lent. These stay as many.
+-- The client is asked once, unless no more requests can be counted. It may answer anything of the right types, and write anything to the
+-- bytes that it borrows. Their number stays the same.
 abbrev pub AnswersAtWill : Callback → List ℕ → Answer → List ℕ → Callback → Type 0
 AnswersAtWill callback bytes (Results values) then callback' =
     AsksOnce callback callback' × (length then ≡ length bytes)

@@ -10,10 +10,11 @@ use io::read_full;
 use messages::{Head, read_head, read_number, skip, split_value};
 use std::alloc::Global;
 
-/// The code of the trap where the answer is none: of another kind, of other types, out of range, or cut short.
+/// The code of the trap if the client gives no valid answer: the answer is of another kind, has other types, is out of range,
+/// or is cut short.
 pub const NO_ANSWER: u32 = 0xFFFF_FFFF;
 
-// The kinds of answers. None is that of an order.
+// The kinds of answers. No order has one of these kinds.
 const RESULTS: u64 = 20;
 
 const TRAP: u64 = 21;
@@ -22,12 +23,12 @@ const READ: u64 = 22;
 
 const PUT: u64 = 23;
 
-// How many bytes a number takes, and a value.
+// The sizes in bytes of an encoded number and of an encoded value.
 const NUMBER: u64 = 8;
 
 const VALUE: u64 = 16;
 
-/// A host function that is asked for over one descriptor and answered over another.
+/// A host function that a client executes. Requests are written to one descriptor, and answers are read from another.
 #[derive(Drop)]
 pub struct Callback {
     alloc: Global,
@@ -37,7 +38,7 @@ pub struct Callback {
     ty: FuncType,
 }
 
-// Writes the lent bytes that an answer asks for. Whether they are all lent, and were taken.
+// Sends the bytes of the borrowed memory that an answer asks for. Returns whether they are within that memory and were written.
 fn give_lent(asking: &Asking, hear: i32, size: u64, memory: &[u8]) -> bool {
     if size != 2 * NUMBER {
         skip(hear, size);
@@ -52,7 +53,8 @@ fn give_lent(asking: &Asking, hear: i32, size: u64, memory: &[u8]) -> bool {
     }
 }
 
-// Puts the bytes of an answer into the lent ones. Whether they are all lent, and came.
+// Writes the bytes of an answer to the borrowed memory. Returns whether their range is within that memory and all of them
+// arrived.
 fn put_lent(hear: i32, size: u64, memory: &mut [u8]) -> bool
     ensures { length memory.new ≡ length memory.old }
 {
@@ -76,7 +78,7 @@ fn put_lent(hear: i32, size: u64, memory: &mut [u8]) -> bool
     }
 }
 
-// The code of the trap that an answer gives.
+// Returns the code of the trap that an answer gives, or `NO_ANSWER` if it gives no code of 32 bits.
 fn take_trap(hear: i32, size: u64) -> u32 {
     if size != NUMBER {
         skip(hear, size);
@@ -88,7 +90,7 @@ fn take_trap(hear: i32, size: u64) -> u32 {
     }
 }
 
-// Reads a value from a descriptor; none where the input ends, or the bytes are none.
+// Reads a value from a descriptor. Returns none if the input ends or the bytes encode no value.
 fn read_value(hear: i32) -> Option<Val> {
     let mut bytes = [0u8; VALUE as usize];
     if read_full(hear, &mut bytes) != bytes.len() {
@@ -99,7 +101,8 @@ fn read_value(hear: i32) -> Option<Val> {
 }
 
 impl Callback {
-    /// The host function of a number and a type, which is asked for over one descriptor and answered over another.
+    /// Creates the host function with this number and this type. Requests are written to `ask`, and answers are read from
+    /// `hear`.
     pub fn new(alloc: Global, number: u32, ask: i32, hear: i32, ty: FuncType) -> Callback
         ensures number { result.number ≡ number }
         ensures asking { result.asking ≡ record { descriptor = ask; requests = 0 } }
@@ -115,7 +118,8 @@ impl Callback {
         }
     }
 
-    // Reads the results of an answer, to their end; none where they are not of the declared types. There is room for them.
+    // Reads the results of an answer to their end. Returns none if they do not have the declared types. The capacity of
+    // `results` suffices for them.
     fn take_results(&self, size: u64, mut results: Vec<Val>) -> Option<Vec<Val>>
         ensures { IfSome result (λ values. map type_of values.items ≡ self.now.ty.results) }
     {
@@ -138,7 +142,7 @@ impl Callback {
         }
     }
 
-    // Serves the client until it gives results, or the code of a trap.
+    // Serves the client until it gives results or a trap. Returns the results, or the code of the trap.
     fn hear_answer(&self, results: Vec<Val>, memory: &mut [u8]) -> Result<Vec<Val>, u32>
         ensures typed { IfOk result (λ values. map type_of values.items ≡ self.now.ty.results) }
         ensures lent { length memory.new ≡ length memory.old }
@@ -178,7 +182,7 @@ impl HostFn for Callback {
     }
 
     fn call(&mut self, args: &[Val], memory: &mut [u8]) -> Result<Vec<Val>, HostFault> {
-        // After the request no memory can be asked for, so room for the results is made before it.
+        // Once the request is sent, the call must not fail because an allocation fails. So the results are allocated first.
         let results = Vec::with_capacity(self.alloc, self.ty.results.len())?;
         let request = make_request(self.alloc, self.number, memory.len(), args)?;
         if self.asking.is_spent() {

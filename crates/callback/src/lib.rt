@@ -1,4 +1,4 @@
-//! Host functions that are answered at the other end of two descriptors.
+//! Host functions that a client executes at the other end of two descriptors.
 #![tactic(auto)]
 
 mod asking;

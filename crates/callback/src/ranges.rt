@@ -1,6 +1,6 @@
 ghost use Rattle.std.specs.Prelude.{◌≡◌, ◌+◌, ◌<◌, ◌≤◌, IfSome, IsNone};
 
-/// Where so many bytes from a first one begin and end, if they lie within a size.
+/// Returns the start and the end of the range of `count` bytes from `first` on. Returns none if the range is not within `size`.
 pub fn range_within(first: u64, count: u64, size: usize) -> Option<(usize, usize)>
     ensures start { IfSome result (λ r. r.0 ≡ first) }
     ensures end { IfSome result (λ r. r.1 ≡ first + count) }

@@ -5,15 +5,16 @@ use core_types::Val;
 use messages::{push_message, push_number, push_values};
 use std::alloc::{AllocError, Global};
 
-// The kind of a request.
+// The kind of the message that is a request.
 const CALL: u64 = 10;
 
-// How many bytes a number takes, and a value.
+// The sizes in bytes of an encoded number and of an encoded value.
 const NUMBER: usize = 8;
 
 const VALUE: usize = 16;
 
-/// The message that asks for the host function of a number, with arguments and so many lent bytes.
+/// Returns the message that requests a call of the host function with this number. It has the number of bytes that the host
+/// function borrows, and the arguments. Fails if an allocation fails.
 pub fn make_request(
     alloc: Global,
     number: u32,

@@ -31,7 +31,7 @@ program-made old a b command required words =
       local = ap (λ (f : Command-F Command). f.has_globals) all ∙ command.local;
     }
 
--- One argument more.
+-- One more argument is added.
 pub added : {app : App} {rule : Rule} {old new : Command} {arg : Arg} → IsCommand app old → IsArgument rule arg → AddsArg old arg new
     → IsCommand (with_rule app rule) new
 added command argument adds = record {
@@ -44,7 +44,7 @@ pub last-added : {E : Type 0} {app : App} {rule : Rule} {old : Command} {arg : A
 last-added (Ok new) command argument adds = added command argument adds
 last-added (Err error) command argument adds = tt
 
--- One subcommand more.
+-- One more subcommand is added.
 sub-added : {app sub_app : App} {old sub new : Command} → IsCommand app old → IsCommand sub_app sub → AddsSubcommand old sub new
     → IsCommand (with_subcommand app sub_app.top) new
 sub-added command subcommand adds = record {
@@ -63,7 +63,7 @@ pub last-made-added : {E F : Type 0} {app : App} (sub_app : App) {old : Command}
 last-made-added sub_app (Ok new) made command subcommand adds = made-added sub_app made command subcommand adds
 last-made-added sub_app (Err error) made command subcommand adds = tt
 
--- Its matches are exact.
+-- The matches of the program are exact.
 pub program-is-simple : is_simple program ≡ true
 unfolding clap_on_literals
 program-is-simple = refl

@@ -1,4 +1,4 @@
--- What is found in matches.
+-- Values that are found in matches.
 use Rattle.std.proofs.Common.{◌≡◌, ◌∙◌, sym, refl, map, List, Option, Some, None, ℕ}
 use Rattle.std.specs.Prelude.{IfSome, option_map, unwrap_or}
 use Rattle.std.specs.Borrow.{Bor}
@@ -10,12 +10,12 @@ use Rattle.clap.specs.declared.parser.matches.Found.{Found}
 use Rattle.command_line.specs.Depths.{IsDepth}
 use Rattle.command_line.specs.Numbers.{IsBound, IsFuel, IsNumberOf}
 
--- The word under a name.
+-- The value of the argument with this name.
 pub word-found : (f : Found) (name : Text) (word : Option (Bor Text)) → option_map (λ s. s.now) word ≡ first_value f name
     → first_of name (rows_of f) ≡ option_map (λ s. s.now) word
 word-found f name word found = sym (found ∙ first_value-rows f name)
 
--- The words under a name.
+-- All values of the argument with this name.
 pub words-found : (f : Found) (name : Text) (words : Option (Bor (List (Bor Text)))) → option_map (λ s. map (λ v. v.now) s.now) words ≡ option_map raw_values (matched_of f name)
     → all_of name (rows_of f) ≡ option_map (λ s. map (λ v. v.now) s.now) words
 words-found f name words found = sym (found ∙ raw_values-rows f name)
@@ -28,18 +28,18 @@ pairs : {X A B : Type 0} (o : Option X) (f : X → A) (g : X → B) (a : A) (b :
 pairs None f g a b first second = cc
 pairs (Some x) f g a b first second = cc
 
--- The subcommand that was met, with its matches.
+-- The subcommand that was given, with its matches.
 pub entered : (m : ArgMatches) (name : Text) (rows : List Row) → subcommand_name_of m ≡ Some name
     → option_map (λ p. p.1) (subcommand_rows_of m) ≡ Some rows → subcommand_rows_of m ≡ Some (name, rows)
 entered m name rows named found = pairs (out-ArgMatches m).subcommand _ _ name rows named found
 
--- The fuel that an option's number means.
+-- The fuel that the number of an option sets.
 pub fuel-given : (text : Option Text) (given : Option ℕ) → IsNumberOf text given → IsFuel text (unwrap_or given 1_000_000_000)
 fuel-given None given none = rw none refl
 fuel-given (Some text) None number = absurd number
 fuel-given (Some text) (Some n) number = number
 
--- The depth bound that an option's number means.
+-- The depth bound that the number of an option sets.
 pub depth-given : (text : Option Text) (given : Option ℕ) (depth : ℕ) → IsNumberOf text given → (given ≡ None → Some depth ≡ Some 1024)
     → IfSome given (λ n. (depth ≡ n) × IsDepth n) → IsBound text depth
 depth-given None given depth none default named = some-injective (default none)

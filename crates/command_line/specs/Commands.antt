@@ -1,4 +1,4 @@
--- The commands that `clap` matches the words with.
+-- The commands that `clap` matches the arguments against.
 use Rattle.std.specs.Prelude.{◌≡◌, Some, true, false, codes}
 use Rattle.clap.specs.Lexer.{usize_max}
 use Rattle.clap.specs.Simple.{on_top}
@@ -8,17 +8,17 @@ use Rattle.clap.specs.declared.builder.arg.Arg.{Arg}
 use Rattle.clap.specs.declared.builder.command.Command.{Command}
 use Rattle.clap.specs.declared.builder.command.Command.TheViews.{out-Command as fields_of}
 
--- The argument is this one, and no argument of the subcommands.
+-- The argument is this one, and is not also an argument of the subcommands.
 pub record IsArgument (rule : Rule) (arg : Arg) : Type 0 where
   pub is : rule_of arg ≡ rule
   pub local : arg.global ≡ false
 
--- The command is this one, and none of its arguments is one of its subcommands.
+-- The command is this one, and none of its arguments is also an argument of its subcommands.
 pub record IsCommand (app : App) (command : Command) : Type 0 where
   pub is : app_of command ≡ app
   pub local : (fields_of command).has_globals ≡ false
 
--- A command without help and version.
+-- A command without help and version flags, and without a help subcommand.
 abbrev pub plain : (name : Text) → App
 plain name = on_top (λ shape. record shape {
   disable_help_flag = true;
@@ -26,11 +26,11 @@ plain name = on_top (λ shape. record shape {
   disable_help_subcommand = true;
 }) (new_app name)
 
--- An argument that has to be there.
+-- A required argument.
 abbrev pub required : (name : Text) → Rule
 required name = record (new_rule name) { action = Some Set; required = true }
 
--- Any number of arguments.
+-- An argument that takes any number of values.
 abbrev pub repeated : (name : Text) → Rule
 repeated name = record (new_rule name) {
   action = Some Append;
@@ -56,7 +56,7 @@ call = with_options (with_rule (with_rule
 abbrev pub check : App
 check = with_rule (plain (codes "check")) (required (codes "file"))
 
--- The program, whose first word names one of the three.
+-- The program without its three subcommands. Its first argument must name one of them.
 abbrev pub bare_program : App
 bare_program = on_top (λ shape. record shape { subcommand_required = true; no_binary_name = true })
     (plain (codes "wasmrun"))

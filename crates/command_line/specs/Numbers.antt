@@ -3,11 +3,11 @@ use Rattle.std.specs.Prelude.{◌≡◌, ℕ, List, Option, Some, None, IsSomeAn
 use Rattle.std.specs.Str.Parse.{IsNumeral, digits_value}
 use Rattle.command_line.specs.Depths.{IsDepth}
 
--- A text writes this number in decimal digits, at least one.
+-- A text of one or more decimal digits represents this number.
 abbrev pub Writes : (text : List ℕ) → (n : ℕ) → Type 0
 Writes text n = IsNumeral 10 text × (n ≡ digits_value 10 text)
 
--- The number of an option is the one that its text writes; none without the option.
+-- The number of an option is the one that its text represents, or none without the option.
 abbrev pub IsNumberOf : (text : Option (List ℕ)) → (given : Option ℕ) → Type 0
 IsNumberOf None given = given ≡ None
 IsNumberOf (Some text) given = IsSomeAnd given (Writes text)

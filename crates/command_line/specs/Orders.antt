@@ -1,4 +1,4 @@
--- What the words after the program's name ask for.
+-- What the arguments after the program's name request.
 use Rattle.std.specs.Prelude.{◌≡◌, List, [], Option, Some, None, codes, map, unwrap_or}
 use Rattle.clap.specs.Words.{Row, Text, all_of, first_of, subcommand_of}
 use Rattle.command_line.specs.Commands.{program}
@@ -22,7 +22,7 @@ pub record IsCallOrder (matches : List Row) (order : CallOrder) : Type 0 where
   pub fuel : IsFuel (first_of (codes "fuel") matches) order.fuel
   pub depth : IsBound (first_of (codes "depth") matches) order.depth
 
--- The order is that of the subcommand, by the matches of its arguments.
+-- The order is that of the subcommand, with the values of its matched arguments.
 abbrev pub IsOrder : Option (Text × List Row) → Order → Type 0
 IsOrder None order = ⊥
 IsOrder (Some (name, matches)) (Script order) =
@@ -31,6 +31,6 @@ IsOrder (Some (name, matches)) (Call order) = (name ≡ codes "call") × IsCallO
 IsOrder (Some (name, matches)) (Check path) =
     (name ≡ codes "check") × (first_of (codes "file") matches ≡ Some path.now)
 
--- The order is what the words ask for.
+-- The order is what the arguments request.
 abbrev pub AsksFor : (words : List Text) → Order → Type 0
 AsksFor words order = IsOrder (subcommand_of program words) order

@@ -1,4 +1,4 @@
-//! The command line: what the words after the program's name ask for.
+//! The command line: what the arguments after the program's name request.
 #![tactic(auto)]
 
 mod digits;

@@ -12,16 +12,16 @@ use clap::error::ErrorKind;
 use clap::{Arg, ArgAction, ArgMatches, Command, Error};
 use std::alloc::{AllocError, Global};
 
-/// The fuel of a call, and of each command of a script, where the words name none.
+/// The default fuel of a call, and of each command of a script.
 pub const DEFAULT_FUEL: u64 = 1_000_000_000;
 
-/// How many frames a call may have open at once where the words name no number.
+/// The default bound on the frames that a call may have open at once.
 pub const DEFAULT_DEPTH: u32 = 1024;
 
-/// The largest number of open frames that the words may name.
+/// The largest bound on open frames that the arguments may set.
 pub const LARGEST_DEPTH: u32 = 65_535;
 
-/// The call that the words ask for.
+/// The call that the arguments request.
 #[derive(Drop)]
 pub struct CallOrder<'a> {
     pub file: &'a str,
@@ -31,7 +31,7 @@ pub struct CallOrder<'a> {
     pub depth: u32,
 }
 
-/// The run of a script that the words ask for.
+/// The run of a script that the arguments request.
 #[derive(Clone, Copy)]
 pub struct ScriptOrder<'a> {
     pub file: &'a str,
@@ -39,7 +39,7 @@ pub struct ScriptOrder<'a> {
     pub depth: u32,
 }
 
-/// What the words ask for.
+/// What the arguments request.
 #[derive(Drop)]
 pub enum Order<'a> {
     /// A run of a script.
@@ -50,12 +50,12 @@ pub enum Order<'a> {
     Check(&'a str),
 }
 
-/// Why the words ask for nothing.
+/// Why the arguments request nothing.
 #[derive(Clone, Copy)]
 pub enum WordsFault {
-    /// They are not of the form that the program reads.
+    /// They do not have a form that the program reads.
     Usage,
-    /// There was no memory for them.
+    /// An allocation for them failed.
     Memory,
 }
 
@@ -75,7 +75,7 @@ impl From<Error> for WordsFault {
     }
 }
 
-// A command that knows of no help and no version.
+// Creates a command without help and version flags, and without a help subcommand.
 fn plain_command<'a>(alloc: Global, name: &'a str) -> Command<'a>
     ensures { IsCommand (plain name.now) result }
 {
@@ -85,14 +85,14 @@ fn plain_command<'a>(alloc: Global, name: &'a str) -> Command<'a>
         .disable_help_subcommand(true)
 }
 
-// A word that has to be there.
+// Creates a required argument.
 fn required<'a>(alloc: Global, name: &'a str) -> Arg<'a>
     ensures { IsArgument (required_rule name.now) result }
 {
     Arg::new(alloc, name).required(true).action(ArgAction::Set)
 }
 
-// Any number of words.
+// Creates an argument that takes any number of values.
 fn repeated<'a>(alloc: Global, name: &'a str) -> Arg<'a>
     ensures { IsArgument (repeated_rule name.now) result }
 {
@@ -101,7 +101,7 @@ fn repeated<'a>(alloc: Global, name: &'a str) -> Arg<'a>
         .action(ArgAction::Append)
 }
 
-// A word after `--` and its name, or none.
+// Creates an option with one value. It is given by `--` and the name.
 fn option<'a>(alloc: Global, name: &'a str) -> Arg<'a>
     ensures { IsArgument (option_rule name.now) result }
 {
@@ -134,7 +134,7 @@ fn check_command<'a>(alloc: Global) -> Result<Command<'a>, AllocError>
     plain_command(alloc, "check").arg(required(alloc, "file"))
 }
 
-// A command with one subcommand more, if there was memory for that one.
+// Adds a subcommand to a command. Fails if an allocation fails, or failed for the subcommand.
 fn with_subcommand<'a>(
     command: Command<'a>,
     made: Result<Command<'a>, AllocError>,
@@ -159,7 +159,7 @@ fn program_command<'a>(alloc: Global) -> Result<Command<'a>, AllocError>
     with_subcommand(command, check_command(alloc))
 }
 
-// The word under a name.
+// Returns the value of the argument with this name. Fails with `Usage` if there is none.
 fn word_of<'a>(matches: &ArgMatches<'a>, name: &str) -> Result<&'a str, WordsFault>
     ensures { IfOk result (λ word. first_of name.now (rows_of (found_of matches.now))
         ≡ Some word.now) }
@@ -170,7 +170,7 @@ fn word_of<'a>(matches: &ArgMatches<'a>, name: &str) -> Result<&'a str, WordsFau
     }
 }
 
-// All words under a name.
+// Returns all values of the argument with this name.
 fn words_of<'a>(
     alloc: Global,
     matches: &ArgMatches<'a>,
@@ -185,7 +185,7 @@ fn words_of<'a>(
     }
 }
 
-// The number of an option, if it is there.
+// Returns the number that an option sets, if the option is there. Fails with `Usage` if its value is not a number.
 fn option_of(matches: &ArgMatches<'_>, name: &str) -> Result<Option<u64>, WordsFault>
     ensures { IfOk result (IsNumberOf (first_of name.now (rows_of (found_of matches.now)))) }
 {
@@ -198,7 +198,8 @@ fn option_of(matches: &ArgMatches<'_>, name: &str) -> Result<Option<u64>, WordsF
     }
 }
 
-// The number of open frames that an option's number allows, if it is one.
+// Returns the bound on open frames that the number of an option sets, or the default without one. Returns none if the number is
+// out of range.
 fn depth_of(given: Option<u64>) -> Option<u32>
     ensures default { given ≡ None → result ≡ Some 1024 }
     ensures named { IfSome given (λ n. MatchOption result (IsNoDepth n)
@@ -211,14 +212,14 @@ fn depth_of(given: Option<u64>) -> Option<u32>
     }
 }
 
-// The fuel that the words name, or the one of a call where they name none.
+// Returns the fuel that the arguments set, or the default.
 fn fuel_in(matches: &ArgMatches<'_>) -> Result<u64, WordsFault>
     ensures { IfOk result (IsFuel (first_of (codes "fuel") (rows_of (found_of matches.now)))) }
 {
     Ok(option_of(matches, "fuel")?.unwrap_or(DEFAULT_FUEL))
 }
 
-// The number of open frames that the words allow.
+// Returns the bound on open frames that the arguments set, or the default.
 fn depth_in(matches: &ArgMatches<'_>) -> Result<u32, WordsFault>
     ensures { IfOk result (IsBound (first_of (codes "depth") (rows_of (found_of matches.now)))) }
 {
@@ -250,7 +251,7 @@ fn call_order_of<'a>(alloc: Global, matches: &ArgMatches<'a>) -> Result<CallOrde
     })
 }
 
-// What the words ask for that were matched with the commands.
+// Returns what the arguments request, after they were matched against the commands.
 fn order_in<'a>(alloc: Global, matches: &ArgMatches<'a>) -> Result<Order<'a>, WordsFault>
     ensures { IfOk result (IsOrder (subcommand_rows_of matches.now)) }
 {
@@ -266,7 +267,11 @@ fn order_in<'a>(alloc: Global, matches: &ArgMatches<'a>) -> Result<Order<'a>, Wo
     }
 }
 
-/// What the words after the program's name ask for.
+/// Returns what the arguments after the program's name request.
+///
+/// # Errors
+///
+/// Fails with `Usage` if the arguments do not have a form that the program reads, and with `Memory` if an allocation fails.
 pub fn read_words<'a>(alloc: Global, words: &'a [String]) -> Result<Order<'a>, WordsFault>
     ensures { IfOk result (AsksFor (map string_bytes words.now)) }
 {

@@ -1,4 +1,4 @@
--- What is found of bytes.
+-- Verdicts on bytes.
 use Rattle.std.proofs.Common.{◌≡◌, ℕ, List, Result, Ok, Err, IfOk}
 use Rattle.core_types.specs.declared.module.Module.{Module}
 use Rattle.meaning.specs.binary.Modules.{SpellsModule}
@@ -10,7 +10,7 @@ use Rattle.module_info.specs.Verdicts.{IsFound, IsFoundOf, decode_verdict}
 use Rattle.module_info.specs.declared.descriptions.Verdict.{Verdict}
 use Rattle.module_info.specs.declared.descriptions.Verdict.TheVariants.{Valid, Refused, OutOfMemory}
 
--- What is found of the module that bytes spell is found of the bytes.
+-- The verdict on the module that the bytes encode is the verdict on the bytes.
 found-of : (bytes : List ℕ) (m : Module) (verdict : Verdict) → ((a b : Module) → SpellsModule bytes a → SpellsModule bytes b → a ≡ b) → IsDecoded bytes m → IsFoundOf m verdict → IsFound bytes verdict
 found-of bytes m Valid one decoded valid = (m, decoded, valid)
 found-of bytes m Refused one decoded invalid = λ other spelt valid. invalid (rw (one m other decoded.spelt spelt.spelt) valid)
@@ -20,7 +20,7 @@ pub all-found-of : {E : Type 0} (bytes : List ℕ) (m : Module) (r : Result Verd
 all-found-of bytes m (Ok verdict) one decoded found = found-of bytes m verdict one decoded found
 all-found-of bytes m (Err error) one decoded found = tt
 
--- Bytes that are refused spell no module.
+-- Bytes that are refused encode no module.
 none-found : (bytes : List ℕ) (error : DecodeError) → OnRefused error (IsNoModule bytes) → IsFound bytes (decode_verdict error)
 none-found bytes (decode.Malformed offset) none = λ m decoded valid. none m decoded.spelt decoded.small
 none-found bytes (decode.Unsupported offset) none = λ m decoded valid. none m decoded.spelt decoded.small

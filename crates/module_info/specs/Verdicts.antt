@@ -1,4 +1,4 @@
--- What is found of bytes.
+-- Verdicts on bytes.
 use Rattle.std.specs.Prelude.{ℕ, List}
 use Rattle.binary.specs.declared.errors.DecodeError.{DecodeError}
 use Rattle.binary.specs.declared.errors.DecodeError.TheVariants as decode
@@ -10,19 +10,19 @@ use Rattle.validator.specs.declared.errors.ValidateError.TheVariants as validate
 use Rattle.module_info.specs.declared.descriptions.Verdict.{Verdict}
 use Rattle.module_info.specs.declared.descriptions.Verdict.TheVariants.{Valid, Refused, OutOfMemory}
 
--- They spell a valid module, or none.
+-- The bytes encode a valid module, or none.
 abbrev pub IsFound : List ℕ → Verdict → Type 0
 IsFound bytes Valid = (m : Module) × IsDecoded bytes m × IsValid m
 IsFound bytes Refused = (m : Module) → IsDecoded bytes m → IsValid m → ⊥
 IsFound bytes OutOfMemory = Unit {0}
 
--- What is found of a module that was decoded.
+-- The verdict on a decoded module.
 abbrev pub IsFoundOf : Module → Verdict → Type 0
 IsFoundOf m Valid = IsValid m
 IsFoundOf m Refused = IsValid m → ⊥
 IsFoundOf m OutOfMemory = Unit {0}
 
--- What refusals come to.
+-- The verdicts for errors.
 abbrev pub decode_verdict : DecodeError → Verdict
 decode_verdict (decode.Malformed offset) = Refused
 decode_verdict (decode.Unsupported offset) = Refused

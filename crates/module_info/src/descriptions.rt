@@ -11,14 +11,14 @@ use std::fmt::Display;
 use std::io::{self, Write};
 use validator::{Place, ValidateError, validate};
 
-/// What bytes were found to be.
+/// The verdict on bytes.
 #[derive(Clone, Copy, PartialEq, Eq, Debug)]
 pub enum Verdict {
     /// A valid module.
     Valid,
     /// No module within the limits, or one that is not valid.
     Refused,
-    /// There was no memory to find out.
+    /// Memory ran out before there was a verdict.
     OutOfMemory,
 }
 
@@ -32,7 +32,7 @@ fn write_refusal<W: Write, D: Display + Drop>(out: &mut W, line: D) -> io::Resul
     Ok(Verdict::Refused)
 }
 
-// Writes why bytes are no module.
+// Writes why bytes encode no module.
 fn write_decode_error<W: Write>(
     out: &mut W,
     bytes: &[u8],
@@ -78,7 +78,7 @@ fn write_validate_error<W: Write>(out: &mut W, error: &ValidateError) -> io::Res
     }
 }
 
-// The lines of what a module has; none if memory for them ran out.
+// Returns the lines that describe a module, or none if memory runs out.
 fn lines_of(alloc: Global, module: &Module) -> Option<Vec<u8>> {
     let spaces = IndexSpaces::new(alloc, module).ok()?;
     let mut lines = Vec::new(alloc);
@@ -88,7 +88,7 @@ fn lines_of(alloc: Global, module: &Module) -> Option<Vec<u8>> {
     }
 }
 
-// Writes that a module is valid, and these lines.
+// Writes that a module is valid, followed by these lines.
 fn write_valid<W: Write>(out: &mut W, len: usize, lines: &[u8]) -> io::Result<Verdict>
     ensures verdict { IfOk result (λ verdict. verdict ≡ Verdict.Valid) }
     ensures told { IfOk result (Tells (W.contents out.old) (W.contents out.new)) }
@@ -98,7 +98,8 @@ fn write_valid<W: Write>(out: &mut W, len: usize, lines: &[u8]) -> io::Result<Ve
     Ok(Verdict::Valid)
 }
 
-// Writes what a valid module has. Its lines are made before the first is written, so that nothing is written if memory runs out.
+// Writes what a valid module contains. All lines are created before the first one is written, so that nothing is written if
+// memory runs out.
 fn describe_valid<W: Write>(
     alloc: Global,
     out: &mut W,
@@ -115,7 +116,7 @@ fn describe_valid<W: Write>(
     }
 }
 
-// Writes what a module has, or why it is not valid.
+// Writes what a module contains, or why it is not valid.
 fn describe_module<W: Write>(
     alloc: Global,
     out: &mut W,
@@ -131,15 +132,17 @@ fn describe_module<W: Write>(
     }
 }
 
-/// Writes what bytes are.
+/// Writes what the bytes encode, and returns the verdict.
 ///
-/// Of a valid module: its imports and its exports with their types, in its order, its tables and memories, and how much there is of the
-/// rest, a line each, after a first line that begins with `valid`. Of others a line that says why and where they are refused. If memory
-/// ran out, nothing. Names are written with escapes, so that each stays in its line.
+/// For a valid module, the first line begins with `valid`. The imports and the exports follow with their types, in the order of
+/// the module. Then come its tables and memories, and then how much there is of everything else. Each of these has a line.
+/// Names are escaped, so that each one stays on its line.
+///
+/// For other bytes, one line states why they are refused, and where if that is known. If memory runs out, nothing is written.
 ///
 /// # Errors
 ///
-/// Fails if the writer does.
+/// Fails if the writer fails.
 pub fn describe<W: Write>(alloc: Global, out: &mut W, bytes: &[u8]) -> io::Result<Verdict>
     ensures found { IfOk result (λ verdict. IsFound bytes.now verdict) }
     ensures told { IfOk result (Tells (W.contents out.old) (W.contents out.new)) }

@@ -1,4 +1,4 @@
-//! What a module has, or why it is refused, in lines of text.
+//! Lines of text that state what a module contains, or why it is refused.
 #![tactic(auto)]
 
 mod descriptions;

@@ -1,4 +1,4 @@
--- Texts that are printed one after the other.
+-- Texts that are printed in a row.
 use Rattle.std.proofs.Common.{Bool, true, false, true≢false, Result, Ok, Err, IfSome, OnOk, is_err, ◌≡◌, ◌∙◌, ◌++◌, ◌+◌, ◌<◌, ℕ, List, [], Option, Some, None, refl, ap, sym, subst, append-nil, append_assoc, flat_map, get_or, length, take}
 use Rattle.std.specs.Io.KnownBytes.{Appends, Keeps}
 use Rattle.std.proofs.lemmas.List.{flat_map_more, take_more}
@@ -21,22 +21,22 @@ keeps-itself None = tt
 keeps-itself (Some x) = refl
 
 module _ {W : Type 0} (contents : W → Option (List ℕ)) where
-  -- Nothing is printed to an output that stays as it was.
+  -- Nothing is printed to an output that is unchanged.
   pub unprinted : (a : Output W) → Prints contents a a []
   unprinted a fine = (fine, appends-nothing _ _ (keeps-itself (contents a.writer)))
 
-  -- A text, and then another.
+  -- A text is printed, and then another.
   pub printed-then : (a b c : Output W) (xs ys : List ℕ) → Prints contents a b xs → Prints contents b c ys → Prints contents a c (xs ++ ys)
   printed-then a b c xs ys first second fine =
       let later = second fine in
       let before = first later.0 in
       (before.0, appends-then (contents a.writer) (contents b.writer) (contents c.writer) xs ys before.1 later.1)
 
-  -- A text, and then nothing.
+  -- A text is printed, and then nothing.
   pub printed-flushed : (a b c : Output W) (xs : List ℕ) → Prints contents a b xs → Prints contents b c [] → Prints contents a c xs
   printed-flushed a b c xs first second = subst (Prints contents a c) (append-nil xs) (printed-then a b c xs [] first second)
 
-  -- One item more of a list.
+  -- One more item of a list is printed.
   pub printed-more : {X : Type 0} (f : X → List ℕ) (xs : List X) (i : ℕ) (x : X) (a b c : Output W) → i < length xs
       → Prints contents a b (flat_map f (take i xs)) → Prints contents b c (f (get_or xs i x)) → Prints contents a c (flat_map f (take (i + 1) xs))
   printed-more f xs i x a b c inside first second =

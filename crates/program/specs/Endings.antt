@@ -11,12 +11,12 @@ use Rattle.subcommands.specs.declared.faults.Fault.{Fault}
 use Rattle.subcommands.specs.declared.faults.Fault.TheVariants.{Usage, Refused}
 use Rattle.subcommands.specs.declared.orders.End.{End}
 
--- Why there are no words: memory ran out, or one of them is no text.
+-- The fault if there are no arguments: memory ran out, or one of them is not text.
 abbrev pub words_fault : ErrorKind → Fault
 words_fault kind.OutOfMemory = Refused OutOfMemory
 words_fault _ = Usage
 
--- What the program came to is told by its lines, on standard output or for a fault on standard error, and by its status.
+-- The program's lines and its exit status report how it ended. The lines are on standard output, or on standard error for a fault.
 abbrev pub IsToldBy : {W E : Type 0} → (W → Option (List ℕ)) → (E → Option (List ℕ))
     → Result End Fault → (out out' : Output W) → (err err' : Output E) → (status : ℕ) → Type 0
 IsToldBy contents_out contents_err (Ok done) out out' err err' status =

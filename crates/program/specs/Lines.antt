@@ -19,7 +19,7 @@ use Rattle.subcommands.specs.declared.orders.CallEnd.{CallEnd}
 use Rattle.subcommands.specs.declared.orders.End.{End}
 use Rattle.subcommands.specs.declared.orders.End.TheVariants as end
 
--- A line: its text, and the line feed.
+-- A line: its text, followed by a line feed.
 abbrev pub line : (text : List ℕ) → List ℕ
 line text = text ++ 10 ∷ []
 
@@ -29,7 +29,7 @@ abbrev pub reference_text : Option ℕ → List ℕ
 reference_text None = codes "null"
 reference_text (Some number) = decimal number
 
--- The type and the number of a value; references may be null.
+-- The type and the number of a value. A reference may be null.
 abbrev pub value_line : Val → List ℕ
 value_line (I32 number) = codes "i32 " ++ line (decimal number)
 value_line (I64 number) = codes "i64 " ++ line (decimal number)
@@ -41,7 +41,7 @@ exhaustion_text limit.Fuel = codes "fuel"
 exhaustion_text limit.Depth = codes "depth"
 exhaustion_text limit.Memory = codes "memory"
 
--- A line for each value, or the trap or the exhaustion.
+-- A line for each value, or one line for the trap or the exhaustion.
 abbrev pub outcome_lines : Outcome → List ℕ
 outcome_lines (Values values) = flat_map value_line values
 outcome_lines (Trap trap) = codes "trap: " ++ line (trap_text trap)
@@ -50,7 +50,7 @@ outcome_lines (Exhausted what) = codes "exhausted: " ++ line (exhaustion_text wh
 abbrev pub fuel_line : (left : ℕ) → List ℕ
 fuel_line left = codes "fuel left " ++ line (decimal left)
 
--- How a call ended, and the fuel that is left.
+-- How a call ended, and the fuel left.
 abbrev pub call_lines : CallEnd → List ℕ
 call_lines call = outcome_lines call.outcome ++ fuel_line call.fuel_left
 
@@ -63,12 +63,12 @@ abbrev pub counts_line : (passed failed skipped : ℕ) → List ℕ
 counts_line passed failed skipped = codes "passed " ++ (decimal passed ++ (codes " failed " ++
     (decimal failed ++ (codes " skipped " ++ line (decimal skipped)))))
 
--- The commands that failed, by their lines, and how many passed, failed and were skipped.
+-- The line numbers of the commands that failed, and how many passed, failed and were skipped.
 abbrev pub report_lines : Report → List ℕ
 report_lines report = flat_map failure_line report.failures.items
     ++ counts_line report.passed report.failed report.skipped
 
--- ---- what the program comes to
+-- ---- results of the program
 
 abbrev pub valid_line : List ℕ
 valid_line = line (codes "valid")

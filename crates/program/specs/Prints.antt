@@ -1,8 +1,8 @@
--- What a host function that prints answers.
+-- How a call of a print function ends.
 use Rattle.std.specs.Prelude.{◌≡◌, []}
 use Rattle.meaning.specs.execution.Runs.{Answer, Results, HostTrap}
 
--- No results, or the trap of a write that failed.
+-- It returns no results, or traps because a write failed.
 abbrev pub IsPrinted : Answer → Type 0
 IsPrinted (Results values) = values ≡ []
 IsPrinted (HostTrap code) = code ≡ 1

@@ -10,7 +10,7 @@ use Rattle.subcommands.specs.declared.orders.End.TheVariants as end
 use Rattle.scripts.specs.declared.faults.ScriptFault.{ScriptFault}
 use Rattle.scripts.specs.declared.faults.ScriptFault.TheVariants as script
 
--- How a call ended: with values, with a trap, or out of fuel, depth or memory.
+-- The exit status of a call, which ended with values, with a trap, or out of fuel, depth or memory.
 abbrev pub ending_status : Ending → ℕ
 ending_status (WithValues values) = 0
 ending_status (WithTrap trap) = 1
@@ -18,7 +18,7 @@ ending_status OutOfFuel = 6
 ending_status OutOfDepth = 6
 ending_status OutOfMemory = 6
 
--- Why a command was refused: an export or arguments that do not fit, no memory, or a module that is refused.
+-- The exit status of a refused command: 2 if its export or its arguments do not fit, 6 if memory ran out, and 5 otherwise.
 abbrev pub refusal_status : machine.Refusal → ℕ
 refusal_status machine.UnknownExport = 2
 refusal_status machine.WrongKind = 2
@@ -26,31 +26,31 @@ refusal_status machine.BadArguments = 2
 refusal_status machine.OutOfMemory = 6
 refusal_status why = 5
 
--- What the embedding replied.
+-- The exit status of a reply.
 abbrev pub reply_status : machine.Reply → ℕ
 reply_status (machine.Ended ending) = ending_status ending
 reply_status (machine.Refused why) = refusal_status why
 reply_status reply = 0
 
--- How many commands of a script failed.
+-- The exit status of a script with this number of failed commands.
 abbrev pub script_status : (failed : ℕ) → ℕ
 script_status zero = 0
 script_status (suc failed) = 1
 
--- How the program did what it was asked for.
+-- The exit status if the program did what was requested.
 abbrev pub end_status : End → ℕ
 end_status (end.Ran report) = script_status report.failed
 end_status (end.Called call) = reply_status (call_reply (Ok call.outcome))
 end_status end.Valid = 0
 
--- Why a script was not run to its end: it is not of the form of a command file, a file is missing, or there is no memory.
+-- The exit status if a script was not run to its end. It does not have the form of a command file, a file is missing, or memory ran out.
 abbrev pub script_fault_status : ScriptFault → ℕ
 script_fault_status script.NotJson = 4
 script_fault_status (script.BadCommand command) = 4
 script_fault_status (script.MissingFile command) = 3
 script_fault_status script.OutOfMemory = 6
 
--- Why the program did not do what it was asked for.
+-- The exit status if the program did not do what was requested.
 abbrev pub fault_status : Fault → ℕ
 fault_status fault.Usage = 2
 fault_status (fault.CannotRead path) = 3

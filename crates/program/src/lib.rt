@@ -1,5 +1,5 @@
-//! The program over its words, the files that it reads and the writers that it prints to: what each subcommand comes to, as lines and as
-//! an exit status.
+//! The program, with its arguments, the files that it reads and the writers that it prints to. It reports the result of each
+//! subcommand by lines and by an exit status.
 #![tactic(auto)]
 
 mod output;

@@ -1,4 +1,4 @@
-//! A writer that remembers a failure.
+//! A writer that remembers whether it has failed.
 
 ghost use Rattle.std.specs.Prelude.{◌≡◌, [], IfSome, false};
 
@@ -15,7 +15,7 @@ pub struct Output<W> {
 impl<W: Write> Output<W> {
     ghost use Rattle.program.specs.Outputs.{Prints};
 
-    /// An output to a writer, which has not failed.
+    /// Creates an output to a writer, which has not failed.
     pub fn new(writer: W) -> Output<W>
         ensures { result ≡ record { writer = writer; has_failed = false } }
     {
@@ -25,7 +25,7 @@ impl<W: Write> Output<W> {
         }
     }
 
-    /// The writer.
+    /// Returns the writer.
     pub fn writer(&self) -> &W
         ensures { result.now ≡ self.now.writer }
     {
@@ -39,7 +39,7 @@ impl<W: Write> Output<W> {
         self.has_failed
     }
 
-    /// Writes a text. This is what `write!` and `writeln!` call.
+    /// Writes a text, unless the writer has failed. `write!` and `writeln!` call this.
     pub fn write_fmt<D: Display + Drop>(&mut self, text: D)
         ensures { IfSome (D.output text) (Prints W.contents self.old self.new) }
     {
@@ -49,7 +49,7 @@ impl<W: Write> Output<W> {
         self.has_failed = self.writer.write_fmt(text).is_err();
     }
 
-    /// Flushes the writer.
+    /// Flushes the writer, unless it has failed.
     pub fn flush(&mut self)
         ensures { Prints W.contents self.old self.new [] }
     {

@@ -1,4 +1,4 @@
-//! What the program prints, and the exit status that goes with it.
+//! The lines that the program prints, and the exit statuses that go with them.
 
 ghost use Rattle.std.specs.Prelude.{◌≡◌, ◌++◌, Ok, codes, flat_map};
 ghost use Rattle.embed.specs.Replies.{call_reply, refusal_of};
@@ -13,14 +13,14 @@ use scripts::{Report, ScriptFault};
 use std::io::Write;
 use subcommands::{CallEnd, Fault};
 
-// The exit status after lines were printed to an output: 1 if it has failed, else this one.
+// Returns the exit status after lines were printed to an output: 1 if the output has failed, and `status` otherwise.
 fn status_after<W: Write>(out: &Output<W>, status: u8) -> u8
     ensures { result ≡ printed_status out.now status }
 {
     if out.has_failed() { 1 } else { status }
 }
 
-// Prints a reference of a type, as a line.
+// Prints a line with a reference of this type.
 fn print_reference<W: Write>(out: &mut Output<W>, ty: &str, reference: Option<u32>)
     ensures { Prints W.contents out.old out.new (ty.now ++ (codes " " ++
         line (reference_text reference))) }
@@ -94,7 +94,7 @@ fn outcome_status(outcome: &Outcome) -> u8
     }
 }
 
-/// Prints how a call ended, and returns the exit status, which is 1 if the output has failed.
+/// Prints how a call ended. Returns the exit status, which is 1 if the output has failed.
 pub fn print_end<W: Write>(out: &mut Output<W>, end: &CallEnd) -> u8
     ensures lines { Prints W.contents out.old out.new (call_lines end.now) }
     ensures status { result ≡ printed_status out.new
@@ -134,7 +134,7 @@ fn print_report_lines<W: Write>(out: &mut Output<W>, report: &Report)
     out.flush();
 }
 
-/// Prints what a script has come to, and returns the exit status: 1 if a command or the output has failed.
+/// Prints the report of a script. Returns the exit status: 1 if a command or the output has failed, and 0 otherwise.
 pub fn print_report<W: Write>(out: &mut Output<W>, report: &Report) -> u8
     ensures lines { Prints W.contents out.old out.new (report_lines report.now) }
     ensures status { result ≡ printed_status out.new (script_status report.now.failed) }
@@ -149,7 +149,7 @@ fn print_valid_line<W: Write>(out: &mut Output<W>)
     writeln!(out, "valid");
 }
 
-/// Prints that a module is valid, and returns the exit status, which is 1 if the output has failed.
+/// Prints that a module is valid. Returns the exit status: 1 if the output has failed, and 0 otherwise.
 pub fn print_valid<W: Write>(out: &mut Output<W>) -> u8
     ensures lines { Prints W.contents out.old out.new valid_line }
     ensures status { result ≡ printed_status out.new 0 }
@@ -205,7 +205,7 @@ fn fault_status(fault: &Fault<'_>) -> u8
     }
 }
 
-// The number and the name of a refusal.
+// Returns the number and the name of a refusal as a text.
 fn refusal_line(refusal: Refusal) -> &'static str
     ensures { result.now ≡ refusal_text (refusal_of refusal) }
 {
@@ -252,7 +252,7 @@ fn print_fault_line<E: Write>(err: &mut Output<E>, fault: &Fault<'_>)
     }
 }
 
-/// Prints a fault's line, and returns the exit status, also if the output has failed.
+/// Prints the line of a fault. Returns the exit status, which is the same if the output has failed.
 pub fn print_fault<E: Write>(err: &mut Output<E>, fault: &Fault<'_>) -> u8
     ensures lines { Prints E.contents err.old err.new (fault_line fault.now) }
     ensures status { result ≡ fault_status fault.now }

@@ -1,4 +1,4 @@
-//! The host functions that print.
+//! The print functions, which are host functions.
 
 ghost use Rattle.std.specs.Prelude.{◌≡◌, [], IfOk, length};
 ghost use Rattle.std.proofs.Props.{props};
@@ -9,7 +9,7 @@ use hostfunc::{HostFault, HostFn};
 use std::alloc::{AllocError, Global};
 use std::io::{self, Write};
 
-/// What a print takes.
+/// The parameter of a print function.
 #[derive(Clone, Copy)]
 pub enum Printed {
     Nothing,
@@ -18,7 +18,7 @@ pub enum Printed {
 }
 
 impl Printed {
-    /// The name of the print, by which modules import it.
+    /// Returns the name under which modules import the print function.
     pub fn name(self) -> &'static str {
         match self {
             Printed::Nothing => "print",
@@ -27,7 +27,7 @@ impl Printed {
         }
     }
 
-    // Its parameter, if it has one.
+    // Returns the type of the parameter, if there is one.
     fn parameter(self) -> Option<ValType> {
         match self {
             Printed::Nothing => None,
@@ -37,7 +37,7 @@ impl Printed {
     }
 }
 
-/// A host function that prints a line to a writer of its own: its name, and the argument behind a blank.
+/// A host function that prints a line to its own writer: its name, and the argument after a blank.
 #[derive(Drop)]
 pub struct Print<W> {
     alloc: Global,
@@ -47,7 +47,7 @@ pub struct Print<W> {
     ghost no_results: { ty.results ≡ [] } by { Prim.hlevel props },
 }
 
-// One argument, as an unsigned decimal number; a reference is its number, or `null`.
+// Prints an argument after a blank, as an unsigned decimal number. A reference is printed as its number or as `null`.
 fn print_argument<W: Write>(out: &mut W, value: Val) -> io::Result<()> {
     match value {
         Val::I32(number) => write!(out, " {number}"),
@@ -57,7 +57,7 @@ fn print_argument<W: Write>(out: &mut W, value: Val) -> io::Result<()> {
     }
 }
 
-// The line of a call.
+// Prints the line of a call.
 fn print_call<W: Write>(out: &mut W, name: &str, args: &[Val]) -> io::Result<()> {
     write!(out, "{name}")?;
     for value in args {
@@ -68,7 +68,7 @@ fn print_call<W: Write>(out: &mut W, name: &str, args: &[Val]) -> io::Result<()>
 }
 
 impl<W: Write + Drop> Print<W> {
-    /// The print of this kind, to a writer.
+    /// Creates the print function of this kind, which prints to `out`. Fails if an allocation fails.
     pub fn new(alloc: Global, printed: Printed, out: W) -> Result<Print<W>, AllocError> {
         let mut params = Vec::new(alloc);
         if let Some(ty) = printed.parameter() {
@@ -109,7 +109,7 @@ impl<W: Write + Drop> HostFn for Print<W> {
     }
 }
 
-// The definition of a print under the module name `host`.
+// Defines a print function under the module name `host`.
 fn define_print(
     alloc: Global,
     printed: Printed,
@@ -122,7 +122,7 @@ fn define_print(
     })
 }
 
-/// The definitions of the three prints: of nothing, of an i32, of an i64.
+/// Defines the three print functions: without a parameter, with an i32, and with an i64. Fails if an allocation fails.
 pub fn define_prints(
     alloc: Global,
     nothing: Box<dyn HostFn>,

@@ -1,4 +1,4 @@
-//! The program over its words, its files and its writers.
+//! The program, with its arguments, its files and its writers.
 
 ghost use Rattle.std.specs.Prelude.{◌≡◌, ◌<◌, ◌^◌, IfOk, Result, length, map, string_bytes};
 ghost use Rattle.std.specs.IoError.{error_kind};
@@ -18,8 +18,10 @@ use std::alloc::Global;
 use std::io::{self, Write};
 use subcommands::{End, Fault, Files, perform};
 
-/// Runs the program over the words after its name, with the host functions that modules may import (the three prints), and returns
-/// its exit status, which is 1 if the output has failed. At most 2^32 - 1 host functions may be given.
+/// Runs the program with the arguments after its name, and returns its exit status.
+///
+/// Modules may import the functions in `hosts`, which are the three print functions. There must be at most 2^32 - 1 of them.
+/// The result is printed to `out`, and a fault to `err`. Unless there is a fault, the exit status is 1 if `out` has failed.
 pub fn run<F: Files, W: Write, E: Write>(
     alloc: Global,
     words: &[String],
@@ -41,7 +43,8 @@ pub fn run<F: Files, W: Write, E: Write>(
     }
 }
 
-// What it means that the words cannot be had: one that is no text is none that the program reads.
+// Returns the fault if the arguments cannot be obtained. If memory did not run out, one of them is not text, which is a usage
+// fault.
 fn words_fault(error: &io::Error) -> Fault<'static>
     ensures { result ≡ fault_of_words (error_kind error.now) }
 {
@@ -52,7 +55,7 @@ fn words_fault(error: &io::Error) -> Fault<'static>
     }
 }
 
-/// Prints why the words after the program's name, or the prints, cannot be had, and returns the exit status.
+/// Prints why the arguments after the program's name, or the print functions, cannot be obtained. Returns the exit status.
 pub fn refuse_words<E: Write>(error: &io::Error, err: &mut Output<E>) -> u8
     ensures lines { Prints E.contents err.old err.new
         (fault_line (fault_of_words (error_kind error.now))) }

@@ -1,10 +1,10 @@
-//! Words as values of their types.
+//! Texts as values of their types.
 
 use core_types::{Val, ValType};
 use std::alloc::Global;
 use subcommands::{ArgsFault, read_args};
 
-// A type, a word, and the value of the type that the word writes, if it writes one.
+// A type, a text, and the value of the type that the text represents, if it represents one.
 struct Row {
     ty: ValType,
     word: &'static str,

@@ -1,9 +1,9 @@
-//! Calls of modules with instructions that are run, and with some that are not.
+//! Calls of modules whose instructions are run, and of modules that are refused.
 
 use crate::runs::{Ending, ends_so_on};
 use std::alloc::{AllocError, Global};
 
-// A name, the sections of a module, and what a call of its function `f` with fuel for 100 steps prints.
+// A name, the sections of a module, and what a call of its function `f` with 100 units of fuel prints.
 struct Run {
     name: &'static str,
     sections: &'static str,
@@ -212,7 +212,7 @@ fn runs_tail_calls(rt: HostRuntime) {
     }
 }
 
-// A name, the words of a run over the module of these sections, and the line and the status with which it is refused.
+// A name, the arguments of a run, the sections of its module, and the line and the status with which it is refused.
 struct Refused {
     name: &'static str,
     words: &'static str,

@@ -1,4 +1,4 @@
-//! Checks of modules, of deep ones, and of ones at a limit.
+//! Checks of modules, including deeply nested ones and ones at a limit.
 
 use crate::runs::{Ending, ends_so_on};
 use std::alloc::{AllocError, Global};
@@ -103,7 +103,7 @@ fn checks_end_with_an_answer(rt: HostRuntime) {
     }
 }
 
-// The sections of a function of 1,000 blocks, one within the other.
+// Returns the sections of a module with one function, which has 1,000 nested blocks.
 fn deep_blocks(alloc: Global) -> Result<String, AllocError> {
     let blocks = "0240".repeat(alloc, 1000)?;
     let ends = "0B".repeat(alloc, 1001)?;
@@ -120,7 +120,7 @@ fn nested_blocks_are_valid(rt: HostRuntime) {
     assert!(rt; deep_blocks_are_valid(rt.alloc()) == Ok(true));
 }
 
-// The beginning of a section of one function type, the number of its parameters, and what a check prints.
+// The start of a section with one function type, the number of the type's parameters, and what a check prints.
 struct Parameters {
     front: &'static str,
     count: usize,
@@ -133,7 +133,7 @@ static PARAMETERS: [Parameters; 2] = [
     Parameters { front: "01EE07 01 60 E907", count: 1001, ending: LIMIT },
 ];
 
-// The section of a type of many parameters of type i32.
+// Returns the section of a type with `count` parameters of type i32, after this start.
 fn type_section(alloc: Global, front: &str, count: usize) -> Result<String, AllocError> {
     let params = "7F".repeat(alloc, count)?;
     format!(in alloc; "{front} {params} 00")

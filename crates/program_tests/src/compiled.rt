@@ -1,10 +1,11 @@
-//! Calls of programs that are compiled from C: the modules of the folder `examples`, with their source beside them there.
+//! Calls of programs that are compiled from C. These are the modules of the folder `examples`, and their source is in the same
+//! folder.
 
 use crate::files::OneModule;
 use crate::runs::{begins_so, words_of};
 use std::alloc::{AllocError, Global};
 
-// The sections of the stored modules, as hexadecimal numbers.
+// The sections of the stored modules, in hexadecimal.
 #[rattlefmt::skip]
 const SIEVE: &str = "\
 01060160017F017F030302000005030100010608017F014190CF000B072A03066D656D6F727902000C636F756E745F7072696D657300000E6772656174657374\
@@ -104,7 +105,7 @@ static HASH_CALLS: [Row; 8] = [
     Row { call: "digest_part 85 3", line: "i64 2689838696757121363\nfuel left " },
 ];
 
-// Whether a call in a module of these sections gives this result, whatever fuel it leaves.
+// Returns whether a call in a module with these sections gives this result, regardless of the fuel left.
 fn agrees(alloc: Global, sections: &'static str, row: &Row) -> Result<bool, AllocError> {
     let text = format!(in alloc; "call module.wasm {}", row.call)?;
     let words = words_of(alloc, text.as_str())?;

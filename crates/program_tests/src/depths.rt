@@ -39,7 +39,7 @@ fn opens_no_frame_past_the_depth(rt: HostRuntime) {
     }
 }
 
-// Each call costs six steps, and the last one three.
+// Each call costs 6 units of fuel, and the last one 3.
 #[rattlefmt::skip]
 static LAST: [Row; 4] = [
     Row {

@@ -1,11 +1,12 @@
-//! A run of a script as wast2json writes it: the files of the folder `examples/engine`, with their source beside them there.
+//! A run of a script as wast2json writes it, with the files of the folder `examples/engine`. Their source is in the same
+//! folder.
 
 use crate::runs::{Ending, ends_so, words_of};
 use std::alloc::{AllocError, Global};
 use subcommands::{Files, ReadFault};
 use testing::bytes_of;
 
-// The files, as hexadecimal numbers.
+// The files, in hexadecimal.
 #[rattlefmt::skip]
 static FILES: [(&str, &str); 8] = [
     ("engine.json", "\

@@ -1,11 +1,11 @@
-//! Files in memory, and files of the system that cannot be read.
+//! Files in memory, and paths of the file system that cannot be read.
 
 use crate::runs::{Row, ends_so, words_of};
 use std::alloc::{AllocError, Global};
 use subcommands::{Files, ReadFault, System};
 use testing::{assemble, bytes_of};
 
-// A file in memory: its path, and its bytes in hexadecimal numbers, or none where they are too many for memory.
+// A file in memory: its path, and its bytes in hexadecimal, or none if an allocation for them fails.
 struct File {
     path: &'static str,
     bytes: Option<&'static str>,
@@ -29,21 +29,21 @@ static FILES: [File; 16] = [
             "0061736D01000000 01050160017F00 0216010873706563746573740970 72696E745F6933320000 07050101700000",
         ),
     },
-    // The same with i32.sub in place of i32.add.
+    // As in `m1.wasm`, with i32.sub in place of i32.add.
     File {
         path: "subtracting.wasm",
         bytes: Some(
             "0061736D01000000 010701 60027F7F017F 03020100 07070103 616464 0000 0A09010700 20002001 6B 0B",
         ),
     },
-    // The same with f32.add in place of i32.add.
+    // As in `m1.wasm`, with f32.add in place of i32.add.
     File {
         path: "floating.wasm",
         bytes: Some(
             "0061736D01000000 010701 60027F7F017F 03020100 07070103 616464 0000 0A09010700 20002001 92 0B",
         ),
     },
-    // The same with an empty body, which leaves no result.
+    // As in `m1.wasm`, with an empty body, which leaves no result.
     File {
         path: "empty_body.wasm",
         bytes: Some("0061736D01000000 010701 60027F7F017F 03020100 07070103 616464 0000 0A04010200 0B"),
@@ -52,7 +52,7 @@ static FILES: [File; 16] = [
     File { path: "memory.wasm", bytes: Some("0061736D01000000 0503010001") },
     // (table 1 funcref)
     File { path: "table.wasm", bytes: Some("0061736D01000000 040401700001") },
-    // The beginning of a module.
+    // The start of a module.
     File { path: "short.wasm", bytes: Some("0061736D010000") },
     File { path: "huge.wasm", bytes: None },
     // (func (export "f") (result i32) call 1) (func (result i32) i32.const 7)
@@ -118,19 +118,19 @@ impl Files for FewFiles {
     }
 }
 
-/// Whether a row's run over the files of the table ends as the row says.
+/// Returns whether the run of a row, with the files of the table, ends as the row states. Fails if an allocation fails.
 pub fn agrees(alloc: Global, row: &Row) -> Result<bool, AllocError> {
     let words = words_of(alloc, row.words)?;
     Ok(ends_so(alloc, words.as_slice(), &mut FewFiles { alloc }, row.ending))
 }
 
-// The bytes of a module of these sections.
+// Returns the bytes of a module with these sections, which are in hexadecimal.
 fn module_of(alloc: Global, sections: &str) -> Result<Vec<u8>, AllocError> {
     let text = format!(in alloc; "0061736D01000000 {sections}")?;
     bytes_of(alloc, text.as_str())
 }
 
-/// A module of these sections, hexadecimal numbers, under every path.
+/// A module with these sections at each path. The sections are in hexadecimal.
 #[derive(Drop)]
 pub struct OneModule<'a> {
     pub alloc: Global,
@@ -146,7 +146,7 @@ impl Files for OneModule<'_> {
     }
 }
 
-/// One module in the text format, whatever the path.
+/// A module in the text format at each path.
 #[derive(Drop)]
 pub struct TextModule<'a> {
     pub alloc: Global,

@@ -1,35 +1,37 @@
-//! Large modules, which are made here: they nest deeply, or have very many of something.
+//! Large modules, which are created here. They nest deeply, or have very many of something.
 
 use crate::runs::{Ending, ends_so, words_of};
 use Large::{Exports, ExportsOfOneName, Functions, Lists, Nests, Sum};
 use std::alloc::{AllocError, Global};
 use subcommands::{Files, ReadFault};
 
-// What a module has many of. The bodies are those of function 0, without their last `end`; the first number is that of its type.
+// What a module has many of. Bytes are those of the body of function 0, without its last `end`. The number before them is the
+// index of its type.
 #[derive(Clone, Copy)]
 enum Large {
-    // Some bytes so often, some in the middle, and some as often.
+    // The first bytes `count` times, the second ones once, and the third ones `count` times.
     Nests(u8, &'static [u8], &'static [u8], &'static [u8]),
-    // Some bytes, the count, so many items, and some bytes behind them.
+    // The first bytes, the count, that many items, and the last bytes.
     Lists(u8, &'static [u8], &'static [u8], &'static [u8]),
     // Functions with an empty body.
     Functions,
-    // Exports of function 0, with names of their own.
+    // Exports of function 0, with different names.
     Exports,
-    // The same, but the last two have one name.
+    // The same, except that the last two have the same name.
     ExportsOfOneName,
-    // Terms of the sum that is the first value of a global, which function 0 answers.
+    // Terms of the sum that is the initial value of a global. Function 0 returns the global.
     Sum,
 }
 
-// The types of the modules: no results, one, and a thousand, which function 1 has, whose body is `unreachable`.
+// The types of the modules: with no results, with one, and with a thousand. Function 1 has the last type, and the body
+// `unreachable`.
 const NONE: u8 = 0;
 
 const ONE: u8 = 1;
 
 const THOUSAND: u8 = 2;
 
-// What a module has many of, and how many, the words of a run with it, and how the run ends.
+// A name, what a module has many of, how many, the arguments of a run with it, and how the run ends.
 struct Row {
     name: &'static str,
     large: Large,
@@ -68,7 +70,7 @@ static ROWS: [Row; 18] = [
     Row { name: "the same after unreachable", large: Lists(THOUSAND, &[0x00, 0x00, 0x0E], &[0x00], &[0x00]), count: 50_000, words: "check m", ending: VALID },
 ];
 
-// The spelling of a number in five bytes.
+// Returns the encoding of a number in five bytes.
 fn spell(number: u32) -> [u8; 5] {
     [
         (number % 128) as u8 | 0x80,
@@ -79,7 +81,7 @@ fn spell(number: u32) -> [u8; 5] {
     ]
 }
 
-// Adds bytes so often.
+// Appends bytes `count` times.
 fn push_often(into: &mut Vec<u8>, bytes: &[u8], count: u32) -> Result<(), AllocError> {
     for _ in 0..count {
         into.extend_from_slice(bytes)?;
@@ -87,7 +89,7 @@ fn push_often(into: &mut Vec<u8>, bytes: &[u8], count: u32) -> Result<(), AllocE
     Ok(())
 }
 
-// Adds bytes behind their number.
+// Appends the number of bytes, followed by the bytes.
 fn push_sized(into: &mut Vec<u8>, bytes: &[u8]) -> Result<(), AllocError> {
     let size = (bytes.len() % 4_294_967_296) as u32;
     into.extend_from_slice(&spell(size))?;
@@ -95,13 +97,13 @@ fn push_sized(into: &mut Vec<u8>, bytes: &[u8]) -> Result<(), AllocError> {
     Ok(())
 }
 
-// Adds a section.
+// Appends a section.
 fn push_section(into: &mut Vec<u8>, number: u8, content: &[u8]) -> Result<(), AllocError> {
     into.push(number)?;
     push_sized(into, content)
 }
 
-// Three types: no results, an i32, and a thousand of them.
+// Returns the content of a section with three types: no results, an i32, and a thousand of them.
 fn types(alloc: Global) -> Result<Vec<u8>, AllocError> {
     let mut content = Vec::from_slice(
         alloc,
@@ -113,7 +115,7 @@ fn types(alloc: Global) -> Result<Vec<u8>, AllocError> {
     Ok(content)
 }
 
-// The types of the functions.
+// Returns the content of the section with the types of the functions.
 fn functions(alloc: Global, large: Large, count: u32) -> Result<Vec<u8>, AllocError> {
     match large {
         Nests(ty, ..) | Lists(ty, ..) => Vec::from_slice(alloc, &[0x02, ty, THOUSAND]),
@@ -127,7 +129,7 @@ fn functions(alloc: Global, large: Large, count: u32) -> Result<Vec<u8>, AllocEr
     }
 }
 
-// The globals: one i32, whose first value is a sum of so many times one.
+// Returns the content of the section with the globals: one i32, whose initial value is a sum of `count` ones.
 fn globals(alloc: Global, count: u32) -> Result<Vec<u8>, AllocError> {
     let mut content = Vec::from_slice(alloc, &[0x01, 0x7F, 0x00])?;
     push_often(&mut content, &[0x41, 0x01], count)?;
@@ -136,7 +138,7 @@ fn globals(alloc: Global, count: u32) -> Result<Vec<u8>, AllocError> {
     Ok(content)
 }
 
-// The last seven digits of a number.
+// Returns the last seven digits of a number.
 fn digits(number: u32) -> [u8; 7] {
     let mut text = [b'0'; 7];
     let mut rest = number;
@@ -147,7 +149,7 @@ fn digits(number: u32) -> [u8; 7] {
     text
 }
 
-// So many exports of function 0, whose names are their numbers, up to a greatest one.
+// Returns the content of a section with `count` exports of function 0. Their names are their numbers, up to a greatest one.
 fn numbered_exports(alloc: Global, count: u32, greatest: u32) -> Result<Vec<u8>, AllocError> {
     let mut content = Vec::from_slice(alloc, &spell(count))?;
     for k in 0..count {
@@ -159,7 +161,7 @@ fn numbered_exports(alloc: Global, count: u32, greatest: u32) -> Result<Vec<u8>,
     Ok(content)
 }
 
-// The exports: one of function 0, named f, or as many as there are to be.
+// Returns the content of the section with the exports: one of function 0 that is named f, or the many that the module has.
 fn exports(alloc: Global, large: Large, count: u32) -> Result<Vec<u8>, AllocError> {
     match large {
         Exports => numbered_exports(alloc, count, count),
@@ -168,7 +170,7 @@ fn exports(alloc: Global, large: Large, count: u32) -> Result<Vec<u8>, AllocErro
     }
 }
 
-// The body of function 0.
+// Returns the body of function 0.
 fn body(alloc: Global, large: Large, count: u32) -> Result<Vec<u8>, AllocError> {
     let mut bytes = Vec::new(alloc);
     match large {
@@ -191,7 +193,7 @@ fn body(alloc: Global, large: Large, count: u32) -> Result<Vec<u8>, AllocError> 
     Ok(bytes)
 }
 
-// The bodies of the functions.
+// Returns the content of the section with the bodies of the functions.
 fn code(alloc: Global, large: Large, count: u32) -> Result<Vec<u8>, AllocError> {
     let mut content = Vec::new(alloc);
     if matches!(large, Functions) {
@@ -205,7 +207,7 @@ fn code(alloc: Global, large: Large, count: u32) -> Result<Vec<u8>, AllocError> 
     Ok(content)
 }
 
-// The bytes of a module.
+// Returns the bytes of a module.
 fn module(alloc: Global, large: Large, count: u32) -> Result<Vec<u8>, AllocError> {
     let mut bytes = Vec::from_slice(alloc, b"\0asm\x01\0\0\0")?;
     push_section(&mut bytes, 1, types(alloc)?.as_slice())?;
@@ -218,7 +220,7 @@ fn module(alloc: Global, large: Large, count: u32) -> Result<Vec<u8>, AllocError
     Ok(bytes)
 }
 
-// A large module, whatever the path.
+// A large module at each path.
 #[derive(Drop)]
 struct LargeModule {
     alloc: Global,
@@ -232,7 +234,7 @@ impl Files for LargeModule {
     }
 }
 
-// Whether a row's run ends as the row says.
+// Returns whether the run of a row ends as the row states.
 fn agrees(alloc: Global, row: &Row) -> Result<bool, AllocError> {
     let words = words_of(alloc, row.words)?;
     let mut files = LargeModule {

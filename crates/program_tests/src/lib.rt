@@ -1,4 +1,4 @@
-//! Tests of the program, over words, files and writers in memory.
+//! Tests of the program, with arguments, files and writers in memory.
 #![tactic(auto)]
 
 #[cfg(test)]

@@ -1,4 +1,4 @@
-//! Calls and checks of files, and the lines that they end with.
+//! Calls and checks of files, and the lines that they print.
 
 use crate::files::agrees;
 use crate::runs::{Ending, Row};

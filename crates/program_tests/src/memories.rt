@@ -1,10 +1,10 @@
-//! Calls of modules with memories, data segments and globals: what their link does and costs.
+//! Calls of modules with memories, data segments and globals: what their links do and cost.
 
 use crate::runs::Ending::{self, Err, Out};
 use crate::runs::ends_so_on;
 use std::alloc::{AllocError, Global};
 
-// A name, the words of a run, how it ends, and the sections of the module.
+// A name, the arguments of a run, how it ends, and the sections of the module.
 struct Row {
     name: &'static str,
     words: &'static str,

@@ -9,7 +9,7 @@ use program::{Output, run};
 use std::alloc::{AllocError, Global};
 use testing::assemble;
 
-// A writer that takes so many calls of `write`, and cannot be flushed.
+// Returns a writer whose calls of `write` fail after this number of them, and which cannot be flushed.
 fn failing(writes: u32) -> Failing {
     Failing {
         writes,
@@ -17,7 +17,7 @@ fn failing(writes: u32) -> Failing {
     }
 }
 
-// Whether a run whose output fails answers 1, and prints nothing to the other output.
+// Returns whether a run whose output fails returns 1, and prints nothing to the other output.
 fn fails_silently(alloc: Global, words: &str, writes: u32) -> Result<bool, AllocError> {
     let words = words_of(alloc, words)?;
     let mut err = Output::new(Vec::new(alloc));
@@ -33,7 +33,7 @@ fn fails_silently(alloc: Global, words: &str, writes: u32) -> Result<bool, Alloc
     Ok(status == 1 && err.writer().is_empty())
 }
 
-// Whether a run both of whose outputs fail answers 2.
+// Returns whether a run whose outputs both fail returns 2.
 fn faults_unheard(alloc: Global, words: &str, writes: u32) -> Result<bool, AllocError> {
     let words = words_of(alloc, words)?;
     let hosts = prints_to(alloc, failing(writes))?;
@@ -48,7 +48,7 @@ fn faults_unheard(alloc: Global, words: &str, writes: u32) -> Result<bool, Alloc
     Ok(status == 2)
 }
 
-// Whether a failing output decides the status of a call, a check and a script, and not that of a fault.
+// Returns whether a failing output determines the status of a call, a check and a script, but not the status of a fault.
 fn agrees(alloc: Global, writes: u32) -> Result<bool, AllocError> {
     Ok(
         fails_silently(alloc, "call m1.wasm add 1 2", writes)?
@@ -58,7 +58,8 @@ fn agrees(alloc: Global, writes: u32) -> Result<bool, AllocError> {
     )
 }
 
-// Whether a call of a print ends so where the writers of the prints take so many calls of `write`.
+// Returns whether a call of a print function ends with this text and this status. The writers of the print functions fail after
+// this number of calls of `write`.
 fn prints_so(alloc: Global, writes: u32, end: &str, wanted: u8) -> Result<bool, AllocError> {
     let words = words_of(alloc, "call q.wasm p 5")?;
     let mut out = Output::new(Vec::new(alloc));
@@ -79,7 +80,7 @@ fn prints_so(alloc: Global, writes: u32, end: &str, wanted: u8) -> Result<bool, 
     Ok(status == wanted && out.writer().as_slice() == end.as_bytes() && err.writer().is_empty())
 }
 
-// Whether a print that is written gives no results, and one that fails traps.
+// Returns whether a call of a print function gives no results if its line is written, and traps if the write fails.
 fn prints_are_heard(alloc: Global) -> Result<bool, AllocError> {
     Ok(
         prints_so(alloc, 9, "fuel left 1000000000\n", 0)?
@@ -87,7 +88,7 @@ fn prints_are_heard(alloc: Global) -> Result<bool, AllocError> {
     )
 }
 
-// An embedding with prints to a writer that takes so many calls of `write`.
+// Returns an embedding with print functions whose writers fail after this number of calls of `write`.
 fn embedding_with_prints(alloc: Global, writes: u32) -> Option<Embedding> {
     let config = Config::new(100, 1_024, 1_024, 1_000_000)?;
     let lasting = Failing {
@@ -100,7 +101,7 @@ fn embedding_with_prints(alloc: Global, writes: u32) -> Option<Embedding> {
     }
 }
 
-// Whether a module that exports a print is loaded and linked.
+// Returns whether a module that exports a print function is loaded and linked.
 fn links_a_print(alloc: Global, at: &mut Embedding) -> bool {
     match assemble(
         alloc,
@@ -114,7 +115,7 @@ fn links_a_print(alloc: Global, at: &mut Embedding) -> bool {
     }
 }
 
-// Whether a call of it ends with this code of a host function, or without a trap.
+// Returns whether a call of the print function traps with this code, or returns no values if there is none.
 fn calls_it(alloc: Global, at: &mut Embedding, code: Option<u32>) -> bool {
     match String::from_str(alloc, "p") {
         Ok(name) => match at.apply(&Command::Call(0, name, Vec::new(alloc))) {

@@ -6,7 +6,7 @@ use program::{Output, print_end, print_fault};
 use std::alloc::{AllocError, Global};
 use subcommands::{CallEnd, Fault};
 
-// An outcome, its values as a table has them.
+// An outcome, with its values in a form that a table of rows can contain.
 #[derive(Clone, Copy)]
 enum Ending {
     Values(&'static [Val]),
@@ -14,7 +14,7 @@ enum Ending {
     Exhausted(Exhaustion),
 }
 
-// How a call ends, with 5 of fuel left, the lines that are printed, and the exit status.
+// How a call ends with 5 units of fuel left, the lines that are printed, and the exit status.
 struct Row {
     ending: Ending,
     lines: &'static str,

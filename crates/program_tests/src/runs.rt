@@ -1,4 +1,4 @@
-//! Runs of the program over files and writers in memory.
+//! Runs of the program, with files and writers in memory.
 
 use crate::files::OneModule;
 use crate::writers::{Failing, prints_to};
@@ -6,20 +6,20 @@ use program::{Output, run};
 use std::alloc::{AllocError, Global};
 use subcommands::Files;
 
-/// The text that a run prints to one of its writers, where it prints nothing to the other, and its exit status.
+/// The text that a run prints to one of its writers, and its exit status. It prints nothing to the other writer.
 #[derive(Clone, Copy)]
 pub enum Ending<'a> {
     Out(&'a str, u8),
     Err(&'a str, u8),
 }
 
-/// The words of a run with blanks between them, where `''` is the empty word, and how the run ends.
+/// The arguments of a run with blanks between them, and how the run ends. The empty argument is written as `''`.
 pub struct Row {
     pub words: &'static str,
     pub ending: Ending<'static>,
 }
 
-/// The words of a row, as the program has them.
+/// Returns the arguments of a row, as the program gets them. Fails if an allocation fails.
 pub fn words_of(alloc: Global, text: &str) -> Result<Vec<String>, AllocError> {
     let mut words = Vec::new(alloc);
     for word in text.split_whitespace() {
@@ -37,7 +37,7 @@ struct Printed {
     status: u8,
 }
 
-// Prints that are not read.
+// A writer for print functions whose lines are not read.
 const UNREAD: Failing = Failing {
     writes: u32::MAX,
     flushes: true,
@@ -61,7 +61,7 @@ fn is_printed(got: &Printed, out: &str, err: &str, status: u8) -> bool {
         && got.status == status
 }
 
-/// Whether a run over these words and files ends so.
+/// Returns whether a run with these arguments and files ends like this.
 pub fn ends_so<F: Files>(
     alloc: Global,
     words: &[String],
@@ -77,7 +77,7 @@ pub fn ends_so<F: Files>(
     }
 }
 
-/// Whether a run over these words and files prints a text that begins so, and ends with status 0.
+/// Returns whether a run with these arguments and files prints a text that begins like this, and ends with status 0.
 pub fn begins_so<F: Files>(alloc: Global, words: &[String], files: &mut F, text: &str) -> bool {
     let Ok(got) = run_in_memory(alloc, words, files) else {
         return false;
@@ -87,7 +87,8 @@ pub fn begins_so<F: Files>(alloc: Global, words: &[String], files: &mut F, text:
         && got.status == 0
 }
 
-/// Whether a run over these words and the module of these sections, hexadecimal numbers, ends so.
+/// Returns whether a run with these arguments and a module with these sections ends like this. The sections are in hexadecimal.
+/// Fails if an allocation fails.
 pub fn ends_so_on(
     alloc: Global,
     words: &str,

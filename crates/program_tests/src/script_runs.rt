@@ -1,4 +1,4 @@
-//! Runs of scripts over files in memory.
+//! Runs of scripts, with files in memory.
 
 use crate::runs::{Ending, ends_so, words_of};
 use Ending::{Err as Refuses, Out as Prints};
@@ -6,14 +6,14 @@ use std::alloc::{AllocError, Global};
 use subcommands::{Files, ReadFault};
 use testing::assemble;
 
-// A script in one file, and beside it modules: their paths and their texts.
+// A script in a file, and the paths and the texts of the modules beside it.
 struct Folder {
     path: &'static str,
     script: &'static [u8],
     modules: &'static [(&'static str, &'static str)],
 }
 
-// A folder from which files are read, and how many were.
+// A folder that files are read from, and the number of reads so far.
 #[derive(Drop)]
 struct Reader {
     alloc: Global,
@@ -21,7 +21,7 @@ struct Reader {
     reads: u64,
 }
 
-// The text of the module at a path.
+// Returns the text of the module at a path, if there is one.
 fn module_at(folder: &Folder, path: &str) -> Option<&'static str> {
     for (name, text) in folder.modules {
         if *name == path {
@@ -44,7 +44,7 @@ impl Files for Reader {
     }
 }
 
-// The words of a run, the folder of its script, and how it ends.
+// A name, the arguments of a run, the folder of its script, and how it ends.
 struct Row {
     name: &'static str,
     words: &'static str,
@@ -65,7 +65,7 @@ const MISSING: &str = "(import \"M\" \"missing\" (func))";
 const ENDLESS: &str =
     "(func loop br 0 end) (func call 1) (export \"loop\" (func 0)) (export \"deep\" (func 1))";
 
-// Prints its argument, and answers a global of the stored module.
+// Prints its argument, and returns a global of the stored module.
 const PRINTS: &str =
     "(import \"spectest\" \"print_i32\" (func (param i32))) (import \"spectest\" \"global_i32\" (global i32)) (func (param i32) (result i32) local.get 0 call 0 global.get 0) (export \"f\" (func 1))";
 
@@ -145,7 +145,7 @@ static ROWS: [Row; 22] = [
     Row { name: "imports of the stored module", words: "script --depth 2 s", folder: Folder { path: "s", script: CALLS_PRINTS, modules: &[("p", PRINTS)] }, ending: Prints("passed 2 failed 0 skipped 0\n", 0) },
 ];
 
-// Whether a row's run ends as the row says.
+// Returns whether the run of a row ends as the row states.
 fn agrees(alloc: Global, row: &'static Row) -> Result<bool, AllocError> {
     let words = words_of(alloc, row.words)?;
     let mut files = Reader {
@@ -163,7 +163,7 @@ fn scripts_are_run(rt: HostRuntime) {
     }
 }
 
-// The example up to so many bytes, whatever the path.
+// The first `count` bytes of the example, at each path.
 #[derive(Drop)]
 struct CutExample {
     alloc: Global,
@@ -177,7 +177,7 @@ impl Files for CutExample {
     }
 }
 
-// Whether the example up to so many bytes is refused.
+// Returns whether the first `count` bytes of the example are refused.
 fn is_refused(alloc: Global, count: usize) -> Result<bool, AllocError> {
     let words = words_of(alloc, "script a.json")?;
     let mut files = CutExample { alloc, count };
@@ -202,7 +202,7 @@ static NAMES_ONE_OFTEN: Folder = Folder {
     modules: &[("a", ADD), ("b", ADD)],
 };
 
-// How many files are read for a script that names one of two files three times, with its own.
+// Returns how many files are read, including the script, if a script names one of two files three times.
 fn files_read(alloc: Global) -> Result<u64, AllocError> {
     let words = words_of(alloc, "script s")?;
     let mut files = Reader {

@@ -1,11 +1,11 @@
-//! Calls of modules with tables, element segments, start functions and imports: what their link does and costs.
+//! Calls of modules with tables, element segments, start functions and imports: what their links do and cost.
 
 use crate::files::TextModule;
 use crate::runs::Ending::{self, Err, Out};
 use crate::runs::{ends_so, words_of};
 use std::alloc::{AllocError, Global};
 
-// A name, the words of a run, how it ends, and the module.
+// A name, the arguments of a run, how it ends, and the module.
 struct Row {
     name: &'static str,
     words: &'static str,

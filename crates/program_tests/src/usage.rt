@@ -1,10 +1,10 @@
-//! Words that the program does not read.
+//! Arguments that the program does not read.
 
 use crate::files::FewFiles;
 use crate::runs::{Ending, ends_so, words_of};
 use std::alloc::{AllocError, Global};
 
-// Whether the program prints that the words are of no form.
+// Returns whether the program prints that the arguments are a usage fault.
 fn is_usage(alloc: Global, words: &[String]) -> bool {
     ends_so(
         alloc,
@@ -75,7 +75,7 @@ fn other_words_are_usage_faults(rt: HostRuntime) {
     }
 }
 
-// Whether a word is no depth, neither as the word after `--depth` nor as a part of it.
+// Returns whether a text is refused as a depth, both after `--depth` and within the same argument.
 fn is_no_depth(alloc: Global, depth: &str) -> Result<bool, AllocError> {
     let mut split = words_of(alloc, "call calling.wasm f --depth")?;
     split.push(String::from_str(alloc, depth)?)?;

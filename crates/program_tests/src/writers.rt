@@ -1,4 +1,4 @@
-//! Writers that fail after a while, and prints to them.
+//! Writers that fail after a number of writes, and print functions with such writers.
 
 ghost use Rattle.std.specs.Prelude.{◌≡◌, IfOk, length};
 
@@ -7,7 +7,7 @@ use program::{Print, Printed, define_prints};
 use std::alloc::{AllocError, Global};
 use std::io::{self, Write};
 
-/// A writer that takes a number of calls of `write`, and fails from then on. It can be flushed or not.
+/// A writer whose calls of `write` fail after this number of them. `flushes` states whether it can be flushed.
 #[derive(Clone, Copy, Drop)]
 pub struct Failing {
     pub writes: u32,
@@ -32,7 +32,7 @@ impl Write for Failing {
     }
 }
 
-/// The three prints, each to such a writer.
+/// Returns the definitions of the three print functions, each with such a writer. Fails if an allocation fails.
 pub fn prints_to(alloc: Global, writer: Failing) -> Result<Vec<HostDef>, AllocError>
     ensures { IfOk result (λ hosts. length hosts.items ≡ 3) }
 {

@@ -1,17 +1,17 @@
-//! Calls that are made once more where they wanted memory, alone or one after the other.
+//! Calls that are made again if they ran out of memory, alone or in a row.
 
 use crate::padding::pad;
 use crate::verdicts::{Answer, Verdict};
 use std::alloc::Global;
 
-/// A call that may be made twice, with all that it needs.
+/// A call that may be made twice, with everything that it needs.
 pub trait Attempt {
     /// Makes the call.
     fn attempt(&mut self) -> Answer;
 }
 
-/// Makes a call, and once more where it wanted memory: then it has to answer as with ample memory. So many allocations come before
-/// it. It wants memory at one place alone, which is named.
+/// Makes a call after `before` unused allocations, and returns the verdict. If the call ran out of memory, it is made again,
+/// and then it must answer as with ample memory. The call runs out of memory only at `place`.
 pub fn judge<T: Attempt + Drop>(
     prepared: Option<T>,
     alloc: Global,
@@ -34,13 +34,13 @@ pub fn judge<T: Attempt + Drop>(
     }
 }
 
-/// Calls one after the other, of which each is made once more where it wanted memory, with all that they need.
+/// Calls in a row, with everything that they need. Each one is made again if it ran out of memory.
 pub trait Conversation {
-    /// Makes the calls, and says what they came to.
+    /// Makes the calls, and returns the verdict.
     fn hold(&mut self) -> Verdict;
 }
 
-/// Makes calls one after the other. So many allocations come before the first one.
+/// Makes calls in a row, after `before` unused allocations. Returns the verdict.
 pub fn hold<T: Conversation + Drop>(prepared: Option<T>, alloc: Global, before: usize) -> Verdict {
     let Some(mut subject) = prepared else {
         return Verdict::Unready(0);

@@ -1,4 +1,4 @@
-//! Functions are called from outside.
+//! Calling functions from outside.
 
 use crate::attempts::Attempt;
 use crate::linking::store_of;
@@ -11,13 +11,13 @@ use hostfunc::HostTable;
 use std::alloc::Global;
 use store::{Store, accepts};
 
-// What a call may spend.
+// The fuel of a call.
 const FUEL: u64 = 10_000_000;
 
-// How many frames may be open.
+// The most frames that may be open.
 const DEPTH: u32 = 100;
 
-// Calls the function at address 0, which answers the number that it is given.
+// Calls the function at address 0, which returns its argument. Returns the verdict on the call.
 fn call(alloc: Global, store: &mut Store, number: u32) -> Answer {
     let arguments = [Val::I32(number)];
     let mut hosts = HostTable::new(alloc);
@@ -32,7 +32,7 @@ fn call(alloc: Global, store: &mut Store, number: u32) -> Answer {
     }
 }
 
-/// A function calls itself fifty times.
+/// A call of a function that calls itself fifty times.
 #[derive(Drop)]
 pub struct Calling {
     alloc: Global,
@@ -40,7 +40,7 @@ pub struct Calling {
 }
 
 impl Calling {
-    /// All that it needs.
+    /// Prepares everything that the call needs. Returns none if that fails.
     pub fn prepare(alloc: Global) -> Option<Calling> {
         let store = store_of(alloc, DEEP)?;
         Some(Calling { alloc, store })
@@ -53,7 +53,7 @@ impl Attempt for Calling {
     }
 }
 
-/// A function goes around a loop so many times.
+/// A call of a function that runs a loop `count` times.
 #[derive(Drop)]
 pub struct Rounds {
     alloc: Global,
@@ -62,7 +62,7 @@ pub struct Rounds {
 }
 
 impl Rounds {
-    /// All that it needs.
+    /// Prepares everything that the call needs. Returns none if that fails.
     pub fn prepare(alloc: Global, count: u32) -> Option<Rounds> {
         let store = store_of(alloc, ROUNDS)?;
         Some(Rounds {

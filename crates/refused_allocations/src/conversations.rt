@@ -1,4 +1,4 @@
-//! Commands of an embedding, one after the other.
+//! Commands to an embedding, in a row.
 
 use crate::attempts::Conversation;
 use crate::embeddings::{FUEL, embedding_with, fresh_embedding, load_of};
@@ -9,25 +9,25 @@ use core_types::{Trap, Val};
 use embed::{Command, Embedding, Reply};
 use std::alloc::Global;
 
-// Calls a function of an instance.
+// Returns the command that calls a function of an instance.
 fn call_of(alloc: Global, instance: u64, name: &str, args: &[Val]) -> Option<Command> {
     let name = String::from_str(alloc, name).ok()?;
     let args = Vec::from_slice(alloc, args).ok()?;
     Some(Command::Call(instance, name, args))
 }
 
-// What is seen of the reply to a command.
+// Applies a command. Returns what is seen of the reply.
 fn give(at: &mut Embedding, command: &Command) -> Seen {
     seen_in(&at.apply(command))
 }
 
-// What is seen where the module of a number is linked.
+// Links the module of a number. Returns what is seen of the reply.
 fn link(at: &mut Embedding, number: u64) -> Seen {
     give(at, &Command::Link(number))
 }
 
-// What is answered to a command; where it wants memory, what is answered then, and the place is kept. It changes nothing that is of use
-// where it does.
+// Applies a command, and applies it again if it ran out of memory. Then it also keeps the place. Returns what is seen of the
+// last reply. A command that runs out of memory changes nothing that matters here.
 fn ask(
     at: &mut Embedding,
     command: &Command,
@@ -42,12 +42,12 @@ fn ask(
     give(at, command)
 }
 
-// The same, where the first module is linked.
+// Links the first module in the same way.
 fn ask_for_link(at: &mut Embedding, wanting: &mut Option<&'static str>) -> Seen {
     ask(at, &Command::Link(0), "Link", wanting)
 }
 
-// What all came to, if it is right.
+// Returns the verdict on all calls.
 fn verdict_of(is_right: bool, wanting: Option<&'static str>) -> Verdict {
     match (is_right, wanting) {
         (true, None) => Verdict::Ample,
@@ -56,7 +56,7 @@ fn verdict_of(is_right: bool, wanting: Option<&'static str>) -> Verdict {
     }
 }
 
-/// A module whose function answers a reference to itself is linked twice, and both instances are called.
+/// The second link of a module, and a call of each of its instances. The module's function returns a reference to itself.
 #[derive(Drop)]
 pub struct LinkingAgain {
     at: Embedding,
@@ -64,7 +64,7 @@ pub struct LinkingAgain {
     second: Command,
 }
 
-/// The module is linked once.
+/// Prepares an embedding in which the module is linked once. Returns none if that fails.
 pub fn prepare_link(alloc: Global) -> Option<LinkingAgain> {
     let first = call_of(alloc, 0, "itself", &[])?;
     let second = call_of(alloc, 1, "itself", &[])?;
@@ -85,7 +85,8 @@ impl Conversation for LinkingAgain {
     }
 }
 
-// The address of the next function, once a module with two was linked whose start function fails.
+// Returns the address of the next function after the link of a module with two functions, whose start function fails. Returns
+// none if another reply was seen.
 fn address_after(seen: Seen) -> Option<u32> {
     match seen {
         Seen::Trapped(Trap::Unreachable) => Some(3),
@@ -95,14 +96,15 @@ fn address_after(seen: Seen) -> Option<u32> {
     }
 }
 
-/// A module is linked whose start function fails, and then one whose function answers a reference to itself.
+/// A link of a module whose start function fails, and then of one whose function returns a reference to itself.
 #[derive(Drop)]
 pub struct FailingLink {
     at: Embedding,
     call: Command,
 }
 
-/// Both modules are loaded, and the second one is linked once.
+/// Prepares an embedding in which both modules are loaded, and the one without a start function is linked once. Returns none if
+/// that fails.
 pub fn prepare_start(alloc: Global) -> Option<FailingLink> {
     let call = call_of(alloc, 1, "itself", &[])?;
     let load = load_of(alloc, ITSELF_AND_TRAP)?;
@@ -123,17 +125,17 @@ impl Conversation for FailingLink {
     }
 }
 
-// Whether the fuel can be set.
+// Sets the fuel. Returns whether it was set.
 fn can_set_fuel(at: &mut Embedding, fuel: u64) -> bool {
     give(at, &Command::SetFuel(fuel)) == Seen::Done && at.fuel_left() == fuel
 }
 
-// Whether a command gets this answer, and leaves so much fuel.
+// Applies a command. Returns whether it gets this answer and leaves this fuel.
 fn gets(at: &mut Embedding, command: &Command, wanted: Seen, left: u64) -> bool {
     give(at, command) == wanted && at.fuel_left() == left
 }
 
-/// A memory of one page is grown by one in a call.
+/// A call that grows a memory of one page by one.
 #[derive(Drop)]
 pub struct GrowingInCall {
     at: Embedding,
@@ -141,7 +143,7 @@ pub struct GrowingInCall {
     by_none: Command,
 }
 
-/// The memory has one page, and 10,000 units of fuel are left.
+/// Prepares an embedding with a memory of one page and 10,000 units of fuel left. Returns none if that fails.
 pub fn prepare_growth(alloc: Global) -> Option<GrowingInCall> {
     let by_one = call_of(alloc, 0, "g", &[Val::I32(1)])?;
     let by_none = call_of(alloc, 0, "g", &[Val::I32(0)])?;
@@ -154,7 +156,7 @@ pub fn prepare_growth(alloc: Global) -> Option<GrowingInCall> {
 }
 
 impl GrowingInCall {
-    // Whether a memory that did not grow has its size still, so that so much fuel is left, and grows then.
+    // Returns whether a memory that did not grow still has its size, which leaves this fuel, and whether it then grows.
     fn grows_then(&mut self, left: u64) -> bool {
         gets(&mut self.at, &self.by_none, Seen::Number(1), left)
             && can_set_fuel(&mut self.at, 9_999)
@@ -180,7 +182,7 @@ impl Conversation for GrowingInCall {
     }
 }
 
-// What is seen of the replies to two commands.
+// Returns what is seen of the replies to two commands, if there are two.
 fn seen_in_both(replies: &[Reply]) -> Option<(Seen, Seen)> {
     match replies {
         [first, second] => Some((seen_in(first), seen_in(second))),
@@ -188,10 +190,10 @@ fn seen_in_both(replies: &[Reply]) -> Option<(Seen, Seen)> {
     }
 }
 
-// What is seen where fuel is set and a module is loaded.
+// What is seen if the fuel is set and a module is loaded.
 const BOTH: Option<(Seen, Seen)> = Some((Seen::Done, Seen::Loaded(0)));
 
-/// Fuel is set and a module is loaded, by one call.
+/// One call that sets the fuel and loads a module.
 #[derive(Drop)]
 pub struct ApplyingBoth {
     at: Embedding,
@@ -199,7 +201,7 @@ pub struct ApplyingBoth {
     replies: Vec<Reply>,
 }
 
-/// A fresh embedding, and two commands.
+/// Prepares a fresh embedding and two commands. Returns none if that fails.
 pub fn prepare_all(alloc: Global) -> Option<ApplyingBoth> {
     let load = load_of(alloc, ITSELF)?;
     let mut commands = Vec::new(alloc);
@@ -213,12 +215,12 @@ pub fn prepare_all(alloc: Global) -> Option<ApplyingBoth> {
 }
 
 impl ApplyingBoth {
-    // Whether both are applied, and there is room for their replies.
+    // Applies both commands. Returns whether their replies could be allocated.
     fn apply(&mut self) -> bool {
         self.at.apply_all(&self.commands, &mut self.replies).is_ok()
     }
 
-    // Both are applied once more where there was no room for their replies; nothing has changed then.
+    // Applies both commands again after their replies could not be allocated. Nothing may have changed by then.
     fn apply_again(&mut self) -> Verdict {
         let is_unchanged = self.replies.is_empty() && self.at.fuel_left() == FUEL;
         if self.apply() && is_unchanged && seen_in_both(&self.replies) == BOTH {
@@ -227,7 +229,7 @@ impl ApplyingBoth {
         Verdict::Wrong("the room for replies")
     }
 
-    // Whether the module is loaded by a command of its own.
+    // Applies only the command that loads the module. Returns whether the module is loaded.
     fn is_loaded_then(&mut self) -> bool {
         match self.commands.last() {
             Some(load) => give(&mut self.at, load) == Seen::Loaded(0),

@@ -1,4 +1,4 @@
-//! Commands of an embedding, one by one.
+//! Commands to an embedding, one at a time.
 
 use crate::attempts::Attempt;
 use crate::hosts::Counter;
@@ -11,25 +11,25 @@ use embed::{Command, Config, Embedding, HostDef, InstanceNumber, NewFault, Refus
 use std::alloc::{AllocError, Global};
 use testing::assemble;
 
-/// What may be spent at first.
+/// The initial fuel.
 pub const FUEL: u64 = 100_000;
 
-/// A setup.
+/// Returns the setup of the embeddings.
 pub fn usual_config() -> Option<Config> {
     Config::new(FUEL, 100, 10, 10)
 }
 
-/// A fresh embedding without host functions.
+/// Creates an embedding without host functions. Returns none if that fails.
 pub fn fresh_embedding(alloc: Global) -> Option<Embedding> {
     Embedding::new(alloc, usual_config()?, Vec::new(alloc)).ok()
 }
 
-/// Loads the module of a text.
+/// Returns the command that loads the module of a text.
 pub fn load_of(alloc: Global, text: &str) -> Option<Command> {
     Some(Command::Load(assemble(alloc, text).ok()?))
 }
 
-/// An embedding in which the module of a text is loaded, and linked once.
+/// Creates an embedding in which the module of a text is loaded and linked once. Returns none if that fails.
 pub fn embedding_with(alloc: Global, text: &str) -> Option<Embedding> {
     let load = load_of(alloc, text)?;
     let mut at = fresh_embedding(alloc)?;
@@ -38,7 +38,7 @@ pub fn embedding_with(alloc: Global, text: &str) -> Option<Embedding> {
     (loaded == Seen::Loaded(0) && linked == Seen::Linked(0)).then_some(at)
 }
 
-/// A command, whose reply is this one where there is memory.
+/// A command, and what is seen of its reply if memory does not run out.
 #[derive(Drop)]
 pub struct Asking {
     at: Embedding,
@@ -59,7 +59,7 @@ impl Attempt for Asking {
     }
 }
 
-/// A module is loaded.
+/// Prepares the load of a module. Returns none if that fails.
 pub fn prepare_load(alloc: Global) -> Option<Asking> {
     let command = load_of(alloc, WHOLE)?;
     Some(Asking {
@@ -69,7 +69,7 @@ pub fn prepare_load(alloc: Global) -> Option<Asking> {
     })
 }
 
-/// An instance is registered.
+/// Prepares the registration of an instance. Returns none if that fails.
 pub fn prepare_register(alloc: Global) -> Option<Asking> {
     let command = Command::Register(0, String::from_str(alloc, "m").ok()?);
     Some(Asking {
@@ -79,7 +79,7 @@ pub fn prepare_register(alloc: Global) -> Option<Asking> {
     })
 }
 
-/// A global is read.
+/// Prepares the read of a global. Returns none if that fails.
 pub fn prepare_global(alloc: Global) -> Option<Asking> {
     let command = Command::GetGlobal(0, String::from_str(alloc, "g").ok()?);
     Some(Asking {
@@ -89,13 +89,13 @@ pub fn prepare_global(alloc: Global) -> Option<Asking> {
     })
 }
 
-/// The type of an export is asked for.
+/// A query for the type of an export.
 #[derive(Drop)]
 pub struct TypeOfExport {
     at: Embedding,
 }
 
-/// The type of an export is asked for.
+/// Prepares the query. Returns none if that fails.
 pub fn prepare_export_type(alloc: Global) -> Option<TypeOfExport> {
     let at = embedding_with(alloc, OBJECTS)?;
     Some(TypeOfExport { at })
@@ -113,18 +113,18 @@ impl Attempt for TypeOfExport {
     }
 }
 
-// Whether these are the two exports, each with a type of its own.
+// Returns whether these are the two exports, each with its own type.
 fn are_both(found: &embed::Exports) -> bool {
     found.types.len() == 2 && found.exports.len() == 2 && found.exports[1].name.as_str() == "g"
 }
 
-/// The exports of an instance are asked for.
+/// A query for the exports of an instance.
 #[derive(Drop)]
 pub struct Exports {
     at: Embedding,
 }
 
-/// The exports of an instance are asked for.
+/// Prepares the query. Returns none if that fails.
 pub fn prepare_exports(alloc: Global) -> Option<Exports> {
     let at = embedding_with(alloc, OBJECTS)?;
     Some(Exports { at })
@@ -139,13 +139,13 @@ impl Attempt for Exports {
     }
 }
 
-/// An export of an instance is asked for by its name.
+/// A query for an export of an instance by its name.
 #[derive(Drop)]
 pub struct NamedExport {
     at: Embedding,
 }
 
-/// An export of an instance is asked for by its name.
+/// Prepares the query. Returns none if that fails.
 pub fn prepare_named_export(alloc: Global) -> Option<NamedExport> {
     let at = embedding_with(alloc, OBJECTS)?;
     Some(NamedExport { at })
@@ -161,7 +161,7 @@ impl Attempt for NamedExport {
     }
 }
 
-// Whether an embedding is made with these host functions.
+// Creates an embedding with these host functions. Returns the verdict on that.
 fn create(alloc: Global, hosts: Vec<HostDef>) -> Answer {
     let Some(config) = usual_config() else {
         return Answer::Wrong;
@@ -176,7 +176,7 @@ fn create(alloc: Global, hosts: Vec<HostDef>) -> Answer {
     }
 }
 
-// Makes an embedding, and another one where there was no memory.
+// Creates an embedding, and another one if memory ran out.
 fn create_either(alloc: Global, first: Vec<HostDef>, second: Vec<HostDef>) -> Verdict {
     match create(alloc, first) {
         Answer::Ample => Verdict::Ample,
@@ -188,7 +188,8 @@ fn create_either(alloc: Global, first: Vec<HostDef>, second: Vec<HostDef>) -> Ve
     }
 }
 
-// Makes an embedding with two of four host functions, behind so many allocations, and one with the others where there was no memory.
+// Creates an embedding with two of four host functions, after `before` unused allocations, and one with the other two if memory
+// ran out.
 fn create_padded(
     alloc: Global,
     before: usize,
@@ -204,7 +205,7 @@ fn create_padded(
     })
 }
 
-// Makes both embeddings; none where there is no memory for their host functions.
+// Creates the host functions and the embeddings. Fails if an allocation for the host functions fails.
 fn create_twice(alloc: Global, before: usize) -> Result<Verdict, AllocError> {
     let mut hosts = Vec::new(alloc);
     for name in &["first", "second", "first", "second"] {
@@ -213,7 +214,7 @@ fn create_twice(alloc: Global, before: usize) -> Result<Verdict, AllocError> {
     create_padded(alloc, before, hosts)
 }
 
-/// An embedding with two host functions is made. So many allocations come before.
+/// Creates an embedding with two host functions, after `before` unused allocations. Returns the verdict.
 pub fn judge_created(alloc: Global, before: usize) -> Verdict {
     create_twice(alloc, before).unwrap_or(Verdict::Unready(0))
 }

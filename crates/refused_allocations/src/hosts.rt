@@ -1,4 +1,4 @@
-//! A host function, and host functions that are taken in.
+//! A host function, and adding host functions to a table.
 
 ghost use Rattle.std.specs.Prelude.{◌≡◌, ◌∷◌, []};
 ghost use Rattle.std.proofs.Props.{props};
@@ -14,7 +14,7 @@ use embed::{HostDef, func_type, one_result};
 use hostfunc::{HostFault, HostFn, HostTable, has_funcref, object_type};
 use std::alloc::{AllocError, Global};
 
-/// A host function that answers how often it was called.
+/// A host function that returns how often it was called.
 #[derive(Drop)]
 pub struct Counter {
     alloc: Global,
@@ -24,7 +24,7 @@ pub struct Counter {
 }
 
 impl Counter {
-    /// One that was not called yet.
+    /// Creates one that was not called yet. Fails if an allocation fails.
     pub fn new(alloc: Global) -> Result<Counter, AllocError> {
         let mut results = Vec::new(alloc);
         results.push(ValType::I32)?;
@@ -38,7 +38,7 @@ impl Counter {
         })
     }
 
-    /// The same, in a box.
+    /// Creates one in a box. Fails if an allocation fails.
     pub fn boxed(alloc: Global) -> Result<Box<Counter>, AllocError> {
         Ok(Box::new(alloc, Counter::new(alloc)?)?)
     }
@@ -65,7 +65,7 @@ impl HostFn for Counter {
     }
 }
 
-// Takes a host function in, as the first one.
+// Appends a host function as the first one. Returns the verdict on that.
 fn take_in(hosts: &mut HostTable, object: Box<dyn HostFn>) -> Answer {
     if hosts.len() > 0 || has_funcref(object_type(&object).results.as_slice()) {
         return Answer::Wrong;
@@ -78,7 +78,8 @@ fn take_in(hosts: &mut HostTable, object: Box<dyn HostFn>) -> Answer {
     }
 }
 
-// Takes a host function in, and another one where there was no memory; none where there is no memory before that.
+// Appends a host function after `before` unused allocations, and another one if memory ran out. Fails if an allocation for the
+// host functions fails.
 fn take_in_twice(alloc: Global, before: usize) -> Result<Verdict, AllocError> {
     let first = Counter::boxed(alloc)?;
     let second = Counter::boxed(alloc)?;
@@ -96,24 +97,24 @@ fn take_in_twice(alloc: Global, before: usize) -> Result<Verdict, AllocError> {
     })
 }
 
-/// Takes a host function in, and another one where there was no memory. So many allocations come before.
+/// Appends a host function after `before` unused allocations, and another one if memory ran out. Returns the verdict.
 pub fn judge_push(alloc: Global, before: usize) -> Verdict {
     take_in_twice(alloc, before).unwrap_or(Verdict::Unready(0))
 }
 
-/// The parts of a host function are made.
+/// The creation of the parts of a host function.
 #[derive(Drop)]
 pub struct Parts {
     alloc: Global,
 }
 
 impl Parts {
-    /// All that it needs.
+    /// Prepares everything that the call needs. Returns none if that fails.
     pub fn prepare(alloc: Global) -> Option<Parts> {
         Some(Parts { alloc })
     }
 
-    // Whether a type, a definition and a result are as they were asked for.
+    // Creates a type, a definition and a result. Returns whether they are as requested, and fails if an allocation fails.
     fn are_made(&self) -> Result<bool, AllocError> {
         let ty = func_type(self.alloc, &[ValType::I32, ValType::I64], &[ValType::I64])?;
         let counter = Counter::boxed(self.alloc)?;

@@ -1,4 +1,4 @@
-//! Modules are linked over a store, names are given, and exports described.
+//! Linking modules over a store, defining names, and describing exports.
 
 use crate::attempts::Attempt;
 use crate::modules::loaded_module;
@@ -14,16 +14,16 @@ use std::alloc::Global;
 use std::rc::Rc;
 use store::{LoadedModule, Store};
 
-// How many pages a memory may have.
+// The most pages that a memory may have.
 const PAGES: u32 = 10;
 
-// How many entries a table may have.
+// The most entries that a table may have.
 const ENTRIES: u32 = 10;
 
-// What a link may spend.
+// The fuel of a link.
 const FUEL: u64 = 100;
 
-// How many frames may be open.
+// The most frames that may be open.
 const DEPTH: u32 = 10;
 
 // Links a module without imports.
@@ -36,7 +36,7 @@ fn link(alloc: Global, store: &mut Store, loaded: &Rc<LoadedModule>) -> Result<u
     instantiate(alloc, store, &mut hosts, &mut meter, loaded, &[])
 }
 
-/// A store with an instance of the module of a text, which has no imports.
+/// Creates a store with an instance of the module of a text, which has no imports. Returns none if that fails.
 pub fn store_of(alloc: Global, text: &str) -> Option<Store> {
     let loaded = loaded_module(alloc, text)?;
     let mut store = Store::new(alloc, PAGES, ENTRIES);
@@ -46,7 +46,7 @@ pub fn store_of(alloc: Global, text: &str) -> Option<Store> {
     }
 }
 
-/// A module is linked a second time.
+/// A link of a module, in a store with an instance of the same text.
 #[derive(Drop)]
 pub struct Instantiating {
     alloc: Global,
@@ -55,7 +55,7 @@ pub struct Instantiating {
 }
 
 impl Instantiating {
-    /// All that it needs.
+    /// Prepares everything that the call needs. Returns none if that fails.
     pub fn prepare(alloc: Global) -> Option<Instantiating> {
         Some(Instantiating {
             alloc,
@@ -76,7 +76,7 @@ impl Attempt for Instantiating {
     }
 }
 
-/// A host function is defined.
+/// A definition of a host function.
 #[derive(Drop)]
 pub struct Defining {
     names: Names,
@@ -84,7 +84,7 @@ pub struct Defining {
 }
 
 impl Defining {
-    /// All that it needs.
+    /// Prepares everything that the call needs. Returns none if that fails.
     pub fn prepare(alloc: Global) -> Option<Defining> {
         Some(Defining {
             names: Names::new(alloc),
@@ -104,7 +104,7 @@ impl Attempt for Defining {
     }
 }
 
-/// An instance is registered.
+/// A registration of an instance.
 #[derive(Drop)]
 pub struct Registering {
     names: Names,
@@ -112,7 +112,7 @@ pub struct Registering {
 }
 
 impl Registering {
-    /// All that it needs.
+    /// Prepares everything that the call needs. Returns none if that fails.
     pub fn prepare(alloc: Global) -> Option<Registering> {
         Some(Registering {
             names: Names::new(alloc),
@@ -132,13 +132,13 @@ impl Attempt for Registering {
     }
 }
 
-// Whether a type is that of the module's function.
+// Returns whether a type is that of the module's function.
 fn is_type(ty: &FuncType) -> bool {
     ty.params.as_slice() == [ValType::I32, ValType::I64].as_slice()
         && ty.results.as_slice() == [ValType::I64].as_slice()
 }
 
-/// The type of a function is asked for.
+/// A query for the type of a function.
 #[derive(Drop)]
 pub struct Describing {
     alloc: Global,
@@ -146,7 +146,7 @@ pub struct Describing {
 }
 
 impl Describing {
-    /// All that it needs.
+    /// Prepares everything that the call needs. Returns none if that fails.
     pub fn prepare(alloc: Global) -> Option<Describing> {
         let store = store_of(alloc, OBJECTS)?;
         Some(Describing { alloc, store })

@@ -1,4 +1,4 @@
-//! The list is given to an embedding, and each reply judged.
+//! Gives the list to an embedding, and judges each reply.
 
 ghost use Rattle.std.specs.Prelude.{◌<◌, ◌^◌, length};
 
@@ -20,22 +20,22 @@ use testing::assemble;
 const SCRIPT: &str =
     "{\"commands\":[{\"type\":\"module\",\"line\":1,\"filename\":\"passer.wasm\"},{\"type\":\"assert_return\",\"line\":2,\"action\":{\"type\":\"invoke\",\"field\":\"bump\",\"args\":[]},\"expected\":[]},{\"type\":\"assert_return\",\"line\":3,\"action\":{\"type\":\"get\",\"field\":\"g\"},\"expected\":[{\"type\":\"i32\",\"value\":\"8\"}]}]}";
 
-// How many machines may stand for the embedding.
+// The most machines that may represent the embedding.
 const MOST: usize = 400;
 
-// What is known of an embedding: the machines that it may be. Until memory is wanted there is one.
+// What is known about an embedding: the machines that it may be. There is one until a step runs out of memory.
 #[derive(Drop)]
 struct Judge {
     machines: Vec<Machine>,
-    // Those of the next step, and what may be left where memory is wanted.
+    // The machines after the next step, and what may be left if it runs out of memory.
     next: Vec<Machine>,
     left: Vec<Left>,
-    // Where memory was wanted.
+    // The step that ran out of memory.
     place: Option<&'static str>,
 }
 
 impl Judge {
-    // One for a fresh embedding. It takes no memory from then on.
+    // Creates a judge for a fresh embedding. It allocates nothing after that.
     fn new(alloc: Global) -> Result<Judge, AllocError> {
         let mut machines = Vec::new(alloc);
         let mut next = Vec::new(alloc);
@@ -52,7 +52,7 @@ impl Judge {
         })
     }
 
-    // The machines that took a step with this reply and have so much fuel left, for ample memory.
+    // Keeps the machines that have this reply to a step and this fuel left, with ample memory.
     fn follow(&mut self, step: Step, seen: Seen, fuel: u64) {
         for before in &self.machines {
             let mut machine = *before;
@@ -62,7 +62,7 @@ impl Judge {
         }
     }
 
-    // The machines that may be left where memory was wanted with this reply, and that have so much fuel left.
+    // Keeps the machines that may be left if memory ran out with this reply, and that have this fuel left.
     fn follow_want(&mut self, seen: Seen, fuel: u64) {
         for it in &self.left {
             if it.seen == seen && it.machine.fuel() == fuel {
@@ -71,7 +71,7 @@ impl Judge {
         }
     }
 
-    // Whether a reply to a step and the fuel that is left are right.
+    // Returns whether the reply to a step and the fuel left are right.
     fn is_right(&mut self, name: &'static str, step: Step, seen: Seen, fuel: u64) -> bool {
         self.follow(step, seen, fuel);
         if self.next.is_empty() && self.place.is_none() {
@@ -85,7 +85,7 @@ impl Judge {
     }
 }
 
-// All that the list needs.
+// Everything that the list needs.
 #[derive(Drop)]
 struct Stock {
     commands: Vec<Option<Command>>,
@@ -93,7 +93,7 @@ struct Stock {
     files: Vec<(String, Vec<u8>)>,
 }
 
-// The command of a step; none for the script.
+// Returns the command of a step, or none for the script.
 fn command_of(alloc: Global, step: Step) -> Option<Command> {
     Some(match step {
         Step::Load(kind) => load_of(alloc, kind.text())?,
@@ -114,7 +114,7 @@ fn command_of(alloc: Global, step: Step) -> Option<Command> {
     })
 }
 
-// All that the list needs.
+// Creates everything that the list needs. Returns none if that fails.
 fn new_stock(alloc: Global) -> Option<Stock> {
     let mut commands = Vec::new(alloc);
     for (_, step) in &STEPS {
@@ -133,7 +133,7 @@ fn new_stock(alloc: Global) -> Option<Stock> {
     })
 }
 
-// What an embedding answers to a command, or to the script.
+// Returns what is seen of the answer of an embedding to a command, or to the script.
 fn perform(alloc: Global, at: &mut Embedding, stock: &Stock, command: &Option<Command>) -> Seen {
     if let Some(command) = command {
         return seen_in(&at.apply(command));
@@ -159,7 +159,7 @@ fn give_list(alloc: Global, at: &mut Embedding, stock: &Stock, judge: &mut Judge
     }
 }
 
-// Gives the list to an embedding, with so many allocations before its first command.
+// Gives the list to an embedding, after `before` unused allocations.
 fn give_padded_list(alloc: Global, before: usize, at: &mut Embedding, stock: &Stock) -> Verdict {
     let Ok(mut judge) = Judge::new(alloc) else {
         return Verdict::Unready(0);
@@ -186,7 +186,7 @@ fn give_list_with(
     }
 }
 
-// Gives the list to a fresh embedding with a host function; none where there is no memory for that.
+// Gives the list to a fresh embedding with a host function. Returns none if an allocation for the host function fails.
 fn give_list_with_counter(alloc: Global, before: usize, stock: &Stock) -> Option<Verdict> {
     let config = usual_config()?;
     let counter = HostDef::new(alloc, "host", "count", Counter::boxed(alloc).ok()?).ok()?;
@@ -198,7 +198,8 @@ fn give_list_with_counter(alloc: Global, before: usize, stock: &Stock) -> Option
     Some(give_list_with(alloc, before, stock, config, hosts))
 }
 
-/// Gives the list to a fresh embedding with a host function. So many allocations come before the first command.
+/// Gives the list to a fresh embedding with a host function, with `before` unused allocations before the first command. Returns
+/// the verdict.
 pub fn judge_list(alloc: Global, before: usize) -> Verdict {
     match new_stock(alloc) {
         Some(stock) => {

@@ -1,6 +1,6 @@
-//! What an embedding answers to the list, by what was asked of it alone.
+//! What an embedding answers to the list, derived from the steps alone.
 //!
-//! An instruction costs 1, and a bulk instruction, a growth that succeeds and a segment what their sizes cost besides.
+//! An instruction costs 1. A bulk instruction, a growth that succeeds and a segment also cost fuel for their sizes.
 
 use crate::embeddings::FUEL;
 use crate::numbered::Numbered;
@@ -9,15 +9,15 @@ use crate::steps::{Function, Kind, Name, Step};
 use core_types::Trap;
 use embed::Refusal;
 
-// How many pages the memory may have, and how many entries the table.
+// The most pages that the memory may have, and the most entries that the table may have.
 const MOST_PAGES: u32 = 5;
 
 const MOST_ENTRIES: u32 = 8;
 
-// What a page costs that a memory grows by.
+// The cost of each page that a memory grows by.
 const PAGE_COST: u64 = 1_024;
 
-/// The state of an embedding as it has to be.
+/// The state that an embedding must have.
 #[derive(Clone, Copy)]
 pub struct Machine {
     modules: Numbered,
@@ -25,17 +25,17 @@ pub struct Machine {
     // What is registered under the names.
     a: Option<Kind>,
     b: Option<Kind>,
-    // The memory, the table and the global of the maker, and whether a user has written into the first two.
+    // The pages, the entries and the global of the maker, and whether a user has written to its memory and its table.
     pages: u32,
     entries: u32,
     global: u32,
     is_written: bool,
-    // How often the host was called.
+    // The number of calls of the host.
     calls: u32,
     fuel: u64,
 }
 
-/// What may be left where memory is wanted: the reply, and the machine then.
+/// What may be left if memory runs out: the reply, and the machine after it.
 #[derive(Clone, Copy)]
 pub struct Left {
     pub seen: Seen,
@@ -43,7 +43,7 @@ pub struct Left {
 }
 
 impl Machine {
-    /// A fresh one.
+    /// Creates the machine of a fresh embedding.
     pub fn new() -> Machine {
         Machine {
             modules: Numbered::new(),
@@ -59,17 +59,17 @@ impl Machine {
         }
     }
 
-    /// The fuel that is left.
+    /// Returns the fuel left.
     pub fn fuel(&self) -> u64 {
         self.fuel
     }
 
-    // Spends fuel.
+    // Spends fuel, at most what is left.
     fn spend(&mut self, cost: u64) {
         self.fuel = self.fuel.saturating_sub(cost);
     }
 
-    // Nothing has changed where the command is refused.
+    // Adds what may be left if the command is refused because memory ran out: nothing has changed.
     fn may_refuse(&self, left: &mut Vec<Left>) {
         let _ = left.push(Left {
             seen: REFUSED,
@@ -77,7 +77,7 @@ impl Machine {
         });
     }
 
-    // So much was spent where memory is wanted.
+    // Adds what may be left if memory runs out after `cost` was spent.
     fn may_exhaust(&self, cost: u64, left: &mut Vec<Left>) {
         let mut machine = *self;
         machine.spend(cost);
@@ -93,7 +93,7 @@ impl Machine {
         Seen::Loaded(self.modules.append(kind))
     }
 
-    // The first import of a module that stands for nothing, if there is one.
+    // Returns the index of the first import of a module whose names stand for nothing, if there is one.
     fn unknown_import(&self, kind: Kind) -> Option<usize> {
         match kind {
             Kind::Maker | Kind::Empty => None,
@@ -105,7 +105,8 @@ impl Machine {
         }
     }
 
-    // Copies the segments of a user, by two instructions each, and calls its start function, which grows the memory by a page.
+    // Copies the segments of a user, with two instructions for each, and calls its start function, which grows the memory by a
+    // page.
     fn start_user(&mut self, left: &mut Vec<Left>) {
         self.is_written = true;
         self.spend(4);
@@ -146,7 +147,7 @@ impl Machine {
         Seen::Done
     }
 
-    // Calls the host, after so much was spent in the call.
+    // Calls the host, after `spent` units of fuel were spent in the call.
     fn call_host(&mut self, spent: u64, left: &mut Vec<Left>) -> Seen {
         self.may_exhaust(spent, left);
         self.spend(spent.saturating_add(1));
@@ -154,7 +155,7 @@ impl Machine {
         Seen::Number(self.calls)
     }
 
-    // Calls the first entry of the table, which a user has written or which is null.
+    // Calls the first entry of the table, which is null unless a user has written it.
     fn call_entry(&mut self, left: &mut Vec<Left>) -> Seen {
         if !self.is_written {
             self.spend(2);
@@ -164,7 +165,7 @@ impl Machine {
         self.call_host(2, left)
     }
 
-    // Grows the memory, after an operand.
+    // Grows the memory, after an instruction for the operand.
     fn grow_memory(&mut self, count: u32, left: &mut Vec<Left>) -> Seen {
         let before = self.pages;
         let after = before.saturating_add(count);
@@ -178,7 +179,7 @@ impl Machine {
         Seen::Number(before)
     }
 
-    // Grows the table, after two operands.
+    // Grows the table, after two instructions for the operands.
     fn grow_table(&mut self, count: u32, left: &mut Vec<Left>) -> Seen {
         let before = self.entries;
         let after = before.saturating_add(count);
@@ -192,8 +193,8 @@ impl Machine {
         Seen::Number(before)
     }
 
-    // Calls a function that calls itself so often: six instructions come before each of these calls, and two behind it; the last time
-    // it takes four.
+    // Calls a function that calls itself `times` times. Six instructions come before each of these calls, and two after it. The
+    // last time, there are four instructions.
     fn call_deep(&mut self, times: u32, left: &mut Vec<Left>) -> Seen {
         for time in 0..times {
             self.may_exhaust(u64::from(time).saturating_mul(7).saturating_add(6), left);
@@ -202,7 +203,8 @@ impl Machine {
         Seen::Number(times)
     }
 
-    // Calls a function with a larger frame last, after an operand: that frame takes the place of the first one.
+    // Calls a function that tail-calls one with a larger frame, after an instruction for the operand. That frame replaces the
+    // first one.
     fn call_wide(&mut self, number: u32, left: &mut Vec<Left>) -> Seen {
         self.may_exhaust(1, left);
         self.spend(3);
@@ -251,8 +253,8 @@ impl Machine {
         }
     }
 
-    // Runs the script: it loads and links a passer, calls its function, and reads its global. Before each command the fuel is that of
-    // the setup. It may end for want of memory before and behind each command that it gives.
+    // Runs the script: it loads and links a passer, calls its function, and reads its global. Before each command, the fuel is
+    // set to that of the setup. The script may end because memory ran out, before and after each command that it gives.
     fn run_script(&mut self, left: &mut Vec<Left>) -> Seen {
         self.may_refuse(left);
         self.fuel = FUEL;
@@ -275,7 +277,7 @@ impl Machine {
         )
     }
 
-    /// Takes a step with ample memory, and answers the reply. What may be left where memory is wanted is appended.
+    /// Takes a step with ample memory, and returns the reply. Appends what may be left if memory runs out.
     pub fn take(&mut self, step: Step, left: &mut Vec<Left>) -> Seen {
         match step {
             Step::Load(kind) => self.load(kind, left),

@@ -1,7 +1,9 @@
-//! Has each call that takes memory meet a refused allocation, and judges what it answers then and what calls answer after it.
+//! Makes each call that allocates while an allocation is refused. Judges the answer of that call and the answers of the calls
+//! after it.
 //!
-//! The allocation is refused from outside, by its number among all that the program makes. So that one build serves for all of them,
-//! the program makes so many allocations in vain before the first call as it is told; what it needs itself is made before these.
+//! The allocation is refused from outside, by its number among all allocations of the program. To let one build serve for all
+//! of these, the program's arguments state how many unused allocations it makes before the first call. What the program itself
+//! needs is allocated before those.
 #![tactic(auto)]
 
 mod attempts;
@@ -31,13 +33,13 @@ use std::io::{self, Write};
 use std::process::ExitCode;
 use verdicts::Verdict;
 
-// The status where something is wrong.
+// The exit status if an answer is wrong.
 const WRONG: u8 = 1;
 
-// The status where the words have not their form.
+// The exit status if the arguments do not have their form.
 const USAGE: u8 = 2;
 
-// Writes what became of a scenario.
+// Writes the verdict on a scenario.
 fn write_verdict(out: &mut dyn Write, name: &str, verdict: Verdict) -> io::Result<()> {
     let (what, place) = match verdict {
         Verdict::Unready(made) => return writeln!(out, "{name}: {made} before the first call"),
@@ -48,7 +50,7 @@ fn write_verdict(out: &mut dyn Write, name: &str, verdict: Verdict) -> io::Resul
     writeln!(out, "{name}: {what}{place}")
 }
 
-// The status of what became of a scenario.
+// Returns the exit status for the verdict on a scenario.
 fn status_of(verdict: Verdict) -> u8 {
     match verdict {
         Verdict::Wrong(_) => WRONG,
@@ -56,7 +58,8 @@ fn status_of(verdict: Verdict) -> u8 {
     }
 }
 
-// Runs a scenario with so many allocations before its first call, and so many behind its last one.
+// Runs a scenario, with these numbers of unused allocations before its first call and after its last one. Returns the exit
+// status.
 fn run_one(
     alloc: Global,
     out: &mut dyn Write,
@@ -72,7 +75,7 @@ fn run_one(
     Ok(status_of(verdict))
 }
 
-// Runs all scenarios, one after the other, and answers the highest status.
+// Runs all scenarios in a row. Returns the highest exit status.
 fn run_all(alloc: Global, out: &mut dyn Write) -> io::Result<u8> {
     let mut highest = 0;
     for scenario in &SCENARIOS {
@@ -81,7 +84,8 @@ fn run_all(alloc: Global, out: &mut dyn Write) -> io::Result<u8> {
     Ok(highest)
 }
 
-// Does what the words ask for: `all`; or the name of a scenario, and how many allocations come before and behind it.
+// Performs the request of the arguments: `all`, or the name of a scenario and the numbers of unused allocations before and
+// after it. Returns the exit status.
 fn run_words(rt: &HostRuntime) -> io::Result<u8> {
     let alloc = rt.alloc();
     let words: Vec<String> = env::args(rt)?.skip(1).collect(alloc)?;

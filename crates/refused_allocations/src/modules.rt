@@ -1,4 +1,4 @@
-//! Modules are decoded, validated, flattened and loaded.
+//! Decoding, validating, flattening and loading modules.
 
 use crate::attempts::Attempt;
 use crate::texts::WHOLE;
@@ -12,7 +12,7 @@ use store::LoadedModule;
 use testing::assemble;
 use validator::{ValidModule, ValidateError, validate};
 
-/// The module of a text; none where the text spells none.
+/// Returns the module of a text, or none if the text represents none.
 fn decoded_module(alloc: Global, text: &str) -> Option<Module> {
     let Ok(bytes) = assemble(alloc, text) else {
         return None;
@@ -20,12 +20,12 @@ fn decoded_module(alloc: Global, text: &str) -> Option<Module> {
     decode(alloc, &bytes).ok()
 }
 
-// The valid module of a text; none where the text spells none, or an invalid one.
+// Returns the valid module of a text, or none if the text represents none or an invalid one.
 fn valid_module(alloc: Global, text: &str) -> Option<ValidModule> {
     validate(alloc, decoded_module(alloc, text)?).ok()
 }
 
-/// The loaded module of a text; none where the text spells none, or an invalid one.
+/// Returns the loaded module of a text, or none if the text represents none or an invalid one.
 pub fn loaded_module(alloc: Global, text: &str) -> Option<Rc<LoadedModule>> {
     let Ok(loaded) = LoadedModule::new(alloc, valid_module(alloc, text)?) else {
         return None;
@@ -33,7 +33,7 @@ pub fn loaded_module(alloc: Global, text: &str) -> Option<Rc<LoadedModule>> {
     Rc::new(alloc, loaded).ok()
 }
 
-// Whether a module has what the text says: functions, imports, segments and exports.
+// Returns whether a module has what the text states: functions, imports, segments and exports.
 fn is_whole(module: &Module) -> bool {
     module.types.len() == 3
         && module.imports.len() == 3
@@ -44,7 +44,7 @@ fn is_whole(module: &Module) -> bool {
         && module.start == Some(3)
 }
 
-/// A module is decoded.
+/// The decoding of a module.
 #[derive(Drop)]
 pub struct Decoding {
     alloc: Global,
@@ -52,7 +52,7 @@ pub struct Decoding {
 }
 
 impl Decoding {
-    /// All that it needs.
+    /// Prepares everything that the call needs. Returns none if that fails.
     pub fn prepare(alloc: Global) -> Option<Decoding> {
         let bytes = assemble(alloc, WHOLE).ok()?;
         Some(Decoding { alloc, bytes })
@@ -69,7 +69,7 @@ impl Attempt for Decoding {
     }
 }
 
-/// A module is validated: the one that is there, or another one like it where that was given away.
+/// The validation of a module. Each attempt takes a module, so there are two that are alike.
 #[derive(Drop)]
 pub struct Validating {
     alloc: Global,
@@ -77,7 +77,7 @@ pub struct Validating {
 }
 
 impl Validating {
-    /// All that it needs.
+    /// Prepares everything that the call needs. Returns none if that fails.
     pub fn prepare(alloc: Global) -> Option<Validating> {
         let mut modules = Vec::new(alloc);
         for _ in 0..2 {
@@ -100,7 +100,7 @@ impl Attempt for Validating {
     }
 }
 
-/// A module is flattened.
+/// The flattening of a module.
 #[derive(Drop)]
 pub struct Flattening {
     alloc: Global,
@@ -108,7 +108,7 @@ pub struct Flattening {
 }
 
 impl Flattening {
-    /// All that it needs.
+    /// Prepares everything that the call needs. Returns none if that fails.
     pub fn prepare(alloc: Global) -> Option<Flattening> {
         let module = valid_module(alloc, WHOLE)?;
         Some(Flattening { alloc, module })
@@ -124,7 +124,7 @@ impl Attempt for Flattening {
     }
 }
 
-/// A valid module is loaded: the one that is there, or another one like it where that was given away.
+/// The loading of a valid module. Each attempt takes a module, so there are two that are alike.
 #[derive(Drop)]
 pub struct Loading {
     alloc: Global,
@@ -132,7 +132,7 @@ pub struct Loading {
 }
 
 impl Loading {
-    /// All that it needs.
+    /// Prepares everything that the call needs. Returns none if that fails.
     pub fn prepare(alloc: Global) -> Option<Loading> {
         let mut modules = Vec::new(alloc);
         for _ in 0..2 {

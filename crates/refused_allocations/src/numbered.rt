@@ -1,8 +1,8 @@
-//! Numbers that count up from 0.
+//! Modules and instances by numbers that count up from 0.
 
 use crate::steps::Kind;
 
-// How many modules, or instances, there may be.
+// The most modules, or instances, that there may be.
 const MOST: usize = 8;
 
 /// The kinds of modules, or of instances, by number.
@@ -13,7 +13,7 @@ pub struct Numbered {
 }
 
 impl Numbered {
-    /// None yet.
+    /// Creates an empty list of kinds.
     pub fn new() -> Numbered {
         Numbered {
             kinds: [None; MOST],
@@ -21,12 +21,12 @@ impl Numbered {
         }
     }
 
-    /// The kind under a number.
+    /// Returns the kind with this number, if there is one.
     pub fn get(&self, number: u64) -> Option<Kind> {
         self.kinds.get(number as usize).copied().flatten()
     }
 
-    /// Gives the next number, and says which it is.
+    /// Appends a kind, and returns its number, the next one.
     pub fn append(&mut self, kind: Kind) -> u64 {
         let number = self.count;
         if number < MOST {

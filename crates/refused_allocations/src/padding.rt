@@ -1,10 +1,10 @@
-//! Allocations that serve for nothing.
+//! Unused allocations.
 
 use crate::verdicts::Verdict;
 use std::alloc::Global;
 
-/// Makes so many allocations in vain, and one more for a list of them, and then frees all; answers how many were made before one was
-/// refused, if one was. Without any it makes none.
+/// Makes `count` unused allocations, and one more for a list of them, and then frees all of them. If one was refused, returns
+/// how many were made before it. Allocates nothing if `count` is 0.
 pub fn allocate_in_vain(alloc: Global, count: usize) -> Option<usize> {
     let mut kept: Vec<Box<usize>> = Vec::new(alloc);
     if kept.try_reserve(count).is_err() {
@@ -21,7 +21,7 @@ pub fn allocate_in_vain(alloc: Global, count: usize) -> Option<usize> {
     None
 }
 
-/// Makes so many allocations before the first call; says so where one was refused.
+/// Makes `count` unused allocations before the first call. Returns the verdict `Unready` if one was refused.
 pub fn pad(alloc: Global, count: usize) -> Result<(), Verdict> {
     match allocate_in_vain(alloc, count) {
         None => Ok(()),

@@ -16,7 +16,7 @@ use crate::stores::{GrowingMemory, GrowingTable, Reserving};
 use crate::verdicts::Verdict;
 use std::alloc::Global;
 
-/// A call that takes memory, or a list of such calls.
+/// A call that allocates, or a list of such calls.
 #[derive(Clone, Copy)]
 pub enum Scenario {
     Decode,
@@ -86,7 +86,7 @@ pub static SCENARIOS: [Scenario; 30] = [
 ];
 
 impl Scenario {
-    /// The name by which it is asked for.
+    /// Returns the name by which the scenario is requested.
     pub fn name(self) -> &'static str {
         match self {
             Scenario::Decode => "decode",
@@ -123,7 +123,7 @@ impl Scenario {
     }
 }
 
-/// The scenario of a name.
+/// Returns the scenario with this name, if there is one.
 pub fn scenario_of(name: &str) -> Option<Scenario> {
     for scenario in &SCENARIOS {
         if scenario.name() == name {
@@ -133,7 +133,7 @@ pub fn scenario_of(name: &str) -> Option<Scenario> {
     None
 }
 
-/// Runs a scenario with so many allocations before its first call.
+/// Runs a scenario, with `before` unused allocations before its first call. Returns the verdict.
 pub fn run_scenario(alloc: Global, scenario: Scenario, before: usize) -> Verdict {
     match scenario {
         Scenario::Decode => judge(Decoding::prepare(alloc), alloc, before, "decode"),

@@ -1,4 +1,4 @@
-//! Scripts are read and run.
+//! Reading and running a script.
 
 use crate::attempts::Attempt;
 use crate::embeddings::fresh_embedding;
@@ -9,11 +9,11 @@ use scripts::{Report, Script, ScriptFault, read_script, run_script};
 use std::alloc::Global;
 use testing::assemble;
 
-// A script: a module that counts, calls of it, one that fails, and a registration.
+// A script: a module that counts, a call and a read of it, a registration, a command that fails, and a malformed module.
 const SCRIPT: &str =
     "{\"commands\":[{\"type\":\"module\",\"line\":1,\"filename\":\"counter.wasm\",\"name\":\"$m\"},{\"type\":\"action\",\"line\":2,\"action\":{\"type\":\"invoke\",\"field\":\"bump\",\"args\":[]}},{\"type\":\"assert_return\",\"line\":3,\"action\":{\"type\":\"get\",\"module\":\"$m\",\"field\":\"g\"},\"expected\":[{\"type\":\"i32\",\"value\":\"8\"}]},{\"type\":\"register\",\"line\":4,\"as\":\"m\"},{\"type\":\"assert_trap\",\"line\":5,\"action\":{\"type\":\"invoke\",\"field\":\"bump\",\"args\":[]},\"text\":\"unreachable\"},{\"type\":\"assert_malformed\",\"line\":6,\"filename\":\"empty.wasm\",\"text\":\"\"}]}";
 
-// Whether a script names the files that it needs.
+// Returns whether a script names the files that it needs.
 fn is_whole(script: &Script) -> bool {
     matches!(
         script.filenames(),
@@ -21,7 +21,7 @@ fn is_whole(script: &Script) -> bool {
     )
 }
 
-// Whether all commands passed but the one that fails.
+// Returns whether all commands passed except the one that fails.
 fn is_right(report: &Report) -> bool {
     report.passed == 5
         && report.failed == 1
@@ -29,14 +29,14 @@ fn is_right(report: &Report) -> bool {
         && report.failures.as_slice() == [5].as_slice()
 }
 
-/// A script is read.
+/// The reading of a script.
 #[derive(Drop)]
 pub struct Reading {
     alloc: Global,
 }
 
 impl Reading {
-    /// All that it needs.
+    /// Prepares everything that the call needs. Returns none if that fails.
     pub fn prepare(alloc: Global) -> Option<Reading> {
         Some(Reading { alloc })
     }
@@ -52,19 +52,19 @@ impl Attempt for Reading {
     }
 }
 
-// A file of a name.
+// Returns a file with this name.
 fn file(alloc: Global, name: &str, bytes: Vec<u8>) -> Option<(String, Vec<u8>)> {
     Some((String::from_str(alloc, name).ok()?, bytes))
 }
 
-// The files that the script names.
+// Returns the files that the script names.
 fn files(alloc: Global) -> Option<Vec<(String, Vec<u8>)>> {
     let counter = file(alloc, "counter.wasm", assemble(alloc, COUNTER).ok()?)?;
     let empty = file(alloc, "empty.wasm", Vec::new(alloc))?;
     vec![in alloc; counter, empty].ok()
 }
 
-/// A script is run.
+/// The run of a script.
 #[derive(Drop)]
 pub struct Running {
     alloc: Global,
@@ -74,7 +74,7 @@ pub struct Running {
 }
 
 impl Running {
-    /// All that it needs.
+    /// Prepares everything that the call needs. Returns none if that fails.
     pub fn prepare(alloc: Global) -> Option<Running> {
         let script = read_script(alloc, SCRIPT.as_bytes()).ok()?;
         let files = files(alloc)?;

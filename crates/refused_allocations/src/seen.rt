@@ -3,20 +3,20 @@
 use core_types::{Exhaustion, Trap, Val};
 use embed::{Refusal, Reply};
 
-/// What a command or a script was answered.
+/// What is seen of the answer to a command or a script.
 #[derive(Clone, Copy, PartialEq, Eq)]
 pub enum Seen {
     /// The number of the module.
     Loaded(u64),
     /// The number of the instance.
     Linked(u64),
-    /// It is done.
+    /// The command is done.
     Done,
     /// No values.
     Nothing,
-    /// An i32 alone.
+    /// A single i32.
     Number(u32),
-    /// A reference to the function at an address, alone.
+    /// A single reference to the function at this address.
     Function(u32),
     /// Other values.
     Others,
@@ -27,7 +27,7 @@ pub enum Seen {
     Counted(u64, u64),
 }
 
-// What is seen of values.
+// Returns what is seen of values.
 fn seen_in_values(values: &[Val]) -> Seen {
     match values {
         [] => Seen::Nothing,
@@ -37,7 +37,7 @@ fn seen_in_values(values: &[Val]) -> Seen {
     }
 }
 
-/// What is seen of a reply.
+/// Returns what is seen of a reply.
 pub fn seen_in(reply: &Reply) -> Seen {
     match reply {
         Reply::Loaded(number) => Seen::Loaded(*number),
@@ -50,14 +50,14 @@ pub fn seen_in(reply: &Reply) -> Seen {
     }
 }
 
-/// Want of memory, by which a command or a script is refused.
+/// A command or a script is refused because it ran out of memory.
 pub const REFUSED: Seen = Seen::Refused(Refusal::OutOfMemory);
 
-/// Want of memory in a call, or in a link.
+/// A call or a link ran out of memory.
 pub const EXHAUSTED: Seen = Seen::Lacks(Exhaustion::Memory);
 
 impl Seen {
-    /// Whether it says that there was no memory.
+    /// Returns whether the answer states that memory ran out.
     pub fn wants_memory(self) -> bool {
         self == REFUSED || self == EXHAUSTED
     }

@@ -1,6 +1,6 @@
 //! The list of commands: modules that share a table and a memory are loaded, linked, registered and called.
 
-/// A module.
+/// The kind of a module.
 #[derive(Clone, Copy, PartialEq, Eq)]
 pub enum Kind {
     /// Has a table, a memory and a global.
@@ -16,7 +16,7 @@ pub enum Kind {
 }
 
 impl Kind {
-    /// The text of the module.
+    /// Returns the text of the module.
     pub fn text(self) -> &'static str {
         match self {
             Kind::Maker => {
@@ -44,7 +44,7 @@ pub enum Name {
 }
 
 impl Name {
-    /// How it is written.
+    /// Returns the text of the name.
     pub fn text(self) -> &'static str {
         match self {
             Name::A => "a",
@@ -60,22 +60,22 @@ pub enum Function {
     Read,
     /// Calls the first entry of the table.
     Through,
-    /// Calls itself as often as it is told.
+    /// Calls itself the number of times that its argument states.
     Deep,
-    /// Calls a function with a larger frame last.
+    /// Tail-calls a function with a larger frame.
     Wide,
     /// Calls the host.
     Counts,
-    /// Calls the host last.
+    /// Tail-calls the host.
     CountsLast,
-    /// Calls that function of another instance.
+    /// Calls `counts` of another instance.
     Calls,
     GrowMemory,
     GrowTable,
 }
 
 impl Function {
-    /// The name under which it is exported.
+    /// Returns the name under which the function is exported.
     pub fn name(self) -> &'static str {
         match self {
             Function::Read => "read",
@@ -90,7 +90,7 @@ impl Function {
         }
     }
 
-    /// The kind of the modules that export it.
+    /// Returns the kind of the modules that export the function.
     pub fn exporter(self) -> Kind {
         match self {
             Function::Read | Function::Through | Function::Deep | Function::Wide => Kind::Maker,
@@ -107,9 +107,9 @@ pub enum Step {
     Load(Kind),
     Link(u64),
     Register(u64, Name),
-    /// A call with an argument, or without one.
+    /// A call, with or without an argument.
     Call(u64, Function, Option<u32>),
-    /// The global of a maker is read.
+    /// A read of the global of a maker.
     GetGlobal(u64),
     SetFuel(u64),
     Script,
@@ -117,7 +117,7 @@ pub enum Step {
 
 use Step::{Call, GetGlobal, Link, Load, Register, Script, SetFuel};
 
-/// The list: each step with what it is called.
+/// The list: each step with its name.
 #[rattlefmt::skip]
 pub static STEPS: [(&str, Step); 27] = [
     ("Load of a maker", Load(Kind::Maker)),

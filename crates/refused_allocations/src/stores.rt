@@ -1,4 +1,4 @@
-//! A store makes room, and its memories and tables grow.
+//! Reserving capacity in a store, and growing its memories and tables.
 
 use crate::attempts::Attempt;
 use crate::linking::store_of;
@@ -16,7 +16,7 @@ const LIMITS: Limits = Limits {
     max: Some(5),
 };
 
-// One object of each kind.
+// Creates one object of each kind. Returns none if an allocation fails.
 fn one_of_each(alloc: Global) -> Option<Objects> {
     let ty = TableType {
         element: RefType::FuncRef,
@@ -53,7 +53,7 @@ fn one_of_each(alloc: Global) -> Option<Objects> {
     Some(objects)
 }
 
-/// Room is made for objects, in a state without any.
+/// A reservation of capacity for objects, in a state without any.
 #[derive(Drop)]
 pub struct Reserving {
     state: State,
@@ -61,7 +61,7 @@ pub struct Reserving {
 }
 
 impl Reserving {
-    /// All that it needs.
+    /// Prepares everything that the call needs. Returns none if that fails.
     pub fn prepare(alloc: Global) -> Option<Reserving> {
         Some(Reserving {
             state: State::new(alloc, 10, 10),
@@ -83,20 +83,20 @@ impl Attempt for Reserving {
     }
 }
 
-// The state of a store with one object of each kind.
+// Returns the state of a store with one object of each kind.
 fn state_with_objects(alloc: Global) -> Option<State> {
     let store = store_of(alloc, OBJECTS)?;
     Some(store.state)
 }
 
-/// A memory of one page grows by three.
+/// A growth of a memory of one page by three.
 #[derive(Drop)]
 pub struct GrowingMemory {
     state: State,
 }
 
 impl GrowingMemory {
-    /// All that it needs.
+    /// Prepares everything that the call needs. Returns none if that fails.
     pub fn prepare(alloc: Global) -> Option<GrowingMemory> {
         let state = state_with_objects(alloc)?;
         Some(GrowingMemory { state })
@@ -117,21 +117,21 @@ impl Attempt for GrowingMemory {
     }
 }
 
-/// A table of two entries grows by three.
+/// A growth of a table of two entries by three.
 #[derive(Drop)]
 pub struct GrowingTable {
     state: State,
 }
 
 impl GrowingTable {
-    /// All that it needs.
+    /// Prepares everything that the call needs. Returns none if that fails.
     pub fn prepare(alloc: Global) -> Option<GrowingTable> {
         let state = state_with_objects(alloc)?;
         Some(GrowingTable { state })
     }
 }
 
-// Grows the table by three entries without a function.
+// Grows the table by three null entries. Returns its size before, or none if memory ran out.
 fn grow(state: &mut State) -> Option<u32> {
     match state.table(0) {
         Some(table) if table.ty().element == RefType::FuncRef => {}

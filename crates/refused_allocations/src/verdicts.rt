@@ -1,31 +1,31 @@
-//! What became of a scenario.
+//! Verdicts on scenarios and on calls.
 
-/// What the calls of a scenario came to.
+/// The verdict on the calls of a scenario.
 #[derive(Clone, Copy)]
 pub enum Verdict {
-    /// An allocation was refused before the first call, after so many were made in vain.
+    /// An allocation was refused before the first call, after this number of unused ones.
     Unready(usize),
-    /// Each answer was that with ample memory.
+    /// Each answer was the one with ample memory.
     Ample,
-    /// At this place a call answered want of memory; each other answer was right.
+    /// A call ran out of memory at this place. Each other answer was right.
     Wanting(&'static str),
-    /// At this place an answer was wrong.
+    /// An answer was wrong at this place.
     Wrong(&'static str),
 }
 
-/// What a call came to.
+/// The verdict on a call.
 #[derive(Clone, Copy, PartialEq, Eq)]
 pub enum Answer {
     /// The answer with ample memory.
     Ample,
-    /// Want of memory, and nothing has changed.
+    /// The call ran out of memory, and nothing has changed.
     Wanting,
-    /// Another one.
+    /// Another answer.
     Wrong,
 }
 
 impl Answer {
-    /// An answer with memory, which may be right.
+    /// Returns the verdict on an answer that does not state that memory ran out.
     pub fn with_memory(is_right: bool) -> Answer {
         if is_right {
             Answer::Ample

@@ -1,4 +1,4 @@
--- What loading a module says of its bytes.
+-- What loading a module states about its bytes.
 use Rattle.std.proofs.Common.{◌≡◌, ℕ, List, Result, Ok, Err, OnOk, map}
 use Rattle.std.specs.List.{All}
 use Rattle.std.proofs.lemmas.List.Elements.{All-map}
@@ -24,7 +24,7 @@ loaded-valid (not_valid decoded invalid refused) = absurd (loaded-not-refused re
 loaded-valid (no_memory refused) = absurd (loaded-not-refused refused.0)
 
 module _ {I : Type 0} {F : I → Type 0} (members : (i : I) → Ghosts (F i)) where
-  -- The stored module is registered if the replies say so.
+  -- The stored module is registered if the replies state that.
   pub with-spectest : {E : Type 0} {old new : Embedding (HostObject I F)} {commands : List Command} (answers : List Reply) (r : Result (Unit {0}) E)
       → RunsWell (HostStep members) old commands (map reply_of answers) new → commands ≡ spectest_commands
       → OnOk r (All (λ reply. IsCarriedOut (reply_of reply)) answers) → OnOk r (WithSpectest members old new)

@@ -7,7 +7,7 @@ use Rattle.std.proofs.lemmas.List.{map-append}
 use Rattle.std.proofs.lemmas.List.Elements.{All-append, All-replicate}
 use Rattle.scripts.specs.Runs.{files_view}
 
--- One file more.
+-- One more file is read.
 pub file-more : (P : List ℕ × List ℕ → Type 0) (files : List (String Global × Vec ℕ Global)) (name : String Global) (bytes : Vec ℕ Global)
     → All P (files_view files) → P (string_bytes name, bytes.items) → All P (files_view (files ++ (name, bytes) ∷ []))
 file-more P files name bytes all one =

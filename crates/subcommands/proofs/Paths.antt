@@ -1,14 +1,14 @@
--- Paths that are cut at their last slash.
+-- Paths that are split at their last slash.
 use Rattle.std.proofs.Common.{◌≡◌, ◌∙◌, ◌++◌, ℕ, List, ◌∷◌, None, ap, sym, take, drop, take-append-drop, arith}
 use Rattle.std.specs.Str.Pattern.{RFindsChar, SplitsAroundMatch}
 use Rattle.std.proofs.lemmas.Str.Pattern.{NoCharPasses-char, drop_at_char}
 use Rattle.subcommands.specs.Files.{IsBeside, in_folder, in_no_folder}
 
--- There is no slash to cut at.
+-- The path has no slash to split at.
 pub uncut : (path name beside : List ℕ) → RFindsChar 47 path None → beside ≡ name → IsBeside path name beside
 uncut path name beside none is = in_no_folder (λ i inside. NoCharPasses-char 47 path i none (omega arith) inside) is
 
--- The path is cut at its last slash.
+-- The path is split at its last slash.
 pub cut : (path name beside folder rest : List ℕ) → SplitsAroundMatch (RFindsChar 47) path folder rest → beside ≡ folder ++ (47 ∷ name) → IsBeside path name beside
 cut path name beside folder rest (i, j, (none, at), front, back, order, width, remains) is =
     in_folder folder rest

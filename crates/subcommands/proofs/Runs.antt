@@ -1,4 +1,4 @@
--- What was done in an embedding that was made for it.
+-- What was done in an embedding that was created for it.
 use Rattle.std.proofs.Common.{◌≡◌, ℕ, List, Result, Ok, Err, IfOk}
 use Rattle.command_line.specs.declared.words.CallOrder.{CallOrder}
 use Rattle.command_line.specs.declared.words.ScriptOrder.{ScriptOrder}

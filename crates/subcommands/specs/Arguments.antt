@@ -1,4 +1,4 @@
--- Arguments on the command line.
+-- Arguments of a function, from the command line.
 use Rattle.std.specs.Prelude.{◌≡◌, ℕ, List, Some, None, codes}
 use Rattle.std.specs.Borrow.{Bor}
 use Rattle.std.specs.List.{AllZip}
@@ -6,7 +6,7 @@ use Rattle.command_line.specs.Numbers.{Writes}
 use Rattle.core_types.specs.declared.outcome.Val.{Val}
 use Rattle.core_types.specs.declared.outcome.Val.TheVariants.{I32, I64, FuncRef, ExternRef}
 
--- A word writes this value: its number, or null. References to functions have no numbers here.
+-- A text represents this value: its number, or null. No text represents a reference to a function other than null.
 abbrev pub IsArgument : (word : List ℕ) → Val → Type 0
 IsArgument word (I32 number) = Writes word number
 IsArgument word (I64 number) = Writes word number

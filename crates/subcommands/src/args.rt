@@ -1,4 +1,4 @@
-//! The words for a function's arguments.
+//! The arguments of a function, from the command line.
 
 ghost use Rattle.std.specs.Prelude.{IfOk, IfSome};
 ghost use Rattle.subcommands.specs.Arguments.{AreArguments, IsArgument};
@@ -7,12 +7,12 @@ use command_line::{number, short_number};
 use core_types::{Val, ValType};
 use std::alloc::{AllocFailed, Global};
 
-/// Why words are not read as arguments.
+/// Why the arguments of a function were not read.
 #[derive(Clone, Copy)]
 pub enum ArgsFault {
-    /// They are too many or too few, or one does not write a value of its type.
+    /// There are too many or too few, or one does not represent a value of its type.
     Unreadable,
-    /// There was no memory for the values.
+    /// An allocation for the values failed.
     Memory,
 }
 
@@ -22,7 +22,7 @@ impl<T: Drop> From<AllocFailed<T>> for ArgsFault {
     }
 }
 
-// A reference to what the host has under a number, or none.
+// Returns the external reference that a text represents, if it represents one: null, or the reference with a number.
 fn external(word: &str) -> Option<Val>
     ensures { IfSome result (IsArgument word.now) }
 {
@@ -32,7 +32,7 @@ fn external(word: &str) -> Option<Val>
     Some(Val::ExternRef(Some(short_number(word)?)))
 }
 
-// The value of this type that a word writes.
+// Returns the value of this type that a text represents, if it represents one.
 fn value(ty: ValType, word: &str) -> Option<Val>
     ensures { IfSome result (IsArgument word.now) }
 {
@@ -44,7 +44,12 @@ fn value(ty: ValType, word: &str) -> Option<Val>
     }
 }
 
-/// The values that the words write, one for each parameter.
+/// Returns the values that the texts represent, one for each parameter.
+///
+/// # Errors
+///
+/// Fails with `Unreadable` if there are too many or too few texts, or if one does not represent a value of its type. Fails with
+/// `Memory` if an allocation fails.
 pub fn read_args(alloc: Global, params: &[ValType], words: &[&str]) -> Result<Vec<Val>, ArgsFault>
     ensures { IfOk result (λ values. AreArguments words.now values.items) }
 {

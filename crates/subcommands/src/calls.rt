@@ -1,4 +1,4 @@
-//! A call of a function that a module exports, over an embedding.
+//! A call of a function that a module exports, in an embedding.
 
 ghost use Rattle.std.specs.Prelude.{◌≡◌, ◌<◌, ◌^◌, IfOk, OnOk, length, map};
 ghost use Rattle.std.specs.List.{All};
@@ -19,13 +19,14 @@ use embed::{
 use hostfunc::HostFn;
 use std::alloc::Global;
 
-// How many pages a memory may have at most.
+// The most pages that a memory may have.
 const PAGES: u32 = 1_024;
 
-// How many entries a table may have at most.
+// The most entries that a table may have.
 const ENTRIES: u32 = 1_000_000;
 
-/// An embedding to which no command was given, with so much fuel, at most so many open frames, and these host functions.
+/// Creates an embedding with this fuel, this bound on open frames, and these host functions, before any command. There must be
+/// at most 2^32 - 1 host functions.
 pub fn new_embedding<'a>(
     alloc: Global,
     fuel: u64,
@@ -42,7 +43,8 @@ pub fn new_embedding<'a>(
     }
 }
 
-// The commands that load, link and register the stored module as `spectest`, in an embedding to which no command was given.
+// Returns the commands that load the stored module, link it and register it as `spectest`. They must be the first commands of
+// the embedding.
 fn spectest_commands<'a>(alloc: Global) -> Result<Vec<Command>, Fault<'a>>
     ensures { IfOk result (λ commands. map command_of commands.items ≡ commands_for_spectest) }
 {
@@ -56,7 +58,7 @@ fn spectest_commands<'a>(alloc: Global) -> Result<Vec<Command>, Fault<'a>>
     Ok(commands)
 }
 
-// Why a command was not carried out, by its reply.
+// Returns a fault if the reply shows that the command was not carried out.
 fn check_reply<'a>(reply: &Reply) -> Result<(), Fault<'a>>
     ensures { OnOk result (IsCarriedOut (reply_of reply.now)) }
 {
@@ -69,7 +71,7 @@ fn check_reply<'a>(reply: &Reply) -> Result<(), Fault<'a>>
     }
 }
 
-// Why one of the commands was not carried out, by their replies.
+// Returns a fault if the replies show that one of the commands was not carried out.
 fn check_replies<'a>(replies: &[Reply]) -> Result<(), Fault<'a>>
     ensures { OnOk result (All (λ reply. IsCarriedOut (reply_of reply)) replies.now) }
 {
@@ -79,7 +81,8 @@ fn check_replies<'a>(replies: &[Reply]) -> Result<(), Fault<'a>>
     Ok(())
 }
 
-// Loads, links and registers the stored module as `spectest`, in an embedding to which no command was given. That spends no fuel.
+// Loads the stored module, links it and registers it as `spectest`, in an embedding before any other command. That spends no
+// fuel.
 fn add_spectest<'a>(alloc: Global, embedding: &mut Embedding) -> Result<(), Fault<'a>>
     requires nothing { Unit {0} }
     ensures { OnOk result (WithSpectest ⟦<dyn HostFn as HostFn>⟧ (embedding_of embedding.old)
@@ -91,7 +94,7 @@ fn add_spectest<'a>(alloc: Global, embedding: &mut Embedding) -> Result<(), Faul
     check_replies(replies.as_slice())
 }
 
-/// A new embedding, in which the stored module is registered as `spectest`.
+/// Creates an embedding in which the stored module is registered as `spectest`. There must be at most 2^32 - 1 host functions.
 pub fn embedding_with_spectest<'a>(
     alloc: Global,
     fuel: u64,
@@ -107,7 +110,7 @@ pub fn embedding_with_spectest<'a>(
     Ok(embedding)
 }
 
-// The type of the function that an instance exports under a name.
+// Returns the type of the function that an instance exports under a name.
 fn function_type(
     embedding: &Embedding,
     instance: InstanceNumber,
@@ -120,7 +123,7 @@ fn function_type(
     }
 }
 
-// The arguments of the order, for the function of an instance that it names.
+// Reads the arguments of the order, for the function of the instance that it names.
 fn args_for<'a>(
     alloc: Global,
     order: &CallOrder<'a>,
@@ -133,7 +136,7 @@ fn args_for<'a>(
     Ok(read_args(alloc, ty.params.as_slice(), order.args.as_slice())?)
 }
 
-// Calls the function of an instance that the order names.
+// Calls the function of the instance that the order names.
 fn call_export<'a>(
     alloc: Global,
     order: &CallOrder<'a>,
@@ -149,8 +152,8 @@ fn call_export<'a>(
     Ok(embedding.call(instance, order.export, args.as_slice())?)
 }
 
-/// Loads and links the module that bytes spell, and calls the function that the order names. A trap or an exhaustion of the link is
-/// the call's end.
+/// Loads and links the module that the bytes encode, and calls the function that the order names. If the link ends in a trap or
+/// an exhaustion, returns that outcome.
 pub fn call<'a>(
     alloc: Global,
     order: &CallOrder<'a>,

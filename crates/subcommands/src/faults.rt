@@ -1,4 +1,4 @@
-//! Why no script was run to its end, nothing called, or no module found valid.
+//! Why a script was not run to its end, a function was not called, or a module was not found valid.
 
 use crate::args::ArgsFault;
 use command_line::WordsFault;
@@ -6,16 +6,16 @@ use embed::{NewFault, Refusal};
 use scripts::ScriptFault;
 use std::alloc::{AllocError, AllocFailed};
 
-/// Why no script was run to its end, nothing called, or no module found valid.
+/// Why a script was not run to its end, a function was not called, or a module was not found valid.
 #[derive(Drop)]
 pub enum Fault<'a> {
-    /// The words are not of the form that the program reads.
+    /// The arguments of the program do not have a form that it reads.
     Usage,
     /// The file at this path could not be read.
     CannotRead(&'a str),
     /// The file at this path, which a script names, could not be read.
     CannotReadNamed(String),
-    /// A script was not read, or not run to its end.
+    /// A script was not read, or was not run to its end.
     Script(ScriptFault),
     /// The embedding refused a command.
     Refused(Refusal),
@@ -23,7 +23,7 @@ pub enum Fault<'a> {
     HostNameTaken,
     /// A host function has a funcref result.
     HostFuncRef,
-    /// The words for the arguments do not fit the function.
+    /// The arguments of the call do not fit the function.
     BadArguments,
 }
 

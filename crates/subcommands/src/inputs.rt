@@ -1,4 +1,4 @@
-//! Where the program reads files from.
+//! The source of the files that the program reads.
 
 ghost use Rattle.std.specs.Prelude.{◌≡◌, ℕ, List, IfOk, None, Option};
 ghost use Rattle.subcommands.specs.Files.{AreBytesOf};
@@ -7,23 +7,23 @@ use std::path::PathBuf;
 use std::rt::Files as SystemFiles;
 use std::{fs, io};
 
-/// Why the bytes of a file are not there.
+/// Why the bytes of a file were not read.
 #[derive(Clone, Copy)]
 pub enum ReadFault {
-    /// The file cannot be read, or not to its end.
+    /// The file cannot be read, or cannot be read to its end.
     Failed,
-    /// There was no memory for the bytes.
+    /// An allocation for the bytes failed.
     Memory,
 }
 
-// The most bytes that a file has that a script names: those of the largest module.
+// The most bytes that a file named by a script may have. This is the size of the largest module.
 const MAX_NAMED_SIZE: u64 = 67_108_864;
 
-/// Where files are read from.
+/// A source of files.
 ///
-/// It states what it knows of the bytes of the file at each path. Reading a file changes nothing of that.
+/// It states what is known about the bytes of the file at each path. Reading a file does not change that.
 pub trait Files {
-    // The bytes of the file at a path, where they are known.
+    // The bytes of the file at a path, if they are known.
     ghost contents: { Self → List ℕ → Option (List ℕ) } = { λ _ _. None };
 
     /// Returns all bytes of the file at a path.
@@ -31,8 +31,8 @@ pub trait Files {
         ensures read { IfOk result (λ bytes. AreBytesOf (contents self.old) path.now bytes.items) }
         ensures kept { contents self.new ≡ contents self.old };
 
-    /// Returns all bytes of a file that a script names, at a path in the script's folder or below it. Reads the file at the path, unless an
-    /// implementation bounds which files these may be.
+    /// Returns all bytes of a file that a script names, at a path in the script's folder or below it. Reads the file at the
+    /// path, unless an implementation restricts which files these may be.
     fn read_named(&mut self, _folder: &str, path: &str) -> Result<Vec<u8>, ReadFault>
         ensures read { IfOk result (λ bytes. AreBytesOf (contents self.old) path.now bytes.items) }
         ensures kept { contents self.new ≡ contents self.old }
@@ -48,13 +48,13 @@ pub struct System<R> {
 }
 
 impl<R> System<R> {
-    /// The files that this runtime reaches.
+    /// Creates a source of the files that this runtime reaches.
     pub fn new(rt: R) -> System<R> {
         System { rt }
     }
 }
 
-// Want of memory is told apart from the other errors.
+// Returns the fault for an error: `Memory` if an allocation failed, and `Failed` otherwise.
 fn fault_of(error: &io::Error) -> ReadFault {
     if error.kind() == io::ErrorKind::OutOfMemory {
         ReadFault::Memory
@@ -63,7 +63,7 @@ fn fault_of(error: &io::Error) -> ReadFault {
     }
 }
 
-// Whether a path is below a folder; both are from the root, and neither has a link.
+// Returns whether a path is below a folder. Both must start at the root, and neither must contain a link.
 fn is_below(path: &str, folder: &str) -> bool {
     match path.strip_prefix(folder) {
         Some(rest) => folder.ends_with('/') || rest.starts_with('/'),
@@ -72,7 +72,8 @@ fn is_below(path: &str, folder: &str) -> bool {
 }
 
 impl<R: SystemFiles + AllocGlobal> System<R> {
-    // Follows the links of a path to a regular file of at most 64 MiB in a folder or below it. Nothing if it leads to another file.
+    // Follows the links of a path to a regular file of at most 64 MiB in a folder or below it. Returns none if the path leads
+    // to any other file.
     fn resolve(&self, folder: &str, path: &str) -> io::Result<Option<PathBuf>> {
         let folder = fs::canonicalize(&self.rt, folder)?;
         let path = fs::canonicalize(&self.rt, path)?;

@@ -1,4 +1,4 @@
-//! What each subcommand of the program does: it runs a script, calls a function, or looks at a module.
+//! The subcommands of the program, which run a script, call a function, or check a module.
 #![tactic(auto)]
 
 mod args;

@@ -1,4 +1,4 @@
-//! What an order of the program asks for: a script, a call, or a look at a module.
+//! Performs the orders of the program: a run of a script, a call, or a check of a module.
 
 ghost use Rattle.std.specs.Prelude.{◌≡◌, ◌<◌, ◌^◌, IfOk, Ok, OnOk, length, map, string_bytes};
 ghost use Rattle.embed.specs.Contents.{embedding_of};
@@ -19,14 +19,14 @@ use hostfunc::HostFn;
 use scripts::{Report, Script, read_script, run_script};
 use std::alloc::Global;
 
-/// How a call ended, and the fuel that it left.
+/// How a call ended, and the fuel left.
 #[derive(Drop)]
 pub struct CallEnd {
     pub outcome: Outcome,
     pub fuel_left: u64,
 }
 
-/// How the program did what it was asked for.
+/// What the program did.
 #[derive(Drop)]
 pub enum End {
     /// The script was run.
@@ -37,7 +37,7 @@ pub enum End {
     Valid,
 }
 
-// The bytes of a file.
+// Returns the bytes of a file.
 fn read_file<'a, F: Files>(files: &mut F, path: &'a str) -> Result<Vec<u8>, Fault<'a>>
     ensures read { IfOk result (λ bytes. AreBytesOf (F.contents files.old) path.now bytes.items) }
     ensures kept { F.contents files.new ≡ F.contents files.old }
@@ -49,7 +49,7 @@ fn read_file<'a, F: Files>(files: &mut F, path: &'a str) -> Result<Vec<u8>, Faul
     }
 }
 
-// Runs a script over its files in an embedding.
+// Runs a script with its files in an embedding.
 fn run_in<'a>(
     alloc: Global,
     script: &Script,
@@ -64,7 +64,7 @@ fn run_in<'a>(
     Ok(run_script(alloc, script, named, embedding)?)
 }
 
-// Runs a script over its files, each command within the fuel of the order.
+// Runs a script with its files in a new embedding. Each command has the fuel of the order.
 fn run_over_files<'a>(
     alloc: Global,
     order: &ScriptOrder<'a>,
@@ -82,7 +82,7 @@ fn run_over_files<'a>(
     }
 }
 
-// The script in a file.
+// Returns the script in a file.
 fn read_script_in_file<'a, F: Files>(
     alloc: Global,
     files: &mut F,
@@ -95,7 +95,8 @@ fn read_script_in_file<'a, F: Files>(
     Ok(read_script(alloc, bytes.as_slice())?)
 }
 
-// Runs the script in the file that the order names, each command within its fuel. Modules may import the stored one.
+// Runs the script in the file that the order names. Each command has the fuel of the order. Modules may import the stored
+// module.
 fn run_script_in_file<'a, F: Files>(
     alloc: Global,
     order: &ScriptOrder<'a>,
@@ -111,7 +112,7 @@ fn run_script_in_file<'a, F: Files>(
     run_over_files(alloc, order, &script, named.as_slice(), hosts)
 }
 
-// Calls the function that the order names, of the module that these bytes are, in an embedding.
+// Calls the function that the order names, of the module that the bytes encode, in an embedding.
 fn call_in<'a>(
     alloc: Global,
     order: &CallOrder<'a>,
@@ -132,7 +133,7 @@ fn call_in<'a>(
     })
 }
 
-// Calls the function that the order names, of the module that these bytes are, within its fuel.
+// Calls the function that the order names, of the module that the bytes encode, with the fuel of the order.
 fn call_in_bytes<'a>(
     alloc: Global,
     order: &CallOrder<'a>,
@@ -149,7 +150,8 @@ fn call_in_bytes<'a>(
     }
 }
 
-// Calls the function that the order names, of the module in its file, within its fuel. The module may import the stored one.
+// Calls the function that the order names, of the module in the order's file, with the fuel of the order. The module may import
+// the stored module.
 fn call_in_file<'a, F: Files>(
     alloc: Global,
     order: &CallOrder<'a>,
@@ -164,7 +166,7 @@ fn call_in_file<'a, F: Files>(
     call_in_bytes(alloc, order, bytes.as_slice(), hosts)
 }
 
-// Loads a module in an embedding.
+// Loads the module that the bytes encode in an embedding.
 fn load_in<'a>(bytes: &[u8], embedding: &mut Embedding) -> Result<(), Fault<'a>>
     requires nothing { Unit {0} }
     ensures { OnOk result (SpellValidModule bytes.now) }
@@ -173,7 +175,7 @@ fn load_in<'a>(bytes: &[u8], embedding: &mut Embedding) -> Result<(), Fault<'a>>
     Ok(())
 }
 
-// Loads a module.
+// Loads the module that the bytes encode in a new embedding.
 fn check_bytes<'a>(alloc: Global, bytes: &[u8], hosts: Vec<HostDef>) -> Result<(), Fault<'a>>
     requires { length hosts.items < 2 ^ 32 }
     ensures { OnOk result (SpellValidModule bytes.now) }
@@ -198,8 +200,13 @@ fn check_file<'a, F: Files>(
     check_bytes(alloc, bytes.as_slice(), hosts)
 }
 
-/// Reads the words after the program's name, and does what they ask for, with the host functions that modules may import (the three
-/// prints). At most 2^32 - 1 host functions may be given. A fault says why it was not done, or not to its end.
+/// Reads the arguments after the program's name, and does what they request.
+///
+/// Modules may import the functions in `hosts`, which are the three print functions. There must be at most 2^32 - 1 of them.
+///
+/// # Errors
+///
+/// Returns a fault that states why the request was not performed, or was not performed to its end.
 pub fn perform<'a, F: Files>(
     alloc: Global,
     words: &'a [String],

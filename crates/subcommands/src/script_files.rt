@@ -11,7 +11,7 @@ use embed::Refusal;
 use std::alloc::{AllocError, Global};
 use std::collections::BTreeSet;
 
-// The path of a file that the script at a path names: it lies in the same folder.
+// Returns the path of a file that the script at a path names: the folder of the script, followed by the name.
 fn path_beside(alloc: Global, path: &str, filename: &str) -> Result<String, AllocError>
     ensures { IfOk result (λ beside. IsBeside path.now filename.now (string_bytes beside)) }
 {
@@ -21,7 +21,7 @@ fn path_beside(alloc: Global, path: &str, filename: &str) -> Result<String, Allo
     }
 }
 
-// The folder of the script at a path.
+// Returns the folder of the script at a path.
 fn folder_of(path: &str) -> &str {
     match path.rsplit_once('/') {
         Some(("", _)) => "/",
@@ -30,12 +30,12 @@ fn folder_of(path: &str) -> &str {
     }
 }
 
-// Whether a name leads out of a folder: it starts at the root, or goes up.
+// Returns whether a name leads out of a folder: it starts at the root, or has a part `..`.
 fn leads_out(filename: &str) -> bool {
     filename.starts_with('/') || filename.split('/').any(|part| part == "..")
 }
 
-// The bytes of a file that the script at a path names.
+// Returns the bytes of a file that the script at a path names.
 fn read_beside<'a, F: Files>(
     alloc: Global,
     files: &mut F,
@@ -57,7 +57,7 @@ fn read_beside<'a, F: Files>(
     }
 }
 
-// Reads a file that the script at a path names, and adds it behind the others.
+// Reads a file that the script at a path names, and appends it.
 fn add_beside<'a, F: Files>(
     alloc: Global,
     files: &mut F,
@@ -76,7 +76,7 @@ fn add_beside<'a, F: Files>(
     Ok(())
 }
 
-// The names of files, each once, in the order in which they come first.
+// Returns the names of files, each once, in the order of their first occurrences.
 fn distinct_names(alloc: Global, filenames: &[String]) -> Result<Vec<&str>, AllocError> {
     let mut seen = BTreeSet::new(alloc);
     let mut names = Vec::new(alloc);
@@ -89,7 +89,7 @@ fn distinct_names(alloc: Global, filenames: &[String]) -> Result<Vec<&str>, Allo
     Ok(names)
 }
 
-// Reads the files of these names, in their order.
+// Reads the files with these names, in order.
 fn read_all<'a, F: Files>(
     alloc: Global,
     files: &mut F,
@@ -107,7 +107,8 @@ fn read_all<'a, F: Files>(
     Ok(read)
 }
 
-/// Reads the files that the script at a path names, from its folder or below it: each once, however often it is named.
+/// Reads the files that the script at a path names, from its folder or below it. Each file is read once, regardless of how
+/// often it is named.
 pub fn read_named<'a, F: Files>(
     alloc: Global,
     files: &mut F,

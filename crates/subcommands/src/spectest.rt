@@ -1,7 +1,9 @@
-//! The stored module `spectest`, from which tests of the standard import.
+//! The stored module `spectest`, which tests of the standard import from.
 
-/// The bytes of the stored module: it imports the three prints from `host`, and exports them, `memory` of 1 to 2 pages, `table` of 10 to 20
-/// funcref, and the immutable globals `global_i32` and `global_i64` of 666. A line a section.
+/// The bytes of the stored module. Each section has a line.
+///
+/// The module imports the three print functions from `host`, and exports them. It also exports `memory` with 1 to 2 pages,
+/// `table` with 10 to 20 entries of type funcref, and the immutable globals `global_i32` and `global_i64` with the value 666.
 pub const SPECTEST: &[u8] = b"\x00asm\x01\x00\x00\x00\
     \x01\x0c\x03`\x00\x00`\x01\x7f\x00`\x01~\x00\
     \x020\x03\x04host\x05print\x00\x00\x04host\x09print_i32\x00\x01\x04host\x09print_i64\x00\x02\

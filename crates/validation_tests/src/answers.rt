@@ -1,4 +1,4 @@
-//! What becomes of a module's bytes, and rows that say so.
+//! The results for the bytes of modules, and rows that state them.
 
 use binary::{DecodeError, decode};
 use std::alloc::{AllocError, Global};
@@ -9,14 +9,14 @@ use validator::{Place, ValidModule, ValidateError, validate};
 // The magic number and the version.
 const HEADER: &str = "0061736D 01000000";
 
-/// Why bytes give no valid module.
+/// Why bytes encode no valid module.
 #[derive(Clone, Copy, PartialEq, Eq)]
 pub enum Refusal {
     /// They are not decoded.
     Undecoded,
-    /// They spell a module that is invalid at this place.
+    /// They encode a module that is invalid at this place.
     Invalid(Place),
-    /// There was no memory.
+    /// An allocation failed.
     OutOfMemory,
 }
 
@@ -38,13 +38,13 @@ impl From<ValidateError> for Refusal {
     }
 }
 
-/// The valid module that bytes spell.
+/// Returns the valid module that bytes encode.
 pub fn load(alloc: Global, bytes: &[u8]) -> Result<ValidModule, Refusal> {
     let decoded = decode(alloc, bytes)?;
     Ok(validate(alloc, decoded)?)
 }
 
-/// Why a module in the text format is not valid, if it is not.
+/// Returns why a module in the text format is not valid, or none if it is valid.
 pub fn refusal_of(alloc: Global, text: &str) -> Option<Refusal> {
     match assemble(alloc, text) {
         Ok(bytes) => load(alloc, &bytes).err(),
@@ -53,14 +53,14 @@ pub fn refusal_of(alloc: Global, text: &str) -> Option<Refusal> {
     }
 }
 
-// Why a module of these sections, which are hexadecimal numbers, is not valid, if it is not.
+// Returns why a module with these sections is not valid, or none if it is valid. The sections are in hexadecimal.
 fn refusal_of_sections(alloc: Global, sections: &str) -> Result<Option<Refusal>, AllocError> {
     let mut bytes = bytes_of(alloc, HEADER)?;
     bytes.extend_from_slice(bytes_of(alloc, sections)?.as_slice())?;
     Ok(load(alloc, &bytes).err())
 }
 
-// Whether that is what a word says.
+// Returns whether a word states this result.
 fn is_named(refusal: Option<Refusal>, word: &str) -> bool {
     match refusal {
         None => word == "valid",
@@ -69,7 +69,7 @@ fn is_named(refusal: Option<Refusal>, word: &str) -> bool {
     }
 }
 
-// A row of text: a name, a module, and the word for what becomes of it.
+// A row of text: a name, a module, and the word for the result.
 #[derive(Clone, Copy)]
 struct Row<'a> {
     name: &'a str,
@@ -83,7 +83,7 @@ fn read_row(text: &str) -> Row<'_> {
     Row { name, source, word }
 }
 
-/// Tests the rows of a text, one a line, whose modules are in the text format, and how many there are.
+/// Tests the rows of a text, one per line, and that there are `count` of them. Their modules are in the text format.
 pub fn check_rows(rt: &impl Abort, alloc: Global, rows: &str, count: usize) {
     assert!(rt; rows.lines().count() == count, "{count} rows");
     for text in rows.lines() {
@@ -96,12 +96,13 @@ pub fn check_rows(rt: &impl Abort, alloc: Global, rows: &str, count: usize) {
     }
 }
 
-// Whether a row whose module is sections in hexadecimal numbers says what becomes of it.
+// Returns whether a row states the right result. Its module consists of sections in hexadecimal.
 fn agrees(alloc: Global, row: Row<'_>) -> Result<bool, AllocError> {
     Ok(is_named(refusal_of_sections(alloc, row.source)?, row.word))
 }
 
-/// Tests the rows of a text, one a line, whose modules are sections in hexadecimal numbers, and how many there are.
+/// Tests the rows of a text, one per line, and that there are `count` of them. Their modules consist of sections in
+/// hexadecimal.
 pub fn check_sections(rt: &impl Abort, alloc: Global, rows: &str, count: usize) {
     assert!(rt; rows.lines().count() == count, "{count} rows");
     for text in rows.lines() {

@@ -1,10 +1,10 @@
-//! The lines for what a module has.
+//! The lines for the contents of a module.
 
 use module_info::{Verdict, describe};
 use std::alloc::{AllocError, Global};
 use testing::{assemble, bytes_of};
 
-// A module as text, and the lines behind the first, which says how many bytes there are.
+// A name, a module in the text format, and the lines after the first one, which states the number of bytes.
 struct Row {
     name: &'static str,
     module: &'static str,
@@ -51,7 +51,7 @@ static ROWS: [Row; 8] = [
     },
 ];
 
-// A name of three bytes, as hexadecimal numbers, and how it is shown: in one line, and without codes that a terminal obeys.
+// A name of three bytes in hexadecimal, and how it is shown: on one line, and without control codes for a terminal.
 static NAMES: [(&str, &str); 5] = [
     ("61 0A 62", "\"a\\nb\""),
     ("22 5C 61", "\"\\\"\\\\a\""),
@@ -60,7 +60,8 @@ static NAMES: [(&str, &str); 5] = [
     ("E2 82 AC", "\"€\""),
 ];
 
-// Whether these bytes are a valid module that is described by these lines, behind one that says how many bytes there are.
+// Returns whether these bytes encode a valid module that is described by these lines, after a line that states the number of
+// bytes.
 fn has_lines(alloc: Global, bytes: &[u8], lines: &str) -> Result<bool, AllocError> {
     let mut out = Vec::new(alloc);
     let verdict = describe(alloc, &mut out, bytes);
@@ -68,7 +69,7 @@ fn has_lines(alloc: Global, bytes: &[u8], lines: &str) -> Result<bool, AllocErro
     Ok(matches!(verdict, Ok(Verdict::Valid)) && out.as_slice() == wanted.as_bytes())
 }
 
-// Whether the module of a row is described by its lines.
+// Returns whether the module of a row is described by its lines.
 fn is_described(alloc: Global, row: &Row) -> bool {
     match assemble(alloc, row.module) {
         Ok(bytes) => has_lines(alloc, bytes.as_slice(), row.lines) == Ok(true),
@@ -83,7 +84,7 @@ fn modules_are_described(rt: HostRuntime) {
     }
 }
 
-// Whether the name of an export is shown so.
+// Returns whether the name of an export is shown like this.
 fn is_shown(alloc: Global, name: &str, shown: &str) -> Result<bool, AllocError> {
     let module = format!(in alloc;
         "0061736D01000000 010401600000 03020100 07070103 {name} 0000 0A040102000B"

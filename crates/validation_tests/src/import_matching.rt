@@ -1,4 +1,4 @@
-//! Which external types match: types that are given where others are wanted.
+//! Which external types match: the types that are given, and the types that are wanted.
 
 use Type::{Func, Global, Memory, Table};
 use core_types::{
@@ -7,7 +7,7 @@ use core_types::{
 use matching::matches;
 use std::alloc::{AllocError, Global as Allocator};
 
-// An external type, as the rows list it.
+// An external type, in the form that the rows contain.
 #[derive(Clone, Copy)]
 enum Type {
     Func(&'static [ValType], &'static [ValType]),
@@ -16,7 +16,7 @@ enum Type {
     Global(ValType, Mutability),
 }
 
-// A type that is given, one that is wanted, and whether they match.
+// A name, a type that is given, one that is wanted, and whether they match.
 struct Row {
     name: &'static str,
     given: Type,

@@ -1,4 +1,4 @@
-//! Tests of the validator, over modules in the text format, of import matching, and of what is said of a module.
+//! Tests of the validator, with modules in the text format, of import matching, and of descriptions of modules.
 #![tactic(auto)]
 
 #[cfg(test)]

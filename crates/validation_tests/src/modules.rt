@@ -1,4 +1,4 @@
-//! The parts of modules beside bodies.
+//! The parts of modules other than bodies.
 
 use crate::answers::check_rows;
 

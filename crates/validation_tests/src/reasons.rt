@@ -1,10 +1,10 @@
-//! The lines for why bytes are refused.
+//! The lines that state why bytes are refused.
 
 use module_info::{Verdict, describe};
 use std::alloc::{AllocError, Global};
 use testing::{assemble, bytes_of};
 
-// A body of one instruction, as hexadecimal numbers, and what is said of it.
+// A body of one instruction in hexadecimal, and the reason why it is refused.
 #[rattlefmt::skip]
 static INSTRUCTIONS: [(&str, &str); 14] = [
     ("43 00000000", "a floating-point instruction"),
@@ -23,7 +23,7 @@ static INSTRUCTIONS: [(&str, &str); 14] = [
     ("06 40", "an instruction of a later proposal, or of none"),
 ];
 
-// A type, as hexadecimal numbers, and what is said of it.
+// A type in hexadecimal, and the reason why it is refused.
 static TYPES: [(&str, &str); 3] = [
     ("7D", "a floating-point type"),
     ("7C", "a floating-point type"),
@@ -45,21 +45,21 @@ static INVALID: [(&str, &str); 10] = [
     ("(data (offset i32.const 0) \"x\")", "invalid module: section 11: a data segment has no memory, or its offset is no constant expression of type i32\n"),
 ];
 
-// What is no module, as hexadecimal numbers, and the line for it.
+// Bytes in hexadecimal that encode no module, and the line for them.
 static MALFORMED: [(&str, &str); 3] = [
     ("", "malformed module at byte 0\n"),
     ("0061736D01000000 01020161", "malformed module at byte 11\n"),
     ("0061736D01000000 010101", "malformed module at byte 11\n"),
 ];
 
-// Whether these bytes are refused with this line.
+// Returns whether these bytes are refused with this line.
 fn has_line(alloc: Global, bytes: &[u8], line: &str) -> bool {
     let mut out = Vec::new(alloc);
     let verdict = describe(alloc, &mut out, bytes);
     matches!(verdict, Ok(Verdict::Refused)) && out.as_slice() == line.as_bytes()
 }
 
-// Whether the bytes that hexadecimal numbers write are refused with this line.
+// Returns whether the bytes of a text in hexadecimal are refused with this line.
 fn bytes_have_line(alloc: Global, hexadecimal: &str, line: &str) -> bool {
     match bytes_of(alloc, hexadecimal) {
         Ok(bytes) => has_line(alloc, bytes.as_slice(), line),
@@ -67,7 +67,7 @@ fn bytes_have_line(alloc: Global, hexadecimal: &str, line: &str) -> bool {
     }
 }
 
-// Whether the module of a text is refused with this line.
+// Returns whether the module of a text is refused with this line.
 fn text_has_line(alloc: Global, text: &str, line: &str) -> bool {
     match assemble(alloc, text) {
         Ok(bytes) => has_line(alloc, bytes.as_slice(), line),
@@ -75,7 +75,7 @@ fn text_has_line(alloc: Global, text: &str, line: &str) -> bool {
     }
 }
 
-// Whether bytes with this part at the offset of an instruction, or of a type, are refused there for this reason.
+// Returns whether bytes with this part at the offset of an instruction, or of a type, are refused there for this reason.
 fn is_unsupported(
     alloc: Global,
     front: &str,

@@ -1,4 +1,4 @@
-//! The places of invalid modules, the texts of refusals, and the valid module that is lent.
+//! The places of invalid modules, the texts of refusals, and the valid module that is borrowed.
 
 use crate::answers::{Refusal, load, refusal_of};
 use std::alloc::{AllocError, Global};
@@ -12,7 +12,7 @@ struct Row {
     place: Option<Place>,
 }
 
-// In each module one function, whose body is `i32.const 7`.
+// Each module has one function, whose body is `i32.const 7`.
 #[rattlefmt::skip]
 static PLACES: [Row; 4] = [
     Row { name: "an i32", source: "(func (result i32) i32.const 7)", place: None },
@@ -36,7 +36,7 @@ fn names_the_place(rt: HostRuntime) {
     }
 }
 
-// How many functions the valid module of these bytes has, if it is one.
+// Returns the number of functions of the valid module that these bytes encode, if they encode one.
 fn function_count_of(alloc: Global, bytes: &[u8]) -> Option<usize> {
     match load(alloc, bytes) {
         Ok(valid) => Some(valid.module().funcs.len()),
@@ -44,7 +44,7 @@ fn function_count_of(alloc: Global, bytes: &[u8]) -> Option<usize> {
     }
 }
 
-// How many functions the valid module of a text has, if it is one.
+// Returns the number of functions of the valid module of a text, if there is one.
 fn function_count(alloc: Global, text: &str) -> Option<usize> {
     let bytes = assemble(alloc, text).ok()?;
     function_count_of(alloc, &bytes)

@@ -1,5 +1,5 @@
-//! Modules that the text format cannot say, or says in other bytes: large alignments, a data count without segments, active segments
-//! that name the first table or memory, and a passive data segment without a data count.
+//! Modules that the text format cannot express, or that it encodes in other bytes. They have large alignments, a data count
+//! without segments, active segments that name the first table or memory, or a passive data segment without a data count.
 
 use crate::answers::check_sections;
 

@@ -1,4 +1,4 @@
-//! Checks WebAssembly modules and runs their exported functions from the command line.
+//! Checks WebAssembly modules, calls their exported functions, and runs scripts, from the command line.
 #![tactic(auto)]
 
 use program::{Output, Print, Printed, define_prints, refuse_words, run};
@@ -8,13 +8,13 @@ use std::io::{self, Stdout};
 use std::process::ExitCode;
 use subcommands::System;
 
-// A print of this kind to standard output.
+// Creates the print function of this kind, which prints to standard output.
 fn new_print(rt: &HostRuntime, printed: Printed) -> Result<Box<Print<Stdout>>, AllocError> {
     let print = Print::new(rt.alloc(), printed, rt.stdout())?;
     Ok(Box::new(rt.alloc(), print)?)
 }
 
-// Runs the program over these words, with the three prints.
+// Runs the program with these arguments and the three print functions. Returns the exit status.
 fn run_with_prints(rt: &HostRuntime, words: &[String]) -> io::Result<u8> {
     let alloc = rt.alloc();
     let nothing = new_print(rt, Printed::Nothing)?;
@@ -32,7 +32,7 @@ fn run_with_prints(rt: &HostRuntime, words: &[String]) -> io::Result<u8> {
     ))
 }
 
-// Runs the program over the words after its name.
+// Runs the program with the arguments after its name. Returns the exit status.
 fn run_words(rt: &HostRuntime) -> io::Result<u8> {
     let words: Vec<String> = env::args(rt)?.skip(1).collect(rt.alloc())?;
     run_with_prints(rt, words.as_slice())
