@@ -15,13 +15,18 @@ def number(value):
     return bytes(out) + bytes([value])
 
 
-def constant(value):
-    """Returns the encoding of i32.const with a number below 2^31."""
-    out = bytearray(b"\x41")
-    while value >= 0x40:
+def signed_number(value):
+    """Returns the signed LEB128 encoding of a number."""
+    out = bytearray()
+    while not -0x40 <= value < 0x40:
         out.append(value & 0x7F | 0x80)
         value >>= 7
-    return bytes(out) + bytes([value])
+    return bytes(out) + bytes([value & 0x7F])
+
+
+def constant(value):
+    """Returns the encoding of i32.const with a number."""
+    return b"\x41" + signed_number(value)
 
 
 def vector(items):

@@ -54,6 +54,16 @@ def sources_of(crate):
     return sorted(os.path.join(at, name) for folder in folders for at, _, names in os.walk(folder) for name in names)
 
 
+def kit():
+    """Returns the folder of the Rattle toolchain to which the program `rt` belongs."""
+    return os.path.dirname(os.path.dirname(os.path.realpath(shutil.which("rt"))))
+
+
+def library_of(name):
+    """Returns the folder in which the gate leaves what it proved of a crate."""
+    return os.path.join(ROOT, "crates", name, "out", "rlib", f"{name}.rlib")
+
+
 def digest_of(crate, built):
     """Returns a digest of the files that a crate is made from, of the toolchain, and of what was built."""
     digest = hashlib.sha256(os.path.realpath(shutil.which("rt") or "").encode())

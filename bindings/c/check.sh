@@ -57,6 +57,7 @@ programs() {
   run "$way_name rows" "$@" "$programs/rows" "$rows"
   run "$way_name edges" "$@" "$programs/edges"
   run "$way_name ends" "$@" "$programs/ends"
+  run "$way_name quotas" "$@" "$programs/quota"
   run "$way_name example" compare "$@" "$programs/example" "$plugin"
 }
 

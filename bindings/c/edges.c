@@ -1,5 +1,6 @@
-/* Tests of the edges of the library: which threads may call, several embeddings, signal handlers, room for results, what callbacks may
-   return and see, texts, null pointers, what the library keeps, many exports, and callbacks that are left. */
+/* Tests of the edges of the library: which threads may call, several embeddings, signal handlers, how the last call ended, room for
+   results, what callbacks may return and see, texts, null pointers, what the library keeps, many exports, providers, windows, and callbacks
+   that are left. */
 #define _GNU_SOURCE
 #include "tegvurn.h"
 #include "test_module.h"
@@ -58,10 +59,10 @@ static tegvurn_host host_of(const char *name, const tegvurn_type *type, size_t c
 /* Returns an embedding in which the module is instance 0. */
 static tegvurn *embedding_of(struct asked *asked) {
   const tegvurn_host hosts[] = {host_of("ask", i32_type, 1, ask, asked), host_of("keep", extern_type, 1, ask, asked),
-                                host_of("nothing", NULL, 0, nothing, asked)};
+                                host_of("nothing", NULL, 0, nothing, asked), tegvurn_window_host()};
   tegvurn *embedding;
   uint64_t module = 9, instance = 9;
-  CHECK(tegvurn_new(&config, hosts, 3, &embedding, NULL) == TEGVURN_STATUS_DONE);
+  CHECK(tegvurn_new(&config, hosts, 4, &embedding, NULL) == TEGVURN_STATUS_DONE);
   CHECK(tegvurn_load(embedding, test_module, sizeof test_module, &module) == TEGVURN_STATUS_DONE && module == 0);
   CHECK(tegvurn_link(embedding, module, &instance) == TEGVURN_STATUS_DONE && instance == 0);
   asked->embedding = embedding;
@@ -76,8 +77,10 @@ static tegvurn_status call_one(tegvurn *embedding, const char *name, tegvurn_val
 /* Returns whether the last call trapped in a host function with this code. */
 static bool trapped_with(const tegvurn *embedding, uint32_t code) {
   const tegvurn_end *end = tegvurn_last(embedding);
+  char text[sizeof end->text];
+  sprintf(text, "host trap with code %lu", (unsigned long)code);
   return end->status == TEGVURN_STATUS_TRAP && end->number == TEGVURN_TRAP_HOST && end->code == code && !strcmp(end->name, "Host") &&
-         !strcmp(end->text, "host trap");
+         !strcmp(end->text, text);
 }
 
 /* Who may call */
@@ -89,14 +92,20 @@ static bool is_closed(tegvurn *embedding) {
   tegvurn_export *exports = NULL;
   tegvurn_report report = {7, 7, 7, NULL};
   size_t count = 7, kept = 7;
+  uint8_t byte = 7;
   return tegvurn_load(embedding, test_module, sizeof test_module, &number) == TEGVURN_STATUS_BUSY &&
          tegvurn_link(embedding, 0, &number) == TEGVURN_STATUS_BUSY &&
          tegvurn_register(embedding, 0, tegvurn_string("m")) == TEGVURN_STATUS_BUSY &&
          tegvurn_call(embedding, 0, tegvurn_string("empty"), NULL, 0, &value, 1, &count) == TEGVURN_STATUS_BUSY && count == 0 &&
          tegvurn_get_global(embedding, 0, tegvurn_string("number"), &value) == TEGVURN_STATUS_BUSY &&
          tegvurn_set_fuel(embedding, 7) == TEGVURN_STATUS_BUSY && tegvurn_fuel_left(embedding, &number) == TEGVURN_STATUS_BUSY &&
+         tegvurn_quota_left(embedding, &number) == TEGVURN_STATUS_BUSY &&
          tegvurn_exports(embedding, 0, &exports, &kept) == TEGVURN_STATUS_BUSY && kept == 7 &&
          tegvurn_find_export(embedding, 0, tegvurn_string("number"), &exports) == TEGVURN_STATUS_BUSY && !exports &&
+         tegvurn_provide(embedding, tegvurn_string("env"), NULL, 0, NULL, 0, &number) == TEGVURN_STATUS_BUSY &&
+         tegvurn_window_open(embedding, 0, tegvurn_string("memory"), &number) == TEGVURN_STATUS_BUSY &&
+         tegvurn_window_read(embedding, 0, 0, &byte, 1) == TEGVURN_STATUS_BUSY && byte == 7 &&
+         tegvurn_window_write(embedding, 0, 0, &byte, 1) == TEGVURN_STATUS_BUSY &&
          tegvurn_script(embedding, "{}", 2, NULL, 0, &report) == TEGVURN_STATUS_BUSY && report.passed == 7 && number == 7 && value.i32 == 7;
 }
 
@@ -109,11 +118,6 @@ static void run_on_thread(void *(*function)(void *), void *argument) {
   CHECK(!pthread_create(&thread, NULL, function, argument) && !pthread_join(thread, NULL));
 }
 
-static void *find_closed(void *embedding) {
-  CHECK(is_closed(embedding));
-  return NULL;
-}
-
 static void *find_busy(void *embedding) {
   CHECK(is_all_busy(embedding));
   return NULL;
@@ -121,6 +125,18 @@ static void *find_busy(void *embedding) {
 
 static void *free_it(void *embedding) {
   CHECK(tegvurn_free(embedding) == TEGVURN_STATUS_DONE);
+  return NULL;
+}
+
+/* Calls an embedding, of which each `byte` at 8 is an `h`. */
+static void *use_it(void *embedding) {
+  tegvurn_value result;
+  uint64_t fuel = 0;
+  CHECK(call_one(embedding, "byte", tegvurn_i32(8), &result) == TEGVURN_STATUS_DONE && result.i32 == 'h');
+  CHECK(call_one(embedding, "trap", tegvurn_i32(0), &result) == TEGVURN_STATUS_REFUSED);
+  CHECK(tegvurn_last(embedding)->number == TEGVURN_REFUSAL_BAD_ARGUMENTS);
+  CHECK(tegvurn_set_fuel(embedding, 1000) == TEGVURN_STATUS_DONE && tegvurn_fuel_left(embedding, &fuel) == TEGVURN_STATUS_DONE);
+  CHECK(fuel == 1000 && tegvurn_last(embedding)->status == TEGVURN_STATUS_DONE);
   return NULL;
 }
 
@@ -144,10 +160,6 @@ static void test_busy(void) {
   tegvurn_value result;
   CHECK(call_one(embedding, "ask", tegvurn_i32(41), &result) == TEGVURN_STATUS_DONE && result.i32 == 42);
   CHECK(call_one(embedding, "byte", tegvurn_i32(0), &result) == TEGVURN_STATUS_DONE && result.i32 == 0);
-  run_on_thread(find_closed, embedding);
-  CHECK(call_one(embedding, "trap", tegvurn_i32(0), &result) == TEGVURN_STATUS_REFUSED);
-  run_on_thread(find_closed, embedding);
-  CHECK(tegvurn_last(embedding)->number == TEGVURN_REFUSAL_BAD_ARGUMENTS);
   CHECK(tegvurn_free(embedding) == TEGVURN_STATUS_DONE);
   CHECK(tegvurn_free(NULL) == TEGVURN_STATUS_DONE);
 }
@@ -162,13 +174,75 @@ static void test_free_elsewhere(void) {
   run_on_thread(free_it, embedding);
 }
 
-/* A thread is not confused with one that has ended, even if it gets the same stack and the same addresses of thread-local variables. */
+/* An embedding can be used after the thread that made it has ended, here and on other threads. */
 static void test_ended_thread(void) {
   struct asked asked = {NULL, NULL, NULL, 0};
   run_on_thread(make_it, &asked);
-  CHECK(is_closed(asked.embedding));
-  run_on_thread(find_closed, asked.embedding);
+  for (int times = 0; times < 10; times++) {
+    use_it(asked.embedding);
+    run_on_thread(use_it, asked.embedding);
+  }
   CHECK(tegvurn_free(asked.embedding) == TEGVURN_STATUS_DONE);
+}
+
+/* Counts its calls in the guest's memory, and checks that it runs on the thread that calls. */
+static bool ask_on_thread(struct asked *asked, tegvurn_host_call *call) {
+  CHECK(pthread_equal(*(pthread_t *)asked->other, pthread_self()));
+  call->results[0] = tegvurn_i32(++call->memory[0]);
+  return true;
+}
+
+/* Calls an embedding once on this thread. `asked->number` is the number of its calls. */
+static void *call_on_thread(void *context) {
+  struct asked *asked = context;
+  pthread_t own = pthread_self();
+  tegvurn_value result;
+  asked->other = &own;
+  CHECK(call_one(asked->embedding, "ask", tegvurn_i32(0), &result) == TEGVURN_STATUS_DONE && result.i32 == ++asked->number);
+  return NULL;
+}
+
+/* An embedding moves between threads, with its memory. */
+static void test_moved(void) {
+  struct asked asked = {ask_on_thread, NULL, NULL, 0};
+  run_on_thread(make_it, &asked);
+  for (int times = 0; times < 20; times++) {
+    run_on_thread(call_on_thread, &asked);
+    if (times % 3 == 0) call_on_thread(&asked);
+  }
+  run_on_thread(free_it, asked.embedding);
+}
+
+#define SHARED_OFTEN 300
+
+/* Counts without a lock. */
+static bool ask_and_count(struct asked *asked, tegvurn_host_call *call) {
+  asked->number++;
+  call->results[0] = call->args[0];
+  return true;
+}
+
+/* Calls a shared embedding until SHARED_OFTEN calls are done. All others find it busy, and store nothing. */
+static void *call_shared(void *embedding) {
+  bool is_right = true;
+  for (uint32_t done = 0; done < SHARED_OFTEN && is_right;) {
+    tegvurn_value result = tegvurn_i32(SHARED_OFTEN);
+    tegvurn_status status = call_one(embedding, "ask", tegvurn_i32(done), &result);
+    is_right = status ? status == TEGVURN_STATUS_BUSY && result.i32 == SHARED_OFTEN : result.i32 == done;
+    done += !status;
+  }
+  CHECK(is_right);
+  return NULL;
+}
+
+/* Several threads call one embedding. At each time, one of them is inside. */
+static void test_shared(void) {
+  struct asked asked = {ask_and_count, NULL, NULL, 0};
+  tegvurn *embedding = embedding_of(&asked);
+  pthread_t threads[4];
+  for (int i = 0; i < 4; i++) CHECK(!pthread_create(&threads[i], NULL, call_shared, embedding));
+  for (int i = 0; i < 4; i++) CHECK(!pthread_join(threads[i], NULL));
+  CHECK(asked.number == 4 * SHARED_OFTEN && tegvurn_free(embedding) == TEGVURN_STATUS_DONE);
 }
 
 /* Several embeddings */
@@ -258,12 +332,14 @@ static void set_timer(int microseconds) {
   CHECK(!setitimer(ITIMER_REAL, &timer, NULL));
 }
 
+/* The handler runs on this thread, and one of the embeddings was made on another. */
 static void test_signals(void) {
   struct asked asked = {ask_with_signal, NULL, NULL, 0}, other = {NULL, NULL, NULL, 0};
   struct sigaction action = {.sa_handler = tick, .sa_flags = SA_RESTART};
   tegvurn_value often = tegvurn_i32(1000), result;
   bool is_right = true;
-  interrupted.own = embedding_of(&asked), interrupted.other = embedding_of(&other);
+  run_on_thread(make_it, &other);
+  interrupted.own = embedding_of(&asked), interrupted.other = other.embedding;
   CHECK(!sigaction(SIGALRM, &action, NULL));
   CHECK(call_one(interrupted.own, "ask", tegvurn_i32(7), &result) == TEGVURN_STATUS_DONE && result.i32 == 0);
   CHECK(ticks == 1 && busy_ticks == 1);
@@ -277,6 +353,73 @@ static void test_signals(void) {
   CHECK(signal(SIGALRM, SIG_IGN) == tick);
   CHECK(is_right && busy_ticks > 1 && wrong_ticks == 0);
   CHECK(tegvurn_free(interrupted.own) == TEGVURN_STATUS_DONE && tegvurn_free(interrupted.other) == TEGVURN_STATUS_DONE);
+}
+
+static volatile sig_atomic_t signals;
+
+static void count_signal(int number) {
+  (void)number;
+  signals++;
+}
+
+/* A signal that the calling thread blocks is not delivered in a call, even if the thread that made the embedding did not block it. */
+static void test_blocked_signals(void) {
+  struct asked asked = {ask_with_signal, NULL, NULL, 0};
+  struct sigaction action = {.sa_handler = count_signal};
+  sigset_t alarm_only, before;
+  tegvurn_value result;
+  run_on_thread(make_it, &asked);
+  CHECK(!sigaction(SIGALRM, &action, NULL) && !sigemptyset(&alarm_only) && !sigaddset(&alarm_only, SIGALRM));
+  CHECK(!pthread_sigmask(SIG_BLOCK, &alarm_only, &before) && !raise(SIGALRM));
+  CHECK(call_one(asked.embedding, "ask", tegvurn_i32(7), &result) == TEGVURN_STATUS_DONE && result.i32 == 0 && signals == 0);
+  CHECK(!pthread_sigmask(SIG_SETMASK, &before, NULL) && signals == 1);
+  CHECK(call_one(asked.embedding, "ask", tegvurn_i32(7), &result) == TEGVURN_STATUS_DONE && result.i32 == 0 && signals == 2);
+  CHECK(signal(SIGALRM, SIG_IGN) == count_signal && tegvurn_free(asked.embedding) == TEGVURN_STATUS_DONE);
+}
+
+/* How the last call ended */
+
+/* Makes each call that only reads. Returns whether all are done. */
+static bool can_read(tegvurn *embedding) {
+  tegvurn_text name = tegvurn_string("number");
+  tegvurn_value value;
+  tegvurn_export *exports = NULL, *found = NULL, *own = NULL;
+  tegvurn_import *imports = NULL;
+  uint64_t left;
+  size_t count;
+  bool is_done = !tegvurn_fuel_left(embedding, &left) && !tegvurn_quota_left(embedding, &left) &&
+                 !tegvurn_get_global(embedding, 0, name, &value) && !tegvurn_exports(embedding, 0, &exports, &count) &&
+                 !tegvurn_find_export(embedding, 0, name, &found) && !tegvurn_module_exports(embedding, 0, &own, &count) &&
+                 !tegvurn_module_imports(embedding, 0, &imports, &count);
+  tegvurn_exports_free(exports);
+  tegvurn_exports_free(found);
+  tegvurn_exports_free(own);
+  tegvurn_imports_free(imports);
+  return is_done;
+}
+
+/* Calls that only read leave the end of an earlier call as it is if they are done, and set it if they are not. */
+static void test_last(void) {
+  struct asked asked = {NULL, NULL, NULL, 0};
+  tegvurn *embedding = embedding_of(&asked);
+  tegvurn_text unknown = tegvurn_string("unknown");
+  tegvurn_value value;
+  tegvurn_export *export = NULL;
+  size_t count;
+  const tegvurn_end *end = tegvurn_last(embedding);
+  CHECK(end->status == TEGVURN_STATUS_DONE && !strcmp(end->name, "Done") && !*end->text);
+  CHECK(tegvurn_call(embedding, 0, tegvurn_string("trap"), NULL, 0, NULL, 0, NULL) == TEGVURN_STATUS_TRAP);
+  CHECK(can_read(embedding) && end->status == TEGVURN_STATUS_TRAP && end->number == TEGVURN_TRAP_UNREACHABLE);
+  CHECK(!strcmp(end->name, "Unreachable") && !strcmp(end->text, "unreachable") && tegvurn_last(embedding) == end);
+  CHECK(tegvurn_find_export(embedding, 0, unknown, &export) == TEGVURN_STATUS_REFUSED && end->number == TEGVURN_REFUSAL_UNKNOWN_EXPORT);
+  CHECK(can_read(embedding) && end->status == TEGVURN_STATUS_REFUSED && end->number == TEGVURN_REFUSAL_UNKNOWN_EXPORT);
+  CHECK(tegvurn_set_fuel(embedding, 100) == TEGVURN_STATUS_DONE && end->status == TEGVURN_STATUS_DONE && end->number == 0);
+  CHECK(tegvurn_get_global(embedding, 0, unknown, &value) == TEGVURN_STATUS_REFUSED && end->number == TEGVURN_REFUSAL_UNKNOWN_EXPORT);
+  CHECK(tegvurn_exports(embedding, 0, NULL, &count) == TEGVURN_STATUS_BAD_POINTER && end->status == TEGVURN_STATUS_BAD_POINTER);
+  CHECK(tegvurn_call(embedding, 0, tegvurn_string("empty"), NULL, 0, NULL, 0, NULL) == TEGVURN_STATUS_DONE);
+  CHECK(end->status == TEGVURN_STATUS_DONE && !strcmp(end->name, "Done") && !*end->text);
+  CHECK(tegvurn_fuel_left(embedding, NULL) == TEGVURN_STATUS_BAD_POINTER && end->status == TEGVURN_STATUS_BAD_POINTER);
+  CHECK(tegvurn_free(embedding) == TEGVURN_STATUS_DONE);
 }
 
 /* Values, results and their room */
@@ -345,6 +488,56 @@ static void test_traps(void) {
   CHECK(end->number == TEGVURN_TRAP_UNREACHABLE && end->code == 0);
   CHECK(!strcmp(end->name, "Unreachable") && !strcmp(end->text, "unreachable"));
   tegvurn_free(embedding);
+}
+
+/* A module whose link does not end well, the fuel that it has, and the text of its end. */
+struct link_row {
+  const char *bytes;
+  size_t size;
+  uint64_t fuel;
+  const char *text;
+};
+
+#define LINK_ROW(bytes, fuel, text) {bytes, sizeof bytes - 1, fuel, text}
+/* (module (func $start unreachable) (start $start)) */
+#define STARTS_TRAP "\0asm\1\0\0\0\1\4\1\x60\0\0\3\2\1\0\x08\1\0\x0a\5\1\3\0\0\x0b"
+/* (module (func $start call $start) (start $start)) */
+#define STARTS_RECURSION "\0asm\1\0\0\0\1\4\1\x60\0\0\3\2\1\0\x08\1\0\x0a\6\1\4\0\x10\0\x0b"
+/* (module (import "host" "trap" (func $start)) (start $start)) */
+#define STARTS_HOST "\0asm\1\0\0\0\1\4\1\x60\0\0\2\x0d\1\4host\4trap\0\0\x08\1\0"
+/* (module (memory 1) (data (i32.const 65536) "a")) */
+#define DATA_AFTER_END "\0asm\1\0\0\0\5\3\1\0\1\x0b\x09\1\0\x41\x80\x80\4\x0b\1\x61"
+/* (module (table 1 funcref) (elem (i32.const 2) func)) */
+#define ENTRY_AFTER_END "\0asm\1\0\0\0\4\4\1\x70\0\1\x09\6\1\0\x41\2\x0b\0"
+
+static bool trap_with_seven(void *context, tegvurn_host_call *call) {
+  (void)context;
+  call->trap = 7;
+  return false;
+}
+
+/* The text of the end of a link says what can have ended so. */
+static void test_link_ends(void) {
+  static const struct link_row rows[] = {
+      LINK_ROW(STARTS_TRAP, 10, "unreachable in the start function"),
+      LINK_ROW(STARTS_TRAP, 0, "out of fuel in the start function or a segment"),
+      LINK_ROW(STARTS_RECURSION, 1000, "out of depth in the start function"),
+      LINK_ROW(STARTS_HOST, 0, "host trap with code 7 in the start function"),
+      LINK_ROW(DATA_AFTER_END, 10, "out of bounds memory access in the start function or a segment"),
+      LINK_ROW(DATA_AFTER_END, 0, "out of fuel in the start function or a segment"),
+      LINK_ROW(ENTRY_AFTER_END, 10, "out of bounds table access in the start function or a segment"),
+  };
+  const tegvurn_host host = host_of("trap", NULL, 0, trap_with_seven, NULL);
+  tegvurn *embedding;
+  uint64_t module, instance = 77;
+  CHECK(tegvurn_new(&config, &host, 1, &embedding, NULL) == TEGVURN_STATUS_DONE);
+  for (size_t i = 0; i < sizeof rows / sizeof *rows; i++) {
+    CHECK(tegvurn_load(embedding, rows[i].bytes, rows[i].size, &module) == TEGVURN_STATUS_DONE);
+    CHECK(tegvurn_set_fuel(embedding, rows[i].fuel) == TEGVURN_STATUS_DONE);
+    CHECK(tegvurn_link(embedding, module, &instance) != TEGVURN_STATUS_DONE && instance == 77);
+    check(!strcmp(tegvurn_last(embedding)->text, rows[i].text), __LINE__, rows[i].text);
+  }
+  CHECK(tegvurn_free(embedding) == TEGVURN_STATUS_DONE);
 }
 
 /* Results that are not written, or that have another type, make the call trap. The embedding stays usable. */
@@ -480,6 +673,8 @@ static void test_new_without_pointers(void) {
   const struct row rows[] = {
       {"new without a configuration", tegvurn_new(NULL, NULL, 0, &embedding, NULL)},
       {"new without an embedding", tegvurn_new(&config, NULL, 0, NULL, NULL)},
+      {"new with a quota and without a configuration", tegvurn_new_with_quota(NULL, 7, NULL, 0, &embedding, NULL)},
+      {"new with a quota and without an embedding", tegvurn_new_with_quota(&config, 7, NULL, 0, NULL, NULL)},
       {"new without host functions", end_of_new(NULL)},
       {"new without the module of a host function", end_of_new(&module)},
       {"new without the name of a host function", end_of_new(&name)},
@@ -494,6 +689,7 @@ static void test_calls_without_embedding(void) {
   uint64_t number = 7;
   tegvurn_value value = tegvurn_i32(7);
   tegvurn_export *exports = NULL;
+  tegvurn_import *imports = NULL;
   tegvurn_report report;
   size_t count = 7;
   const struct row rows[] = {
@@ -504,8 +700,15 @@ static void test_calls_without_embedding(void) {
       {"get a global", tegvurn_get_global(NULL, 0, tegvurn_string("number"), &value)},
       {"set the fuel", tegvurn_set_fuel(NULL, 7)},
       {"fuel left", tegvurn_fuel_left(NULL, &number)},
+      {"quota left", tegvurn_quota_left(NULL, &number)},
       {"exports", tegvurn_exports(NULL, 0, &exports, &count)},
       {"find an export", tegvurn_find_export(NULL, 0, tegvurn_string("number"), &exports)},
+      {"exports of a module", tegvurn_module_exports(NULL, 0, &exports, &count)},
+      {"imports of a module", tegvurn_module_imports(NULL, 0, &imports, &count)},
+      {"provide", tegvurn_provide(NULL, tegvurn_string("env"), NULL, 0, NULL, 0, &number)},
+      {"open a window", tegvurn_window_open(NULL, 0, tegvurn_string("memory"), &number)},
+      {"read by a window", tegvurn_window_read(NULL, 0, 0, NULL, 0)},
+      {"write by a window", tegvurn_window_write(NULL, 0, 0, NULL, 0)},
       {"script", tegvurn_script(NULL, "{}", 2, NULL, 0, &report)},
       {"how the last call ended", tegvurn_last(NULL)->status},
   };
@@ -513,6 +716,7 @@ static void test_calls_without_embedding(void) {
   CHECK(!strcmp(tegvurn_last(NULL)->name, "BadPointer") && !strcmp(tegvurn_last(NULL)->text, "a pointer is null"));
   CHECK(tegvurn_free(NULL) == TEGVURN_STATUS_DONE);
   tegvurn_exports_free(NULL);
+  tegvurn_imports_free(NULL);
 }
 
 /* A call with a null pointer is refused before it does anything. */
@@ -521,8 +725,11 @@ static void test_calls_without_pointers(void) {
   tegvurn *embedding = embedding_of(&asked);
   tegvurn_text empty = tegvurn_string("empty"), two = tegvurn_string("two");
   const tegvurn_file files[] = {{NO_TEXT, "", 0}, {empty, NULL, 1}};
+  const tegvurn_host host = host_of("ask", NULL, 1, ask, &asked);
+  const tegvurn_provided object = {.name = NO_TEXT, .kind = TEGVURN_KIND_MEMORY};
   tegvurn_value value = tegvurn_i32(7);
   tegvurn_export *exports = NULL;
+  tegvurn_import *imports = NULL;
   tegvurn_report report;
   size_t count = 7;
   uint64_t fuel = 0, left = 0;
@@ -538,10 +745,25 @@ static void test_calls_without_pointers(void) {
       {"get a global without a name", tegvurn_get_global(embedding, 0, NO_TEXT, &value)},
       {"get a global without a value", tegvurn_get_global(embedding, 0, tegvurn_string("number"), NULL)},
       {"fuel left without a number", tegvurn_fuel_left(embedding, NULL)},
+      {"quota left without a number", tegvurn_quota_left(embedding, NULL)},
       {"exports without a list", tegvurn_exports(embedding, 0, NULL, &count)},
       {"exports without a count", tegvurn_exports(embedding, 0, &exports, NULL)},
       {"find an export without a name", tegvurn_find_export(embedding, 0, NO_TEXT, &exports)},
       {"find an export without a place for it", tegvurn_find_export(embedding, 0, empty, NULL)},
+      {"exports of a module without a list", tegvurn_module_exports(embedding, 0, NULL, &count)},
+      {"exports of a module without a count", tegvurn_module_exports(embedding, 0, &exports, NULL)},
+      {"imports of a module without a list", tegvurn_module_imports(embedding, 0, NULL, &count)},
+      {"imports of a module without a count", tegvurn_module_imports(embedding, 0, &imports, NULL)},
+      {"provide without a number", tegvurn_provide(embedding, empty, NULL, 0, NULL, 0, NULL)},
+      {"provide without a name", tegvurn_provide(embedding, NO_TEXT, NULL, 0, NULL, 0, &left)},
+      {"provide without host functions", tegvurn_provide(embedding, empty, NULL, 1, NULL, 0, &left)},
+      {"provide without parameters", tegvurn_provide(embedding, empty, &host, 1, NULL, 0, &left)},
+      {"provide without objects", tegvurn_provide(embedding, empty, NULL, 0, NULL, 1, &left)},
+      {"provide without the name of an object", tegvurn_provide(embedding, empty, NULL, 0, &object, 1, &left)},
+      {"open a window without a number", tegvurn_window_open(embedding, 0, tegvurn_string("memory"), NULL)},
+      {"open a window without a name", tegvurn_window_open(embedding, 0, NO_TEXT, &left)},
+      {"read by a window without a place", tegvurn_window_read(embedding, 0, 0, NULL, 1)},
+      {"write by a window without bytes", tegvurn_window_write(embedding, 0, 0, NULL, 1)},
       {"script without bytes", tegvurn_script(embedding, NULL, 1, NULL, 0, &report)},
       {"script without files", tegvurn_script(embedding, "{}", 2, NULL, 1, &report)},
       {"script without the name of a file", tegvurn_script(embedding, "{}", 2, &files[0], 1, &report)},
@@ -552,7 +774,7 @@ static void test_calls_without_pointers(void) {
   CHECK_ROWS(rows, TEGVURN_STATUS_BAD_POINTER);
   const tegvurn_end *end = tegvurn_last(embedding);
   CHECK(end->number == 0 && !strcmp(end->name, "BadPointer") && !strcmp(end->text, "a pointer is null"));
-  CHECK(left == 0 && value.i32 == 7 && !exports && count == 0);
+  CHECK(left == 0 && value.i32 == 7 && !exports && !imports && count == 0);
   CHECK(tegvurn_fuel_left(embedding, &left) == TEGVURN_STATUS_DONE && left == fuel);
   CHECK(tegvurn_link(embedding, 1, &left) == TEGVURN_STATUS_REFUSED && end->number == TEGVURN_REFUSAL_UNKNOWN_MODULE);
   CHECK(tegvurn_free(embedding) == TEGVURN_STATUS_DONE);
@@ -710,6 +932,9 @@ static void test_find_export(void) {
     const tegvurn_end *end = tegvurn_last(embedding);
     check(status == TEGVURN_STATUS_REFUSED && end->number == rows[i].refusal && *end->text && !unchanged, __LINE__, rows[i].name);
   }
+  size_t untouched = 7;
+  CHECK(tegvurn_exports(embedding, 1, &unchanged, &untouched) == TEGVURN_STATUS_REFUSED && !unchanged && untouched == 7);
+  CHECK(tegvurn_last(embedding)->number == TEGVURN_REFUSAL_UNKNOWN_INSTANCE);
   CHECK(tegvurn_free(embedding) == TEGVURN_STATUS_DONE);
 }
 
@@ -835,6 +1060,314 @@ static void test_wide(void) {
   tegvurn_free(embedding);
 }
 
+/* Providers */
+
+/* A guest that imports a memory, a table, globals and a function from `env`:
+
+   (module
+     (import "env" "memory" (memory 1))
+     (import "env" "table" (table 2 funcref))
+     (import "env" "counter" (global $counter (mut i32)))
+     (import "env" "limit" (global $limit i64))
+     (import "env" "ask" (func $ask (param i32) (result i32)))
+     (func (export "run") (param i32) (result i32)
+       (global.set $counter (i32.add (global.get $counter) (i32.const 1)))
+       (call $ask (local.get 0)))
+     (func (export "entries") (result i32) table.size 0)
+     (export "counter" (global $counter))
+     (export "limit" (global $limit))) */
+static const uint8_t guest[] = {
+    0x00, 0x61, 0x73, 0x6d, 0x01, 0x00, 0x00, 0x00, 0x01, 0x0a, 0x02, 0x60, 0x01, 0x7f, 0x01, 0x7f, 0x60, 0x00, 0x01, 0x7f,
+    0x02, 0x43, 0x05, 0x03, 0x65, 0x6e, 0x76, 0x06, 0x6d, 0x65, 0x6d, 0x6f, 0x72, 0x79, 0x02, 0x00, 0x01, 0x03, 0x65, 0x6e,
+    0x76, 0x05, 0x74, 0x61, 0x62, 0x6c, 0x65, 0x01, 0x70, 0x00, 0x02, 0x03, 0x65, 0x6e, 0x76, 0x07, 0x63, 0x6f, 0x75, 0x6e,
+    0x74, 0x65, 0x72, 0x03, 0x7f, 0x01, 0x03, 0x65, 0x6e, 0x76, 0x05, 0x6c, 0x69, 0x6d, 0x69, 0x74, 0x03, 0x7e, 0x00, 0x03,
+    0x65, 0x6e, 0x76, 0x03, 0x61, 0x73, 0x6b, 0x00, 0x00, 0x03, 0x03, 0x02, 0x00, 0x01, 0x07, 0x23, 0x04, 0x03, 0x72, 0x75,
+    0x6e, 0x00, 0x01, 0x07, 0x65, 0x6e, 0x74, 0x72, 0x69, 0x65, 0x73, 0x00, 0x02, 0x07, 0x63, 0x6f, 0x75, 0x6e, 0x74, 0x65,
+    0x72, 0x03, 0x00, 0x05, 0x6c, 0x69, 0x6d, 0x69, 0x74, 0x03, 0x01, 0x0a, 0x15, 0x02, 0x0d, 0x00, 0x23, 0x00, 0x41, 0x01,
+    0x6a, 0x24, 0x00, 0x20, 0x00, 0x10, 0x00, 0x0b, 0x05, 0x00, 0xfc, 0x10, 0x00, 0x0b,
+};
+
+static tegvurn_provided memory_of(const char *name, uint64_t minimum) {
+  return (tegvurn_provided){.name = tegvurn_string(name), .kind = TEGVURN_KIND_MEMORY, .minimum = minimum};
+}
+
+static tegvurn_provided global_of(const char *name, tegvurn_value value, bool is_mutable) {
+  return (tegvurn_provided){.name = tegvurn_string(name), .kind = TEGVURN_KIND_GLOBAL, .value = value, .is_mutable = is_mutable};
+}
+
+/* Returns the status of loading and linking a module. If that is done, the instance is in *instance. */
+static tegvurn_status link_bytes(tegvurn *embedding, const void *bytes, size_t size, uint64_t *instance) {
+  tegvurn_status status = tegvurn_load(embedding, bytes, size, instance);
+  return status ? status : tegvurn_link(embedding, *instance, instance);
+}
+
+/* Writes its argument into the first byte of the memory, which has two pages. */
+static bool ask_for_byte(struct asked *asked, tegvurn_host_call *call) {
+  (void)asked;
+  call->memory[0] = (uint8_t)call->args[0].i32;
+  call->results[0] = tegvurn_i32((uint32_t)call->memory_size);
+  return true;
+}
+
+/* A guest imports all that it needs from a provider: host functions of another module name, and objects. */
+static void test_provider(void) {
+  struct asked asked = {ask_for_byte, NULL, NULL, 0};
+  tegvurn *embedding = embedding_of(&asked);
+  const tegvurn_host hosts[] = {host_of("ask", i32_type, 1, ask, &asked), host_of("keep", extern_type, 1, ask, &asked)};
+  const tegvurn_provided table = {.name = tegvurn_string("table"), .kind = TEGVURN_KIND_TABLE, .type = TEGVURN_TYPE_FUNCREF, .minimum = 3};
+  const tegvurn_provided objects[] = {global_of("counter", tegvurn_i32(41), true), memory_of("memory", 2), table,
+                                      global_of("limit", tegvurn_i64((uint64_t)-5), false)};
+  uint64_t provider = 77, instance = 77;
+  tegvurn_value value = tegvurn_i32(9);
+  tegvurn_export *found;
+  char byte = 0;
+  CHECK(tegvurn_provide(embedding, tegvurn_string("env"), hosts, 2, objects, 4, &provider) == TEGVURN_STATUS_DONE && provider == 1);
+  CHECK(link_bytes(embedding, guest, sizeof guest, &instance) == TEGVURN_STATUS_DONE && instance == 2);
+  CHECK(tegvurn_call(embedding, instance, tegvurn_string("run"), &value, 1, &value, 1, NULL) == TEGVURN_STATUS_DONE && value.i32 == 131072);
+  uint64_t window = 77;
+  CHECK(tegvurn_window_open(embedding, provider, tegvurn_string("memory"), &window) == TEGVURN_STATUS_DONE);
+  CHECK(tegvurn_window_read(embedding, window, 0, &byte, 1) == TEGVURN_STATUS_DONE && byte == 9);
+  CHECK(tegvurn_call(embedding, instance, tegvurn_string("entries"), NULL, 0, &value, 1, NULL) == TEGVURN_STATUS_DONE && value.i32 == 3);
+  CHECK(tegvurn_get_global(embedding, provider, tegvurn_string("counter"), &value) == TEGVURN_STATUS_DONE && value.i32 == 42);
+  CHECK(tegvurn_get_global(embedding, instance, tegvurn_string("limit"), &value) == TEGVURN_STATUS_DONE && value.i64 == (uint64_t)-5);
+  CHECK(tegvurn_find_export(embedding, provider, tegvurn_string("keep"), &found) == TEGVURN_STATUS_DONE);
+  CHECK(found->param_count == 1 && found->params[0] == TEGVURN_TYPE_EXTERNREF && found->result_count == 1);
+  tegvurn_exports_free(found);
+  CHECK(tegvurn_free(embedding) == TEGVURN_STATUS_DONE);
+}
+
+/* Globals begin with each kind of value, and tables and memories have their limits. */
+static void test_provider_objects(void) {
+  static const uint64_t numbers[] = {0, 1, 63, 64, 127, 128, 0x7FFFFFFF, 0x80000000, 0xFFFFFFBF, 0xFFFFFFC0, 0xFFFFFFFF,
+                                     INT64_MAX, (uint64_t)INT64_MAX + 1, UINT64_MAX - 64, UINT64_MAX - 63, UINT64_MAX};
+  tegvurn_provided objects[34] = {memory_of("memory", 1), {.name = tegvurn_string("table"), .kind = TEGVURN_KIND_TABLE}};
+  char names[32][3];
+  tegvurn *embedding;
+  tegvurn_value value;
+  tegvurn_export *found;
+  uint64_t instance;
+  objects[0].has_maximum = objects[1].has_maximum = true;
+  objects[0].maximum = 200, objects[1].maximum = 300, objects[1].minimum = 20, objects[1].type = TEGVURN_TYPE_EXTERNREF;
+  for (int i = 0; i < 32; i++) {
+    names[i][0] = (char)('a' + i / 16), names[i][1] = (char)('a' + i % 16), names[i][2] = 0;
+    objects[i + 2] = global_of(names[i], i < 16 ? tegvurn_i32((uint32_t)numbers[i]) : tegvurn_i64(numbers[i - 16]), i % 2);
+  }
+  CHECK(tegvurn_new(&config, NULL, 0, &embedding, NULL) == TEGVURN_STATUS_DONE);
+  CHECK(tegvurn_provide(embedding, tegvurn_string("env"), NULL, 0, objects, 34, &instance) == TEGVURN_STATUS_DONE);
+  for (int i = 0; i < 32; i++) {
+    CHECK(tegvurn_get_global(embedding, instance, tegvurn_string(names[i]), &value) == TEGVURN_STATUS_DONE);
+    CHECK(i < 16 ? value.type == TEGVURN_TYPE_I32 && value.i32 == (uint32_t)numbers[i]
+                 : value.type == TEGVURN_TYPE_I64 && value.i64 == numbers[i - 16]);
+    CHECK(tegvurn_find_export(embedding, instance, tegvurn_string(names[i]), &found) == TEGVURN_STATUS_DONE && found->is_mutable == i % 2);
+    tegvurn_exports_free(found);
+  }
+  CHECK(tegvurn_find_export(embedding, instance, tegvurn_string("memory"), &found) == TEGVURN_STATUS_DONE);
+  CHECK(found->kind == TEGVURN_KIND_MEMORY && found->minimum == 1 && found->has_maximum && found->maximum == 200);
+  tegvurn_exports_free(found);
+  CHECK(tegvurn_find_export(embedding, instance, tegvurn_string("table"), &found) == TEGVURN_STATUS_DONE);
+  CHECK(found->kind == TEGVURN_KIND_TABLE && found->type == TEGVURN_TYPE_EXTERNREF);
+  CHECK(found->minimum == 20 && found->has_maximum && found->maximum == 300);
+  tegvurn_exports_free(found);
+  const tegvurn_provided nulls[] = {global_of("function", tegvurn_null(TEGVURN_TYPE_FUNCREF), false),
+                                    global_of("host", tegvurn_null(TEGVURN_TYPE_EXTERNREF), true)};
+  CHECK(tegvurn_provide(embedding, tegvurn_string("env"), NULL, 0, nulls, 2, &instance) == TEGVURN_STATUS_DONE);
+  for (int i = 0; i < 2; i++) {
+    CHECK(tegvurn_get_global(embedding, instance, nulls[i].name, &value) == TEGVURN_STATUS_DONE);
+    CHECK(value.type == nulls[i].value.type && value.is_null);
+  }
+  CHECK(tegvurn_free(embedding) == TEGVURN_STATUS_DONE);
+}
+
+static void test_provider_refusals(void) {
+  struct asked asked = {NULL, NULL, NULL, 0};
+  tegvurn *embedding = embedding_of(&asked);
+  const tegvurn_host unknown = host_of("unknown", i32_type, 1, ask, &asked), other = host_of("ask", extern_type, 1, ask, &asked);
+  const tegvurn_provided twice[] = {memory_of("memory", 1), global_of("memory", tegvurn_i32(1), true)};
+  const tegvurn_provided large = memory_of("memory", 17), reference = global_of("g", tegvurn_ref(TEGVURN_TYPE_EXTERNREF, 0), true);
+  const tegvurn_provided function = {.name = tegvurn_string("f"), .kind = TEGVURN_KIND_FUNCTION};
+  const tegvurn_provided no_kind = {.name = tegvurn_string("f"), .kind = (tegvurn_kind)4};
+  const struct {
+    const char *name;
+    const tegvurn_host *hosts;
+    const tegvurn_provided *objects;
+    size_t count;
+    tegvurn_refusal refusal;
+  } rows[] = {
+      {"env", &unknown, NULL, 0, TEGVURN_REFUSAL_UNKNOWN_IMPORT},
+      {"env", &other, NULL, 0, TEGVURN_REFUSAL_INCOMPATIBLE_IMPORT},
+      {"env", NULL, twice, 2, TEGVURN_REFUSAL_INVALID},
+      {"env", NULL, &large, 1, TEGVURN_REFUSAL_LIMIT},
+      {"env", NULL, &reference, 1, TEGVURN_REFUSAL_BAD_ARGUMENTS},
+      {"env", NULL, &function, 1, TEGVURN_REFUSAL_BAD_ARGUMENTS},
+      {"env", NULL, &no_kind, 1, TEGVURN_REFUSAL_BAD_ARGUMENTS},
+      {"host", NULL, NULL, 0, TEGVURN_REFUSAL_NAME_TAKEN},
+  };
+  uint64_t instance = 77;
+  for (size_t i = 0; i < sizeof rows / sizeof *rows; i++) {
+    size_t host_count = rows[i].hosts != NULL;
+    CHECK(tegvurn_provide(embedding, tegvurn_string(rows[i].name), rows[i].hosts, host_count, rows[i].objects, rows[i].count, &instance) ==
+              TEGVURN_STATUS_REFUSED && instance == 77);
+    CHECK(tegvurn_last(embedding)->number == rows[i].refusal && *tegvurn_last(embedding)->text);
+  }
+  CHECK(tegvurn_provide(embedding, tegvurn_string("\xff"), NULL, 0, NULL, 0, &instance) == TEGVURN_STATUS_NOT_SPELT && instance == 77);
+  CHECK(link_bytes(embedding, guest, sizeof guest, &instance) == TEGVURN_STATUS_REFUSED);
+  CHECK(tegvurn_free(embedding) == TEGVURN_STATUS_DONE);
+}
+
+/* Windows */
+
+#define MEMORY_SIZE 65536
+
+/* Returns a window on the memory of instance 0. */
+static uint64_t window_of(tegvurn *embedding, const char *memory) {
+  uint64_t window = 77;
+  CHECK(tegvurn_window_open(embedding, 0, tegvurn_string(memory), &window) == TEGVURN_STATUS_DONE);
+  return window;
+}
+
+/* A host reads and writes the memory of an instance between calls. */
+static void test_window(void) {
+  struct asked asked = {NULL, NULL, NULL, 0};
+  tegvurn *embedding = embedding_of(&asked);
+  uint64_t window = window_of(embedding, "memory"), other = window_of(embedding, "memory");
+  char bytes[6] = "?????";
+  tegvurn_value result;
+  CHECK(tegvurn_window_read(embedding, window, 8, bytes, 5) == TEGVURN_STATUS_DONE && !strcmp(bytes, "hello"));
+  CHECK(tegvurn_window_write(embedding, window, 8, "J", 1) == TEGVURN_STATUS_DONE);
+  CHECK(call_one(embedding, "byte", tegvurn_i32(8), &result) == TEGVURN_STATUS_DONE && result.i32 == 'J');
+  CHECK(tegvurn_window_read(embedding, other, 8, bytes, 5) == TEGVURN_STATUS_DONE && !strcmp(bytes, "Jello"));
+  CHECK(tegvurn_window_write(embedding, other, 12, "y", 1) == TEGVURN_STATUS_DONE);
+  CHECK(tegvurn_window_read(embedding, window, 8, bytes, 5) == TEGVURN_STATUS_DONE && !strcmp(bytes, "Jelly"));
+  CHECK(tegvurn_free(embedding) == TEGVURN_STATUS_DONE);
+}
+
+static const struct { const char *name; uint64_t at; size_t size; bool is_inside; } ranges[] = {
+    {"the whole memory", 0, MEMORY_SIZE, true},
+    {"its last byte", MEMORY_SIZE - 1, 1, true},
+    {"no bytes at its end", MEMORY_SIZE, 0, true},
+    {"no bytes after its end", MEMORY_SIZE + 1, 0, false},
+    {"a byte at its end", MEMORY_SIZE, 1, false},
+    {"bytes over its end", MEMORY_SIZE - 1, 2, false},
+    {"more bytes than it has", 0, MEMORY_SIZE + 1, false},
+    {"a byte far after its end", UINT64_MAX, 1, false},
+    {"no bytes far after its end", UINT64_MAX, 0, false},
+    {"the most bytes", 1, SIZE_MAX, false},
+};
+
+/* Only bytes that are all in the memory are read and written. */
+static void test_window_ranges(void) {
+  static uint8_t bytes[MEMORY_SIZE + 1];
+  struct asked asked = {NULL, NULL, NULL, 0};
+  tegvurn *embedding = embedding_of(&asked);
+  uint64_t window = window_of(embedding, "memory");
+  const tegvurn_end *end = tegvurn_last(embedding);
+  tegvurn_value result;
+  for (size_t i = 0; i < sizeof ranges / sizeof *ranges; i++) {
+    tegvurn_status wanted = ranges[i].is_inside ? TEGVURN_STATUS_DONE : TEGVURN_STATUS_TRAP;
+    memset(bytes, 'x', sizeof bytes);
+    check(tegvurn_window_write(embedding, window, ranges[i].at, bytes, ranges[i].size) == wanted, __LINE__, ranges[i].name);
+    uint32_t last = ranges[i].is_inside && ranges[i].size ? 'x' : 0;
+    CHECK(call_one(embedding, "byte", tegvurn_i32(MEMORY_SIZE - 1), &result) == TEGVURN_STATUS_DONE && result.i32 == last);
+    check(tegvurn_window_read(embedding, window, ranges[i].at, bytes, ranges[i].size) == wanted, __LINE__, ranges[i].name);
+    bool is_out = end->status == TEGVURN_STATUS_TRAP && end->number == TEGVURN_TRAP_MEMORY_BOUNDS && !end->code;
+    check(ranges[i].is_inside || (is_out && !strcmp(end->text, "out of bounds memory access")), __LINE__, ranges[i].name);
+    check(bytes[0] == 'x' && bytes[MEMORY_SIZE] == 'x', __LINE__, ranges[i].name);
+    CHECK(tegvurn_window_write(embedding, window, MEMORY_SIZE - 1, "", 1) == TEGVURN_STATUS_DONE);
+  }
+  CHECK(tegvurn_free(embedding) == TEGVURN_STATUS_DONE);
+}
+
+/* Reading and writing spend no fuel, and reading leaves the end of an earlier call. */
+static void test_window_fuel(void) {
+  static const uint64_t fuels[] = {0, 1, 1000, UINT64_MAX};
+  struct asked asked = {NULL, NULL, NULL, 0};
+  tegvurn *embedding = embedding_of(&asked);
+  uint64_t window = window_of(embedding, "memory"), left = 77;
+  const tegvurn_end *end = tegvurn_last(embedding);
+  char byte = 0;
+  for (int i = 0; i < 4; i++) {
+    CHECK(tegvurn_set_fuel(embedding, fuels[i]) == TEGVURN_STATUS_DONE);
+    CHECK(tegvurn_window_write(embedding, window, 3, "w", 1) == TEGVURN_STATUS_DONE);
+    CHECK(tegvurn_window_read(embedding, window, 3, &byte, 1) == TEGVURN_STATUS_DONE && byte == 'w');
+    CHECK(tegvurn_fuel_left(embedding, &left) == TEGVURN_STATUS_DONE && left == fuels[i]);
+  }
+  CHECK(tegvurn_call(embedding, 0, tegvurn_string("trap"), NULL, 0, NULL, 0, NULL) == TEGVURN_STATUS_TRAP);
+  CHECK(tegvurn_window_read(embedding, window, 3, &byte, 1) == TEGVURN_STATUS_DONE && end->number == TEGVURN_TRAP_UNREACHABLE);
+  CHECK(tegvurn_window_write(embedding, window, 3, "w", 1) == TEGVURN_STATUS_DONE && end->status == TEGVURN_STATUS_DONE);
+  CHECK(tegvurn_free(embedding) == TEGVURN_STATUS_DONE);
+}
+
+/* (module (memory (export "m") 0 2) (func (export "grow") i32.const 1 memory.grow drop)) */
+#define GROWS "\0asm\1\0\0\0\1\4\1\x60\0\0\3\2\1\0\5\4\1\1\0\2\7\x0c\2\1m\2\0\4grow\0\0\x0a\x09\1\7\0\x41\1\x40\0\x1a\x0b"
+
+/* A window sees a memory that is empty, and that grows. */
+static void test_window_growth(void) {
+  const tegvurn_host host = tegvurn_window_host();
+  tegvurn *embedding;
+  uint64_t instance;
+  char byte = 'x';
+  CHECK(tegvurn_new(&config, &host, 1, &embedding, NULL) == TEGVURN_STATUS_DONE);
+  CHECK(link_bytes(embedding, GROWS, sizeof GROWS - 1, &instance) == TEGVURN_STATUS_DONE && instance == 0);
+  uint64_t window = window_of(embedding, "m");
+  CHECK(tegvurn_window_read(embedding, window, 0, NULL, 0) == TEGVURN_STATUS_DONE);
+  for (uint64_t last = MEMORY_SIZE - 1; last < 2 * MEMORY_SIZE; last += MEMORY_SIZE) {
+    CHECK(tegvurn_window_write(embedding, window, last, "a", 1) == TEGVURN_STATUS_TRAP);
+    CHECK(tegvurn_call(embedding, 0, tegvurn_string("grow"), NULL, 0, NULL, 0, NULL) == TEGVURN_STATUS_DONE);
+    CHECK(tegvurn_window_read(embedding, window, last, &byte, 1) == TEGVURN_STATUS_DONE && byte == 0);
+    CHECK(tegvurn_window_write(embedding, window, last, "a", 1) == TEGVURN_STATUS_DONE);
+    CHECK(tegvurn_window_read(embedding, window, last, &byte, 1) == TEGVURN_STATUS_DONE && byte == 'a');
+  }
+  CHECK(tegvurn_free(embedding) == TEGVURN_STATUS_DONE);
+}
+
+/* (module (import "tegvurn.window" "memory" (memory 0))) */
+#define IMPORTS_MEMORY "\0asm\1\0\0\0\2\x1a\1\x0etegvurn.window\6memory\2\0\0"
+/* (module (import "tegvurn" "window" (func $window)) (memory 1) (func (export "f") call $window)) */
+#define CALLS_WINDOW \
+  "\0asm\1\0\0\0\1\4\1\x60\0\0\2\x12\1\7tegvurn\6window\0\0\3\2\1\0\5\3\1\0\1\7\5\1\1" \
+  "f\0\1\x0a\6\1\4\0\x10\0\x0b"
+
+/* A module of a stranger reaches neither the instance of a window nor what a window copies. */
+static void test_window_strangers(void) {
+  struct asked asked = {NULL, NULL, NULL, 0};
+  tegvurn *embedding = embedding_of(&asked);
+  uint64_t window = window_of(embedding, "memory"), stranger = 77;
+  const tegvurn_end *end = tegvurn_last(embedding);
+  char bytes[6] = "?????";
+  CHECK(link_bytes(embedding, IMPORTS_MEMORY, sizeof IMPORTS_MEMORY - 1, &stranger) == TEGVURN_STATUS_REFUSED);
+  CHECK(end->number == TEGVURN_REFUSAL_UNKNOWN_IMPORT && end->place == TEGVURN_PLACE_IMPORT && end->at == 0);
+  CHECK(link_bytes(embedding, CALLS_WINDOW, sizeof CALLS_WINDOW - 1, &stranger) == TEGVURN_STATUS_DONE);
+  CHECK(tegvurn_window_read(embedding, window, 8, bytes, 5) == TEGVURN_STATUS_DONE);
+  CHECK(tegvurn_call(embedding, stranger, tegvurn_string("f"), NULL, 0, NULL, 0, NULL) == TEGVURN_STATUS_DONE);
+  CHECK(!strcmp(bytes, "hello"));
+  CHECK(tegvurn_window_read(embedding, stranger, 8, bytes, 5) == TEGVURN_STATUS_REFUSED && end->number == TEGVURN_REFUSAL_UNKNOWN_EXPORT);
+  CHECK(tegvurn_window_write(embedding, 99, 8, bytes, 5) == TEGVURN_STATUS_REFUSED && end->number == TEGVURN_REFUSAL_UNKNOWN_INSTANCE);
+  CHECK(tegvurn_free(embedding) == TEGVURN_STATUS_DONE);
+}
+
+/* A window that is refused changes nothing that later links can see. */
+static void test_window_refusals(void) {
+  static const struct { const char *name; uint64_t instance; tegvurn_refusal refusal; } rows[] = {
+      {"memory", 9, TEGVURN_REFUSAL_UNKNOWN_INSTANCE}, {"m", 0, TEGVURN_REFUSAL_UNKNOWN_EXPORT},
+      {"number", 0, TEGVURN_REFUSAL_WRONG_KIND},       {"\xff", 0, (tegvurn_refusal)0},
+  };
+  struct asked asked = {NULL, NULL, NULL, 0};
+  tegvurn *embedding = embedding_of(&asked), *without;
+  uint64_t window = 77;
+  for (size_t i = 0; i < sizeof rows / sizeof *rows; i++) {
+    tegvurn_status wanted = rows[i].refusal ? TEGVURN_STATUS_REFUSED : TEGVURN_STATUS_NOT_SPELT;
+    CHECK(tegvurn_window_open(embedding, rows[i].instance, tegvurn_string(rows[i].name), &window) == wanted && window == 77);
+    check(tegvurn_last(embedding)->number == (uint32_t)rows[i].refusal, __LINE__, rows[i].name);
+  }
+  CHECK(tegvurn_new(&config, NULL, 0, &without, NULL) == TEGVURN_STATUS_DONE);
+  CHECK(link_bytes(without, GROWS, sizeof GROWS - 1, &window) == TEGVURN_STATUS_DONE && window == 0);
+  CHECK(tegvurn_window_open(without, 0, tegvurn_string("m"), &window) == TEGVURN_STATUS_REFUSED && window == 0);
+  CHECK(tegvurn_last(without)->number == TEGVURN_REFUSAL_UNKNOWN_IMPORT && !strcmp(tegvurn_last(without)->text, "import 1 is unknown"));
+  CHECK(link_bytes(without, IMPORTS_MEMORY, sizeof IMPORTS_MEMORY - 1, &window) == TEGVURN_STATUS_REFUSED);
+  CHECK(tegvurn_last(without)->number == TEGVURN_REFUSAL_UNKNOWN_IMPORT && tegvurn_last(without)->at == 0);
+  CHECK(tegvurn_free(embedding) == TEGVURN_STATUS_DONE && tegvurn_free(without) == TEGVURN_STATUS_DONE);
+}
+
 /* Callbacks that are left */
 
 #define LEFT_OFTEN 1000
@@ -956,12 +1489,17 @@ int main(void) {
   test_busy();
   test_free_elsewhere();
   test_ended_thread();
+  test_moved();
+  test_shared();
   test_nested();
   test_threads();
   test_signals();
+  test_blocked_signals();
+  test_last();
   test_room();
   test_references();
   test_traps();
+  test_link_ends();
   test_wrong_results();
   test_memory();
   test_new();
@@ -978,6 +1516,15 @@ int main(void) {
   test_find_among_more();
   test_files();
   test_wide();
+  test_provider();
+  test_provider_objects();
+  test_provider_refusals();
+  test_window();
+  test_window_ranges();
+  test_window_fuel();
+  test_window_growth();
+  test_window_strangers();
+  test_window_refusals();
   test_left_often();
   test_left_nested();
   test_left_script();

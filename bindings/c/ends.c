@@ -1,5 +1,5 @@
 /* Tests of the C side over a stand-in for the proved code: ends that the proved code never reaches, long texts, invalid replies, wrong
-   lists of exports, reads and writes of an abandoned embedding, and two threads that take one embedding. */
+   lists of exports, reads and writes of an abandoned embedding, and threads that take, call and free one embedding. */
 #include "tegvurn.c"
 
 #include <pthread.h>
@@ -10,7 +10,7 @@
 #if UINTPTR_MAX == UINT64_MAX
 _Static_assert(sizeof(tegvurn_value) == 16 && sizeof(tegvurn_end) == 168 && sizeof(tegvurn_config) == 24, "sizes");
 _Static_assert(sizeof(tegvurn_host_call) == 56 && sizeof(tegvurn_host) == 80 && sizeof(tegvurn_export) == 88, "sizes");
-_Static_assert(sizeof(tegvurn_file) == 32 && sizeof(tegvurn_report) == 32, "sizes");
+_Static_assert(sizeof(tegvurn_file) == 32 && sizeof(tegvurn_report) == 32 && sizeof(tegvurn_provided) == 72, "sizes");
 #endif
 
 #define CHECK(is_so) check((is_so), __LINE__, #is_so)
@@ -56,12 +56,16 @@ static void ask_for_host(void) {
   if (last_read == 10 && lent[9] == 'x') was_answered = read_whole(answer, sizeof answer) && number_at(answer + NUMBER) == 20;
 }
 
+/* How many orders the stand-in has replied to. Only the thread that is inside changes this. */
+static long replies;
+
 /* What the stand-in found last: the status when it tried to abandon its own embedding, and what its read and write returned afterwards. */
 static tegvurn_status abandoned_inside;
 static ssize_t read_last = 9, written_last;
 
 uint32_t tegvurn_serve(int32_t ask, int32_t hear) {
   static const uint8_t done[HEAD];
+  tegvurn *m = running; /* as in the C side, it is not read again after another thread may have come here */
   (void)ask, (void)hear;
   for (int order = 0;; order++) {
     uint8_t head[HEAD], byte;
@@ -73,10 +77,11 @@ uint32_t tegvurn_serve(int32_t ask, int32_t hear) {
     if (tegvurn_read(0, &byte, 0)) return 2;
     bool is_special = order == special_order && special_status != ASKS_FIRST;
     if (order == special_order && special_status == ASKS_FIRST) ask_for_host();
-    if (!running->is_abandoned) abandoned_inside = tegvurn_abandon(running);
+    if (!m->is_abandoned) abandoned_inside = tegvurn_abandon(m);
     const uint8_t *reply = is_special ? special_reply : done;
+    replies++;
     written_last = tegvurn_write(0, reply, is_special ? special_size : HEAD);
-    if (running->is_abandoned) read_last = tegvurn_read(0, &byte, 1);
+    if (m->is_abandoned) read_last = tegvurn_read(0, &byte, 1);
     if (is_special && special_status != GOES_ON) return special_status;
     if (number_at(head + NUMBER) == ORDER_END) return 0;
   }
@@ -130,6 +135,7 @@ static void test_over(void) {
   CHECK(tegvurn_call(embedding, 0, tegvurn_string("f"), NULL, 0, &value, 1, &count) == TEGVURN_STATUS_OVER && !count && value.i32 == 5);
   CHECK(tegvurn_get_global(embedding, 0, tegvurn_string("g"), &value) == TEGVURN_STATUS_OVER && value.i32 == 5);
   CHECK(tegvurn_fuel_left(embedding, &number) == TEGVURN_STATUS_OVER && number == 77);
+  CHECK(tegvurn_quota_left(embedding, &number) == TEGVURN_STATUS_OVER && number == 77);
   CHECK(tegvurn_exports(embedding, 0, &exports, &count) == TEGVURN_STATUS_OVER);
   CHECK(tegvurn_find_export(embedding, 0, tegvurn_string("f"), &exports) == TEGVURN_STATUS_OVER);
   CHECK(tegvurn_script(embedding, "", 0, NULL, 0, &report) == TEGVURN_STATUS_OVER);
@@ -223,6 +229,35 @@ static void test_take(void) {
   CHECK(times_taken == 2 * TAKEN_OFTEN && tegvurn_free(embedding) == TEGVURN_STATUS_DONE);
 }
 
+#define CALLED_OFTEN 20000
+
+/* Sets the fuel until that is done CALLED_OFTEN times. Any other time, the embedding is busy. */
+static void *call_often(void *embedding) {
+  bool is_right = true;
+  for (int times = 0; times < CALLED_OFTEN && is_right;) {
+    tegvurn_status status = tegvurn_set_fuel(embedding, 1);
+    is_right = status == TEGVURN_STATUS_DONE || status == TEGVURN_STATUS_BUSY;
+    times += status == TEGVURN_STATUS_DONE;
+  }
+  return is_right ? embedding : NULL;
+}
+
+static void *free_it(void *embedding) { return tegvurn_free(embedding) ? NULL : &replies; }
+
+/* The stand-in runs on several threads in turn, and each order gets its reply. In the end, a thread that never called it frees it. */
+static void test_threads(void) {
+  pthread_t threads[3];
+  void *found;
+  have_reply(-1, NULL, 0, 0);
+  tegvurn *embedding = embedding_of();
+  long before = replies;
+  for (int i = 0; i < 3; i++) CHECK(!pthread_create(&threads[i], NULL, call_often, embedding));
+  for (int i = 0; i < 3; i++) CHECK(!pthread_join(threads[i], &found) && found == embedding);
+  CHECK(replies - before == 3 * CALLED_OFTEN);
+  CHECK(!pthread_create(&threads[0], NULL, free_it, embedding) && !pthread_join(threads[0], &found) && found == &replies);
+  CHECK(replies - before == 3 * CALLED_OFTEN + 1);
+}
+
 /* Returns the status of an order that gets this reply. */
 static tegvurn_status status_of(const void *reply, size_t size) {
   have_reply(1, reply, size, GOES_ON);
@@ -267,6 +302,23 @@ static void test_texts(void) {
     CHECK(strlen(end->text) == rows[i].kept && !memcmp(end->text, reply + HEAD + 3 * NUMBER, rows[i].kept));
     tegvurn_free(embedding);
   }
+}
+
+/* A quota is an order before the one that begins the embedding, and no quota is none. If that order is not done, there is no embedding. */
+static void test_quota(void) {
+  static uint8_t reply[100];
+  const struct { uint64_t quota; long orders; } rows[] = {{0, 2}, {UINT64_MAX - 1, 2}, {UINT64_MAX, 1}};
+  tegvurn *embedding;
+  tegvurn_end end;
+  for (size_t i = 0; i < sizeof rows / sizeof *rows; i++) {
+    have_reply(-1, NULL, 0, 0);
+    long before = replies;
+    CHECK(tegvurn_new_with_quota(&config, rows[i].quota, NULL, 0, &embedding, &end) == TEGVURN_STATUS_DONE);
+    CHECK(replies - before == rows[i].orders && tegvurn_free(embedding) == TEGVURN_STATUS_DONE);
+  }
+  have_reply(0, reply, refusal(reply, TEGVURN_REFUSAL_OUT_OF_MEMORY, 0), GOES_ON);
+  CHECK(tegvurn_new_with_quota(&config, 7, NULL, 0, &embedding, &end) == TEGVURN_STATUS_REFUSED && !embedding);
+  CHECK(end.number == TEGVURN_REFUSAL_OUT_OF_MEMORY);
 }
 
 /* Lists of exports */
@@ -360,16 +412,16 @@ static void test_lists(void) {
   }
 }
 
-/* The names of all refusals, traps and exhaustions, and of unknown numbers. */
+/* The names of all refusals, traps and exhaustions, and of unknown numbers. The first name of a row is that of the number 1. */
 static void test_names(void) {
   static const char *const names[] = {"Malformed",       "Unsupported",   "Limit",     "Invalid",      "UnknownModule", "UnknownImport",
                                       "IncompatibleImport", "UnknownInstance", "UnknownExport", "WrongKind", "BadArguments",  "NameTaken",
-                                      "OutOfMemory",     "HostFuncRef",   "NotJson",   "BadCommand",   "MissingFile",   "BadSetup", ""};
+                                      "OutOfMemory",     "HostFuncRef",   "NotJson",   "BadCommand",   "MissingFile",   [63] = "BadSetup", ""};
   static const char *const trap_names[] = {"Unreachable",      "DivideByZero",        "IntegerOverflow", "MemoryBounds", "TableBounds",
                                            "UndefinedElement", "UninitializedElement", "IndirectType",    "Host",         ""};
   static const char *const exhaustion_names[] = {"Fuel", "Depth", "Memory", ""};
   const struct { const char *const *names; size_t count; uint64_t kind; } rows[] = {
-      {names, 19, REPLY_REFUSED}, {trap_names, 10, REPLY_TRAP}, {exhaustion_names, 4, REPLY_EXHAUSTED}};
+      {names, 65, REPLY_REFUSED}, {trap_names, 10, REPLY_TRAP}, {exhaustion_names, 4, REPLY_EXHAUSTED}};
   for (size_t row = 0; row < 3; row++) {
     for (uint64_t number = 1; number <= rows[row].count; number++) {
       uint8_t reply[HEAD + 3 * NUMBER];
@@ -379,7 +431,8 @@ static void test_names(void) {
       tegvurn *embedding = embedding_of();
       tegvurn_set_fuel(embedding, 1);
       const tegvurn_end *end = tegvurn_last(embedding);
-      CHECK(end->number == number && !strcmp(end->name, rows[row].names[number - 1]));
+      const char *name = rows[row].names[number - 1];
+      CHECK(end->number == number && !strcmp(end->name, name ? name : ""));
       tegvurn_free(embedding);
     }
   }
@@ -392,8 +445,10 @@ int main(void) {
   test_lent_pieces();
   test_abandoned();
   test_take();
+  test_threads();
   test_kinds_of_replies();
   test_texts();
+  test_quota();
   test_lists();
   test_names();
   printf("%d passed, %d failed\n", passed, failed);

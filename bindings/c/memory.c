@@ -6,87 +6,13 @@
    allocated, whether the embedding is freed, or abandoned after a callback was left.
 
    Before that, the program measures how much memory many exports take. It is linked with --wrap. */
+#include "allocations.h"
 #include "tegvurn.h"
 #include "test_module.h"
 
-#include <malloc.h>
 #include <setjmp.h>
 #include <stdio.h>
 #include <stdlib.h>
-#include <sys/mman.h>
-
-/* The allocations */
-
-static long made, freed, live, refused = -1;
-static bool refuses_more;
-
-/* Counts an allocation, and returns whether it is refused. */
-static bool is_refused(void) {
-  long number = made++;
-  return refused >= 0 && (refuses_more ? number >= refused : number == refused);
-}
-
-static void *counted(void *at, const void *none) {
-  live += at != none;
-  return at;
-}
-
-/* The bytes that are allocated, and the most that were allocated at any time. */
-static size_t held, most_held;
-
-static void hold(size_t size) {
-  held += size;
-  if (most_held < held) most_held = held;
-}
-
-static void *held_block(void *at) {
-  if (at) hold(malloc_usable_size(at));
-  return at;
-}
-
-void *__real_malloc(size_t size);
-void *__real_calloc(size_t count, size_t size);
-void *__real_realloc(void *at, size_t size);
-void __real_free(void *at);
-void *__real_mmap(void *at, size_t size, int may, int flags, int file, off_t offset);
-int __real_munmap(void *at, size_t size);
-int __real_mprotect(void *at, size_t size, int may);
-void *__wrap_malloc(size_t size);
-void *__wrap_calloc(size_t count, size_t size);
-void *__wrap_realloc(void *at, size_t size);
-void __wrap_free(void *at);
-void *__wrap_mmap(void *at, size_t size, int may, int flags, int file, off_t offset);
-int __wrap_munmap(void *at, size_t size);
-int __wrap_mprotect(void *at, size_t size, int may);
-
-void *__wrap_malloc(size_t size) { return is_refused() ? NULL : held_block(counted(__real_malloc(size), NULL)); }
-void *__wrap_calloc(size_t count, size_t size) { return is_refused() ? NULL : held_block(counted(__real_calloc(count, size), NULL)); }
-/* While a block grows, its old and its new memory may both be allocated. */
-void *__wrap_realloc(void *at, size_t size) {
-  if (is_refused()) return NULL;
-  size_t before = at ? malloc_usable_size(at) : 0;
-  void *grown = __real_realloc(at, size);
-  if (!held_block(at ? grown : counted(grown, NULL))) return NULL;
-  held -= before;
-  return grown;
-}
-void __wrap_free(void *at) {
-  live -= at != NULL;
-  freed++;
-  held -= at ? malloc_usable_size(at) : 0;
-  __real_free(at);
-}
-void *__wrap_mmap(void *at, size_t size, int may, int flags, int file, off_t offset) {
-  if (is_refused()) return MAP_FAILED;
-  hold(size);
-  return counted(__real_mmap(at, size, may, flags, file, offset), MAP_FAILED);
-}
-int __wrap_munmap(void *at, size_t size) {
-  live--;
-  held -= size;
-  return __real_munmap(at, size);
-}
-int __wrap_mprotect(void *at, size_t size, int may) { return is_refused() ? -1 : __real_mprotect(at, size, may); }
 
 /* The life of an embedding. Each step returns how it ended, and a number. */
 
@@ -96,6 +22,8 @@ int __wrap_mprotect(void *at, size_t size, int may) { return is_refused() ? -1 :
 #define RESULTS 100
 #define COMMANDS 3
 #define FAILURES 300
+/* A quota that is enough. */
+#define QUOTA ((uint64_t)16 << 20)
 
 struct answer {
   tegvurn_status status;
@@ -129,10 +57,11 @@ static struct answer make(void) {
       {tegvurn_string("host"), tegvurn_string("keep"), reference, 1, reference, 1, echo, NULL},
       {tegvurn_string("host"), tegvurn_string("nothing"), NULL, 0, NULL, 0, echo, NULL},
       {tegvurn_string("host"), tegvurn_string("many"), many, WIDTH, many, WIDTH, echo, NULL},
+      tegvurn_window_host(),
   };
   const tegvurn_config config = {1000, 100, 16, 100};
   tegvurn_end end;
-  tegvurn_status status = tegvurn_new(&config, hosts, 4, &embedding, &end);
+  tegvurn_status status = tegvurn_new_with_quota(&config, QUOTA, hosts, 5, &embedding, &end);
   return (struct answer){status, end.number, 0};
 }
 
@@ -245,6 +174,20 @@ static struct answer list_exports(void) {
   return answer_of(status, count * 1000 + bytes);
 }
 
+/* Lists the imports and the exports of the module, and returns how many there are and the bytes of their names. */
+static struct answer list_module(void) {
+  tegvurn_import *imports = NULL;
+  tegvurn_export *exports = NULL;
+  size_t import_count = 0, export_count = 0, bytes = 0;
+  tegvurn_status status = tegvurn_module_imports(embedding, 0, &imports, &import_count);
+  if (!status) status = tegvurn_module_exports(embedding, 0, &exports, &export_count);
+  for (size_t i = 0; i < import_count && !status; i++) bytes += imports[i].module_name.size + imports[i].named.name.size;
+  for (size_t i = 0; i < export_count && !status; i++) bytes += exports[i].name.size;
+  tegvurn_imports_free(imports);
+  tegvurn_exports_free(exports);
+  return answer_of(status, import_count * 100000 + export_count * 1000 + bytes);
+}
+
 /* Finds an export with two results. */
 static struct answer find_export(void) {
   tegvurn_export *found = NULL;
@@ -256,10 +199,43 @@ static struct answer find_export(void) {
 
 static struct answer set_fuel(void) { return answer_of(tegvurn_set_fuel(embedding, 500), 0); }
 
+/* Links a provider, and returns the value of its global. */
+static struct answer provide(void) {
+  static const tegvurn_type number[] = {TEGVURN_TYPE_I32};
+  const tegvurn_host host = {tegvurn_string("host"), tegvurn_string("ask"), number, 1, number, 1, echo, NULL};
+  const tegvurn_provided objects[] = {{.name = tegvurn_string("memory"), .kind = TEGVURN_KIND_MEMORY, .minimum = 1},
+                                      {.name = tegvurn_string("g"), .kind = TEGVURN_KIND_GLOBAL, .value = tegvurn_i32(9)}};
+  uint64_t provider = 0;
+  tegvurn_value value = tegvurn_i32(0);
+  tegvurn_status status = tegvurn_provide(embedding, tegvurn_string("env"), &host, 1, objects, 2, &provider);
+  if (!status) status = tegvurn_get_global(embedding, provider, tegvurn_string("g"), &value);
+  return answer_of(status, value.i32);
+}
+
+/* Opens a window, writes a byte and reads it. */
+static struct answer use_window(void) {
+  uint64_t window = 0;
+  uint8_t byte = 'w', found = 0;
+  tegvurn_status status = tegvurn_window_open(embedding, 0, tegvurn_string("memory"), &window);
+  if (!status) status = tegvurn_window_write(embedding, window, 3, &byte, 1);
+  if (!status) status = tegvurn_window_read(embedding, window, 3, &found, 1);
+  return answer_of(status, found);
+}
+
 static struct answer look_at_fuel(void) {
   uint64_t fuel = 0;
   tegvurn_status status = tegvurn_fuel_left(embedding, &fuel);
   return answer_of(status, fuel);
+}
+
+/* Returns how many bytes more are counted than those of both modules and their instances: of functions, a memory of one page, and a table of
+   two entries, a global and a data segment. */
+static struct answer look_at_quota(void) {
+  uint8_t bytes[1000];
+  uint64_t left = 0, modules = 64 * (sizeof test_module + spell_another(bytes));
+  uint64_t instances = 2 * 512 + (3 + 8 + 1 + 1) * 48 + (192 + 65536) + (192 + 2 * 16) + 192 + 192;
+  tegvurn_status status = tegvurn_quota_left(embedding, &left);
+  return answer_of(status, QUOTA - left - modules - instances);
 }
 
 static struct answer run_script(void) {
@@ -298,15 +274,19 @@ static const struct step {
     {"load", load, 0, true},
     {"link", link_it, 0, true},
     {"exports", list_exports, 12 * 1000 + 59, true},
+    {"imports and exports of the module", list_module, 3 * 100000 + 12 * 1000 + 59 + 26, true},
     {"find an export", find_export, 2 * 1000 + 3, true},
     {"register", register_it, 0, true},
     {"load another", load_another, 1, true},
     {"link another", link_another, 1, true},
+    {"quota left", look_at_quota, 0, false},
     {"call", call, 42, true},
     {"call with many", call_with_many, WIDTH - 1, true},
     {"call for more", call_for_more, 5 * RESULTS, true},
     {"get a global", get_global, (uint64_t)-7, true},
     {"set the fuel", set_fuel, 0, false},
+    {"window", use_window, 'w', true},
+    {"provider", provide, 9, true},
     {"fuel left", look_at_fuel, 500, false},
     {"script", run_script, COMMANDS, true},
     {"script of failures", run_failures, FAILURES * (FAILURES + 1) / 2, true},

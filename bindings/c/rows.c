@@ -264,7 +264,8 @@ static tegvurn_host host_of(const char *name, const tegvurn_type *params, size_t
   return (tegvurn_host){tegvurn_string("env"), tegvurn_string(name), params, param_count, results, result_count, callback, &state};
 }
 
-static void run_new(void) {
+/* Drops the embedding and makes another one, with a quota and the words of a setup, which may end with another host function. */
+static void make(uint64_t quota, char **setup, size_t setup_count) {
   static const tegvurn_type ints[] = {TEGVURN_TYPE_I32, TEGVURN_TYPE_I32, TEGVURN_TYPE_I32}, refs[] = {TEGVURN_TYPE_EXTERNREF};
   static const tegvurn_type wide_first[] = {TEGVURN_TYPE_I64, TEGVURN_TYPE_I32}, wide_last[] = {TEGVURN_TYPE_I32, TEGVURN_TYPE_I64};
   tegvurn_type params[MOST_VALUES], results[MOST_VALUES];
@@ -275,22 +276,28 @@ static void run_new(void) {
       host_of("wrong", NULL, 0, ints, 1, wrong),  host_of("echo", refs, 1, refs, 1, echo),
   };
   size_t host_count = 8;
-  if (word_count == 8) {
+  if (setup_count == 7) {
     char *param_list, *result_list;
-    read_func(words[7], &param_list, &result_list);
+    read_func(setup[6], &param_list, &result_list);
     size_t param_count = read_types(param_list, params), result_count = read_types(result_list, results);
-    hosts[8] = host_of(words[6], params, param_count, results, result_count, never);
-    hosts[8].module = tegvurn_string(words[5]);
+    hosts[8] = host_of(setup[5], params, param_count, results, result_count, never);
+    hosts[8].module = tegvurn_string(setup[4]);
     host_count = 9;
   }
-  tegvurn_config config = {read_number(words[1]), (uint32_t)read_number(words[2]), (uint32_t)read_number(words[3]),
-                           (uint32_t)read_number(words[4])};
+  tegvurn_config config = {read_number(setup[0]), (uint32_t)read_number(setup[1]), (uint32_t)read_number(setup[2]),
+                           (uint32_t)read_number(setup[3])};
   tegvurn_free(embedding);
   memset(&state, 0, sizeof state);
   tegvurn_end end;
-  if (tegvurn_new(&config, hosts, host_count, &embedding, &end)) say_end(&end);
+  tegvurn_status status = quota == UINT64_MAX ? tegvurn_new(&config, hosts, host_count, &embedding, &end)
+                                              : tegvurn_new_with_quota(&config, quota, hosts, host_count, &embedding, &end);
+  if (status) say_end(&end);
   else say("done");
 }
+
+static void run_new(void) { make(UINT64_MAX, words + 1, word_count - 1); }
+
+static void run_new_with_quota(void) { make(read_number(words[1]), words + 2, word_count - 2); }
 
 static void say_number(tegvurn_status status, uint64_t number) {
   if (status) say_end(tegvurn_last(embedding));
@@ -346,6 +353,12 @@ static void run_left(void) {
   say_number(status, fuel);
 }
 
+static void run_quota_left(void) {
+  uint64_t bytes = 0;
+  tegvurn_status status = tegvurn_quota_left(embedding, &bytes);
+  say_number(status, bytes);
+}
+
 /* Finds an export by its name, and compares it with the listed one, whose text begins at `start`. If they differ, it is appended to the
    result. */
 static void say_found(uint64_t instance, tegvurn_text name, size_t start) {
@@ -377,6 +390,36 @@ static void run_exports(void) {
     say_found(instance, exports[i].name, start);
   }
   tegvurn_exports_free(exports);
+}
+
+static void run_module_exports(void) {
+  tegvurn_export *exports;
+  size_t number;
+  if (tegvurn_module_exports(embedding, read_number(words[1]), &exports, &number)) {
+    say_end(tegvurn_last(embedding));
+    return;
+  }
+  if (!number) say("nothing");
+  for (size_t i = 0; i < number; i++) {
+    if (i) say(" ");
+    say_export(&exports[i]);
+  }
+  tegvurn_exports_free(exports);
+}
+
+static void run_module_imports(void) {
+  tegvurn_import *imports;
+  size_t number;
+  if (tegvurn_module_imports(embedding, read_number(words[1]), &imports, &number)) {
+    say_end(tegvurn_last(embedding));
+    return;
+  }
+  if (!number) say("nothing");
+  for (size_t i = 0; i < number; i++) {
+    say("%s%.*s.", i ? " " : "", (int)imports[i].module_name.size, imports[i].module_name.bytes);
+    say_export(&imports[i].named);
+  }
+  tegvurn_imports_free(imports);
 }
 
 static void run_script(void) {
@@ -413,6 +456,8 @@ static const struct command {
     {"new", 5, 8, run_new},           {"load", 2, 2, run_load}, {"link", 2, 2, run_link}, {"register", 3, 3, run_register},
     {"call", 3, MOST_WORDS, run_call}, {"get", 3, 3, run_get},   {"fuel", 2, 2, run_fuel}, {"left", 1, 1, run_left},
     {"exports", 2, 2, run_exports},   {"script", 2, MOST_WORDS, run_script}, {"logged", 1, 1, run_logged},
+    {"new_with_quota", 6, 6, run_new_with_quota}, {"quota_left", 1, 1, run_quota_left},
+    {"module_exports", 2, 2, run_module_exports}, {"module_imports", 2, 2, run_module_imports},
 };
 
 static size_t split_words(char *line, char *into[MOST_WORDS]) {
@@ -431,7 +476,7 @@ static void run_command(char *row) {
   for (size_t i = 0; i < sizeof commands / sizeof *commands; i++) {
     const struct command *command = &commands[i];
     if (!word_count || strcmp(words[0], command->name) || word_count < command->least || word_count > command->most) continue;
-    if (!embedding && command->run != run_new) stop("no embedding", words[0]);
+    if (!embedding && command->run != run_new && command->run != run_new_with_quota) stop("no embedding", words[0]);
     command->run();
     return;
   }

@@ -11,6 +11,7 @@
 #define TEGVURN_UCONTEXT
 #endif
 #ifdef TEGVURN_UCONTEXT
+#include <signal.h>
 #include <ucontext.h>
 #endif
 #ifdef TEGVURN_VALGRIND
@@ -33,7 +34,11 @@ struct stack {
 };
 
 #ifdef TEGVURN_UCONTEXT
-static void go_in(struct stack *stack) { swapcontext(&stack->outside, &stack->inside); }
+/* Enters the stack. The signals that the thread blocks stay blocked: otherwise they would be those of the thread that left it last. */
+static void go_in(struct stack *stack) {
+  pthread_sigmask(SIG_SETMASK, NULL, &stack->inside.uc_sigmask);
+  swapcontext(&stack->outside, &stack->inside);
+}
 static void go_out(struct stack *stack) { swapcontext(&stack->inside, &stack->outside); }
 #else
 /* Pushes the callee-saved registers, stores the stack pointer in *save, and pops the registers of the other stack, whose stack pointer is

@@ -12,8 +12,8 @@
         client.order("call", 0, "add", ("i32", 1), ("i32", 2))  # ("values", ("i32", 3))
 
 A value is a pair of its type and its number, which is unsigned, or None for a null reference. A reply is its name and its fields: ("trap",
-9, 7), ("refused", 1, 1, 8, "malformed module at byte 8"), ("exports", ("add", ("func", ["i32", "i32"], ["i32"]))). Exports of functions
-that are declared at one place share one type, so changing its lists changes it for all of them.
+9, 7), ("refused", 1, 1, 8, "malformed module at byte 8"), ("exports", ("add", ("func", ["i32", "i32"], ["i32"]))). An import
+has two names. Functions that are declared at one place share one type, so changing its lists changes it for all of them.
 
 Fields that cannot be sent raise TypeError or ValueError, and nothing is sent. A reply that breaks the protocol raises `ProtocolError`, and
 an order that takes too long raises TimeoutError. After either of them, and after an interrupt, the process is killed, because the next
@@ -44,9 +44,27 @@ ORDERS = {
     "define": ("text text types types", "done"),
     "begin": ("number number number number", "done"),
     "export": ("number name", "exports"),
+    "quota": ("number", "done"),
+    "quota_left": ("", "number"),
+    "module_imports": ("number", "imports"),
+    "module_exports": ("number", "exports"),
 }
 # The replies and the requests for host functions, in the order of their numbers, and the answers to these requests.
-REPLIES = ["done", "number", "values", "trap", "exhausted", "refused", "exports", "report", "not_spelt", "not_now", "call", "lent"]
+REPLIES = [
+    "done",
+    "number",
+    "values",
+    "trap",
+    "exhausted",
+    "refused",
+    "exports",
+    "report",
+    "not_spelt",
+    "not_now",
+    "call",
+    "lent",
+    "imports",
+]
 ANSWERS = {"results": 20, "trap": 21, "read": 22, "put": 23}
 REFUSALS = {
     "Malformed": 1,
@@ -66,7 +84,7 @@ REFUSALS = {
     "NotJson": 15,
     "BadCommand": 16,
     "MissingFile": 17,
-    "BadSetup": 18,
+    "BadSetup": 64,
 }
 PLACES = {"none": 0, "byte": 1, "import": 2, "section": 3, "function": 4, "command": 5}
 TRAPS = {
@@ -264,16 +282,17 @@ def read_export_type(fields):
     return "global", fields.type(), ("const", "var")[fields.number("0 or 1", most=1)]
 
 
-def read_exports(fields):
-    """Reads all exports. Each is its name and its type. Exports with the same number of a type share one type."""
+def read_listed(fields, names_of_each, what):
+    """Reads a list of exports or of imports. Each is its names and its type. Those with the same number of a type share one type."""
     types = [read_export_type(fields) for _ in range(fields.number("a count of types", most=fields.left() // SMALLEST_TYPE))]
     used = set()
     while fields.left():
-        name, number = fields.text(fields.number("a size")), fields.number("the number of a type")
+        names = [fields.text(fields.number("a size")) for _ in range(names_of_each)]
+        number = fields.number("the number of a type")
         fields.expect(number < len(types), f"the number of one of {len(types)} types", number)
         used.add(number)
-        yield name, types[number]
-    fields.expect(len(used) == len(types), f"exports of {len(types)} types", f"exports of {len(used)}")
+        yield (*names, types[number])
+    fields.expect(len(used) == len(types), f"{what} of {len(types)} types", f"{what} of {len(used)}")
 
 
 def read_report(fields):
@@ -292,7 +311,8 @@ READERS = {
     "trap": read_trap,
     "exhausted": lambda fields: [fields.one_of("an exhaustion", EXHAUSTIONS)],
     "refused": read_refused,
-    "exports": read_exports,
+    "exports": lambda fields: read_listed(fields, 1, "exports"),
+    "imports": lambda fields: read_listed(fields, 2, "imports"),
     "report": read_report,
     "call": read_call,
     "lent": lambda fields: [fields.take(fields.left())],
@@ -359,17 +379,19 @@ class Memory(Unique):
 class Client(Unique):
     """A process of the server, and a conversation with it."""
 
-    def __init__(self, program, seconds=None, cpu_seconds=None, memory_bytes=None):
+    def __init__(self, program, seconds=None, cpu_seconds=None, memory_bytes=None, quota=None):
         """Starts the process of a program.
 
         `seconds` limits each order, including the host functions that it runs. `cpu_seconds` and `memory_bytes` limit the process as a
-        whole, in processor time and in memory. None is no limit.
+        whole, in processor time and in memory. `quota` is the most bytes that modules, instances and a running call may hold together: an
+        order `quota` can only lower it. None is no limit.
         """
         self.hosts, self.types = [], []  # the host functions, and the types of their parameters
         self.seconds, self.raised, self.fault, self.turn = seconds, None, None, threading.Lock()
         bounds = [(resource.RLIMIT_CPU, cpu_seconds), (resource.RLIMIT_AS, memory_bytes)]
         bounds = [(limit, check_number(most, 63)) for limit, most in bounds if most is not None]
-        self.process = subprocess.Popen([program], bufsize=0, stdin=subprocess.PIPE, stdout=subprocess.PIPE)
+        words = [program] if quota is None else [program, "--quota", str(check_number(quota))]
+        self.process = subprocess.Popen(words, bufsize=0, stdin=subprocess.PIPE, stdout=subprocess.PIPE)
         with self.whole(), contextlib.suppress(ProcessLookupError):  # if it has ended already, the first order reports it
             for limit, most in bounds:
                 resource.prlimit(self.process.pid, limit, (most, most))

@@ -35,6 +35,8 @@ def show_reply(name, *fields):
         return rows.show_values(fields)
     if name == "exports":
         return rows.show_list(f"{export}:{rows.show_type(*type_)}" for export, type_ in fields)
+    if name == "imports":
+        return rows.show_list(f"{module}.{name}:{rows.show_type(*type_)}" for module, name, type_ in fields)
     if name == "number":
         return str(fields[0])
     return " ".join(map(str, (name, *(fields[:3] if name == "refused" else fields))))
@@ -71,6 +73,9 @@ class Embedding:
     def left(self):
         return self.order("fuel_left")
 
+    def quota_left(self):
+        return self.order("quota_left")
+
     def exports(self, instance):
         """Returns the exports in the format of the rows. If one differs when it is requested by its name, returns that reply instead."""
         listed = self.conversation.order("exports", instance)
@@ -79,6 +84,12 @@ class Embedding:
             if found != ("exports", (name, type_)):
                 return show_reply(*found)
         return show_reply(*listed)
+
+    def module_exports(self, module):
+        return self.order("module_exports", module)
+
+    def module_imports(self, module):
+        return self.order("module_imports", module)
 
     def script(self, json, files):
         for name, module in files:
@@ -96,10 +107,12 @@ def end(conversation):
     return conversation.close()
 
 
-def begin(conversation, setup, hosts):
+def begin(conversation, setup, hosts, quota=None):
     """Begins an embedding with these host functions in a new conversation. Returns it, or None, and the result of `new`."""
     for host in hosts:
         define(conversation, host)
+    if quota is not None:
+        conversation.order("quota", quota)
     reply = conversation.order("begin", *setup)
     if reply[0] == "done":
         return Embedding(conversation), "done"

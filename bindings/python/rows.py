@@ -77,10 +77,23 @@ def many_exports():
     return exports_of_one_function([name.encode() for name in MANY_NAMES], MANY_TYPES)
 
 
+# A quota, and modules that would take much more than it.
+QUOTA, HOSTILE = 16_777_216, ("tables", "pages", "deep")
+# (module (memory 1)), how many bytes a load and a link of it count, and how often it is linked.
+PAGE, PAGE_LOADED, PAGE_LINKED, PAGE_LINKS = b"\0asm\1\0\0\0\5\3\1\0\1", 64 * 13, 512 + 192 + 65_536, 6_000
+
+
 def most_memory(process):
     """Returns the peak memory of a process, in KiB."""
     with open(f"/proc/{process}/status", encoding="utf-8") as file:
         return next(int(line.split()[1]) for line in file if line.startswith("VmHWM:"))
+
+
+def processor_seconds(process):
+    """Returns the seconds of processor time that a process has taken."""
+    with open(f"/proc/{process}/stat", encoding="utf-8") as file:
+        fields = file.read().rpartition(")")[2].split()
+    return (int(fields[11]) + int(fields[12])) / os.sysconf("SC_CLK_TCK")
 
 
 class StandardHosts:
@@ -155,20 +168,23 @@ def show_type(kind, *parts):
 
 
 class Rows:
-    """Runs the rows. `begin(setup, hosts)` returns an embedding that runs commands, or None, and the result of `new`."""
+    """Runs the rows.
+
+    `begin(setup, hosts, quota)` returns an embedding that runs commands, or None, and the result of `new`. Without a quota, it gets None.
+    """
 
     def __init__(self, begin):
         self.begin, self.embedding, self.hosts = begin, None, None
         self.modules, self.rows = read_rows()
 
-    def new(self, words):
+    def new(self, words, quota=None):
         """Ends the embedding, if there is one, and begins a new one. Returns the result."""
         self.close()
         self.hosts = StandardHosts()
         hosts = self.hosts.all()
         if len(words) > 4:
             hosts.append(Host(*words[4:6], *read_types(words[6]), None))
-        self.embedding, answer = self.begin([int(word) for word in words[:4]], hosts)
+        self.embedding, answer = self.begin([int(word) for word in words[:4]], hosts, quota)
         return answer
 
     def script(self, words):
@@ -180,6 +196,8 @@ class Rows:
         """Runs a command, and returns the result."""
         if command == "new":
             return self.new(words)
+        if command == "new_with_quota":
+            return self.new(words[1:], int(words[0]))
         if command == "load":
             return self.embedding.load(self.modules[words[0]])
         if command == "call":

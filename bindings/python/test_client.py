@@ -1,9 +1,11 @@
 #!/usr/bin/env python3
-"""Tests `wasmserve` with the client of client.py, and with raw bytes: `python3 test_client.py [WASMSERVE]`.
+"""Tests `wasmserve` with the client of client.py, and with raw bytes: `python3 test_client.py [--tried] [WASMSERVE]`.
 
-The variable WASMSERVE can name the program too. Without a name, it is the one that the gate has built. The tests print how many passed and
-failed. The status is 1 if one failed.
+The variable WASMSERVE can name the program too. Without a name, it is the one that the gate has built. With `--tried`, it is one that
+`rt try` has built: such a program reserves much address space, so it runs without limits of memory, and the tests that need them are
+skipped by their names. The tests print how many passed and failed. The status is 1 if one failed.
 """
+import argparse
 import contextlib
 import copy
 import os
@@ -23,7 +25,17 @@ import client  # noqa: E402
 import pipes  # noqa: E402
 import rows  # noqa: E402
 
-PROGRAM = sys.argv[1] if len(sys.argv) > 1 else pipes.program()
+
+def read_arguments():
+    """Returns the path of the program, and whether `rt try` has built it."""
+    parser = argparse.ArgumentParser(description=__doc__, formatter_class=argparse.RawDescriptionHelpFormatter)
+    parser.add_argument("--tried", action="store_true", help="run without limits of memory")
+    parser.add_argument("program", metavar="WASMSERVE", nargs="?", default=pipes.program())
+    words = parser.parse_args()
+    return words.program, words.tried
+
+
+PROGRAM, TRIED = read_arguments()
 MODULES = rows.read_rows()[0]
 SETUP = (1_000_000, 100, 16, 100)
 WRONG = ("trap", 9, 2**32 - 1)
@@ -74,8 +86,11 @@ def read_replies(data):
 
 
 def converse(data, memory):
-    """Runs the program over these bytes, with a limit of memory in bytes. Returns the replies, standard error and the status."""
-    bound = lambda: resource.setrlimit(resource.RLIMIT_AS, (memory, memory))  # noqa: E731
+    """Runs the program over these bytes, with a limit of memory in bytes unless `rt try` has built it.
+
+    Returns the replies, standard error and the status.
+    """
+    bound = lambda: TRIED or resource.setrlimit(resource.RLIMIT_AS, (memory, memory))  # noqa: E731
     ran = subprocess.run([PROGRAM], input=data, capture_output=True, timeout=60, preexec_fn=bound)
     return read_replies(ran.stdout), ran.stderr, ran.returncode
 
@@ -87,7 +102,7 @@ def check(tests, name, data, replies, status, memory=GIBIBYTE):
 
 def test_rows(tests):
     """The rows pass over pipes."""
-    rows.Rows(lambda setup, hosts: pipes.begin(client.Client(PROGRAM), setup, hosts)).run(tests)
+    rows.Rows(lambda *args: pipes.begin(client.Client(PROGRAM), *args)).run(tests)
 
 
 def test_ends(tests):
@@ -110,17 +125,18 @@ def test_times(tests):
     """Orders that are sent out of turn get the reply `not now`."""
     late = [order("load", b""), order("link", 0), order("register", 0, b"m"), order("call", 0, "f"), order("get_global", 0, b"g")]
     late += [order("set_fuel", 1), LEFT, order("exports", 0), order("export", 0, b"f"), order("file", "a", b""), order("script", b"{}")]
+    late += [order("quota_left"), order("module_imports", 0), order("module_exports", 0)]
     not_now = [("not_now",)] * len(late)
     check(tests, "orders before `begin`", b"".join(late) + BEGUN + LEFT + END, not_now + ANSWERED + [LEFT_AT_FIRST, ("done",)], 0)
-    early = [BEGIN, DEFINE_COUNT, order("begin", 1, 0, 1, 1)]
-    given = ANSWERED + [("not_now",)] * 3 + [LEFT_AT_FIRST, ("done",)]
+    early = [BEGIN, DEFINE_COUNT, order("begin", 1, 0, 1, 1), order("quota", 0)]
+    given = ANSWERED + [("not_now",)] * 4 + [LEFT_AT_FIRST, ("done",)]
     check(tests, "orders behind `begin`", BEGUN + b"".join(early) + LEFT + END, given, 0)
     check(tests, "an order that is not spelt, before `begin`", order("link") + BEGIN + END, [("not_spelt",), ("done",), ("done",)], 0)
 
 
 def test_setups(tests):
     """A `begin` that is refused for its host functions drops them, and one whose numbers are out of range changes nothing."""
-    gives_function, refused = order("define", "env", "f", [], ["funcref"]), ("refused", 18, 0, 0)
+    gives_function, refused = order("define", "env", "f", [], ["funcref"]), ("refused", 64, 0, 0)
     count = order("load", MODULES["missing_second"]) + order("link", 0) + END
     missing, done = [("number", 0), ("refused", 6, 2, 0), ("done",)], ("done",)
     kept = [("number", 0), ("refused", 6, 2, 1), ("done",)]
@@ -147,6 +163,7 @@ UNSPELT = [
     (11, "m", 1, b"\xff", [], []),
     (12,), (12, 1, 1, 1), (12, 1, 1, 1, 1, 1), (12, bytes(31)),
     (13,), (13, bytes(7)), (13, 0, b"\xff"), (13, 0, b"\xc0\x80"), (13, 0, b"a\xe2\x82"),
+    (14, bytes(7)), (14, 0, 0), (15, 0), (15, b"a"), (16,), (16, 0, 0), (17,), (17, bytes(7)), (18,), (18, 0),
 ]
 
 
@@ -312,6 +329,69 @@ def test_first_exception(tests):
         tests.equal(raised_by(conversation.order, "call", 0, "count") is raised[1], True, "the exception of the next call")
 
 
+# The modules of docs/EMBEDDING.md by which a host reaches guest memory between calls, and gives guests objects:
+#
+# (module
+#   (import "plug-in" "memory" (memory 0))
+#   (import "host" "copy" (func $copy))
+#   (func (export "copy") call $copy))
+COPIES = bytes.fromhex(
+    "0061736d01000000010401600000021f0207706c75672d696e066d656d6f727902000004686f737404636f707900000302010007080104636f707900"
+    "010a0601040010000b"
+)
+# (module
+#   (import "host" "log" (func $log (param i32 i32)))
+#   (table (export "table") 3 funcref)
+#   (memory (export "memory") 2)
+#   (global (export "counter") (mut i32) (i32.const 41))
+#   (export "log" (func $log)))
+PROVIDES = bytes.fromhex(
+    "0061736d0100000001060160027f7f00020c0104686f7374036c6f67000004040170000305030100020606017f0141290b072204057461626c650100"
+    "066d656d6f7279020007636f756e7465720300036c6f670000"
+)
+# (module
+#   (import "env" "memory" (memory 1))
+#   (import "env" "table" (table 2 funcref))
+#   (import "env" "counter" (global $counter (mut i32)))
+#   (import "env" "log" (func $log (param i32 i32)))
+#   (data (i32.const 8) "hello")
+#   (func (export "run")
+#     (global.set $counter (i32.add (global.get $counter) (i32.const 1)))
+#     (call $log (i32.const 8) (i32.const 5))))
+GUEST = bytes.fromhex(
+    "0061736d0100000001090260027f7f0060000002360403656e76066d656d6f727902000103656e76057461626c650170000203656e7607636f756e74"
+    "6572037f0103656e76036c6f670000030201010707010372756e00010a11010f00230041016a24004108410510000b0b0b010041080b0568656c6c6f"
+)
+
+
+def linked(conversation, module):
+    """Loads and links a module, and returns the number of the instance."""
+    _, number = conversation.order("load", module)
+    return conversation.order("link", number)[1]
+
+
+def test_recipes(tests):
+    """A host reaches guest memory between calls, and gives a guest a memory, a table, a global and a function under one name."""
+    uses, logged = [], []
+    with client.Client(PROGRAM) as conversation:
+        conversation.define("host", "copy", [], [], lambda memory: uses.pop()(memory) or [])
+        conversation.define("host", "log", ["i32", "i32"], [], lambda memory, at, size: logged.append(memory.read(at[1], size[1])) or [])
+        conversation.order("begin", *SETUP)
+        plugin = linked(conversation, MODULES["upper"])
+        conversation.order("register", plugin, "plug-in")
+        copies = linked(conversation, COPIES)
+        (_, at), text = conversation.order("call", plugin, "allocate", ("i32", 5))[1], []
+        uses.append(lambda memory: memory.write(at, b"a b c"))
+        tests.equal(conversation.order("call", copies, "copy"), ("values",), "a text that is written between calls")
+        conversation.order("call", plugin, "upper", ("i32", at), ("i32", 5))
+        uses.append(lambda memory: text.append(memory.read(at, 5)))
+        tests.equal((conversation.order("call", copies, "copy"), text), (("values",), [b"A B C"]), "a text that is read between calls")
+        provider = linked(conversation, PROVIDES)
+        conversation.order("register", provider, "env")
+        found = conversation.order("call", linked(conversation, GUEST), "run"), conversation.order("get_global", provider, "counter")
+        tests.equal((*found, logged), (("values",), ("values", ("i32", 42)), [b"hello"]), "a guest of a provider")
+
+
 # The exports of `kinds`. Then instances and names of exports that do not exist, with the number of the refusal.
 KINDS = [
     ("function", ("func", ["i32"], ["i64"])), ("grow", ("func", [], [])), ("table", ("table", "funcref", 3, 9)),
@@ -330,6 +410,7 @@ def test_exports(tests):
             found = conversation.order("export", instance, name)[:4]
             tests.equal(found, ("refused", number, 0, 0), f"the export {name!r} of the instance {instance}")
         tests.equal(conversation.order("export", 0, "nosuch"), client.UNKNOWN_EXPORT, "the text of an unknown export")
+        tests.equal(conversation.order("exports", 1)[:4], ("refused", 8, 0, 0), "the exports of an unknown instance")
         conversation.order("call", 0, "grow")
         tests.equal(conversation.order("export", 0, "memory"), ("exports", ("memory", ("memory", 3, 5))), "a memory after it has grown")
     with begun(module="shared_types") as conversation:
@@ -372,6 +453,7 @@ WRONG_ORDERS = [
     (TypeError, "export", 0), (TypeError, "export", 0, b"f"), (TypeError, "export", None, "f"), (ValueError, "export", -1, "f"),
     (ValueError, "export", 0, "\udc80"),
     (ValueError, "set_fuel", -1), (ValueError, "set_fuel", 2**64), (TypeError, "fuel_left", 0), (TypeError, "file", "a", "text"),
+    (ValueError, "quota", -1), (TypeError, "quota", None), (TypeError, "quota_left", 0),
     (TypeError, "script", "{}"), (ValueError, "define", "m", "n", ["f64"], []), (TypeError, "define", "m", "n", None, []),
     (KeyError, "nosuch"),
 ]  # fmt: skip
@@ -410,18 +492,20 @@ def false_server(script, reply=b"", **limits):
             conversation.close()
 
 
-NUMBER, VALUES, TRAP, EXHAUSTED, REFUSED, EXPORTS, REPORT, CALL, LENT = 1, 2, 3, 4, 5, 6, 7, 10, 11
+NUMBER, VALUES, TRAP, EXHAUSTED, REFUSED, EXPORTS, REPORT, CALL, LENT, IMPORTS = 1, 2, 3, 4, 5, 6, 7, 10, 11, 12
 NOTHING = (0, [], [])  # the type of a function
 # Orders, by name and fields, and messages that are not replies to them.
 BROKEN_REPLIES = {
     ("fuel_left",): [
-        (12,), (2**32, 5), (0,), (LENT, 5), (NUMBER,), (NUMBER, bytes(7)), (NUMBER, bytes(9)), (NUMBER, 0, 0), (VALUES, ("i32", 0)),
+        (13,), (2**32, 5), (0,), (LENT, 5), (IMPORTS, 0), (NUMBER,), (NUMBER, bytes(7)), (NUMBER, bytes(9)), (NUMBER, 0, 0), (VALUES, ("i32", 0)),
         (CALL, 0, 0), (8, 0), (9, b"a"),
     ],
     ("set_fuel", 1): [(0, 0), (NUMBER, 0)],
+    ("quota", 1): [(0, 0), (NUMBER, 0)],
+    ("quota_left",): [(0,), (NUMBER,), (VALUES,)],
     ("load", b""): [(TRAP, 1, 0)],
     ("link", 0): [
-        (VALUES,), (REFUSED, 0, 0, 0), (REFUSED, 19, 0, 0), (REFUSED, 5, 6, 0), (REFUSED, 5, 0, 1), (REFUSED, 5, 0),
+        (VALUES,), (REFUSED, 0, 0, 0), (REFUSED, 18, 0, 0), (REFUSED, 65, 0, 0), (REFUSED, 5, 6, 0), (REFUSED, 5, 0, 1), (REFUSED, 5, 0),
         (REFUSED, 5, 0, 0, b"\xff"),
     ],
     ("call", 0, "f"): [
@@ -442,6 +526,12 @@ BROKEN_REPLIES = {
         (EXPORTS, 1, 0, [], 2**64 - 1, "f", 0), (EXPORTS, 1, 1, 112, 2, 1, 1, "t", 0), (EXPORTS, 1, 1, 112, 2, 0, 3, "t", 0),
         (EXPORTS, 1, 1, 112, 2, 2, 3, "t", 0), (EXPORTS, 1, 1, 112, 2**32, 0, 0, "t", 0), (EXPORTS, 1, 2, 2**16 + 1, 0, 0, "m", 0),
         (EXPORTS, 1, 3, 127, 2, "g", 0), (EXPORTS, 1, 3, 125, 0, "g", 0), (NUMBER, 0),
+    ],
+    ("module_exports", 0): [(IMPORTS, 0), (EXPORTS, 1, *NOTHING), (EXPORTS, 1, *NOTHING, "m", "f", 0)],
+    ("module_imports", 0): [
+        (EXPORTS, 0), (IMPORTS,), (IMPORTS, 1, *NOTHING), (IMPORTS, 1, *NOTHING, "f", 0), (IMPORTS, 1, *NOTHING, "m", "f"),
+        (IMPORTS, 1, *NOTHING, "m", "f", 1), (IMPORTS, 1, *NOTHING, "m", 2, b"f", 0), (IMPORTS, 1, *NOTHING, "m", "f", 0, "m"),
+        (IMPORTS, 2, *NOTHING, *NOTHING, "m", "f", 1),
     ],
     ("export", 0, "f"): [
         (EXPORTS,), (EXPORTS, 1, *NOTHING), (EXPORTS, 1, *NOTHING, "g", 0), (EXPORTS, 1, *NOTHING, "", 0),
@@ -472,7 +562,7 @@ def test_broken_replies(tests):
         tests.equal(conversation.order("fuel_left"), ("number", 7), "a right reply")
 
 
-# Orders `export` and `exports`, right replies to them, and what the client returns.
+# Orders that list exports and imports, right replies to them, and what the client returns.
 TABLE, GLOBAL = (1, 111, 2, 1, 2), (3, 126, 1)
 TABLE_READ, GLOBAL_READ = ("table", "externref", 2, 2), ("global", "i64", "var")
 RIGHT_EXPORTS = [
@@ -483,11 +573,14 @@ RIGHT_EXPORTS = [
     (("exports", 0), (EXPORTS, 0), ("exports",)),
     (("exports", 0), (EXPORTS, 1, *TABLE, "", 0, "t", 0), ("exports", ("", TABLE_READ), ("t", TABLE_READ))),
     (("exports", 0), (EXPORTS, 2, *TABLE, *GLOBAL, "g", 1, "t", 0), ("exports", ("g", GLOBAL_READ), ("t", TABLE_READ))),
+    (("module_exports", 0), (EXPORTS, 1, *TABLE, "t", 0), ("exports", ("t", TABLE_READ))),
+    (("module_imports", 0), (IMPORTS, 0), ("imports",)),
+    (("module_imports", 0), (IMPORTS, 1, *GLOBAL, "m", "g", 0, "", "", 0), ("imports", ("m", "g", GLOBAL_READ), ("", "", GLOBAL_READ))),
 ]
 
 
 def test_right_exports(tests):
-    """The client reads right replies to the orders `export` and `exports`."""
+    """The client reads right replies to the orders that list exports and imports."""
     for order_fields, reply, wanted in RIGHT_EXPORTS:
         with false_server(WRITES, message(*reply)) as conversation:
             tests.equal(conversation.order(*order_fields), wanted, f"{str(reply)[:60]} for the order {order_fields}")
@@ -554,6 +647,53 @@ def looping(**limits):
     return conversation
 
 
+MOST_HELD, MOST_SPENT = 40_000, 5  # KiB of a server with a quota, and seconds of processor time
+
+
+def check_bounded(tests, conversation, name):
+    """Runs a test: the server of a conversation with a quota has taken little time, and little memory unless `rt try` has built it."""
+    held, spent = rows.most_memory(conversation.process.pid), rows.processor_seconds(conversation.process.pid)
+    tests.equal((TRIED or held < MOST_HELD, spent < MOST_SPENT), (True, True), f"what {name} take: {held} KiB and {spent} s")
+
+
+def test_quota(tests):
+    """A quota bounds what modules, instances and calls hold."""
+    with client.Client(PROGRAM, quota=rows.QUOTA) as conversation:
+        conversation.order("begin", 2**20, 1_000, 1_024, 1_000_000)
+        for name in rows.HOSTILE:
+            conversation.order("load", MODULES[name])
+        ends = [conversation.order("link", number)[:2] for number in range(3)]
+        ends.append(conversation.order("call", 0, "f"))
+        tests.equal(ends, [("refused", 13), ("refused", 13), ("number", 0), ("exhausted", 3)], "modules that would take much")
+        check_bounded(tests, conversation, "modules that would take much")
+    with client.Client(PROGRAM, quota=rows.QUOTA) as conversation:
+        linked, left = divmod(rows.QUOTA - rows.PAGE_LOADED, rows.PAGE_LINKED)
+        conversation.order("begin", *SETUP)
+        conversation.order("load", rows.PAGE)
+        ends = [conversation.order("link", 0)[:2] for _ in range(rows.PAGE_LINKS)]
+        wanted = [("number", number) for number in range(linked)] + [("refused", 13)] * (rows.PAGE_LINKS - linked)
+        tests.equal((ends, conversation.order("quota_left")), (wanted, ("number", left)), f"{rows.PAGE_LINKS} links")
+        check_bounded(tests, conversation, f"{rows.PAGE_LINKS} links")
+
+
+# Quotas of a program, orders `quota`, and the quota of the embedding.
+QUOTAS = [
+    (None, [], 2**64 - 1), (None, [5_000], 5_000), (None, [5_000, 7_000], 7_000), (5_000, [], 5_000), (5_000, [7_000], 5_000),
+    (5_000, [0, 2**64 - 1], 5_000), (5_000, [3_000], 3_000), (0, [1], 0), (2**64 - 1, [], 2**64 - 1),
+]  # fmt: skip
+
+
+def test_quotas(tests):
+    """The last order for a quota counts, and it can only lower that of the program."""
+    for quota, orders, wanted in QUOTAS:
+        with client.Client(PROGRAM, quota=quota) as conversation:
+            replies = [conversation.order("quota", number) for number in orders]
+            replies += [conversation.order("begin", *SETUP), conversation.order("quota_left")]
+            tests.equal(replies, [("done",)] * len(orders) + [("done",), ("number", wanted)], f"a quota of {quota} and {orders}")
+    for quota, error in ((-1, ValueError), (2**64, ValueError), ("5", TypeError), (5.0, TypeError), (True, TypeError)):
+        tests.equal(type(raised_by(client.Client, PROGRAM, None, None, None, quota)), error, f"a quota of {quota!r}")
+
+
 def interrupt(*_):
     """Does what an interrupt does."""
     raise KeyboardInterrupt
@@ -573,19 +713,23 @@ def test_interrupts(tests):
     signal.signal(signal.SIGALRM, before)
 
 
-def test_limits(tests):
-    """The limits of processor time and of memory hold for the process."""
+def test_processor_limit(tests):
+    """The limit of processor time holds for the process."""
     conversation = looping(seconds=30, cpu_seconds=1)
     found = raised_by(conversation.order, "call", 0, "loop")
     check_ended(tests, conversation, (found, client.ProtocolError), "a call that takes more processor time")
     tests.equal("-9" in str(found), True, f"the status in the text of {found}")
+    tests.equal(isinstance(raised_by(client.Client, PROGRAM, None, -2), ValueError), True, "a bound that is none")
+
+
+def test_memory_limit(tests):
+    """The limit of memory holds for the process."""
     with client.Client(PROGRAM, memory_bytes=64 * 2**20) as conversation:
         conversation.order("begin", 2**40, 100, 65_536, 100)
         conversation.order("load", GROWS)
         conversation.order("link", 0)
         found = conversation.order("call", 0, "grow", ("i32", 2_000))
         tests.equal(found, ("exhausted", 3), "a memory that grows over the bound of the process")
-    tests.equal(isinstance(raised_by(client.Client, PROGRAM, None, -2), ValueError), True, "a bound that is none")
 
 
 def test_end(tests):
@@ -659,14 +803,21 @@ def module_of(size):
     return b"\0asm\1\0\0\0\0" + spell_leb(size - 14) + bytes(size - 14)
 
 
+MOST_BYTES = 67_108_864  # of a module
+
+
 def test_large_messages(tests):
-    """Messages are large, or too large for the memory, and the conversation continues."""
-    most = 67_108_864
-    largest, larger = order("load", module_of(most)), order("load", module_of(most + 1))
+    """Messages are large, or too large, and the conversation continues."""
+    largest, larger = order("load", module_of(MOST_BYTES)), order("load", module_of(MOST_BYTES + 1))
     check(tests, "the largest module", BEGIN + largest + END, [("done",), ("number", 0), ("done",)], 0)
     check(tests, "a module that is too large", BEGIN + larger + END, [("done",), ("refused", 3, 0, 0), ("done",)], 0)
+
+
+def test_message_without_memory(tests):
+    """A message is too large for the memory, and the conversation continues."""
     given = [("done",), ("refused", 13, 0, 0), LEFT_AT_FIRST, ("done",)]
-    check(tests, "a module without memory for it", BEGIN + largest + LEFT + END, given, 0, 32 * 2**20)
+    orders = BEGIN + order("load", module_of(MOST_BYTES)) + LEFT + END
+    check(tests, "a module without memory for it", orders, given, 0, 32 * 2**20)
 
 
 def test_no_memory(tests):
@@ -721,11 +872,17 @@ def test_broken_outputs(tests):
     tests.equal(dying_client(reading, size_of(LOGGED) + 1), (b"", 3), "a client dies while it is written to")
 
 
+# The tests that limit the memory of the program.
+LIMITED = {test_many_exports, test_memory_limit, test_memory, test_message_without_memory, test_no_memory}
+
+
 def main():
     """Runs all tests, and returns the status."""
     tests = rows.Tests()
     for name, test in list(globals().items()):
-        if name.startswith("test_"):
+        if TRIED and name.startswith("test_") and test in LIMITED:
+            print(f"skipped: {name} (it limits the memory of the program)")
+        elif name.startswith("test_"):
             test(tests)
     return tests.end()
 

@@ -118,8 +118,21 @@ class Embedding:
     def left(self):
         return str(self.embedding.fuel)
 
-    def exports(self, instance):
+    def quota_left(self):
+        return str(self.embedding.quota_left)
+
+    def show_exports(self, instance):
+        """Returns the exports in the format of the rows."""
         return rows.show_list(f"{name}:{show_export(type_)}" for name, type_ in self.embedding.exports(instance).items())
+
+    def exports(self, instance):
+        return answered(self.show_exports, instance)
+
+    def module_exports(self, module):
+        return answered(lambda: rows.show_list(f"{name}:{show_export(type_)}" for name, type_ in self.embedding.module_exports(module).items()))
+
+    def module_imports(self, module):
+        return answered(lambda: rows.show_list(f"{of}.{name}:{show_export(type_)}" for of, name, type_ in self.embedding.module_imports(module)))
 
     def show_script(self, json, files):
         """Returns the report of a script in the format of the rows."""
@@ -130,11 +143,11 @@ class Embedding:
         return answered(self.show_script, json, files)
 
 
-def begin(setup, hosts):
+def begin(setup, hosts, quota=None):
     """Begins an embedding with these host functions. Returns it, or None, and the result of `new`."""
     pairs = [((host.module, host.name), ((host.parameters, host.results), answer_with(host))) for host in hosts]
     try:
-        return Embedding(tegvurn.Embedding(*setup, hosts=pairs)), "done"
+        return Embedding(tegvurn.Embedding(*setup, hosts=pairs, quota=quota)), "done"
     except tegvurn.Error as error:
         return None, show_error(error)
 
@@ -201,7 +214,7 @@ def test_exceptions(tests):
         thrown.append(tegvurn.HostTrap(7))
         trap = raised_by(embedding.call, 0, "count")
         found = (type(trap), trap.number, trap.name, trap.code, str(trap))
-        tests.equal(found, (tegvurn.Trap, 9, "Host", 7, "host trap"), "a trap of a host function")
+        tests.equal(found, (tegvurn.Trap, 9, "Host", 7, "host trap with code 7"), "a trap of a host function")
         thrown.append(KeyError("in a script"))
         tests.equal(str(raised_by(embedding.script, SCRIPT, {"a": MODULES["hosts"]})), "'in a script'", "an exception in a script")
         tests.equal(embedding.script(SCRIPT, {"a": MODULES["hosts"]}), tegvurn.Report(2, 0, 0, []), "a script after it")
@@ -282,13 +295,17 @@ def test_results(tests):
 
 
 def test_busy(tests):
-    """An embedding is busy for its own host functions and for other threads."""
+    """While a call of an embedding runs, the embedding is busy for its own host functions and for other threads."""
     found, begun = [], []
 
-    def count(_):
+    def use():
         uses = [lambda: begun[0].call(0, "count"), lambda: begun[0].find_export(0, "count"), lambda: begun[0].fuel, begun[0].close]
         for function in uses:
             found.append(type(raised_by(function)))
+
+    def count(_):
+        use()
+        on_thread(use)
         with tegvurn.Embedding(fuel=9) as other:
             found.append(other.fuel)
         return [1]
@@ -296,12 +313,45 @@ def test_busy(tests):
     with with_count(count) as embedding:
         begun.append(embedding)
         tests.equal(embedding.call(0, "count"), [1], "a call whose host function calls the embedding")
-        tests.equal(found, [tegvurn.Busy] * 4 + [9], "what the host function found")
-        thread = threading.Thread(target=lambda: found.append(type(raised_by(embedding.load, MODULES["sum"]))))
+        tests.equal(found, [tegvurn.Busy] * 8 + [9], "what the host function found")
+
+
+def test_threads(tests):
+    """An embedding moves between threads, and threads that share it find it busy or get their results."""
+    threads, made, results = [], [], []
+
+    def count(memory):
+        threads.append(threading.get_ident())
+        return [len(threads)]
+
+    def use():
+        results.append((embedding.call(0, "count"), threading.get_ident()))
+
+    on_thread(lambda: made.append(with_count(count)))
+    embedding = made.pop()
+    for _ in range(5):
+        on_thread(use)
+        use()
+    tests.equal(results, [([k + 1], ident) for k, ident in enumerate(threads)], "calls from several threads")
+    tests.equal(len(results), 10, "the number of these calls")
+
+    def use_often():
+        left = 50
+        while left:
+            try:
+                embedding.fuel = 1_000
+                left -= len(embedding.call(0, "count"))
+            except tegvurn.Busy:
+                pass
+
+    sharing = [threading.Thread(target=lambda: results.append(raised_by(use_often))) for _ in range(4)]
+    for thread in sharing:
         thread.start()
+    for thread in sharing:
         thread.join()
-        tests.equal(found[5:], [tegvurn.Busy], "a call from another thread")
-        tests.equal(embedding.load(MODULES["sum"]), 1, "a call from its own thread")
+    tests.equal((results[10:], len(threads)), (["gave None"] * 4, 210), "calls of threads that share an embedding")
+    on_thread(embedding.close)
+    tests.equal(type(raised_by(embedding.load, b"")), ValueError, "an embedding that another thread closed")
 
 
 def with_log(log):
@@ -471,6 +521,26 @@ def test_errors(tests):
     tests.equal(type(raised_by(embedding.load, b"")), ValueError, "an embedding that is closed")
     tests.equal(type(raised_by(tegvurn.Embedding, 1, 2**32 + 1)), ValueError, "a depth of 2^32 + 1")
     tests.equal(type(raised_by(tegvurn.HostTrap, 2**32)), ValueError, "a code of 2^32")
+
+
+# Modules whose links do not end well, each with the exception and its text.
+LINKS = [
+    ("starts_a_trap", tegvurn.Trap, "unreachable in the start function"),
+    ("starts_a_failure", tegvurn.Trap, "host trap with code 7 in the start function"),
+    ("data_behind_the_end", tegvurn.Trap, "out of bounds memory access in the start function or a segment"),
+    ("entry_behind_the_end", tegvurn.Trap, "out of bounds table access in the start function or a segment"),
+    ("starts_a_recursion", tegvurn.Exhausted, "out of depth in the start function"),
+    ("starts_a_loop", tegvurn.Exhausted, "out of fuel in the start function or a segment"),
+]
+
+
+def test_links(tests):
+    """The text of the end of a link tells what can have ended so."""
+    with with_count(lambda _: [1]) as embedding:
+        for name, error, text in LINKS:
+            embedding.fuel = 100_000
+            found = raised_by(embedding.link, embedding.load(MODULES[name]))
+            tests.equal((type(found), str(found)), (error, text), f"a link of {name}")
 
 
 # Wrong uses of an embedding that has the instance of `traps`, each with its exception.
@@ -801,18 +871,133 @@ def test_drops_by_other_threads(tests):
         tests.equal(count_mappings() - before < MANY, True, f"{name} whose thread has ended")
 
 
-# Functions of the header that the package does not need. It never leaves a callback.
-NOT_USED = {"abandon", "version"}
+# (module
+#   (import "env" "memory" (memory 1))
+#   (import "env" "table" (table 2 funcref))
+#   (import "env" "counter" (global $counter (mut i32)))
+#   (import "env" "limit" (global $limit i64))
+#   (import "env" "ask" (func $ask (param i32) (result i32)))
+#   (func (export "run") (param i32) (result i32)
+#     (global.set $counter (i32.add (global.get $counter) (i32.const 1)))
+#     (call $ask (local.get 0)))
+#   (func (export "entries") (result i32) table.size 0)
+#   (export "counter" (global $counter))
+#   (export "limit" (global $limit)))
+GUEST = bytes.fromhex(
+    "0061736d01000000010a0260017f017f6000017f02430503656e76066d656d6f727902000103656e76057461626c650170000203656e76"
+    "07636f756e746572037f0103656e76056c696d6974037e0003656e760361736b000003030200010723040372756e000107656e74726965"
+    "73000207636f756e7465720300056c696d697403010a15020d00230041016a2400200010000b0500fc10000b"
+)
+OBJECTS = {
+    "counter": (tegvurn.GlobalType("i32", True), 41),
+    "memory": tegvurn.MemoryType(2, None),
+    "limit": (tegvurn.GlobalType("i64", False), -5),
+    "table": tegvurn.TableType("funcref", 3, 30),
+    "null": (tegvurn.GlobalType("externref", False), None),
+}
+# Objects that no provider makes, each with the exception.
+WRONG_OBJECTS = [
+    (("a", tegvurn.MemoryType(-1, None)), ValueError),
+    (("a", tegvurn.MemoryType(1.0, None)), TypeError),
+    (("a", tegvurn.TableType("i33", 1, None)), ValueError),
+    (("a", (tegvurn.GlobalType("i32", True), 2**32)), ValueError),
+    (("a", (tegvurn.GlobalType("i32", True), None)), ValueError),
+    (("a", ("i32", 1)), TypeError),
+    (("a", tegvurn.FunctionType([], [])), TypeError),
+    (("a", None), TypeError),
+    ((None, tegvurn.MemoryType(1, None)), TypeError),
+]
+
+
+def test_providers(tests):
+    """A guest imports a memory, a table, globals and a host function by one name."""
+
+    def ask(memory, byte):
+        memory.write(0, bytes([byte]))
+        return [len(memory)]
+
+    i32, hosts = tegvurn.FunctionType(["i32"], ["i32"]), {}
+    hosts["host", "ask"], hosts["other", "ask"], hosts["host", "next"] = (i32, ask), (NUMBER, ask), (i32, lambda _, number: [number + 1])
+    with tegvurn.Embedding(hosts=hosts, windows=True) as embedding:
+        provider = embedding.provide("env", functions_of="host", objects=OBJECTS)
+        guest = embedding.link(embedding.load(GUEST))
+        tests.equal(embedding.call(guest, "run", 9), [131_072], "a call of the guest")
+        tests.equal(tegvurn.Window(embedding, provider).read(0, 1), b"\x09", "the memory of the provider")
+        found = [embedding.call(guest, "entries"), embedding.get_global(provider, "counter"), embedding.get_global(guest, "limit")]
+        tests.equal(found, [[3], 42, 2**64 - 5], "the table and the globals")
+        types = {name: object_[0] if isinstance(object_[0], tegvurn.GlobalType) else object_ for name, object_ in OBJECTS.items()}
+        tests.equal(embedding.exports(provider), {"ask": i32, "next": i32, **types}, "the exports of the provider")
+        tests.equal(embedding.call(provider, "next", 1), [2], "a host function of the provider")
+        error = raised_by(embedding.provide, "host")
+        tests.equal((show_error(error), str(error)), ("refused 12 0 0", "a host function has the name"), "the name of a host function")
+        large = tegvurn.MemoryType(1_025, None)
+        tests.equal(show_error(raised_by(embedding.provide, "env", None, {"m": large})), "refused 3 0 0", "a memory that is too large")
+        for pair, error in WRONG_OBJECTS:
+            tests.equal(type(raised_by(embedding.provide, "env", None, [pair])), error, f"the object {pair}")
+        tests.equal(type(raised_by(embedding.provide, None)), TypeError, "a provider without a name")
+
+
+# Uses of a window on a memory of 65,536 bytes, each with what it returns or raises.
+WINDOW_USES = [
+    ("its length", len, 65_536),
+    ("no bytes at its end", lambda window: window.read(65_536, 0), b""),
+    ("all of its bytes", lambda window: len(window.read(0, 65_536)), 65_536),
+    ("a byte at its end", lambda window: window.read(65_536, 1), IndexError),
+    ("no bytes after its end", lambda window: window.read(65_537, 0), IndexError),
+    ("2^64 bytes", lambda window: window.read(1, 2**64), IndexError),
+    ("bytes before it", lambda window: window.read(-1, 1), IndexError),
+    ("a negative count", lambda window: window.read(5, -1), IndexError),
+    ("a place that is no integer", lambda window: window.read(1.0, 1), TypeError),
+    ("written bytes", lambda window: (window.write(65_534, b"ab"), window.read(65_533, 3)), (None, b"\0ab")),
+    ("written bytes of an array", lambda window: (window.write(0, bytearray(b"c\0d")), window.read(0, 4)), (None, b"c\0d\0")),
+    ("written bytes that reach over its end", lambda window: window.write(65_535, b"xy"), IndexError),
+    ("written bytes before it", lambda window: window.write(-2, b"xy"), IndexError),
+    ("a written text", lambda window: window.write(0, "ab"), TypeError),
+    ("its last bytes after these", lambda window: window.read(65_534, 2), b"ab"),
+]
+
+
+def test_windows(tests):
+    """A host reads and writes the memory of an instance between calls."""
+    with tegvurn.Embedding(fuel=100_000, windows=True) as embedding:
+        instance = embedding.link(embedding.load(MODULES["upper"]))
+        window, text = tegvurn.Window(embedding, instance), "größer als 3".encode()
+        (at,) = embedding.call(instance, "allocate", len(text))
+        window.write(at, text)
+        embedding.call(instance, "upper", at, len(text))
+        tests.equal(window.read(at, len(text)).decode(), "GRößER ALS 3", "a text that is passed by pointer")
+        for name, use, wanted in WINDOW_USES:
+            tests.equal(used(use, window), wanted, f"{name}, by a window")
+        embedding.fuel = 0
+        tests.equal((window.read(at, 2), embedding.fuel), (b"GR", 0), "a window without fuel")
+        embedding.fuel = 2**64 - 1
+        tests.equal((window.write(at, b"g"), embedding.fuel), (None, 2**64 - 1), "a window with the most fuel")
+        for number, name, refused in ((9, "memory", 8), (0, "nosuch", 9), (0, "upper", 10)):
+            error = raised_by(tegvurn.Window, embedding, number, name)
+            tests.equal(show_error(error), f"refused {refused} 0 0", f"a window on {name} of the instance {number}")
+        found = []
+        on_thread(lambda: found.append(window.read(at, 1)))
+        tests.equal(found, [b"g"], "a window on another thread")
+    tests.equal(type(raised_by(window.read, 0, 1)), ValueError, "a window of an embedding that is closed")
+    with tegvurn.Embedding() as embedding:
+        instance = embedding.link(embedding.load(MODULES["upper"]))
+        error = raised_by(tegvurn.Window, embedding, instance)
+        tests.equal((show_error(error), str(error)), ("refused 6 2 1", "import 1 is unknown"), "a window that the embedding does not allow")
+
+
+# Functions of the header that the package does not need. It never leaves a callback, and an embedding without a quota has the largest one.
+NOT_USED = {"abandon", "new", "version"}
 
 
 def test_header(tests):
     """The functions and structures of the package are those of the header."""
     with open(os.path.join(HERE, "../c/tegvurn.h"), encoding="utf-8") as file:
         header = re.sub(r"/\*.*?\*/", "", file.read(), flags=re.DOTALL)
-    declared = {name: args.count(",") + 1 for name, args in re.findall(r"TEGVURN_API [^()]*?tegvurn_(\w+)\(([^)]*)\)", header)}
+    found = re.findall(r"TEGVURN_API [^()]*?tegvurn_(\w+)\(([^)]*)\)", header)
+    declared = {name: args.count(",") + (args != "void") for name, args in found}
     used = {name: count for name, count in declared.items() if name not in NOT_USED}
     tests.equal({name: len(types) for name, types in tegvurn._FUNCTIONS.items()}, used, "the functions of the header")
-    for name in ("Text", "End", "Config", "HostCall", "Host", "Export", "File", "Report"):
+    for name in ("Text", "End", "Config", "HostCall", "Host", "Export", "Provided", "File", "Report"):
         in_c = re.sub("(?<=.)([A-Z])", r"_\1", name).lower()
         fields = re.search(rf"typedef struct tegvurn_{in_c} {{(.*?)}} tegvurn_{in_c};", header, re.DOTALL)[1]
         wanted = re.findall(r"(\w+)(?:\[\w+\])?;", fields)
@@ -897,6 +1082,54 @@ def test_numbers(tests):
             tests.equal((error.number, error.name), (number, name), f"the number of {name}")
         embedding.fuel = 0
         tests.equal(raised_by(embedding.call, 0, "count").number, tegvurn.ExhaustionNumber.FUEL, "the number of an exhaustion")
+
+
+# A program that makes an embedding with a quota, loads, links and calls modules that would take much more, and links another one many times.
+# It prints the KiB of memory at the peak, the seconds of processor time, and how the calls ended.
+BOUNDS = """
+import sys, time, rows, tegvurn
+
+def ended(function, *args):
+    try:
+        return function(*args)
+    except tegvurn.Error as error:
+        return error.name
+
+def memory(name):
+    with open("/proc/self/status") as file:
+        return next(int(line.split()[1]) for line in file if line.startswith(name))
+
+modules = rows.read_rows()[0]
+before, start = memory("VmRSS"), time.process_time()
+with tegvurn.Embedding(depth=1_000, quota=rows.QUOTA) as embedding:
+    ends = [ended(embedding.link, embedding.load(modules[name])) for name in rows.HOSTILE]
+    ends.append(ended(embedding.call, 0, "f"))
+with tegvurn.Embedding(quota=rows.QUOTA) as embedding:
+    page = embedding.load(rows.PAGE)
+    links = [ended(embedding.link, page) for _ in range(rows.PAGE_LINKS)]
+    print(memory("VmHWM") - before, time.process_time() - start)
+    print(*ends, sum(link != "OutOfMemory" for link in links), links[-1], embedding.quota_left)
+"""
+
+
+def test_quota(tests):
+    """A quota bounds what modules, instances and calls hold."""
+    ran = subprocess.run([sys.executable, "-B", "-c", BOUNDS], capture_output=True, text=True, timeout=60, cwd=HERE)
+    lines = ran.stdout.split("\n")
+    held, seconds = map(float, lines[0].split())
+    tests.equal((held < 40_000, seconds < 5), (True, True), f"what modules take with a quota: {lines[0]}")
+    linked, left = divmod(rows.QUOTA - rows.PAGE_LOADED, rows.PAGE_LINKED)
+    tests.equal(lines[1:], [f"OutOfMemory OutOfMemory 0 Memory {linked} OutOfMemory {left}", ""], "modules with a quota")
+    with tegvurn.Embedding(quota=64 * 8) as embedding:
+        error = raised_by(embedding.load, MODULES["sum"])
+        left, last = embedding.quota_left, embedding._library.last(embedding._at).contents.status
+        tests.equal((error.number, left, last), (tegvurn.RefusalNumber.OUT_OF_MEMORY, 64 * 8, tegvurn._REFUSED), "a quota that is read")
+        tests.equal((embedding.load(MODULES["empty"]), embedding.quota_left), (0, 0), "a module with just the quota")
+    with tegvurn.Embedding() as embedding:
+        tests.equal(embedding.quota_left, 2**64 - 1, "no quota")
+        tests.equal(type(raised_by(setattr, embedding, "quota_left", 5)), AttributeError, "a quota that is set later")
+    for quota, error in ((-1, ValueError), (2**64, ValueError), ("5", TypeError), (5.0, TypeError), (True, TypeError)):
+        tests.equal(type(raised_by(tegvurn.Embedding, 1, 1, 1, 1, (), None, False, quota)), error, f"a quota of {quota!r}")
 
 
 # (module (import "m" "f" (func (result i32))) (export "f" (func 0)))

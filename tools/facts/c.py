@@ -55,6 +55,12 @@ def wordings(entries, text=lambda entry: entry.text):
     return packed([f'[{entry.number}] = {{"{entry.name}", "{words}"}},' for entry, words in zip(entries, texts)], WIDTH - 4)
 
 
+def additions(table):
+    """Returns what is added to texts. A code is an unsigned int."""
+    codes = [f'#define ADDED_{constant(entry.name)} "{entry.text.replace("{}", "%u")}"' for entry in table.additions]
+    return with_comments(codes, [f"if {entry.meaning}" for entry in table.additions], 0)
+
+
 def own_numbers(table):
     """Returns the numbers that the C side needs of its own."""
     no_memory, most_bytes = by_name(table.ends, "OutOfMemory").number, by_name(table.limits, "module_bytes").most
@@ -91,6 +97,7 @@ BLOCKS = {
         "refusals": lambda table: wordings(table.refusals),
         "traps": lambda table: wordings(table.traps),
         "exhaustions": lambda table: wordings(table.exhaustions, lambda entry: f"out of {entry.text}"),
+        "additions": additions,
         "bad_pointer": bad_pointer,
     },
 }

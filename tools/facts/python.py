@@ -93,7 +93,7 @@ def client(table):
         "# The orders in the order of their numbers, each with its fields and the replies that it can get if it is not refused.",
         *assigned("ORDERS", [order(entry) for entry in counted(table.orders)], "{}"),
         "# The replies and the requests for host functions, in the order of their numbers, and the answers to these requests.",
-        *listed("REPLIES", [entry.name for entry in counted(table.replies + table.requests)]),
+        *listed("REPLIES", [entry.name for entry in counted(sorted(table.replies + table.requests, key=lambda entry: entry.number))]),
         *numbers("ANSWERS", table.answers),
         *numbers("REFUSALS", table.refusals),
         *numbers("PLACES", table.places),

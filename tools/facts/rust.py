@@ -55,6 +55,18 @@ def texts(table):
     return [f'pub(crate) const {constant(refusal.name)}: &str = "{refusal.text}";' for refusal in found]
 
 
+def code_text(table):
+    """Returns the arm that writes what a code adds to the text of a trap."""
+    words = by_name(table.additions, "Code").text.replace("{}", "{code}")
+    return [f'Trap::Host(code) => write!(f, "{words}"),']
+
+
+def additions(table):
+    """Returns what a link adds to texts."""
+    found = [by_name(table.additions, name) for name in ("Start", "StartOrSegment")]
+    return [f'const {constant(entry.name)}: &str = "{entry.text}";' for entry in found]
+
+
 def fields(table):
     """Returns the fields of the bounds of a store."""
     words = lambda setup: f"{capitalized(bounds(setup))}. The default is {setup.default:,}."  # noqa: E731
@@ -78,6 +90,8 @@ BLOCKS = {
         "trap_of_number": lambda table: arms(table.traps, number, trap("code")),
         "trap_numbers": lambda table: arms(table.traps, trap("_"), number),
         "trap_texts": lambda table: arms(table.traps, trap("_"), text),
+        "code_text": code_text,
+        "additions": additions,
         "exhaustions": lambda table: variants(table.exhaustions, exhaustion_meaning),
         "exhaustion_of_number": lambda table: arms(table.exhaustions, number, of("Exhaustion")),
         "exhaustion_texts": lambda table: arms(table.exhaustions, of("Exhaustion"), text),
@@ -85,6 +99,7 @@ BLOCKS = {
     FOLDER + "types.rs": {
         "types": lambda table: variants(table.types),
         "type_of_number": lambda table: arms(table.types, number, of("ValType")),
+        "type_texts": lambda table: arms(table.types, of("ValType"), text),
     },
     FOLDER + "linker.rs": {
         "bounds": fields,
@@ -92,6 +107,6 @@ BLOCKS = {
     },
     FOLDER + "embedding.rs": {
         "statuses": lambda table: numbers("", table.statuses, "Done", "Refused", "Trap", "Exhausted"),
-        "kinds": lambda table: numbers("KIND_", table.kinds, "Function", "Table", "Memory"),
+        "kinds": lambda table: numbers("KIND_", table.kinds, "Function", "Table", "Memory", "Global"),
     },
 }

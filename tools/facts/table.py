@@ -14,6 +14,7 @@ FACTS = {
     "traps": ("number text meaning", ""),
     "codes": ("number meaning", ""),
     "exhaustions": ("number text meaning", ""),
+    "additions": ("text meaning", ""),
     "statuses": ("number text meaning", ""),
     "types": ("number text meaning", ""),
     "kinds": ("number meaning fields", ""),

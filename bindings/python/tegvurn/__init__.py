@@ -19,8 +19,20 @@ A host function gets the memory of the calling instance, a `Memory`, and its arg
 ValueError. A host function returns its results in a list, or raises `HostTrap(code)`. Any other exception is raised again by the call of
 the embedding that ran the host function. Until then, that call runs no other host function: each one traps at once.
 
-An embedding belongs to the thread that made it. A call from another thread, or from one of its own host functions, raises `Busy`. An
-embedding that is dropped is freed, on whichever thread that happens. It cannot be copied or pickled.
+A `Window` reads and writes the memory of an instance between calls, such as a text that an export takes or returns by pointer:
+
+    with tegvurn.Embedding(windows=True) as embedding:
+        instance = embedding.link(embedding.load(wasm))
+        window = tegvurn.Window(embedding, instance, "memory")
+        (at,) = embedding.call(instance, "allocate", len(text))
+        window.write(at, text)
+
+Modules that import a memory, a table or globals from the host get them from a provider, which can export host functions, too:
+
+    embedding.provide("env", functions_of="host", objects={"memory": tegvurn.MemoryType(2, None)})
+
+Any thread may use an embedding, one at a time. A call while another call of the embedding runs raises `Busy`, also a call from one of its
+own host functions. An embedding that is dropped is freed, on whichever thread that happens. It cannot be copied or pickled.
 """
 import collections
 import ctypes
@@ -54,6 +66,8 @@ _NAMES = {number: name for name, number in _NUMBERS.items()}
 _PLACES = (None, *PLACES)
 # The name by which the loader of the system finds the library.
 _SONAME = f"libtegvurn.so.{__version__.split('.')[0]}"
+_PAGE = 65_536  # the bytes of a page of memory
+_NO_QUOTA = 2**64 - 1  # the quota of an embedding without one
 # The code of the trap when a host function raises an exception.
 _RAISED = 2**32 - 1
 # The most functions whose types an embedding keeps. With 1,000 parameters and 1,000 results each, they take 17 MB.
@@ -99,7 +113,7 @@ class RefusalNumber(enum.IntEnum):
     NAME_TAKEN = 12
     """A host function already has the name."""
     OUT_OF_MEMORY = 13
-    """An allocation failed."""
+    """An allocation failed, or would pass the quota."""
     HOST_FUNCREF = 14
     """A host function has a funcref result."""
     NOT_JSON = 15
@@ -108,7 +122,7 @@ class RefusalNumber(enum.IntEnum):
     """A command of a script does not have the form of a command. The place is the index of the command."""
     MISSING_FILE = 17
     """A file that a script names is missing. The place is the index of the command."""
-    BAD_SETUP = 18
+    BAD_SETUP = 64
     """A number of the setup is out of its range."""
 
 
@@ -143,8 +157,8 @@ class ExhaustionNumber(enum.IntEnum):
     DEPTH = 2
     """Depth: the next step would open a frame past the bound."""
     MEMORY = 3
-    """Memory: an allocation fails in a step that opens or replaces a frame, grows a memory or a table, or calls a host function; or in the
-    call from outside."""
+    """Memory: an allocation fails, or would pass the quota, in a step that opens or replaces a frame, grows a memory or a table, or calls a
+    host function; or in the call from outside."""
 # end classes
 
 
@@ -180,7 +194,7 @@ class Exhausted(Error):
 
 
 class Busy(Error):
-    """Nothing was done, because the embedding is already running or belongs to another thread."""
+    """Nothing was done, because another call of the embedding runs."""
 
 
 class HostTrap(Exception):
@@ -196,6 +210,12 @@ class _Unique:
 
     def __reduce_ex__(self, _):
         raise TypeError(f"a {type(self).__name__} cannot be copied or pickled")
+
+
+def _check_range(at, count, size):
+    """Raises IndexError if `count` bytes from `at` on are not all in a memory of this size."""
+    if at < 0 or count < 0 or at + count > size:
+        raise IndexError(f"expected bytes from 0 to {size}, found {count} bytes at {at}")
 
 
 class Memory(_Unique):
@@ -253,8 +273,7 @@ class Memory(_Unique):
         Raises IndexError if these bytes are not all in the memory, and ValueError if the host function has returned.
         """
         self._check_lent()
-        if at < 0 or count < 0 or at + count > self._size:
-            raise IndexError(f"expected bytes from 0 to {self._size}, found {count} bytes at {at}")
+        _check_range(at, count, self._size)
         if not self._views:
             self._views.append(_view_memory(self._address, self._size))
         return self._views[0]
@@ -358,6 +377,23 @@ class _Export(ctypes.Structure):
     ]
 
 
+class _Import(ctypes.Structure):
+    _fields_ = [("module_name", _Text), ("named", _Export)]
+
+
+class _Provided(ctypes.Structure):
+    _fields_ = [
+        ("name", _Text),
+        ("kind", ctypes.c_uint),
+        ("type", ctypes.c_uint),
+        ("minimum", ctypes.c_uint64),
+        ("has_maximum", ctypes.c_bool),
+        ("maximum", ctypes.c_uint64),
+        ("value", _Value),
+        ("is_mutable", ctypes.c_bool),
+    ]
+
+
 class _File(ctypes.Structure):
     _fields_ = [("name", _Text), ("bytes", ctypes.c_void_p), ("size", ctypes.c_size_t)]
 
@@ -374,7 +410,7 @@ class _Report(ctypes.Structure):
 _AT, _U64, _SIZE = ctypes.c_void_p, ctypes.c_uint64, ctypes.c_size_t
 # The types of the parameters of each function of the library, and the types of the results that are not a status.
 _FUNCTIONS = {
-    "new": [ctypes.POINTER(_Config), ctypes.POINTER(_Host), _SIZE, ctypes.POINTER(_AT), ctypes.POINTER(_End)],
+    "new_with_quota": [ctypes.POINTER(_Config), _U64, ctypes.POINTER(_Host), _SIZE, ctypes.POINTER(_AT), ctypes.POINTER(_End)],
     "free": [_AT],
     "last": [_AT],
     "load": [_AT, ctypes.c_char_p, _SIZE, ctypes.POINTER(_U64)],
@@ -384,12 +420,21 @@ _FUNCTIONS = {
     "get_global": [_AT, _U64, _Text, ctypes.POINTER(_Value)],
     "set_fuel": [_AT, _U64],
     "fuel_left": [_AT, ctypes.POINTER(_U64)],
+    "quota_left": [_AT, ctypes.POINTER(_U64)],
     "exports": [_AT, _U64, ctypes.POINTER(ctypes.POINTER(_Export)), ctypes.POINTER(_SIZE)],
     "find_export": [_AT, _U64, _Text, ctypes.POINTER(ctypes.POINTER(_Export))],
     "exports_free": [ctypes.POINTER(_Export)],
+    "module_exports": [_AT, _U64, ctypes.POINTER(ctypes.POINTER(_Export)), ctypes.POINTER(_SIZE)],
+    "module_imports": [_AT, _U64, ctypes.POINTER(ctypes.POINTER(_Import)), ctypes.POINTER(_SIZE)],
+    "imports_free": [ctypes.POINTER(_Import)],
+    "provide": [_AT, _Text, ctypes.POINTER(_Host), _SIZE, ctypes.POINTER(_Provided), _SIZE, ctypes.POINTER(_U64)],
+    "window_host": [],
+    "window_open": [_AT, _U64, _Text, ctypes.POINTER(_U64)],
+    "window_read": [_AT, _U64, _U64, _AT, _SIZE],
+    "window_write": [_AT, _U64, _U64, ctypes.c_char_p, _SIZE],
     "script": [_AT, ctypes.c_char_p, _SIZE, ctypes.POINTER(_File), _SIZE, ctypes.POINTER(_Report)],
 }
-_GIVEN = {"last": ctypes.POINTER(_End), "exports_free": None}
+_GIVEN = {"last": ctypes.POINTER(_End), "exports_free": None, "imports_free": None, "window_host": _Host}
 
 
 class _Library:
@@ -526,11 +571,10 @@ def _read_export(export):
     return MemoryType(*limits) if export.kind == _MEMORY else GlobalType(_name_of(export.type), export.is_mutable)
 
 
-def _read_exports(exports, count):
-    """Returns the name and the type of each export. Functions that share their arrays in the library share one type."""
+def _read_exports(exports):
+    """Returns the name and the type of each export of an iterable. Functions that share their arrays in the library share one type."""
     types = {}
-    for k in range(count):
-        export = exports[k]
+    for export in exports:
         if export.kind == _FUNCTION:
             arrays = export.params, export.param_count, export.results, export.result_count
             if arrays not in types:
@@ -539,6 +583,24 @@ def _read_exports(exports, count):
         else:
             type_ = _read_export(export)
         yield _read_text(export.name), type_
+
+
+def _write_object(name, object_):
+    """Returns an object of a provider for the library. Raises TypeError if it is no object."""
+    provided = _Provided(name=name)
+    if isinstance(object_, (MemoryType, TableType)):
+        provided.kind, provided.minimum = _MEMORY, _bounded(object_.minimum, 64)
+        provided.has_maximum = object_.maximum is not None
+        provided.maximum = _bounded(object_.maximum or 0, 64)
+        if isinstance(object_, TableType):
+            provided.kind, provided.type = _TABLE, _number_of(object_.references)
+        return provided
+    type_, value = object_
+    if not isinstance(type_, GlobalType):
+        raise TypeError(f"expected a MemoryType, a TableType, or a GlobalType and a value, found {object_!r}")
+    provided.kind, provided.is_mutable = _GLOBAL, type_.is_mutable
+    _write_value(provided.value, value, type_.value)
+    return provided
 
 
 def _plain_error(status):
@@ -580,13 +642,17 @@ class Embedding(_Unique):
         # end defaults
         hosts=(),
         library=None,
+        windows=False,
+        quota=None,
     ):
         """Makes an embedding.
 
         `fuel` is the initial fuel. `depth`, `pages` and `entries` are the most open frames, pages of a memory and entries of a table. The
         defaults are those of the other languages and of `wasmrun`.
         `hosts` has the host functions: a dictionary, or its items, from pairs of a module and a name to pairs of a type and a function.
-        `library` is the path of the library.
+        `library` is the path of the library. `windows` adds the host function of windows, which `Window` needs.
+        `quota` is the most bytes that modules, instances and a running call may hold together, by the sizes of docs/SPECIFICATION.md. What
+        would pass it ends as if memory had run out. None is no quota.
 
         Raises `Refused` if a number is out of the library's range or a host function is refused, and TypeError or ValueError for wrong
         arguments.
@@ -599,10 +665,12 @@ class Embedding(_Unique):
         self._library = _load_library(library)
         self._library.free_dropped()
         pairs = list(hosts.items() if isinstance(hosts, dict) else hosts)
-        host_array = (_Host * len(pairs))(*(self._host(*names, *rest) for names, rest in pairs))
+        self._hosts = [(names[0], self._host(*names, *rest)) for names, rest in pairs]
+        found = [host for _, host in self._hosts] + ([self._library.window_host()] if windows else [])
+        host_array = (_Host * len(found))(*found)
         config, end = _Config(_bounded(fuel, 64), _bounded(depth, 32), _bounded(pages, 32), _bounded(entries, 32)), _End()
-        self._at = ctypes.c_void_p()
-        status = self._library.new(config, host_array, len(pairs), ctypes.byref(self._at), ctypes.byref(end))
+        most, self._at = _NO_QUOTA if quota is None else _bounded(quota, 64), ctypes.c_void_p()
+        status = self._library.new_with_quota(config, most, host_array, len(found), ctypes.byref(self._at), ctypes.byref(end))
         if status != _DONE:
             raise _error(status, ctypes.pointer(end))
 
@@ -642,6 +710,20 @@ class Embedding(_Unique):
         """Registers an instance under a name. Modules that are linked later import from it by this name."""
         self._do("register", _bounded(instance, 64), _encode_text(name))
 
+    def provide(self, name, functions_of=None, objects=()):
+        """Links a provider and registers it under a name, and returns the number of the instance.
+
+        Modules that are linked later import by this name what it exports: the host functions of the module name `functions_of`, which must
+        be another name, and new objects. `objects` is a dictionary, or its items, from their names to a `MemoryType`, a `TableType`, or a
+        pair of a `GlobalType` and a value, which is an integer or None. A provider that is refused may add a module and an instance.
+        """
+        hosts = [host for module, host in self._hosts if module == functions_of]
+        given = [(_encode_text(key), object_) for key, object_ in (objects.items() if isinstance(objects, dict) else objects)]
+        host_array, object_array = (_Host * len(hosts))(*hosts), (_Provided * len(given))(*(_write_object(*pair) for pair in given))
+        number = ctypes.c_uint64()
+        self._do("provide", _encode_text(name), host_array, len(hosts), object_array, len(given), ctypes.byref(number))
+        return number.value
+
     def call(self, instance, name, *args):
         """Calls an exported function, and returns its results in a list.
 
@@ -672,18 +754,52 @@ class Embedding(_Unique):
     def fuel(self, fuel):
         self._do("set_fuel", _bounded(fuel, 64))
 
+    @property
+    def quota_left(self):
+        """How many bytes of the quota are left. Without a quota, they are those left of 2^64 - 1."""
+        left = ctypes.c_uint64()
+        self._do("quota_left", ctypes.byref(left))
+        return left.value
+
     def exports(self, instance):
         """Returns a dictionary from the names of an instance's exports to their types, in the order of the module.
 
-        It is empty for an unknown instance. Functions that are declared at one place share one type, so changing its lists changes it for
-        all of them.
+        Raises `Refused` if the instance is unknown. Functions that are declared at one place share one type, so changing its lists changes
+        it for all of them.
         """
         found, count = ctypes.POINTER(_Export)(), ctypes.c_size_t()
         self._do("exports", _bounded(instance, 64), ctypes.byref(found), ctypes.byref(count))
         try:
-            return dict(_read_exports(found, count.value))
+            return dict(_read_exports(found[: count.value]))
         finally:
             self._library.exports_free(found)
+
+    def module_exports(self, module):
+        """Returns a dictionary from the names of a loaded module's exports to their types, in its order. It need not be linked.
+
+        The minimum of a table or a memory is the declared one. Raises `Refused` if the module is unknown.
+        """
+        found, count = ctypes.POINTER(_Export)(), ctypes.c_size_t()
+        self._do("module_exports", _bounded(module, 64), ctypes.byref(found), ctypes.byref(count))
+        try:
+            return dict(_read_exports(found[: count.value]))
+        finally:
+            self._library.exports_free(found)
+
+    def module_imports(self, module):
+        """Returns what a loaded module imports, in its order: of each import, the name of a module, the name in it, and its type.
+
+        The module need not be linked. Raises `Refused` if it is unknown. Functions of one index of types share one type, so changing its
+        lists changes it for all of them.
+        """
+        found, count = ctypes.POINTER(_Import)(), ctypes.c_size_t()
+        self._do("module_imports", _bounded(module, 64), ctypes.byref(found), ctypes.byref(count))
+        try:
+            imports = found[: count.value]
+            named = _read_exports(each.named for each in imports)
+            return [(_read_text(each.module_name), name, type_) for each, (name, type_) in zip(imports, named)]
+        finally:
+            self._library.imports_free(found)
 
     def find_export(self, instance, name):
         """Returns the type of one export, without listing the others. Raises `Refused` if the instance or the export is unknown."""
@@ -765,6 +881,41 @@ class Embedding(_Unique):
             return False
 
         return callback
+
+
+class Window:
+    """A way into the memory of an instance between calls.
+
+    A small module imports the memory and calls a host function, which borrows it. The embedding must be made with `windows=True`. Reading
+    and writing spend none of its fuel.
+    """
+
+    def __init__(self, embedding, instance, memory="memory"):
+        """Opens a window on the memory that an instance exports under a name. That adds up to two modules and instances.
+
+        Raises `Refused` if the instance or the export is unknown, the export is no memory, or the embedding does not allow windows.
+        """
+        number = ctypes.c_uint64()
+        embedding._do("window_open", _bounded(instance, 64), _encode_text(memory), ctypes.byref(number))
+        self._embedding, self._instance, self._memory, self._number = embedding, instance, memory, number.value
+
+    def __len__(self):
+        """Returns the present number of bytes."""
+        return self._embedding.find_export(self._instance, self._memory).minimum * _PAGE
+
+    def read(self, at, count):
+        """Returns a copy of the `count` bytes from `at` on. Raises IndexError if they are not all in the memory."""
+        at, count = operator.index(at), operator.index(count)
+        _check_range(at, count, len(self))
+        data = (ctypes.c_char * count)()
+        self._embedding._do("window_read", self._number, at, data, count)
+        return data.raw
+
+    def write(self, at, data):
+        """Copies bytes into the memory from `at` on. If they do not all fit, it writes nothing and raises IndexError."""
+        at, data = operator.index(at), _bytes_of(data)
+        _check_range(at, len(data), len(self))
+        self._embedding._do("window_write", self._number, at, data, len(data))
 
 
 def _run(call, types, function):

@@ -2,7 +2,7 @@
 //! Usage: `cargo run --example plugin_host plugin.wasm`.
 
 use std::error::Error;
-use tegvurn::{Config, Engine, FuncType, HostTrap, Instance, Linker, Module, Store, Val, ValType};
+use tegvurn::{Caller, Config, Engine, HostTrap, Instance, Linker, Module, Store, Val};
 
 /// The state of the host functions.
 #[derive(Default)]
@@ -12,10 +12,9 @@ struct Host {
 }
 
 /// Returns `length` bytes of a memory from `start` on, or `None` if they are not all in the memory.
-fn bytes_at(memory: &[u8], start: &Val, length: &Val) -> Option<Vec<u8>> {
-    let start = start.i32()? as u32 as usize;
-    let end = start.checked_add(length.i32()? as u32 as usize)?;
-    memory.get(start..end).map(<[u8]>::to_vec)
+fn bytes_at(memory: &[u8], start: u32, length: u32) -> Option<&[u8]> {
+    let start = start as usize;
+    memory.get(start..start.checked_add(length as usize)?)
 }
 
 /// Returns the host functions:
@@ -25,22 +24,15 @@ fn bytes_at(memory: &[u8], start: &Val, length: &Val) -> Option<Vec<u8>> {
 ///   memory.
 fn host_functions(engine: &Engine) -> Linker<Host> {
     let mut linker = Linker::<Host>::new(engine);
-    linker.func_new(
-        "host",
-        "count",
-        FuncType::new([], [ValType::I32]),
-        |caller, _args, results| {
-            caller.data.calls += 1;
-            results[0] = Val::I32(caller.data.calls);
-            Ok(())
-        },
-    );
-    linker.func_new(
+    linker.func_wrap("host", "count", |caller: Caller<Host>| -> i32 {
+        caller.data.calls += 1;
+        caller.data.calls
+    });
+    linker.func_wrap(
         "host",
         "write",
-        FuncType::new([ValType::I32, ValType::I32], []),
-        |caller, args, _results| {
-            let bytes = bytes_at(caller.memory, &args[0], &args[1]).ok_or(HostTrap(1))?;
+        |caller: Caller<Host>, start: u32, length: u32| -> Result<(), HostTrap> {
+            let bytes = bytes_at(caller.memory, start, length).ok_or(HostTrap(1))?;
             caller.data.text.extend(bytes);
             Ok(())
         },

@@ -4,16 +4,20 @@
 //!
 //! - Pointers and counts are those of slices that live during the call, and no pointer is null.
 //! - Host functions live as long as the embedding.
-//! - No panic unwinds into C: a closure's panic is caught and kept, and nothing is dropped between C's call and the catch.
+//! - No panic unwinds into C: a closure's panic is caught and kept, and nothing is dropped between C's call and the catch. A closure's own
+//!   error is kept, too, and not dropped there.
 //! - The borrowed memory is a slice that ends with the closure's call.
-//! - An embedding stays on its thread, because it holds pointers and is neither `Send` nor `Sync`.
+//! - One thread uses an embedding at a time, because each of its calls borrows it mutably.
 //! - A callback always returns, so nothing needs to be abandoned.
 #![allow(unsafe_code)]
 #![warn(unsafe_op_in_unsafe_fn)]
 
 use crate::error::{self, Cause, Error, Exhaustion, Place, Refusal, Trap};
-use crate::instance::Export;
-use crate::linker::{Caller, Config, Definition, HostFunction, HostTrap};
+use crate::instance::{Export, Import};
+use crate::linker::{
+    Caller, Config, Definition, Engine, HostError, HostFunction, HostTrap, Linker,
+};
+use crate::provider::{Kind, Object};
 use crate::store::Report;
 use crate::types::{ExternType, FuncType, Limits, Val, ValType};
 use std::any::Any;
@@ -115,6 +119,24 @@ struct RawExport {
 }
 
 #[repr(C)]
+struct RawImport {
+    module_name: RawText,
+    named: RawExport,
+}
+
+#[repr(C)]
+struct RawProvided {
+    name: RawText,
+    kind: u32,
+    ty: u32,
+    minimum: u64,
+    has_maximum: bool,
+    maximum: u64,
+    value: RawValue,
+    is_mutable: bool,
+}
+
+#[repr(C)]
 struct RawFile {
     name: RawText,
     bytes: *const u8,
@@ -130,8 +152,9 @@ struct RawReport {
 }
 
 extern "C" {
-    fn tegvurn_new(
+    fn tegvurn_new_with_quota(
         config: *const RawConfig,
+        quota: u64,
         hosts: *const RawHost,
         host_count: usize,
         embedding: *mut *mut Handle,
@@ -161,6 +184,7 @@ extern "C" {
     ) -> u32;
     fn tegvurn_set_fuel(embedding: *mut Handle, fuel: u64) -> u32;
     fn tegvurn_fuel_left(embedding: *mut Handle, fuel: *mut u64) -> u32;
+    fn tegvurn_quota_left(embedding: *mut Handle, bytes: *mut u64) -> u32;
     fn tegvurn_exports(
         embedding: *mut Handle,
         instance: u64,
@@ -174,6 +198,49 @@ extern "C" {
         found: *mut *mut RawExport,
     ) -> u32;
     fn tegvurn_exports_free(exports: *mut RawExport);
+    fn tegvurn_module_exports(
+        embedding: *mut Handle,
+        module: u64,
+        exports: *mut *mut RawExport,
+        count: *mut usize,
+    ) -> u32;
+    fn tegvurn_module_imports(
+        embedding: *mut Handle,
+        module: u64,
+        imports: *mut *mut RawImport,
+        count: *mut usize,
+    ) -> u32;
+    fn tegvurn_imports_free(imports: *mut RawImport);
+    fn tegvurn_provide(
+        embedding: *mut Handle,
+        name: RawText,
+        hosts: *const RawHost,
+        host_count: usize,
+        objects: *const RawProvided,
+        object_count: usize,
+        instance: *mut u64,
+    ) -> u32;
+    fn tegvurn_window_host() -> RawHost;
+    fn tegvurn_window_open(
+        embedding: *mut Handle,
+        instance: u64,
+        memory: RawText,
+        window: *mut u64,
+    ) -> u32;
+    fn tegvurn_window_read(
+        embedding: *mut Handle,
+        window: u64,
+        at: u64,
+        bytes: *mut u8,
+        size: usize,
+    ) -> u32;
+    fn tegvurn_window_write(
+        embedding: *mut Handle,
+        window: u64,
+        at: u64,
+        bytes: *const u8,
+        size: usize,
+    ) -> u32;
     fn tegvurn_script(
         embedding: *mut Handle,
         json: *const u8,
@@ -193,6 +260,7 @@ const _: () = {
     assert!(size_of::<RawHostCall>() == 56);
     assert!(size_of::<RawHost>() == 80);
     assert!(size_of::<RawExport>() == 88);
+    assert!(size_of::<RawProvided>() == 72);
     assert!(size_of::<RawFile>() == 32);
     assert!(size_of::<RawReport>() == 32);
 };
@@ -208,10 +276,14 @@ const EXHAUSTED: u32 = 3;
 const KIND_FUNCTION: u32 = 0;
 const KIND_TABLE: u32 = 1;
 const KIND_MEMORY: u32 = 2;
+const KIND_GLOBAL: u32 = 3;
 // end kinds
 
-// The code of the trap of a closure that panicked. The panic continues after the call.
-const PANICKED: u32 = u32::MAX;
+/// The quota of an embedding that has none.
+pub(crate) const NO_QUOTA: u64 = u64::MAX;
+
+// The code of the trap of a closure that failed.
+const FAILED: u32 = u32::MAX;
 
 // Values and types
 
@@ -266,6 +338,30 @@ unsafe fn value_of(raw: &RawValue) -> Val {
         ValType::I64 => Val::I64(unsafe { raw.number.i64 } as i64),
         ValType::FuncRef => Val::FuncRef(reference()),
         ValType::ExternRef => Val::ExternRef(reference()),
+    }
+}
+
+fn raw_object(object: &Object) -> RawProvided {
+    let (kind, ty, limits, value, is_mutable) = match object.kind {
+        Kind::Table(ty, limits) => (KIND_TABLE, ty, limits, Val::I32(0), false),
+        Kind::Memory(limits) => (KIND_MEMORY, ValType::I32, limits, Val::I32(0), false),
+        Kind::Global(value, is_mutable) => {
+            let none = Limits {
+                minimum: 0,
+                maximum: None,
+            };
+            (KIND_GLOBAL, value.ty(), none, value, is_mutable)
+        }
+    };
+    RawProvided {
+        name: raw_text(&object.name),
+        kind,
+        ty: ty.number(),
+        minimum: limits.minimum,
+        has_maximum: limits.maximum.is_some(),
+        maximum: limits.maximum.unwrap_or(0),
+        value: raw_value(value),
+        is_mutable,
     }
 }
 
@@ -336,10 +432,16 @@ fn error_of(end: &RawEnd) -> Error {
 
 // Host functions
 
-// What closures share: the data, and the first panic of a closure in the running call.
+// How a closure failed: by a panic, which continues after the store's call, or by an error, which that call returns.
+enum Failure {
+    Panic(Box<dyn Any + Send>),
+    Error(HostError),
+}
+
+// What closures share: the data, and the first failure of a closure in the running call.
 struct Shared<T> {
     data: T,
-    panic: Option<Box<dyn Any + Send>>,
+    failure: Option<Failure>,
 }
 
 // A host function. Each call of it gets this as its context.
@@ -356,8 +458,8 @@ struct Host<T> {
 unsafe extern "C" fn call_host<T>(context: *mut c_void, call: *mut RawHostCall) -> bool {
     let (host, call) = unsafe { (&mut *context.cast::<Host<T>>(), &mut *call) };
     let shared = unsafe { &mut *host.shared.as_ptr() };
-    if shared.panic.is_some() {
-        call.trap = PANICKED;
+    if shared.failure.is_some() {
+        call.trap = FAILED;
         return false;
     }
     let data = &mut shared.data;
@@ -365,18 +467,20 @@ unsafe extern "C" fn call_host<T>(context: *mut c_void, call: *mut RawHostCall) 
     let answer = panic::catch_unwind(AssertUnwindSafe(|| unsafe {
         call_closure(function, results, data, call)
     }));
-    match answer {
-        Ok(Ok(())) => true,
-        Ok(Err(HostTrap(code))) => {
-            call.trap = code;
-            false
-        }
-        Err(panic) => {
-            shared.panic = Some(panic);
-            call.trap = PANICKED;
-            false
-        }
-    }
+    let failure = match answer {
+        Ok(Ok(())) => return true,
+        Ok(Err(error)) => match error.downcast::<HostTrap>() {
+            Ok(trap) => {
+                call.trap = trap.0;
+                return false;
+            }
+            Err(error) => Failure::Error(error),
+        },
+        Err(panic) => Failure::Panic(panic),
+    };
+    shared.failure = Some(failure);
+    call.trap = FAILED;
+    false
 }
 
 /// Calls a closure with the arguments and the memory of a call, and writes its results.
@@ -388,7 +492,7 @@ unsafe fn call_closure<T>(
     result_types: &[ValType],
     data: &mut T,
     call: &mut RawHostCall,
-) -> Result<(), HostTrap> {
+) -> Result<(), HostError> {
     let args: Vec<Val> = unsafe { slice_of(call.args, call.arg_count) }
         .iter()
         .map(|raw| unsafe { value_of(raw) })
@@ -410,6 +514,7 @@ unsafe fn call_closure<T>(
 struct Hosts<T> {
     shared: NonNull<Shared<T>>,
     list: Vec<NonNull<Host<T>>>,
+    signatures: Vec<Signature>,
 }
 
 // The names and the type of a host function, as the C library gets them.
@@ -420,20 +525,35 @@ struct Signature {
     results: Vec<u32>,
 }
 
+// Returns a host function as the C library gets it.
+fn raw_host<T>(signature: &Signature, host: NonNull<Host<T>>) -> RawHost {
+    RawHost {
+        module: raw_text(&signature.module),
+        name: raw_text(&signature.name),
+        params: signature.params.as_ptr(),
+        param_count: signature.params.len(),
+        results: signature.results.as_ptr(),
+        result_count: signature.results.len(),
+        callback: call_host::<T>,
+        context: host.as_ptr().cast(),
+    }
+}
+
 fn boxed<E>(value: E) -> NonNull<E> {
     NonNull::from(Box::leak(Box::new(value)))
 }
 
 impl<T: 'static> Hosts<T> {
-    fn new(definitions: Vec<Definition<T>>, data: T) -> (Hosts<T>, Vec<Signature>) {
-        let shared = boxed(Shared { data, panic: None });
-        let (mut hosts, mut signatures) = (
-            Hosts {
-                shared,
-                list: Vec::new(),
-            },
-            Vec::new(),
-        );
+    fn new(definitions: Vec<Definition<T>>, data: T) -> Hosts<T> {
+        let shared = boxed(Shared {
+            data,
+            failure: None,
+        });
+        let mut hosts = Hosts {
+            shared,
+            list: Vec::new(),
+            signatures: Vec::new(),
+        };
         for Definition {
             module,
             name,
@@ -441,7 +561,7 @@ impl<T: 'static> Hosts<T> {
             function,
         } in definitions
         {
-            signatures.push(Signature {
+            hosts.signatures.push(Signature {
                 module,
                 name,
                 params: raw_types(ty.params()),
@@ -453,31 +573,34 @@ impl<T: 'static> Hosts<T> {
                 shared,
             }));
         }
-        (hosts, signatures)
+        hosts
     }
 
-    // Makes an embedding with these host functions.
-    fn begin(&self, config: Config, signatures: &[Signature]) -> Result<NonNull<Handle>, Error> {
-        let raw_hosts: Vec<RawHost> = signatures
+    // Returns the host functions as the C library gets them, or only those of a module name.
+    fn raw(&self, module: Option<&str>) -> Vec<RawHost> {
+        self.signatures
             .iter()
             .zip(&self.list)
-            .map(|(signature, host)| RawHost {
-                module: raw_text(&signature.module),
-                name: raw_text(&signature.name),
-                params: signature.params.as_ptr(),
-                param_count: signature.params.len(),
-                results: signature.results.as_ptr(),
-                result_count: signature.results.len(),
-                callback: call_host::<T>,
-                context: host.as_ptr().cast(),
-            })
-            .collect();
+            .filter(|(signature, _)| module.map_or(true, |name| name == signature.module))
+            .map(|(signature, host)| raw_host(signature, *host))
+            .collect()
+    }
+
+    // Makes an embedding with a quota, with these host functions, and with that of windows or without it.
+    fn begin(
+        &self,
+        engine: &Engine,
+        quota: u64,
+        has_windows: bool,
+    ) -> Result<NonNull<Handle>, Error> {
+        let mut raw_hosts = self.raw(None);
+        raw_hosts.extend(has_windows.then(|| unsafe { tegvurn_window_host() }));
         let Config {
             fuel,
             depth,
             pages,
             entries,
-        } = config;
+        } = *engine.config();
         let raw_config = RawConfig {
             fuel,
             depth,
@@ -495,8 +618,9 @@ impl<T: 'static> Hosts<T> {
         };
         let mut handle = ptr::null_mut();
         unsafe {
-            tegvurn_new(
+            tegvurn_new_with_quota(
                 &raw_config,
+                quota,
                 raw_hosts.as_ptr(),
                 raw_hosts.len(),
                 &mut handle,
@@ -522,14 +646,13 @@ pub(crate) struct Embedding<T> {
     hosts: ManuallyDrop<Hosts<T>>,
 }
 
+// SAFETY: any thread may call the C library's embedding and free it, one at a time. Closures, kept failures and the data are `Send`.
+unsafe impl<T: Send> Send for Embedding<T> {}
+
 impl<T: 'static> Embedding<T> {
-    pub(crate) fn new(
-        config: Config,
-        definitions: Vec<Definition<T>>,
-        data: T,
-    ) -> Result<Embedding<T>, Error> {
-        let (hosts, signatures) = Hosts::new(definitions, data);
-        let handle = hosts.begin(config, &signatures)?;
+    pub(crate) fn new(linker: Linker<T>, data: T, quota: u64) -> Result<Embedding<T>, Error> {
+        let hosts = Hosts::new(linker.definitions, data);
+        let handle = hosts.begin(&linker.engine, quota, linker.has_windows)?;
         Ok(Embedding {
             handle,
             hosts: ManuallyDrop::new(hosts),
@@ -546,8 +669,10 @@ impl<T: 'static> Embedding<T> {
 
     // Returns how a call ended. If a closure panicked, its panic continues here.
     fn done(&mut self, status: u32) -> Result<(), Error> {
-        if let Some(panic) = unsafe { self.hosts.shared.as_mut() }.panic.take() {
-            panic::resume_unwind(panic);
+        match unsafe { self.hosts.shared.as_mut() }.failure.take() {
+            Some(Failure::Panic(panic)) => panic::resume_unwind(panic),
+            Some(Failure::Error(error)) => return Err(Error::Host(error)),
+            None => {}
         }
         if status == DONE {
             return Ok(());
@@ -573,7 +698,12 @@ impl<T: 'static> Embedding<T> {
     pub(crate) fn link(&mut self, module: u64) -> Result<u64, Error> {
         let mut instance = 0;
         let status = unsafe { tegvurn_link(self.handle.as_ptr(), module, &mut instance) };
-        self.done(status).map(|()| instance)
+        match self.done(status) {
+            Ok(()) => Ok(instance),
+            Err(Error::Trap(trap)) => Err(Error::LinkTrap(trap)),
+            Err(Error::Exhausted(what)) => Err(Error::LinkExhausted(what)),
+            Err(other) => Err(other),
+        }
     }
 
     pub(crate) fn register(&mut self, instance: u64, name: &str) -> Result<(), Error> {
@@ -629,6 +759,12 @@ impl<T: 'static> Embedding<T> {
         self.done(status).map(|()| fuel)
     }
 
+    pub(crate) fn quota_left(&mut self) -> Result<u64, Error> {
+        let mut bytes = 0;
+        let status = unsafe { tegvurn_quota_left(self.handle.as_ptr(), &mut bytes) };
+        self.done(status).map(|()| bytes)
+    }
+
     pub(crate) fn exports(&mut self, instance: u64) -> Result<Vec<Export>, Error> {
         let (mut exports, mut count) = (ptr::null_mut(), 0);
         let status =
@@ -636,6 +772,28 @@ impl<T: 'static> Embedding<T> {
         self.done(status)?;
         let list = unsafe { exports_of(slice_of(exports, count)) };
         unsafe { tegvurn_exports_free(exports) };
+        list.map_err(|_| out_of_memory())
+    }
+
+    pub(crate) fn module_exports(&mut self, module: u64) -> Result<Vec<Export>, Error> {
+        let (mut exports, mut count) = (ptr::null_mut(), 0);
+        let status = unsafe {
+            tegvurn_module_exports(self.handle.as_ptr(), module, &mut exports, &mut count)
+        };
+        self.done(status)?;
+        let list = unsafe { exports_of(slice_of(exports, count)) };
+        unsafe { tegvurn_exports_free(exports) };
+        list.map_err(|_| out_of_memory())
+    }
+
+    pub(crate) fn module_imports(&mut self, module: u64) -> Result<Vec<Import>, Error> {
+        let (mut imports, mut count) = (ptr::null_mut(), 0);
+        let status = unsafe {
+            tegvurn_module_imports(self.handle.as_ptr(), module, &mut imports, &mut count)
+        };
+        self.done(status)?;
+        let list = unsafe { imports_of(slice_of(imports, count)) };
+        unsafe { tegvurn_imports_free(imports) };
         list.map_err(|_| out_of_memory())
     }
 
@@ -649,6 +807,60 @@ impl<T: 'static> Embedding<T> {
         let ty = unsafe { extern_type_of(&*found, &mut Known::new()) };
         unsafe { tegvurn_exports_free(found) };
         ty.map_err(|_| out_of_memory())
+    }
+
+    /// Links and registers a provider of these objects, and of the host functions of a module name, if there is one.
+    pub(crate) fn provide(
+        &mut self,
+        name: &str,
+        functions_of: Option<&str>,
+        objects: &[Object],
+    ) -> Result<u64, Error> {
+        let raw_hosts = functions_of.map_or(Vec::new(), |module| self.hosts.raw(Some(module)));
+        let raw_objects: Vec<RawProvided> = objects.iter().map(raw_object).collect();
+        let mut instance = 0;
+        let status = unsafe {
+            tegvurn_provide(
+                self.handle.as_ptr(),
+                raw_text(name),
+                raw_hosts.as_ptr(),
+                raw_hosts.len(),
+                raw_objects.as_ptr(),
+                raw_objects.len(),
+                &mut instance,
+            )
+        };
+        self.done(status).map(|()| instance)
+    }
+
+    pub(crate) fn open_window(&mut self, instance: u64, memory: &str) -> Result<u64, Error> {
+        let mut window = 0;
+        let status = unsafe {
+            tegvurn_window_open(
+                self.handle.as_ptr(),
+                instance,
+                raw_text(memory),
+                &mut window,
+            )
+        };
+        self.done(status).map(|()| window)
+    }
+
+    pub(crate) fn read_window(
+        &mut self,
+        window: u64,
+        at: u64,
+        bytes: &mut [u8],
+    ) -> Result<(), Error> {
+        let (to, size) = (bytes.as_mut_ptr(), bytes.len());
+        let status = unsafe { tegvurn_window_read(self.handle.as_ptr(), window, at, to, size) };
+        self.done(status)
+    }
+
+    pub(crate) fn write_window(&mut self, window: u64, at: u64, bytes: &[u8]) -> Result<(), Error> {
+        let (from, size) = (bytes.as_ptr(), bytes.len());
+        let status = unsafe { tegvurn_window_write(self.handle.as_ptr(), window, at, from, size) };
+        self.done(status)
     }
 
     pub(crate) fn script(&mut self, json: &[u8], files: &[(&str, &[u8])]) -> Result<Report, Error> {
@@ -700,13 +912,38 @@ unsafe fn exports_of(raw: &[RawExport]) -> Result<Vec<Export>, TryReserveError> 
     list.try_reserve_exact(raw.len())?;
     for export in raw {
         list.push(Export {
-            name: owned(&String::from_utf8_lossy(unsafe {
-                slice_of(export.name.bytes, export.name.size)
-            }))?,
+            name: unsafe { name_of(&export.name) }?,
             ty: unsafe { extern_type_of(export, &mut known) }?,
         });
     }
     Ok(list)
+}
+
+/// Copies a list of imports.
+///
+/// # Safety
+/// The imports are those of one list of the C library.
+unsafe fn imports_of(raw: &[RawImport]) -> Result<Vec<Import>, TryReserveError> {
+    let (mut list, mut known) = (Vec::new(), Known::new());
+    list.try_reserve_exact(raw.len())?;
+    for import in raw {
+        list.push(Import {
+            module: unsafe { name_of(&import.module_name) }?,
+            name: unsafe { name_of(&import.named.name) }?,
+            ty: unsafe { extern_type_of(&import.named, &mut known) }?,
+        });
+    }
+    Ok(list)
+}
+
+/// Copies a name.
+///
+/// # Safety
+/// The text is one of the C library.
+unsafe fn name_of(raw: &RawText) -> Result<String, TryReserveError> {
+    owned(&String::from_utf8_lossy(unsafe {
+        slice_of(raw.bytes, raw.size)
+    }))
 }
 
 /// Returns the type of an exported function, and adds it to `known`.
@@ -769,30 +1006,18 @@ impl<T> Drop for Embedding<T> {
 #[cfg(test)]
 mod tests {
     use super::*;
-    use std::cell::Cell;
-    use std::rc::Rc;
+    use std::sync::atomic::{AtomicPtr, Ordering};
+    use std::sync::Arc;
 
     /// `(module (import "host" "ask" (func $ask)) (export "f" (func $ask)))`
     const MODULE: &[u8] =
         b"\0asm\x01\0\0\0\x01\x04\x01\x60\0\0\x02\x0c\x01\x04host\x03ask\0\0\x07\x05\x01\x01f\0\0";
 
     /// Returns an embedding whose host function does this.
-    fn embedding_of(ask: impl FnMut() + 'static) -> Embedding<()> {
-        let mut ask = ask;
-        let definition = Definition {
-            module: "host".to_owned(),
-            name: "ask".to_owned(),
-            ty: FuncType::new([], []),
-            function: Box::new(move |_, _, _| {
-                ask();
-                Ok(())
-            }),
-        };
-        let config = Config {
-            fuel: 1_000,
-            ..Config::default()
-        };
-        let mut embedding = Embedding::new(config, vec![definition], ()).expect("an embedding");
+    fn embedding_of(ask: impl FnMut() + Send + 'static) -> Embedding<()> {
+        let mut linker = Linker::<()>::new(&Engine::new(Config::default()));
+        linker.func_wrap("host", "ask", ask);
+        let mut embedding = Embedding::new(linker, (), NO_QUOTA).expect("an embedding");
         let module = embedding.load(MODULE).expect("a module");
         embedding.link(module).expect("an instance");
         embedding
@@ -801,18 +1026,18 @@ mod tests {
     // No safe code can do this, so the closure makes a copy of its own embedding.
     #[test]
     fn a_busy_embedding_keeps_its_host_functions_when_it_is_dropped() {
-        let own = Rc::new(Cell::new(ptr::null::<Embedding<()>>()));
-        let kept = Rc::clone(&own);
+        let own = Arc::new(AtomicPtr::<Embedding<()>>::new(ptr::null_mut()));
+        let kept = Arc::clone(&own);
         let mut embedding = Box::new(embedding_of(move || {
-            drop(unsafe { ptr::read(kept.get()) });
-            assert_eq!(Rc::strong_count(&kept), 2);
+            drop(unsafe { ptr::read(kept.load(Ordering::Relaxed)) });
+            assert_eq!(Arc::strong_count(&kept), 2);
         }));
-        own.set(&*embedding);
+        own.store(&mut *embedding, Ordering::Relaxed);
         assert_eq!(embedding.call(0, "f", &[], &mut []), Ok(()));
         assert_eq!(embedding.call(0, "f", &[], &mut []), Ok(()));
-        assert_eq!(Rc::strong_count(&own), 2);
+        assert_eq!(Arc::strong_count(&own), 2);
         drop(embedding);
-        assert_eq!(Rc::strong_count(&own), 1);
+        assert_eq!(Arc::strong_count(&own), 1);
     }
 
     fn end_of(status: u32, number: u32) -> RawEnd {

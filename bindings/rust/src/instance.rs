@@ -1,8 +1,9 @@
-//! Modules, instances, and what instances export.
+//! Modules, instances, and what they import and export.
 
 use crate::embedding::{kept, refused};
 use crate::error::{self, Cause, Error};
 use crate::store::Store;
+use crate::typed::{TypedFunc, WasmTyList};
 use crate::types::{ExternType, FuncType, Val};
 
 /// A module of a store.
@@ -34,7 +35,18 @@ pub struct Global {
     name: String,
 }
 
-/// What an instance exports under a name.
+/// What a module imports under the name of a module and a name in it.
+#[derive(Clone, Debug, PartialEq, Eq)]
+pub struct Import {
+    /// The name of the module that is imported from.
+    pub module: String,
+    /// The name in that module.
+    pub name: String,
+    /// The type that is required.
+    pub ty: ExternType,
+}
+
+/// What an instance or a module exports under a name.
 #[derive(Clone, Debug, PartialEq, Eq)]
 pub struct Export {
     /// The name of the export.
@@ -55,6 +67,24 @@ impl Module {
         })
     }
 
+    /// Returns what the module imports, in its order. It need not be linked. Functions of one index of types share one type in the list.
+    ///
+    /// # Errors
+    /// The call is refused with [`Cause::OutOfMemory`] if an allocation for the list fails.
+    pub fn imports<T>(self, store: &mut Store<T>) -> Result<Vec<Import>, Error> {
+        store.own(self.store)?;
+        store.embedding.module_imports(self.number)
+    }
+
+    /// Returns what the module exports, in its order. It need not be linked. The minimum of a table or a memory is the declared one.
+    ///
+    /// # Errors
+    /// The call is refused with [`Cause::OutOfMemory`] if an allocation for the list fails.
+    pub fn exports<T>(self, store: &mut Store<T>) -> Result<Vec<Export>, Error> {
+        store.own(self.store)?;
+        store.embedding.module_exports(self.number)
+    }
+
     /// Returns its number in the store, from 0.
     pub fn number(self) -> u64 {
         self.number
@@ -69,8 +99,8 @@ impl Instance {
     /// Links a module to the store's host functions and registered instances, and runs its start function.
     ///
     /// # Errors
-    /// The call is refused, a segment or the start function of the module traps or exhausts something, or the module belongs to
-    /// [another store](Error::OtherStore).
+    /// The call is refused, the start function or a segment of the module [traps](Error::LinkTrap) or [runs out of
+    /// something](Error::LinkExhausted), a host function [fails](Error::Host), or the module belongs to [another store](Error::OtherStore).
     pub fn new<T>(store: &mut Store<T>, module: &Module) -> Result<Instance, Error> {
         store.own(module.store)?;
         Ok(Instance {
@@ -122,6 +152,19 @@ impl Instance {
             }),
             _ => Err(wrong_kind()),
         }
+    }
+
+    /// Returns the function that the instance exports under a name, with these parameters and results. Each is `()`, one integer, or a
+    /// tuple: `instance.get_typed_func::<(i32, i32), i32>(&mut store, "add")`.
+    ///
+    /// # Errors
+    /// As for [`Instance::get_func`], or [`Error::OtherType`] if the function has another type.
+    pub fn get_typed_func<Params: WasmTyList, Results: WasmTyList>(
+        self,
+        store: &mut Store<impl Sized>,
+        name: &str,
+    ) -> Result<TypedFunc<Params, Results>, Error> {
+        TypedFunc::new(self.get_func(store, name)?)
     }
 
     /// Returns the global that the instance exports under a name. The cost hardly depends on the number of other exports.

@@ -1,6 +1,10 @@
 //! What a store is made with: its bounds and its host functions.
 
+use crate::error::Trap;
+use crate::typed::IntoFunc;
 use crate::types::{FuncType, Val};
+use std::error::Error;
+use std::fmt::{self, Display, Formatter};
 
 /// The bounds of a store.
 #[derive(Clone, Copy, Debug, PartialEq, Eq)]
@@ -58,12 +62,24 @@ pub struct Caller<'a, T> {
     pub memory: &'a mut [u8],
 }
 
-/// A trap of a host function, with a code that the host chooses.
+/// An error of the host's own, which a host function may return: a [`HostTrap`] or any other. Any other error comes back from the call of
+/// the store as [`Error::Host`](crate::Error::Host).
+pub type HostError = Box<dyn Error + Send + Sync>;
+
+/// An error with which a host function traps, with a code that the host chooses.
 #[derive(Clone, Copy, Debug, PartialEq, Eq, Hash)]
 pub struct HostTrap(pub u32);
 
+impl Display for HostTrap {
+    fn fmt(&self, f: &mut Formatter<'_>) -> fmt::Result {
+        Display::fmt(&Trap::Host(self.0), f)
+    }
+}
+
+impl Error for HostTrap {}
+
 pub(crate) type HostFunction<T> =
-    Box<dyn FnMut(Caller<'_, T>, &[Val], &mut [Val]) -> Result<(), HostTrap>>;
+    Box<dyn FnMut(Caller<'_, T>, &[Val], &mut [Val]) -> Result<(), HostError> + Send>;
 
 pub(crate) struct Definition<T> {
     pub(crate) module: String,
@@ -76,6 +92,7 @@ pub(crate) struct Definition<T> {
 pub struct Linker<T> {
     pub(crate) engine: Engine,
     pub(crate) definitions: Vec<Definition<T>>,
+    pub(crate) has_windows: bool,
 }
 
 impl<T: 'static> Linker<T> {
@@ -84,26 +101,70 @@ impl<T: 'static> Linker<T> {
         Linker {
             engine: engine.clone(),
             definitions: Vec::new(),
+            has_windows: false,
         }
     }
 
-    /// Defines a host function, which modules import by these names.
+    /// Defines the host function of windows, `tegvurn.window`, after all others, so that a [`Window`](crate::Window) can be made. If any
+    /// other module calls it, it does nothing.
+    pub fn allow_windows(&mut self) -> &mut Linker<T> {
+        self.has_windows = true;
+        self
+    }
+
+    /// Defines a host function, which modules import by these names. Its parameters and results are those of the closure: `i32` and `u32`
+    /// are the type i32, and `i64` and `u64` are i64.
+    ///
+    /// ```no_run
+    /// # use tegvurn::{Caller, HostTrap, Linker};
+    /// # fn define(linker: &mut Linker<i32>) {
+    /// linker.func_wrap("host", "add", |_caller: Caller<i32>, a: i32, b: i32| -> i32 { a.wrapping_add(b) });
+    /// linker.func_wrap("host", "byte", |caller: Caller<i32>, at: u32| -> Result<u32, HostTrap> {
+    ///     caller.memory.get(at as usize).map(|byte| u32::from(*byte)).ok_or(HostTrap(1))
+    /// });
+    /// # }
+    /// ```
+    ///
+    /// An error or a panic has the effect that [`Linker::func_new`] describes.
+    pub fn func_wrap<Params, Results>(
+        &mut self,
+        module: &str,
+        name: &str,
+        function: impl IntoFunc<T, Params, Results>,
+    ) -> &mut Linker<T> {
+        let (ty, function) = function.into_func();
+        self.define(module, name, ty, function)
+    }
+
+    /// Defines a host function of this type, which modules import by these names.
     ///
     /// The closure gets results that are zeros and null references of the declared types, and replaces them with its own. If its own have
     /// other types, the call traps with the code 4294967295.
     ///
-    /// If the closure panics, its call traps, no closure is called again until the store's call has ended, and then the panic continues.
+    /// If the closure returns a [`HostTrap`], its call traps with that code. If it returns another error or panics, its call traps, and no
+    /// closure is called again until the store's call has ended. Then the error comes back from that call, or the panic continues.
     pub fn func_new(
         &mut self,
         module: &str,
         name: &str,
         ty: FuncType,
-        function: impl FnMut(Caller<'_, T>, &[Val], &mut [Val]) -> Result<(), HostTrap> + 'static,
+        function: impl FnMut(Caller<'_, T>, &[Val], &mut [Val]) -> Result<(), HostError>
+            + Send
+            + 'static,
     ) -> &mut Linker<T> {
-        let (module, name, function) = (module.to_owned(), name.to_owned(), Box::new(function));
+        self.define(module, name, ty, Box::new(function))
+    }
+
+    fn define(
+        &mut self,
+        module: &str,
+        name: &str,
+        ty: FuncType,
+        function: HostFunction<T>,
+    ) -> &mut Linker<T> {
         self.definitions.push(Definition {
-            module,
-            name,
+            module: module.to_owned(),
+            name: name.to_owned(),
             ty,
             function,
         });

@@ -1,12 +1,13 @@
 //! Stores, into which modules are loaded and in which they are linked.
 
-use crate::embedding::Embedding;
+use crate::embedding::{Embedding, NO_QUOTA};
 use crate::error::{Cause, Error};
 use crate::instance::Instance;
 use crate::linker::Linker;
 use std::sync::atomic::{AtomicU64, Ordering};
 
-/// A store: modules and instances, host functions with their data, and fuel. It is neither `Send` nor `Sync`, so it stays on its thread.
+/// A store: modules and instances, host functions with their data, and fuel. It is `Send` if its data is, and moves between threads. It is
+/// not `Sync`: each call borrows it mutably, so one thread uses it at a time.
 pub struct Store<T: 'static> {
     pub(crate) embedding: Embedding<T>,
     pub(crate) id: u64,
@@ -34,10 +35,27 @@ impl<T: 'static> Store<T> {
     /// - [`Cause::HostFuncRef`] if a host function has a funcref result
     /// - [`Cause::OutOfMemory`]
     pub fn new(linker: Linker<T>, data: T) -> Result<Store<T>, Error> {
+        Store::with_quota(linker, data, NO_QUOTA)
+    }
+
+    /// Makes a store with a quota: the most bytes that its modules and instances and a running call may hold together, by the sizes of
+    /// docs/SPECIFICATION.md. What would pass the quota ends as if memory had run out, and nothing is allocated for it. [`u64::MAX`] is no
+    /// quota.
+    ///
+    /// ```no_run
+    /// # use tegvurn::{Config, Engine, Error, Linker, Store};
+    /// # fn make() -> Result<Store<()>, Error> {
+    /// let linker = Linker::new(&Engine::new(Config::default()));
+    /// Store::with_quota(linker, (), 16 << 20)
+    /// # }
+    /// ```
+    ///
+    /// # Errors
+    /// Those of [`Store::new`].
+    pub fn with_quota(linker: Linker<T>, data: T, quota: u64) -> Result<Store<T>, Error> {
         static NEXT: AtomicU64 = AtomicU64::new(0);
-        let embedding = Embedding::new(*linker.engine.config(), linker.definitions, data)?;
         Ok(Store {
-            embedding,
+            embedding: Embedding::new(linker, data, quota)?,
             id: NEXT.fetch_add(1, Ordering::Relaxed),
         })
     }
@@ -60,6 +78,11 @@ impl<T: 'static> Store<T> {
     /// Returns the fuel that is left.
     pub fn get_fuel(&mut self) -> Result<u64, Error> {
         self.embedding.fuel_left()
+    }
+
+    /// Returns how many bytes of the quota are left. Without a quota, they are those left of [`u64::MAX`].
+    pub fn quota_left(&mut self) -> Result<u64, Error> {
+        self.embedding.quota_left()
     }
 
     /// Runs a script, a command file as wast2json writes it, with the files that it names: each has a name and its bytes.

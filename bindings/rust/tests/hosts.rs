@@ -1,16 +1,18 @@
-//! Tests of host functions that panic, borrow memory or own values, of stores that are confused with one another, of failed allocations and
-//! their number, and of the example.
+//! Tests of host functions that panic, return errors, borrow memory or own values, of stores that are confused with one another, of failed
+//! allocations and their number, and of the examples.
 
 #![warn(unsafe_op_in_unsafe_fn)]
 
 use std::alloc::{GlobalAlloc, Layout, System};
-use std::cell::{Cell, RefCell};
+use std::cell::Cell;
+use std::fmt::{self, Display, Formatter};
 use std::panic::{self, AssertUnwindSafe};
 use std::process::Command;
-use std::rc::Rc;
+use std::sync::{Arc, Mutex};
+use std::thread::{self, ThreadId};
 use tegvurn::{
-    Cause, Config, Engine, Error, Exhaustion, ExternType, FuncType, HostTrap, Instance, Linker,
-    Module, Place, Store, Trap, Val, ValType,
+    Caller, Cause, Config, Engine, Error, Exhaustion, ExternType, FuncType, HostError, HostTrap,
+    Instance, Linker, Module, Place, Store, Trap, Val, ValType,
 };
 
 /// The module
@@ -38,7 +40,7 @@ const BOUNDS: Config = Config {
 
 /// Returns a store whose host function `ask` is this closure, and the instance of the module.
 fn store_of(
-    ask: impl FnMut(&mut u32, &mut [u8], i32) -> Result<Val, HostTrap> + 'static,
+    ask: impl FnMut(&mut u32, &mut [u8], i32) -> Result<Val, HostError> + Send + 'static,
 ) -> (Store<u32>, Instance) {
     let engine = Engine::new(BOUNDS);
     let (mut linker, mut ask) = (Linker::<u32>::new(&engine), ask);
@@ -85,7 +87,8 @@ fn a_panic_goes_on_behind_the_call() {
 /// Returns a command of a script that calls `ask` with this number.
 fn ask_command(number: i32) -> String {
     format!(
-        r#"{{"type":"action","line":1,"action":{{"type":"invoke","field":"ask","args":[{{"type":"i32","value":"{number}"}}]}}}}"#
+        r#"{{"type":"action","line":1,"action":{{"type":"invoke","field":"ask","args":[{{"type":"i32","value":"{}"}}]}}}}"#,
+        number as u32
     )
 }
 
@@ -151,7 +154,7 @@ fn traps_and_wrong_results_have_their_codes() {
         if number == 0 {
             Ok(Val::I64(0))
         } else {
-            Err(HostTrap(number as u32))
+            Err(HostTrap(number as u32).into())
         }
     });
     assert_eq!(
@@ -177,33 +180,186 @@ fn traps_and_wrong_results_have_their_codes() {
     );
 }
 
+/// `(module (memory 1) (data (i32.const 65536) "a"))`
+const DATA_AFTER_END: &[u8] =
+    b"\0asm\x01\0\0\0\x05\x03\x01\0\x01\x0b\x09\x01\0\x41\x80\x80\x04\x0b\x01a";
+/// `(module (func $start call $start) (start $start))`
+const STARTS_RECURSION: &[u8] =
+    b"\0asm\x01\0\0\0\x01\x04\x01\x60\0\0\x03\x02\x01\0\x08\x01\0\x0a\x06\x01\x04\0\x10\0\x0b";
+
+#[test]
+fn the_end_of_a_link_says_what_can_have_ended_so() {
+    let rows = [
+        (
+            STARTS,
+            1_000,
+            Error::LinkTrap(Trap::Host(7)),
+            "host trap with code 7 in the start function",
+        ),
+        (
+            DATA_AFTER_END,
+            1_000,
+            Error::LinkTrap(Trap::MemoryBounds),
+            "out of bounds memory access in the start function or a segment",
+        ),
+        (
+            DATA_AFTER_END,
+            0,
+            Error::LinkExhausted(Exhaustion::Fuel),
+            "out of fuel in the start function or a segment",
+        ),
+        (
+            STARTS_RECURSION,
+            1_000,
+            Error::LinkExhausted(Exhaustion::Depth),
+            "out of depth in the start function",
+        ),
+    ];
+    let mut linker = Linker::<()>::new(&Engine::new(BOUNDS));
+    linker.func_wrap("host", "start", || -> Result<(), HostTrap> {
+        Err(HostTrap(7))
+    });
+    let mut store = Store::new(linker, ()).expect("a store");
+    for (bytes, fuel, wanted, text) in rows {
+        let module = Module::new(&mut store, bytes).expect("a module");
+        store.set_fuel(fuel).expect("fuel");
+        let error = Instance::new(&mut store, &module).expect_err(text);
+        assert_eq!((error.to_string().as_str(), error), (text, wanted));
+    }
+    assert_eq!(
+        Trap::Host(u32::MAX).to_string(),
+        "host trap with code 4294967295"
+    );
+    assert_eq!(HostTrap(0).to_string(), "host trap with code 0");
+    assert_eq!(Trap::Unreachable.to_string(), "unreachable");
+}
+
 #[test]
 fn a_closure_may_call_another_store() {
     let (mut inner, inner_instance) = store_of(|_, _, number| Ok(Val::I32(number * 2)));
-    let (mut outer, instance) = store_of(move |_, _, number| {
-        call(&mut inner, inner_instance, "ask", number).map_err(|_| HostTrap(1))
-    });
+    let (mut outer, instance) =
+        store_of(move |_, _, number| Ok(call(&mut inner, inner_instance, "ask", number)?));
     assert_eq!(call(&mut outer, instance, "ask", 21), Ok(Val::I32(42)));
+}
+
+/// An error of a host function, with a source.
+#[derive(Debug, PartialEq, Eq)]
+struct Lost(i32, Option<HostTrap>);
+
+impl Display for Lost {
+    fn fmt(&self, f: &mut Formatter<'_>) -> fmt::Result {
+        write!(f, "{} is lost", self.0)
+    }
+}
+
+impl std::error::Error for Lost {
+    fn source(&self) -> Option<&(dyn std::error::Error + 'static)> {
+        self.1.as_ref().map(|trap| trap as _)
+    }
+}
+
+/// Returns a store whose host function counts its calls, and returns an error if its argument is negative.
+fn losing_store() -> (Store<u32>, Instance) {
+    store_of(|calls, _memory, number| {
+        *calls += 1;
+        if number < 0 {
+            return Err(Lost(number, Some(HostTrap(7))).into());
+        }
+        Ok(Val::I32(number))
+    })
+}
+
+#[test]
+fn the_error_of_a_host_function_comes_back_from_the_call() {
+    let (mut store, instance) = losing_store();
+    assert_eq!(call(&mut store, instance, "ask", 1), Ok(Val::I32(1)));
+    let error = call(&mut store, instance, "ask", -5).expect_err("an error");
+    assert_eq!(error.to_string(), "-5 is lost");
+    assert_eq!(error.downcast_ref(), Some(&Lost(-5, Some(HostTrap(7)))));
+    assert_eq!(error.downcast_ref::<HostTrap>(), None);
+    let source = std::error::Error::source(&error).expect("a source");
+    assert_eq!(source.downcast_ref(), Some(&HostTrap(7)));
+    let again = call(&mut store, instance, "ask", -5).expect_err("an error");
+    assert_ne!(error, again);
+    let error = error.downcast::<HostTrap>().expect_err("another error");
+    assert_eq!(error.downcast(), Ok(Lost(-5, Some(HostTrap(7)))));
+    assert_eq!(call(&mut store, instance, "ask", 2), Ok(Val::I32(2)));
+    assert_eq!(*store.data(), 4);
+}
+
+#[test]
+fn any_error_that_is_no_trap_comes_back() {
+    let (mut store, instance) = store_of(|_, _, number| match number {
+        0 => Err("a text".into()),
+        1 => Ok("x".parse::<i32>().map(Val::I32)?),
+        _ => Err(Box::new(Error::OtherStore)),
+    });
+    let texts: Vec<String> = (0..3)
+        .map(|number| call(&mut store, instance, "ask", number).expect_err("an error"))
+        .map(|error| match error {
+            Error::Host(own) => own.to_string(),
+            other => panic!("{other:?}"),
+        })
+        .collect();
+    assert_eq!(texts[0], "a text");
+    assert_eq!(
+        texts[1],
+        "x".parse::<i32>().expect_err("an error").to_string()
+    );
+    assert_eq!(texts[2], "it belongs to another store");
+    let trap = Error::Trap(Trap::Unreachable);
+    assert!(trap.downcast_ref::<Lost>().is_none());
+    assert_eq!(trap.downcast::<Lost>(), Err(Error::Trap(Trap::Unreachable)));
+}
+
+#[test]
+fn the_first_error_of_a_script_comes_back_and_no_closure_is_called_after_it() {
+    let (mut store, _) = losing_store();
+    let error = script(&mut store, &[1, -2, -3, 4]).expect_err("an error");
+    assert_eq!(error.downcast(), Ok(Lost(-2, Some(HostTrap(7)))));
+    assert_eq!(*store.data(), 2);
+    let report = script(&mut store, &[1, 1]).expect("a report");
+    assert_eq!((report.passed, *store.data()), (3, 4));
+}
+
+/// `(module (import "host" "start" (func $start)) (start $start))`
+const STARTS: &[u8] =
+    b"\0asm\x01\0\0\0\x01\x04\x01\x60\0\0\x02\x0e\x01\x04host\x05start\0\0\x08\x01\0";
+
+#[test]
+fn the_error_of_a_start_function_comes_back_from_the_link() {
+    let mut linker = Linker::<u32>::new(&Engine::new(BOUNDS));
+    linker.func_new("host", "start", FuncType::new([], []), |caller, _, _| {
+        *caller.data += 1;
+        Err(Lost(*caller.data as i32, None).into())
+    });
+    let mut store = Store::new(linker, 0).expect("a store");
+    let module = Module::new(&mut store, STARTS).expect("a module");
+    for number in 1..3 {
+        let error = Instance::new(&mut store, &module).expect_err("an error");
+        assert_eq!(error.downcast(), Ok(Lost(number, None)));
+    }
 }
 
 #[test]
 fn what_closures_keep_is_dropped_with_the_store() {
-    let kept = Rc::new(RefCell::new(0));
-    let own = Rc::clone(&kept);
+    let kept = Arc::new(Mutex::new(0));
+    let own = Arc::clone(&kept);
     let (mut store, instance) = store_of(move |_, _, number| {
-        *own.borrow_mut() += number;
+        *own.lock().expect("a lock") += number;
         Ok(Val::I32(0))
     });
     call(&mut store, instance, "ask", 5).expect("a result");
-    assert_eq!((*kept.borrow(), Rc::strong_count(&kept)), (5, 2));
+    assert_eq!(*kept.lock().expect("a lock"), 5);
+    assert_eq!(Arc::strong_count(&kept), 2);
     drop(store);
-    assert_eq!(Rc::strong_count(&kept), 1);
+    assert_eq!(Arc::strong_count(&kept), 1);
 }
 
 #[test]
 fn what_closures_keep_is_dropped_where_there_is_no_store() {
-    let kept = Rc::new(());
-    let own = Rc::clone(&kept);
+    let kept = Arc::new(());
+    let own = Arc::clone(&kept);
     let mut linker = Linker::<()>::new(&Engine::new(Config { depth: 0, ..BOUNDS }));
     linker.func_new("host", "ask", FuncType::new([], []), move |_, _, _| {
         let _ = &own;
@@ -213,7 +369,77 @@ fn what_closures_keep_is_dropped_where_there_is_no_store() {
         Err(Error::Refused(refusal)) => assert_eq!(refusal.cause, Cause::BadSetup),
         _ => panic!("a store without frames"),
     }
-    assert_eq!(Rc::strong_count(&kept), 1);
+    assert_eq!(Arc::strong_count(&kept), 1);
+}
+
+/// Returns a store whose data are the threads that its host function ran on, and the instance of the module.
+fn threads_store() -> (Store<Vec<ThreadId>>, Instance) {
+    let mut linker = Linker::<Vec<ThreadId>>::new(&Engine::new(BOUNDS));
+    linker.func_wrap("host", "ask", |caller: Caller<Vec<ThreadId>>, at: u32| {
+        caller.data.push(thread::current().id());
+        caller.memory[at as usize] += 1;
+        u32::from(caller.memory[at as usize])
+    });
+    let mut store = Store::new(linker, Vec::new()).expect("a store");
+    let module = Module::new(&mut store, MODULE).expect("a module");
+    let instance = Instance::new(&mut store, &module).expect("an instance");
+    (store, instance)
+}
+
+#[test]
+fn a_store_moves_between_threads() {
+    let (mut store, instance) = thread::spawn(threads_store).join().expect("a store");
+    let mut wanted = Vec::new();
+    for number in 1..10 {
+        let handle = thread::spawn(move || {
+            let ask = instance.get_typed_func::<u32, u32>(&mut store, "ask");
+            let result = ask.expect("a function").call(&mut store, 0);
+            (store, result, thread::current().id())
+        });
+        let (moved, result, id) = handle.join().expect("a result");
+        store = moved;
+        wanted.push(id);
+        assert_eq!(result, Ok(number));
+        assert_eq!(store.data(), &wanted);
+    }
+    thread::spawn(move || drop(store)).join().expect("no panic");
+}
+
+#[test]
+fn a_panic_and_an_error_leave_the_thread_that_called() {
+    let (mut store, instance) = store_of(|_, _, number| match number {
+        0 => panic::panic_any("zero"),
+        _ => Err(Lost(number, None).into()),
+    });
+    let panic = thread::scope(|scope| {
+        let calling = scope.spawn(|| call(&mut store, instance, "ask", 0));
+        calling.join().expect_err("a panic")
+    });
+    assert_eq!(panic.downcast_ref(), Some(&"zero"));
+    let (store, error) = thread::spawn(move || {
+        let error = call(&mut store, instance, "ask", 5).expect_err("an error");
+        (store, error)
+    })
+    .join()
+    .expect("an error");
+    assert_eq!(error.downcast(), Ok(Lost(5, None)));
+    drop(store);
+}
+
+/// Two traits of this name apply to what is shared between threads, so that `of` is then ambiguous.
+trait NotShared<Way> {
+    fn of() {}
+}
+impl<S: ?Sized> NotShared<()> for S {}
+impl<S: ?Sized + Sync> NotShared<u8> for S {}
+
+#[test]
+fn a_store_is_sent_and_not_shared() {
+    fn is_sent<S: Send>() {}
+    is_sent::<Store<u32>>();
+    is_sent::<Linker<u32>>();
+    is_sent::<Error>();
+    <Store<u32> as NotShared<_>>::of();
 }
 
 #[test]
@@ -414,6 +640,38 @@ fn exports_are_refused_when_an_allocation_fails() {
     }
 }
 
+/// Returns how many allocations a call of `ask` makes over this linker, and how many a typed one makes.
+fn allocations_of_calls(linker: Linker<u32>) -> (usize, usize) {
+    let mut store = Store::new(linker, 0).expect("a store");
+    let module = Module::new(&mut store, MODULE).expect("a module");
+    let instance = Instance::new(&mut store, &module).expect("an instance");
+    let function = instance.get_func(&mut store, "ask").expect("a function");
+    let typed = instance
+        .get_typed_func::<i32, i32>(&mut store, "ask")
+        .expect("a function");
+    let mut results = [Val::I32(0)];
+    let (_, _, made) = counted(|| function.call(&mut store, &[Val::I32(5)], &mut results));
+    let (result, _, made_typed) = counted(|| typed.call(&mut store, 5));
+    assert_eq!((result, results), (Ok(6), [Val::I32(6)]));
+    (made, made_typed)
+}
+
+#[test]
+fn typed_calls_and_host_functions_allocate_no_more_than_others() {
+    let engine = Engine::new(BOUNDS);
+    let mut plain = Linker::<u32>::new(&engine);
+    let mut typed = Linker::<u32>::new(&engine);
+    let ty = FuncType::new([ValType::I32], [ValType::I32]);
+    plain.func_new("host", "ask", ty, |_, args, results| {
+        results[0] = Val::I32(args[0].i32().expect("an i32") + 1);
+        Ok(())
+    });
+    typed.func_wrap("host", "ask", |number: i32| number + 1);
+    let (most, typed_call) = allocations_of_calls(plain);
+    let (typed_host, both_typed) = allocations_of_calls(typed);
+    assert!(typed_call <= most && typed_host <= most && both_typed <= most);
+}
+
 /// Encodes a number in four bytes, as the binary format has it.
 fn four_bytes(number: usize) -> [u8; 4] {
     let digit = |shift: u32| (number >> shift) as u8 & 0x7f;
@@ -484,31 +742,28 @@ fn many_exports_share_a_type_and_one_is_found_alone() {
     assert_eq!(found.ty(), types(0));
 }
 
-#[test]
-fn the_example_prints_what_it_has_to() {
-    let folder = env!("CARGO_MANIFEST_DIR");
+/// Runs an example with these arguments, and returns what it prints.
+fn printed_by(example: &str, args: &[&str]) -> String {
     let output = Command::new(env!("CARGO"))
-        .args([
-            "run",
-            "--quiet",
-            "--offline",
-            "--example",
-            "plugin_host",
-            "--",
-        ])
-        .arg(format!(
-            "{folder}/../../crates/plugin_host/data/plugin.wasm"
-        ))
-        .current_dir(folder)
+        .args(["run", "--quiet", "--offline", "--example", example, "--"])
+        .args(args)
+        .current_dir(env!("CARGO_MANIFEST_DIR"))
         .output()
         .expect("cargo runs");
-    assert!(
-        output.status.success(),
-        "{}",
-        String::from_utf8_lossy(&output.stderr)
+    let errors = String::from_utf8_lossy(&output.stderr);
+    assert!(output.status.success(), "{errors}");
+    String::from_utf8_lossy(&output.stdout).into_owned()
+}
+
+#[test]
+fn the_examples_print_what_they_have_to() {
+    let plugin = "../../crates/plugin_host/data/plugin.wasm";
+    assert_eq!(
+        printed_by("plugin_host", &[plugin]),
+        include_str!("../examples/plugin_host.out")
     );
     assert_eq!(
-        String::from_utf8_lossy(&output.stdout),
-        include_str!("../examples/plugin_host.out")
+        printed_by("texts", &[]),
+        include_str!("../examples/texts.out")
     );
 }

@@ -3,8 +3,8 @@
 use std::collections::HashMap;
 use std::fmt::Write;
 use tegvurn::{
-    Caller, Cause, Config, Engine, Error, Export, ExternType, Func, FuncType, HostTrap, Instance,
-    Limits, Linker, Module, Place, Refusal, Store, Val, ValType,
+    Caller, Cause, Config, Engine, Error, Export, ExternType, Func, FuncType, HostError, HostTrap,
+    Import, Instance, Limits, Linker, Module, Place, Refusal, Store, Val, ValType,
 };
 
 const ROWS: &str = include_str!("../../rows.txt");
@@ -51,8 +51,8 @@ fn say_limits(limits: Limits) -> String {
     }
 }
 
-fn say_export(export: Export) -> String {
-    let ty = match export.ty {
+fn say_extern_type(ty: ExternType) -> String {
+    match ty {
         ExternType::Func(ty) => {
             format!("func{}{}", say_types(ty.params()), say_types(ty.results()))
         }
@@ -63,8 +63,16 @@ fn say_export(export: Export) -> String {
             type_name(ty),
             if is_mutable { "var" } else { "const" }
         ),
-    };
-    format!("{}:{ty}", export.name)
+    }
+}
+
+fn say_export(export: Export) -> String {
+    format!("{}:{}", export.name, say_extern_type(export.ty))
+}
+
+fn say_import(import: Import) -> String {
+    let ty = say_extern_type(import.ty);
+    format!("{}.{}:{ty}", import.module, import.name)
 }
 
 fn say_refusal(refusal: Refusal) -> String {
@@ -84,7 +92,7 @@ fn say_refusal(refusal: Refusal) -> String {
 fn say_error(error: Error) -> String {
     match error {
         Error::Refused(refusal) => say_refusal(refusal),
-        Error::Trap(trap) => {
+        Error::Trap(trap) | Error::LinkTrap(trap) => {
             let code = if let tegvurn::Trap::Host(code) = trap {
                 code
             } else {
@@ -92,7 +100,9 @@ fn say_error(error: Error) -> String {
             };
             format!("trap {} {code}", trap.number())
         }
-        Error::Exhausted(what) => format!("exhausted {}", what.number()),
+        Error::Exhausted(what) | Error::LinkExhausted(what) => {
+            format!("exhausted {}", what.number())
+        }
         other => other.to_string(),
     }
 }
@@ -168,13 +178,13 @@ fn range(args: &[Val]) -> std::ops::Range<usize> {
     word(0)..word(0) + word(1)
 }
 
-fn log(caller: Caller<'_, State>, args: &[Val], _results: &mut [Val]) -> Result<(), HostTrap> {
+fn log(caller: Caller<'_, State>, args: &[Val], _results: &mut [Val]) -> Result<(), HostError> {
     let bytes = caller.memory.get(range(args)).ok_or(HostTrap(7))?;
     caller.data.log.extend(bytes);
     Ok(())
 }
 
-fn fill(caller: Caller<'_, State>, args: &[Val], _results: &mut [Val]) -> Result<(), HostTrap> {
+fn fill(caller: Caller<'_, State>, args: &[Val], _results: &mut [Val]) -> Result<(), HostError> {
     let bytes = caller.memory.get_mut(range(args)).ok_or(HostTrap(8))?;
     bytes.fill(args[2].i32().expect("an i32") as u8);
     Ok(())
@@ -219,7 +229,7 @@ fn standard_hosts(engine: &Engine) -> Linker<State> {
     linker.func_new("env", "log", FuncType::new([I32, I32], []), log);
     linker.func_new("env", "fill", FuncType::new([I32, I32, I32], []), fill);
     linker.func_new("env", "fail", FuncType::new([I32], []), |_, args, _| {
-        Err(HostTrap(args[0].i32().expect("an i32") as u32))
+        Err(HostTrap(args[0].i32().expect("an i32") as u32).into())
     });
     linker.func_new("env", "wrong", FuncType::new([], [I32]), |_, _, results| {
         results[0] = Val::I64(0);
@@ -289,22 +299,27 @@ impl Rows {
         self.store().instance(number(word))
     }
 
-    fn new_store(&mut self, words: &[&str]) -> String {
+    // Makes a store of these words of a setup, with a quota unless there is none.
+    fn new_store(&mut self, quota: Option<&str>, words: &[&str]) -> String {
         let word = |index: usize| words[index].parse().expect("a number");
         let engine = Engine::new(Config {
-            fuel: number(words[1]),
-            depth: word(2),
-            pages: word(3),
-            entries: word(4),
+            fuel: number(words[0]),
+            depth: word(1),
+            pages: word(2),
+            entries: word(3),
         });
         let mut linker = standard_hosts(&engine);
-        if let [module, name, ty] = words[5..] {
+        if let [module, name, ty] = words[4..] {
             linker.func_new(module, name, read_func_type(ty), |_, _, _| {
                 panic!("it is never called")
             });
         }
         (self.modules, self.store) = (Vec::new(), None);
-        say(Store::new(linker, State::default()), |store| {
+        let made = match quota {
+            Some(bytes) => Store::with_quota(linker, State::default(), number(bytes)),
+            None => Store::new(linker, State::default()),
+        };
+        say(made, |store| {
             self.store = Some(store);
             "done".to_owned()
         })
@@ -319,12 +334,31 @@ impl Rows {
         })
     }
 
-    fn link(&mut self, word: &str) -> String {
+    fn module(&self, word: &str) -> Result<Module, Error> {
+        let number = number(word) as usize;
+        self.modules.get(number).copied().ok_or_else(unknown_module)
+    }
+
+    fn module_imports(&mut self, word: &str) -> String {
         let found = self
-            .modules
-            .get(number(word) as usize)
-            .copied()
-            .ok_or_else(unknown_module);
+            .module(word)
+            .and_then(|module| module.imports(self.store()));
+        say(found, |imports| {
+            say_list(imports.into_iter().map(say_import))
+        })
+    }
+
+    fn module_exports(&mut self, word: &str) -> String {
+        let found = self
+            .module(word)
+            .and_then(|module| module.exports(self.store()));
+        say(found, |exports| {
+            say_list(exports.into_iter().map(say_export))
+        })
+    }
+
+    fn link(&mut self, word: &str) -> String {
+        let found = self.module(word);
         let linked = found.and_then(|module| Instance::new(self.store(), &module));
         say(linked, |instance| instance.number().to_string())
     }
@@ -343,7 +377,7 @@ impl Rows {
     fn exports(&mut self, word: &str) -> String {
         let instance = match self.instance(word) {
             Ok(instance) => instance,
-            Err(_) => return "nothing".to_owned(),
+            Err(error) => return say_error(error),
         };
         let exports = instance.exports(self.store());
         for export in exports.iter().flatten() {
@@ -391,7 +425,8 @@ impl Rows {
     fn answer(&mut self, words: &[&str]) -> String {
         let done = |()| "done".to_owned();
         match words[0] {
-            "new" => self.new_store(words),
+            "new" => self.new_store(None, &words[1..]),
+            "new_with_quota" => self.new_store(Some(words[1]), &words[2..]),
             "load" => self.load(words[1]),
             "link" => self.link(words[1]),
             "register" => {
@@ -410,7 +445,10 @@ impl Rows {
             }
             "fuel" => say(self.store().set_fuel(number(words[1])), done),
             "left" => say(self.store().get_fuel(), |fuel| fuel.to_string()),
+            "quota_left" => say(self.store().quota_left(), |bytes| bytes.to_string()),
             "exports" => self.exports(words[1]),
+            "module_imports" => self.module_imports(words[1]),
+            "module_exports" => self.module_exports(words[1]),
             "script" => self.script(words),
             "logged" => self.logged(),
             other => panic!("no command: {other}"),

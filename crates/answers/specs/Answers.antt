@@ -10,9 +10,9 @@ use Rattle.messages.specs.Numbers.{number_bytes}
 use Rattle.messages.specs.Values.{value_bytes, values_bytes}
 use Rattle.scripts.specs.declared.report.Report.{Report}
 use Rattle.answers.specs.Causes.{cause_number, place_of}
-use Rattle.answers.specs.Exports.{exports_bytes}
+use Rattle.answers.specs.Exports.{exports_bytes, imports_bytes}
 use Rattle.answers.specs.declared.answer.Answer.{Answer}
-use Rattle.answers.specs.declared.answer.Answer.TheVariants.{Done, Applied, Global, FuelLeft, Exports, Ran, Refused, NotSpelt, NotNow}
+use Rattle.answers.specs.declared.answer.Answer.TheVariants.{Done, Applied, Global, FuelLeft, QuotaLeft, Exports, Imports, Ran, Refused, NotSpelt, NotNow}
 use Rattle.answers.specs.declared.causes.Cause.{Cause}
 use Rattle.answers.specs.declared.causes.Cause.TheVariants.{Command}
 
@@ -52,11 +52,13 @@ kind_of Done = 0
 kind_of (Applied reply) = reply_kind reply
 kind_of (Global value) = 2
 kind_of (FuelLeft fuel) = 1
+kind_of (QuotaLeft bytes) = 1
 kind_of (Refused cause) = 5
 kind_of (Exports exports) = 6
 kind_of (Ran report) = 7
 kind_of NotSpelt = 8
 kind_of NotNow = 9
+kind_of (Imports imports) = 12
 
 -- The number, the kind of place and the place of a refusal.
 abbrev pub cause_numbers : Cause → List ℕ
@@ -88,8 +90,10 @@ fields_of Done words = []
 fields_of (Applied reply) words = reply_fields reply words
 fields_of (Global value) words = value_bytes value
 fields_of (FuelLeft fuel) words = number_bytes fuel
+fields_of (QuotaLeft bytes) words = number_bytes bytes
 fields_of (Refused cause) words = cause_bytes cause words
 fields_of (Exports exports) words = exports_bytes exports
+fields_of (Imports imports) words = imports_bytes imports
 fields_of (Ran report) words = report_bytes report
 fields_of NotSpelt words = []
 fields_of NotNow words = []

@@ -18,7 +18,7 @@ abbrev pub cause_number : Cause → ℕ
 cause_number (Command refusal) = number_of (refusal_of refusal)
 cause_number (Creation fault) = creation_number (fault_in fault)
 cause_number (Script fault) = script_number fault
-cause_number Setup = 18
+cause_number Setup = 64
 
 -- The place of a kind and an index.
 abbrev pub at : (kind index : ℕ) → Where

@@ -1,4 +1,4 @@
--- How messages encode what an instance exports.
+-- How messages encode what is exported and imported.
 use Rattle.std.specs.Prelude.{ℕ, List, ◌++◌, Option, Some, None, flat_map, length, string_bytes}
 use Rattle.core_types.specs.declared.types.ExternType.{ExternType}
 use Rattle.core_types.specs.declared.types.ExternType.TheVariants.{Func, Table, Memory, Global}
@@ -8,8 +8,10 @@ use Rattle.core_types.specs.declared.types.Mutability.TheVariants.{Const, Var}
 use Rattle.core_types.specs.declared.types.RefType.{RefType}
 use Rattle.core_types.specs.declared.types.RefType.TheVariants as reference
 use Rattle.core_types.specs.declared.types.ValType.TheVariants as value
-use Rattle.embed.specs.declared.exports.ExportType.{ExportType}
-use Rattle.embed.specs.declared.exports.Exports.{Exports}
+use Rattle.interface.specs.declared.exports.ExportType.{ExportType}
+use Rattle.interface.specs.declared.exports.Exports.{Exports}
+use Rattle.interface.specs.declared.imports.ImportType.{ImportType}
+use Rattle.interface.specs.declared.imports.Imports.{Imports}
 use Rattle.messages.specs.Numbers.{number_bytes, text_bytes}
 use Rattle.messages.specs.Types.{type_bytes, types_bytes}
 
@@ -44,3 +46,12 @@ export_bytes e = text_bytes (string_bytes e.name) ++ number_bytes e.ty
 abbrev pub exports_bytes : Exports → List ℕ
 exports_bytes found = number_bytes (length found.types.items)
     ++ (flat_map extern_bytes found.types.items ++ flat_map export_bytes found.exports.items)
+
+-- An import is its two names, and the index of its type in the list of types before it.
+abbrev pub import_bytes : ImportType → List ℕ
+import_bytes i = text_bytes (string_bytes i.module_name)
+    ++ (text_bytes (string_bytes i.name) ++ number_bytes i.ty)
+
+abbrev pub imports_bytes : Imports → List ℕ
+imports_bytes found = number_bytes (length found.types.items)
+    ++ (flat_map extern_bytes found.types.items ++ flat_map import_bytes found.imports.items)

@@ -1,12 +1,13 @@
 -- The answer of a server to an order once there is an embedding, and what the order leaves.
-use Rattle.std.specs.Prelude.{◌≡◌, ◌⊎◌, ℕ, List, [], ◌∷◌, ◌++◌, Ok, Err, String, Vec}
+use Rattle.std.specs.Prelude.{◌≡◌, ◌⊎◌, ℕ, List, [], ◌∷◌, ◌++◌, Ok, Err, String, Vec, slice_get}
 use Rattle.std.specs.declared.alloc.Global.{Global as Allocator}
-use Rattle.embed.specs.Exports.{AreExports, IsRefusedExport, named_export}
+use Rattle.embed.specs.Exports.{IsRefusedExport, IsRefusedList, IsRefusedModule, imports_in, module_exports_in, named_export}
 use Rattle.embed.specs.Replies.{reply_of}
 use Rattle.embed.specs.declared.refusals.Refusal.TheVariants.{OutOfMemory}
 use Rattle.hostfunc.specs.Boxes.{HostStep}
 use Rattle.hostfunc.specs.declared.host_function.HostFn.{Ghosts}
 use Rattle.hostfunc.specs.declared.host_object.HostObject.{HostObject}
+use Rattle.interface.specs.Listings.{AreExports, AreImports}
 use Rattle.meaning.specs.embedding.Commands as machine
 use Rattle.meaning.specs.embedding.Machine.{Embedding, exports_at}
 use Rattle.meaning.specs.execution.Runs.{WithValues}
@@ -16,7 +17,7 @@ use Rattle.soundness.specs.Headline.{AppliesWell}
 use Rattle.scripts.specs.Faults.{ReadsScript}
 use Rattle.scripts.specs.Runs.{Runs, files_view}
 use Rattle.answers.specs.declared.answer.Answer.{Answer}
-use Rattle.answers.specs.declared.answer.Answer.TheVariants.{Done, Applied, Global, FuelLeft, Exports, Ran, Refused, NotNow}
+use Rattle.answers.specs.declared.answer.Answer.TheVariants.{Done, Applied, Global, FuelLeft, QuotaLeft, Exports, Imports, Ran, Refused, NotNow}
 use Rattle.answers.specs.declared.causes.Cause.TheVariants.{Command, Script}
 
 -- A file to keep is appended, a script takes all files, and other orders leave them.
@@ -41,10 +42,10 @@ module _ {I : Type 0} {F : I → Type 0} (members : (i : I) → Ghosts (F i)) wh
   IsKept (Refused cause) = cause ≡ Command OutOfMemory
   IsKept answer = ⊥
 
-  -- The exports of an instance are listed, or memory for the list ran out.
+  -- The exports of an instance are listed, or the list is refused.
   abbrev pub ListsExports : Embedding (HostObject I F) → (instance : ℕ) → Answer → Type 0
   ListsExports old instance (Exports found) = AreExports found (exports_at old instance)
-  ListsExports old instance (Refused cause) = cause ≡ Command OutOfMemory
+  ListsExports old instance (Refused (Command refusal)) = IsRefusedList old instance refusal
   ListsExports old instance answer = ⊥
 
   -- The export of a name is returned, or refused as a command that asks for it would be.
@@ -54,6 +55,19 @@ module _ {I : Type 0} {F : I → Type 0} (members : (i : I) → Ghosts (F i)) wh
   GivesExport old instance name (Refused (Command refusal)) =
       IsRefusedExport old instance name refusal
   GivesExport old instance name answer = ⊥
+
+  -- The imports or the exports of a module are listed, or the list is refused.
+  abbrev pub ListsModuleImports : Embedding (HostObject I F) → (number : ℕ) → Answer → Type 0
+  ListsModuleImports old number (Imports found) =
+      AreImports found (imports_in (slice_get old.modules number))
+  ListsModuleImports old number (Refused (Command refusal)) = IsRefusedModule old number refusal
+  ListsModuleImports old number answer = ⊥
+
+  abbrev pub ListsModuleExports : Embedding (HostObject I F) → (number : ℕ) → Answer → Type 0
+  ListsModuleExports old number (Exports found) =
+      AreExports found (module_exports_in (slice_get old.modules number))
+  ListsModuleExports old number (Refused (Command refusal)) = IsRefusedModule old number refusal
+  ListsModuleExports old number answer = ⊥
 
   -- The script is that of the text, and is run with the files that were kept. Or it is not read, and nothing changes. Or it is not run to
   -- its end.
@@ -85,3 +99,10 @@ module _ {I : Type 0} {F : I → Type 0} (members : (i : I) → Ghosts (F i)) wh
   Obeys files old (order.Define first second signature) answer new =
       (answer ≡ NotNow) × (new ≡ old)
   Obeys files old (order.Begin setup) answer new = (answer ≡ NotNow) × (new ≡ old)
+  Obeys files old (order.Quota bytes) answer new = (answer ≡ NotNow) × (new ≡ old)
+  Obeys files old order.QuotaLeft answer new =
+      ((bytes : ℕ) × (answer ≡ QuotaLeft bytes)) × (new ≡ old)
+  Obeys files old (order.ModuleImports number) answer new =
+      ListsModuleImports old number answer × (new ≡ old)
+  Obeys files old (order.ModuleExports number) answer new =
+      ListsModuleExports old number answer × (new ≡ old)

@@ -1,6 +1,6 @@
 use crate::causes::Cause;
 use core_types::Val;
-use embed::{Exports, Reply};
+use embed::{Exports, Imports, Reply};
 use scripts::Report;
 
 /// The answer of a server to an order.
@@ -14,8 +14,12 @@ pub enum Answer {
     Global(Val),
     /// The fuel left.
     FuelLeft(u64),
-    /// What an instance exports, or one export of it.
+    /// The bytes of the quota that are left.
+    QuotaLeft(u64),
+    /// What an instance or a module exports, or one export of an instance.
     Exports(Exports),
+    /// What a module imports.
+    Imports(Imports),
     /// The result of a script.
     Ran(Report),
     /// The order is refused.

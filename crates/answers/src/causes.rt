@@ -47,7 +47,7 @@ impl Cause {
             Cause::Command(refusal) => u64::from(refusal.number()),
             Cause::Creation(fault) => u64::from(fault.number()),
             Cause::Script(fault) => u64::from(fault.number()),
-            Cause::Setup => 18,
+            Cause::Setup => 64,
         }
     }
 

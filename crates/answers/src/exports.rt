@@ -1,10 +1,10 @@
 ghost use Rattle.std.specs.Prelude.{◌≡◌, ◌++◌, OnOk, flat_map};
-ghost use Rattle.answers.specs.Exports.{export_bytes, exports_bytes, extern_bytes, limits_bytes, maximum_bytes, mutability_number, reference_bytes};
+ghost use Rattle.answers.specs.Exports.{export_bytes, exports_bytes, extern_bytes, import_bytes, imports_bytes, limits_bytes, maximum_bytes, mutability_number, reference_bytes};
 
 use core_types::{
     ExternType, FuncType, GlobalType, Limits, Mutability, RefType, TableType, ValType,
 };
-use embed::{ExportType, Exports};
+use embed::{ExportType, Exports, ImportType, Imports};
 use messages::{push_number, push_text, push_type, push_types};
 use std::alloc::AllocError;
 
@@ -127,4 +127,31 @@ pub fn push_exports(out: &mut Vec<u8>, found: &Exports) -> Result<(), AllocError
     push_number(out, found.types.len() as u64)?;
     push_externs(out, found.types.as_slice())?;
     push_all(out, found.exports.as_slice())
+}
+
+// Appends an import: its two names, and the number of its type.
+fn push_import(out: &mut Vec<u8>, import: &ImportType) -> Result<(), AllocError>
+    ensures { OnOk result (out.new.items ≡ out.old.items ++ import_bytes import.now) }
+{
+    push_text(out, import.module_name.as_str())?;
+    push_text(out, import.name.as_str())?;
+    push_number(out, import.ty as u64)
+}
+
+fn push_all_imports(out: &mut Vec<u8>, imports: &[ImportType]) -> Result<(), AllocError>
+    ensures { OnOk result (out.new.items ≡ out.old.items ++ flat_map import_bytes imports.now) }
+{
+    for import in imports {
+        push_import(out, import)?;
+    }
+    Ok(())
+}
+
+/// Appends a list of imports: the types, and then each import.
+pub fn push_imports(out: &mut Vec<u8>, found: &Imports) -> Result<(), AllocError>
+    ensures { OnOk result (out.new.items ≡ out.old.items ++ imports_bytes found.now) }
+{
+    push_number(out, found.types.len() as u64)?;
+    push_externs(out, found.types.as_slice())?;
+    push_all_imports(out, found.imports.as_slice())
 }

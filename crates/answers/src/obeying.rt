@@ -1,7 +1,9 @@
 ghost use Rattle.std.specs.Prelude.{◌≡◌, ◌++◌, ◌∷◌, [], IfOk, OnOk, OnErr};
 ghost use Rattle.embed.specs.Contents.{embedding_of};
 ghost use Rattle.hostfunc.specs.Boxes.{HostStep};
+ghost use Rattle.orders.specs.Orders.{QuotaLeft as QuotaOrder};
 ghost use Rattle.orders.specs.Readings.{order_of};
+ghost use Rattle.quota.specs.Counting.{left_of};
 ghost use Rattle.scripts.specs.Runs.{files_view};
 ghost use Rattle.answers.specs.Obeying.{LeavesFiles, Obeys, RunsText};
 
@@ -65,6 +67,8 @@ pub fn obey(
 ) -> Answer
     requires nothing { Unit {0} }
     ensures files { LeavesFiles files.old.items (order_of order.now) result files.new.items }
+    ensures quota_left { order_of order.now ≡ QuotaOrder → result ≡ Answer.QuotaLeft
+        (left_of embedding.old.quota) }
     ensures obeyed { Obeys ⟦<dyn HostFn as HostFn>⟧ files.old.items (embedding_of embedding.old)
         (order_of order.now) result (embedding_of embedding.new) }
 {
@@ -93,7 +97,7 @@ pub fn obey(
         Order::FuelLeft => Answer::FuelLeft(embedding.fuel_left()),
         Order::Exports(number) => match embedding.exports(InstanceNumber(*number)) {
             Ok(exports) => Answer::Exports(exports),
-            Err(_) => no_memory(),
+            Err(refusal) => Answer::Refused(Cause::Command(refusal)),
         },
         Order::NamedExport(number, name) => {
             match embedding.export_named(InstanceNumber(*number), name) {
@@ -110,6 +114,15 @@ pub fn obey(
             files.clear();
             answer
         }
-        Order::Define(..) | Order::Begin(..) => Answer::NotNow,
+        Order::QuotaLeft => Answer::QuotaLeft(embedding.quota_left()),
+        Order::ModuleImports(number) => match embedding.module_imports(ModuleNumber(*number)) {
+            Ok(imports) => Answer::Imports(imports),
+            Err(refusal) => Answer::Refused(Cause::Command(refusal)),
+        },
+        Order::ModuleExports(number) => match embedding.module_exports(ModuleNumber(*number)) {
+            Ok(exports) => Answer::Exports(exports),
+            Err(refusal) => Answer::Refused(Cause::Command(refusal)),
+        },
+        Order::Define(..) | Order::Begin(..) | Order::Quota(_) => Answer::NotNow,
     }
 }

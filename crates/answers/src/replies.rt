@@ -5,7 +5,7 @@ ghost use Rattle.answers.specs.Answers.{cause_bytes, cause_numbers, exhaustion_n
 
 use crate::answer::Answer;
 use crate::causes::Cause;
-use crate::exports::push_exports;
+use crate::exports::{push_exports, push_imports};
 use core_types::{Exhaustion, Trap};
 use embed::{Refusal, Reply};
 use messages::{push_message, push_number, push_value, push_values};
@@ -127,8 +127,9 @@ fn push_fields(alloc: Global, out: &mut Vec<u8>, answer: &Answer) -> Result<(), 
         Answer::Done | Answer::NotSpelt | Answer::NotNow => Ok(()),
         Answer::Applied(reply) => push_reply(alloc, out, reply),
         Answer::Global(value) => push_value(out, *value),
-        Answer::FuelLeft(fuel) => push_number(out, *fuel),
+        Answer::FuelLeft(left) | Answer::QuotaLeft(left) => push_number(out, *left),
         Answer::Exports(exports) => push_exports(out, exports),
+        Answer::Imports(imports) => push_imports(out, imports),
         Answer::Ran(report) => push_report(out, report),
         Answer::Refused(cause) => push_cause(alloc, out, cause),
     }
@@ -155,13 +156,14 @@ fn kind_of_answer(answer: &Answer) -> u64
     match answer {
         Answer::Done => 0,
         Answer::Applied(reply) => kind_of_reply(reply),
-        Answer::FuelLeft(_) => 1,
+        Answer::FuelLeft(_) | Answer::QuotaLeft(_) => 1,
         Answer::Global(_) => 2,
         Answer::Refused(_) => 5,
         Answer::Exports(_) => 6,
         Answer::Ran(_) => 7,
         Answer::NotSpelt => 8,
         Answer::NotNow => 9,
+        Answer::Imports(_) => 12,
     }
 }
 

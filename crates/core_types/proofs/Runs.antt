@@ -20,7 +20,8 @@ length-expanded start (run ∷ runs) h =
 pub expanded-push : (start : ℕ) (runs : List LocalRun) (run : LocalRun) → expanded start (runs ++ run ∷ []) ≡ expanded start runs ++ replicate (run.end - end_of start runs) run.ty
 expanded-push start [] run = append-nil (replicate (run.end - start) run.ty)
 expanded-push start (first ∷ runs) run =
-    ap (λ (types : List ValType). replicate (first.end - start) first.ty ++ types) (expanded-push first.end runs run) ∙ sym (append_assoc (replicate (first.end - start) first.ty) (expanded first.end runs) (replicate (run.end - end_of first.end runs) run.ty))
+    ap (λ (types : List ValType). replicate (first.end - start) first.ty ++ types) (expanded-push first.end runs run) ∙ sym
+    (append_assoc (replicate (first.end - start) first.ty) (expanded first.end runs) (replicate (run.end - end_of first.end runs) run.ty))
 
 pub IsAscending-push : (start : ℕ) (runs : List LocalRun) (run : LocalRun) → IsAscending start runs → end_of start runs ≤ run.end → run.end < 2 ^ 32 → IsAscending start (runs ++ run ∷ [])
 IsAscending-push start [] run h le lt = (le, lt)
@@ -54,7 +55,8 @@ slice_get-behind zero k x rest = ap (slice_get rest) (omega arith)
 slice_get-behind (suc n) k x rest = let e : suc n + k ≡ suc (n + k) = omega arith in rw e (slice_get-behind n k x rest)
 
 -- The local at an index has the type of the run around it.
-pub expanded-within : (start : ℕ) (runs : List LocalRun) (k index : ℕ) (run : LocalRun) → IsAscending start runs → slice_get runs k ≡ Some run → start_of start runs k ≤ index → index < run.end → slice_get (expanded start runs) (index - start) ≡ Some run.ty
+pub expanded-within : (start : ℕ) (runs : List LocalRun) (k index : ℕ) (run : LocalRun) → IsAscending start runs → slice_get runs k ≡ Some run
+    → start_of start runs k ≤ index → index < run.end → slice_get (expanded start runs) (index - start) ≡ Some run.ty
 expanded-within start [] k index run h e le lt = absurd cc
 expanded-within start (first ∷ runs) zero index run h e le lt =
     let same : first ≡ run = cc in
@@ -89,7 +91,8 @@ module _ (runs : List LocalRun) (types : List ValType) (ascending : IsAscending 
       expanded-push 0 runs (added len count ty) ∙ rw (more, is) refl
 
   -- The local at an index has the type of the run around it.
-  pub type_within : (k index : ℕ) (run : LocalRun) → k < length runs → run ≡ get_or runs k run → start_of 0 runs k ≤ index → IfSome (slice_get runs k) (λ r. index < r.end) → Some run.ty ≡ slice_get types index
+  pub type_within : (k index : ℕ) (run : LocalRun) → k < length runs → run ≡ get_or runs k run → start_of 0 runs k ≤ index
+      → IfSome (slice_get runs k) (λ r. index < r.end) → Some run.ty ≡ slice_get types index
   type_within k index run lt e begins ends =
       let there = slice_get_read runs (length runs) k run refl lt e in
       let less : index < run.end = rw there at ends in

@@ -43,8 +43,15 @@ module _ (code : Contents) (s s' : StateContents) (address cost fuel left : ℕ)
   pub grew-memory : (pages : ℕ) (may : Bool) (growth : Result ℕ AllocError) → cost ≡ price_of_growth (if may then Some (memory_of s address).limits.min else None) (growth_cost pages)
       → DidGrow (if may then Some (memory_of s address).limits.min else None) growth s s' (put_memory s address (grow_by (memory_of s address) pages))
       → Gives (grown_memory (store_with code s) address (memory_of s address) pages may) (store_with code s) (store_with code s') fuel (after_growth growth left)
-  grew-memory pages true (Ok size) price (size_is, is) =
-      (record { some = omega (arith, some, price); enough = omega (arith, enough, price); left = omega (arith, left_is, price); result = ap (λ (n : ℕ). n ∷ []) (sym size_is) }, ap (store_with code) is)
+  grew-memory pages true (Ok size) price (size_is, is) = (
+    record {
+      some = omega (arith, some, price);
+      enough = omega (arith, enough, price);
+      left = omega (arith, left_is, price);
+      result = ap (λ (n : ℕ). n ∷ []) (sym size_is);
+    },
+    ap (store_with code) is,
+  )
   grew-memory pages true (Err error) price kept = (omega (arith, enough, price), ap (store_with code) kept)
   grew-memory pages false (Ok size) price (size_is, kept) =
       (record { some = omega arith; enough = omega (arith, enough, price); left = omega (arith, left_is, price); result = ap (λ (n : ℕ). n ∷ []) (sym size_is) }, ap (store_with code) kept)
@@ -54,8 +61,15 @@ module _ (code : Contents) (s s' : StateContents) (address cost fuel left : ℕ)
   pub grew-table : (value : Val) (count : ℕ) (may : Bool) (growth : Result ℕ AllocError) → cost ≡ price_of_growth (if may then Some (table_of s address).ty.limits.min else None) (entries_cost count)
       → DidGrow (if may then Some (table_of s address).ty.limits.min else None) growth s s' (put_table s address (grow_entries (table_of s address) value count))
       → Gives (grown_table (store_with code s) address (table_of s address) value count may) (store_with code s) (store_with code s') fuel (after_growth growth left)
-  grew-table value count true (Ok size) price (size_is, is) =
-      (record { some = omega (arith, some, price); enough = omega (arith, enough, price); left = omega (arith, left_is, price); result = ap (λ (n : ℕ). n ∷ []) (sym size_is) }, ap (store_with code) is)
+  grew-table value count true (Ok size) price (size_is, is) = (
+    record {
+      some = omega (arith, some, price);
+      enough = omega (arith, enough, price);
+      left = omega (arith, left_is, price);
+      result = ap (λ (n : ℕ). n ∷ []) (sym size_is);
+    },
+    ap (store_with code) is,
+  )
   grew-table value count true (Err error) price kept = (omega (arith, enough, price), ap (store_with code) kept)
   grew-table value count false (Ok size) price (size_is, kept) =
       (record { some = omega arith; enough = omega (arith, enough, price); left = omega (arith, left_is, price); result = ap (λ (n : ℕ). n ∷ []) (sym size_is) }, ap (store_with code) kept)

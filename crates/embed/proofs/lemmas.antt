@@ -4,4 +4,4 @@ pub mod Steps
 pub mod Definitions
 pub mod Headline
 pub mod Isolation
-pub mod ExportLists
+pub mod Counting

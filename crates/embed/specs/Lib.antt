@@ -7,3 +7,4 @@ pub mod Exports
 pub mod Created
 pub mod Headline
 pub mod Isolation
+pub mod Quotas

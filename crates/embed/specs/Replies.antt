@@ -14,7 +14,8 @@ use Rattle.embed.specs.declared.link_outcome.LinkOutcome.{LinkOutcome}
 use Rattle.embed.specs.declared.link_outcome.LinkOutcome.TheVariants as link
 use Rattle.embed.specs.declared.numbers.ModuleNumber.{ModuleNumber}
 use Rattle.embed.specs.declared.refusals.Refusal.{Refusal}
-use Rattle.embed.specs.declared.refusals.Refusal.TheVariants.{Malformed, Unsupported, Limit, Invalid, UnknownModule, UnknownImport, IncompatibleImport, UnknownInstance, UnknownExport, WrongKind, BadArguments, NameTaken, OutOfMemory}
+use Rattle.embed.specs.declared.refusals.Refusal.TheVariants.{Malformed, Unsupported, Limit, Invalid, UnknownModule, UnknownImport, IncompatibleImport}
+use Rattle.embed.specs.declared.refusals.Refusal.TheVariants.{UnknownInstance, UnknownExport, WrongKind, BadArguments, NameTaken, OutOfMemory}
 
 abbrev pub command_of : Command → machine.Command
 command_of (Load bytes) = machine.Load bytes.items

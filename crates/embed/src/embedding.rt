@@ -1,24 +1,25 @@
 //! An embedding, its queries that are not commands, and its operations.
 
+mod modules;
 mod operations;
 
-ghost use Rattle.std.specs.Prelude.{◌≡◌, ◌++◌, ◌∷◌, [], ◌<◌, ◌^◌, OnOk, IfErr, IfOk, List, ℕ, filter_map, length, map, option_and_then, slice_get, Ok, Some};
+ghost use Rattle.std.specs.Prelude.{◌≡◌, ◌++◌, ◌∷◌, [], ◌+◌, ◌<◌, ◌≤◌, ◌^◌, OnOk, IfErr, IfOk, List, ℕ, filter_map, length, map, option_and_then, slice_get, Ok, Some};
 ghost use Rattle.std.proofs.Props.{props};
 ghost use Rattle.meaning.specs.embedding.Creation.{Creates};
 ghost use Rattle.meaning.specs.embedding.Machine.{as_function, as_global, export_at, export_type as type_at, exports_at, named_type};
 ghost use Rattle.meaning.specs.embedding.Names.{extern_of};
 ghost use Rattle.meaning.specs.execution.Store.{extern_type as type_of, instance_of};
 ghost use Rattle.core_types.specs.declared.outcome.Extern.TheVariants.{Func as FuncValue};
-ghost use Rattle.core_types.specs.declared.types.ExternType.{ExternType as Type_of};
-ghost use Rattle.embed.specs.Exports.{AreExports, IsRefusedExport, named_export};
+ghost use Rattle.embed.specs.Exports.{IsRefusedExport, IsRefusedList, named_export};
+ghost use Rattle.interface.specs.Listings.{AreExports, NamedExport};
 ghost use Rattle.soundness.specs.Embedding.{IsSound};
 ghost use Rattle.hostfunc.specs.Boxes.{HaveHosts, type_of_host};
+ghost use Rattle.quota.specs.Counting.{counted, left_of};
 ghost use Rattle.hostfunc.specs.Tables.{hosts_in};
 ghost use Rattle.store.specs.Contents.{store_of};
 
 use crate::config::Config;
 use crate::definitions::define_hosts;
-use crate::exports::{Declaration, Exports, Listing};
 use crate::host_definitions::HostDef;
 use crate::new_fault::NewFault;
 use crate::numbers::InstanceNumber;
@@ -26,7 +27,9 @@ use crate::refusals::Refusal;
 use core_types::{Export, ExportDesc, Extern, ExternType};
 use fuel::Meter;
 use hostfunc::{HostFn, HostTable};
+use interface::{Declaration, Exports, Listing};
 use linker::Names;
+use quota::Quota;
 use std::alloc::{AllocError, Global};
 use std::rc::Rc;
 use store::{Callee, LoadedModule, Store};
@@ -42,6 +45,7 @@ pub struct Embedding {
     store: Store,
     hosts: HostTable,
     meter: Meter,
+    quota: Quota,
     ghost closed: { meter.frames ≡ 0 },
     ghost bound: { meter.bound ≡ config.depth },
     ghost have_hosts: { HaveHosts (store_of store) (hosts_in hosts) } by { Prim.hlevel props },
@@ -68,6 +72,23 @@ impl Embedding {
             (map (definition_of ⟦<dyn HostFn as HostFn>⟧) hosts.items) (created result) }
         ensures sound { IfOk (created result) (λ at. IsSound type_of_host at) }
     {
+        Embedding::with_quota(alloc, config, hosts, u64::MAX)
+    }
+
+    /// Like `new`, with a quota of that many bytes for what the store and a run in it hold, and for loads. What a command would
+    /// hold beyond it is lack of memory.
+    pub fn with_quota(
+        alloc: Global,
+        config: Config,
+        hosts: Vec<HostDef>,
+        quota: u64,
+    ) -> Result<Embedding, NewFault>
+        requires { length hosts.items < 2 ^ 32 }
+        ensures created { Creates type_of_host config
+            (map (definition_of ⟦<dyn HostFn as HostFn>⟧) hosts.items) (created result) }
+        ensures sound { IfOk (created result) (λ at. IsSound type_of_host at) }
+        ensures quota { IfOk result (λ embedding. embedding.quota ≡ counted quota 0 0) }
+    {
         let defined = define_hosts(alloc, &config, hosts)?;
         let embedding = Embedding {
             alloc,
@@ -77,6 +98,7 @@ impl Embedding {
             store: defined.store,
             hosts: defined.hosts,
             meter: Meter::new(config.fuel(), config.depth()),
+            quota: Quota::new(quota),
             config,
         };
         embedding.show_sound();
@@ -102,6 +124,14 @@ impl Embedding {
         ensures { result ≡ (embedding_of self.now).state.fuel }
     {
         self.meter.left()
+    }
+
+    /// Returns how many more bytes of the quota may be held.
+    pub fn quota_left(&self) -> u64
+        ensures left { result ≡ left_of self.now.quota }
+        ensures within { self.now.quota.kept + self.now.quota.borrowed ≤ self.now.quota.most }
+    {
+        self.quota.left()
     }
 
     // Returns the address of the instance of a number, if there is one.
@@ -208,7 +238,7 @@ impl Embedding {
         export: &Export,
         listing: &mut Listing,
     ) -> Result<(), AllocError>
-        ensures { OnOk result ((all : List (List ℕ × Type_of)) → AreExports listing.old.found all →
+        ensures { OnOk result ((all : List NamedExport) → AreExports listing.old.found all →
             AreExports listing.new.found (all ++ filter_map (named_type (store_of self.now.store)
             (instance_of (store_of self.now.store) (Some instance))) (export.now ∷ []))) }
     {
@@ -219,20 +249,22 @@ impl Embedding {
         listing.push(export.name.as_str(), declaration, ty)
     }
 
-    /// Returns a list of what an instance exports, in the order of its module, or an empty one if there is no such instance.
-    /// Functions that are declared at one place share one type in the list.
+    /// Returns a list of what an instance exports, in the order of its module. Functions that are declared at one place share one
+    /// type in the list.
     ///
     /// # Errors
     ///
-    /// Fails if an allocation fails.
-    pub fn exports(&self, instance: InstanceNumber) -> Result<Exports, AllocError>
-        ensures { IfOk result (λ found. AreExports found
+    /// Refused with `UnknownInstance`, and with `OutOfMemory` if an allocation fails.
+    pub fn exports(&self, instance: InstanceNumber) -> Result<Exports, Refusal>
+        ensures found { IfOk result (λ found. AreExports found
             (exports_at (embedding_of self.now) instance.0)) }
+        ensures refused { IfErr result
+            (λ refusal. IsRefusedList (embedding_of self.now) instance.0 refusal) }
     {
-        let mut listing = Listing::new(self.alloc);
         let Some(address) = self.instance(instance.0) else {
-            return Ok(listing.finish());
+            return Err(Refusal::UnknownInstance);
         };
+        let mut listing = Listing::new(self.alloc);
         for export in self.store.code().exports(address) {
             self.list_export(address, export, &mut listing)?;
         }

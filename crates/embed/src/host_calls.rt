@@ -1,6 +1,6 @@
 //! Small helpers for host functions.
 
-ghost use Rattle.std.specs.Prelude.{◌≡◌, ◌+◌, ◌<◌, ◌≤◌, [], ◌∷◌, IfErr, IfOk, MatchOption, drop, length, take};
+ghost use Rattle.std.specs.Prelude.{◌≡◌, ◌+◌, ◌++◌, ◌<◌, ◌≤◌, [], ◌∷◌, IfErr, IfOk, MatchOption, drop, false, length, take, true};
 ghost use Rattle.hostfunc.specs.declared.host_function.HostFault.TheVariants.{Memory as MemoryFault};
 
 use core_types::{FuncType, Items, Val, ValType};
@@ -50,4 +50,22 @@ pub fn bytes_at(memory: &[u8], start: u32, len: u32) -> Option<&[u8]>
         return None;
     }
     Some(&memory[from..from + count])
+}
+
+/// Writes bytes to a borrowed memory from the address `start` on. Returns whether the memory has room for them. If it has not, nothing
+/// is written.
+pub fn put_bytes(memory: &mut [u8], start: u32, bytes: &[u8]) -> bool
+    ensures fits { result ≡ true → start + length bytes.now ≤ length memory.old }
+    ensures written { result ≡ true → memory.new ≡ take start memory.old
+        ++ (bytes.now ++ drop (start + length bytes.now) memory.old) }
+    ensures past_the_end { result ≡ false → length memory.old < start + length bytes.now }
+    ensures unchanged { result ≡ false → memory.new ≡ memory.old }
+    ensures len { length memory.new ≡ length memory.old }
+{
+    let from = start as usize;
+    if bytes.len() > memory.len() || from > memory.len() - bytes.len() {
+        return false;
+    }
+    memory[from..from + bytes.len()].copy_from_slice(bytes);
+    true
 }

@@ -13,7 +13,7 @@ const TEXT: &str =
 
 // The type of an export.
 #[derive(Clone, Copy)]
-enum Type {
+pub enum Type {
     Nothing,
     // A function without parameters and results.
     Action,
@@ -53,7 +53,7 @@ static EXPORTS: [(&str, Type); 6] = [
     ("again", Type::Function(ValType::I32, ValType::I64)),
 ];
 
-fn is_type(found: Option<&ExternType>, wanted: Type) -> bool {
+pub fn is_type(found: Option<&ExternType>, wanted: Type) -> bool {
     match (found, wanted) {
         (None, Type::Nothing) => true,
         (Some(ExternType::Func(ty)), Type::Action) => ty.params.is_empty() && ty.results.is_empty(),
@@ -127,7 +127,7 @@ fn call_always_out_of_memory(rt: HostRuntime) {
     }
 }
 
-fn are_exports(found: &Exports, wanted: &[(&str, Type)]) -> bool {
+pub fn are_exports(found: &Exports, wanted: &[(&str, Type)]) -> bool {
     found.exports.len() == wanted.len()
         && found.exports.iter().zip(wanted).all(|(export, (name, ty))| export.name.as_str() == *name
             && is_type(found.types.get(export.ty), *ty))
@@ -140,10 +140,13 @@ fn has_exports(at: &Embedding, instance: u64, wanted: &[(&str, Type)]) -> bool {
     }
 }
 
-// Returns whether the instance has its exports, and an instance that does not exist has none.
+// Returns whether the instance has its exports, and an unknown instance is refused.
 fn exports_are_so(alloc: Global) -> bool {
     match embedding_with_instance(alloc) {
-        Some(at) => has_exports(&at, 0, &EXPORTS) && has_exports(&at, 1, &[]),
+        Some(at) => {
+            has_exports(&at, 0, &EXPORTS)
+                && matches!(at.exports(InstanceNumber(1)), Err(Refusal::UnknownInstance))
+        }
         None => false,
     }
 }

@@ -3,6 +3,8 @@
 #![tactic(auto)]
 
 #[cfg(test)]
+mod borrowed_memories;
+#[cfg(test)]
 mod commands;
 #[cfg(test)]
 mod constant_expressions;
@@ -17,6 +19,8 @@ pub mod kinds;
 mod lasting;
 #[cfg(test)]
 mod lists;
+#[cfg(test)]
+mod module_interfaces;
 #[cfg(test)]
 mod order_answers;
 #[cfg(test)]

@@ -4,7 +4,7 @@ use answers::{Answer, Cause, push_answer};
 use core_types::{
     Exhaustion, ExternType, GlobalType, Limits, Mutability, RefType, TableType, Trap, Val, ValType,
 };
-use embed::{ExportType, Exports, NewFault, Place, Refusal, Reply, func_type};
+use embed::{ExportType, Exports, ImportType, Imports, NewFault, Place, Refusal, Reply, func_type};
 use scripts::{Report, ScriptFault};
 use std::alloc::{AllocError, Global};
 use testing::bytes_of;
@@ -21,6 +21,7 @@ enum Said {
     SetDone,
     Global(Val),
     FuelLeft(u64),
+    QuotaLeft(u64),
     NameTaken,
     HostFuncRef,
     BadCommand(u64),
@@ -40,11 +41,12 @@ struct Row {
 }
 
 #[rattlefmt::skip]
-static ROWS: [Row; 38] = [
+static ROWS: [Row; 39] = [
     Row { name: "done", said: Said::Done, message: "0000000000000000 0000000000000000" },
     Row { name: "done by a command", said: Said::SetDone, message: "0000000000000000 0000000000000000" },
     Row { name: "loaded", said: Said::Loaded(258), message: "0800000000000000 0100000000000000 0201000000000000" },
     Row { name: "linked", said: Said::Linked(3), message: "0800000000000000 0100000000000000 0300000000000000" },
+    Row { name: "quota left", said: Said::QuotaLeft(1), message: "0800000000000000 0100000000000000 0100000000000000" },
     Row { name: "fuel left", said: Said::FuelLeft(0xFFFF_FFFF_FFFF_FFFF), message: "0800000000000000 0100000000000000 FFFFFFFFFFFFFFFF" },
     Row { name: "no values", said: Said::Values(&[]), message: "0000000000000000 0200000000000000" },
     Row { name: "values", said: Said::Values(&[Val::I32(5), Val::I64(6), Val::FuncRef(None), Val::ExternRef(Some(7))]), message: "4000000000000000 0200000000000000 7F00000000000000 0500000000000000 7E00000000000000 0600000000000000 7000000000000000 0000000000000000 6F00000000000000 0800000000000000" },
@@ -74,7 +76,7 @@ static ROWS: [Row; 38] = [
     Row { name: "no JSON", said: Said::NotJson, message: "4500000000000000 0500000000000000 0F00000000000000 0000000000000000 0000000000000000 6E6F74204A534F4E2C206F72206E6573746564206D6F7265207468616E20313237206C6576656C732064656570" },
     Row { name: "a command without its form", said: Said::BadCommand(2), message: "3200000000000000 0500000000000000 1000000000000000 0500000000000000 0200000000000000 636F6D6D616E64203220686173206E6F742069747320666F726D" },
     Row { name: "a missing file", said: Said::MissingFile(0), message: "3800000000000000 0500000000000000 1100000000000000 0500000000000000 0000000000000000 7468652066696C65206F6620636F6D6D616E642030206973206D697373696E67" },
-    Row { name: "a setup out of its range", said: Said::Setup, message: "4100000000000000 0500000000000000 1200000000000000 0000000000000000 0000000000000000 61206E756D626572206F6620746865207365747570206973206F7574206F66206974732072616E6765" },
+    Row { name: "a setup out of its range", said: Said::Setup, message: "4100000000000000 0500000000000000 4000000000000000 0000000000000000 0000000000000000 61206E756D626572206F6620746865207365747570206973206F7574206F66206974732072616E6765" },
     Row { name: "a report", said: Said::Ran(31, 2, 1, &[5, 258]), message: "2800000000000000 0700000000000000 1F00000000000000 0200000000000000 0100000000000000 0500000000000000 0201000000000000" },
     Row { name: "a report without failures", said: Said::Ran(1, 0, 0, &[]), message: "1800000000000000 0700000000000000 0100000000000000 0000000000000000 0000000000000000" },
     Row { name: "not spelt", said: Said::NotSpelt, message: "0000000000000000 0800000000000000" },
@@ -94,6 +96,7 @@ fn make_answer(alloc: Global, said: &Said) -> Result<Answer, AllocError> {
         Said::SetDone => Answer::Applied(Reply::Done),
         Said::Global(value) => Answer::Global(*value),
         Said::FuelLeft(fuel) => Answer::FuelLeft(*fuel),
+        Said::QuotaLeft(bytes) => Answer::QuotaLeft(*bytes),
         Said::NameTaken => Answer::Refused(Cause::Creation(NewFault::NameTaken)),
         Said::HostFuncRef => Answer::Refused(Cause::Creation(NewFault::HostFuncRef)),
         Said::BadCommand(index) => Answer::Refused(Cause::Script(ScriptFault::BadCommand(*index))),
@@ -195,4 +198,42 @@ fn exports_are_spelt(rt: HostRuntime) {
     for (name, exported, ty) in &EXPORTS {
         assert!(rt; are_spelt(rt.alloc(), exported, ty) == Ok(true), "{name}");
     }
+}
+
+fn make_import(
+    alloc: Global,
+    module_name: &str,
+    name: &str,
+    ty: usize,
+) -> Result<ImportType, AllocError> {
+    Ok(ImportType {
+        module_name: String::from_str(alloc, module_name)?,
+        name: String::from_str(alloc, name)?,
+        ty,
+    })
+}
+
+// Returns a list of two imports: "env" "f", a function, and "" "t", a memory.
+fn make_imports(alloc: Global) -> Result<Imports, AllocError> {
+    let mut types = Vec::new(alloc);
+    types.push(ExternType::Func(func_type(alloc, &[], &[])?))?;
+    types.push(ExternType::Memory(Limits { min: 1, max: None }))?;
+    let mut imports = Vec::new(alloc);
+    imports.push(make_import(alloc, "env", "f", 0)?)?;
+    imports.push(make_import(alloc, "", "t", 1)?)?;
+    Ok(Imports { types, imports })
+}
+
+const IMPORTS: &str =
+    "7500000000000000 0C00000000000000 0200000000000000 0000000000000000 0000000000000000 0000000000000000 0200000000000000 0100000000000000 0000000000000000 0000000000000000 0300000000000000 656E76 0100000000000000 66 0000000000000000 0000000000000000 0100000000000000 74 0100000000000000";
+
+// Returns whether these imports are encoded as two types, and two pairs of names with them.
+fn imports_are_encoded(alloc: Global) -> Result<bool, AllocError> {
+    let imports = make_imports(alloc)?;
+    has_message(alloc, &Answer::Imports(imports), IMPORTS)
+}
+
+#[test]
+fn imports_are_spelt(rt: HostRuntime) {
+    assert!(rt; imports_are_encoded(rt.alloc()) == Ok(true));
 }

@@ -22,6 +22,10 @@ enum Expected {
     RunScript(&'static [u8]),
     Define(&'static str, &'static str, &'static [ValType], &'static [ValType]),
     Begin(u64, u64, u64, u64),
+    Quota(u64),
+    QuotaLeft,
+    ModuleImports(u64),
+    ModuleExports(u64),
     NotSpelt,
 }
 
@@ -34,7 +38,7 @@ struct Row {
 }
 
 #[rattlefmt::skip]
-static ROWS: [Row; 46] = [
+static ROWS: [Row; 53] = [
     Row { name: "end", kind: 0, fields: "", expected: Expected::End },
     Row { name: "end with a field", kind: 0, fields: "00", expected: Expected::NotSpelt },
     Row { name: "load", kind: 1, fields: "00 61 73 6D", expected: Expected::Load(&[0, 0x61, 0x73, 0x6D]) },
@@ -79,7 +83,14 @@ static ROWS: [Row; 46] = [
     Row { name: "named export", kind: 13, fields: "0100000000000000 66", expected: Expected::NamedExport(1, "f") },
     Row { name: "named export with a short number", kind: 13, fields: "01000000", expected: Expected::NotSpelt },
     Row { name: "named export under what is no UTF-8", kind: 13, fields: "0100000000000000 FF", expected: Expected::NotSpelt },
-    Row { name: "the first kind that is none", kind: 14, fields: "", expected: Expected::NotSpelt },
+    Row { name: "quota", kind: 14, fields: "0000010000000000", expected: Expected::Quota(65_536) },
+    Row { name: "quota without a number", kind: 14, fields: "", expected: Expected::NotSpelt },
+    Row { name: "quota left", kind: 15, fields: "", expected: Expected::QuotaLeft },
+    Row { name: "quota left with a field", kind: 15, fields: "0000000000000000", expected: Expected::NotSpelt },
+    Row { name: "imports of a module", kind: 16, fields: "0300000000000000", expected: Expected::ModuleImports(3) },
+    Row { name: "imports of a module without a number", kind: 16, fields: "", expected: Expected::NotSpelt },
+    Row { name: "exports of a module", kind: 17, fields: "0300000000000000", expected: Expected::ModuleExports(3) },
+    Row { name: "the first kind that is none", kind: 18, fields: "", expected: Expected::NotSpelt },
     Row { name: "the greatest kind", kind: 0xFFFF_FFFF_FFFF_FFFF, fields: "", expected: Expected::NotSpelt },
 ];
 
@@ -89,12 +100,17 @@ fn has_types(ty: &FuncType, params: &[ValType], results: &[ValType]) -> bool {
 
 fn is_expected(order: &Order<'_>, expected: &Expected) -> bool {
     match (order, expected) {
-        (Order::End, Expected::End) | (Order::FuelLeft, Expected::FuelLeft) => true,
+        (Order::End, Expected::End)
+        | (Order::FuelLeft, Expected::FuelLeft)
+        | (Order::QuotaLeft, Expected::QuotaLeft) => true,
         (Order::Load(bytes), Expected::Load(wanted))
         | (Order::RunScript(bytes), Expected::RunScript(wanted)) => bytes == wanted,
         (Order::Link(number), Expected::Link(wanted))
         | (Order::SetFuel(number), Expected::SetFuel(wanted))
-        | (Order::Exports(number), Expected::Exports(wanted)) => number == wanted,
+        | (Order::Quota(number), Expected::Quota(wanted))
+        | (Order::Exports(number), Expected::Exports(wanted))
+        | (Order::ModuleImports(number), Expected::ModuleImports(wanted))
+        | (Order::ModuleExports(number), Expected::ModuleExports(wanted)) => number == wanted,
         (Order::Register(number, name), Expected::Register(instance, wanted))
         | (Order::GetGlobal(number, name), Expected::GetGlobal(instance, wanted))
         | (Order::NamedExport(number, name), Expected::NamedExport(instance, wanted)) => {

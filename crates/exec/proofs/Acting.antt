@@ -143,7 +143,8 @@ module _ (bound : ℕ) (r : AtRest) (op : PlainOp) (u : Whole) (b : RestsBefore 
     over-two : 2 ≤ n → (outcome : Store → ℕ → ℕ → Outcome) → HasAt below (outcome g.store (cell 0) (cell 1)) → HasAt below (outcome (store_around r) (operand_of r.call 0) (operand_of r.call 1))
     over-two few outcome h = over-cell 1 few (outcome (store_around r) (operand_of r.call 0)) (over-one (omega arith) (λ (s : Store) (x : ℕ). outcome s x (cell 1)) h)
 
-    over-three : 3 ≤ n → (outcome : Store → ℕ → ℕ → ℕ → Outcome) → HasAt below (outcome g.store (cell 0) (cell 1) (cell 2)) → HasAt below (outcome (store_around r) (operand_of r.call 0) (operand_of r.call 1) (operand_of r.call 2))
+    over-three : 3 ≤ n → (outcome : Store → ℕ → ℕ → ℕ → Outcome) → HasAt below (outcome g.store (cell 0) (cell 1) (cell 2))
+        → HasAt below (outcome (store_around r) (operand_of r.call 0) (operand_of r.call 1) (operand_of r.call 2))
     over-three few outcome h = over-cell 2 few (outcome (store_around r) (operand_of r.call 0) (operand_of r.call 1)) (over-two (omega arith) (λ (s : Store) (x y : ℕ). outcome s x y (cell 2)) h)
 
 -- ---- room for a result
@@ -188,7 +189,8 @@ pub record Ready {T : Type 0} (r : AtRest) (g : Ghost) (items : List T) (none : 
   pub inside : address < length items
   pub has_operands : HasOperands r.call (types (get_or items address none))
   pub low : (machine_of r).base + g.code.locals + length (types (get_or items address none)) ≤ (machine_of r).top
-  pub has : HasOutcome g (cells_in g (machine_of r)) (machine_of r).place (height_in (machine_of r)) (height_in (machine_of r) - length (types (get_or items address none))) (outcome address (get_or items address none))
+  pub has : HasOutcome g (cells_in g (machine_of r)) (machine_of r).place (height_in (machine_of r))
+      (height_in (machine_of r) - length (types (get_or items address none))) (outcome address (get_or items address none))
 
 -- The operands of the call.
 abbrev topmost_of : AtRest → ℕ
@@ -200,7 +202,8 @@ second_of r = operand_of r.call 1
 abbrev third_of : AtRest → ℕ
 third_of r = operand_of r.call 2
 
-module _ {T : Type 0} (bound : ℕ) (r : AtRest) (op : PlainOp) (u : Whole) (b : RestsBefore bound r op u) (items : List T) (none : T) (name : Option ℕ) (types : T → List ValType) (outcome : ℕ → T → Outcome) where
+module _ {T : Type 0} (bound : ℕ) (r : AtRest) (op : PlainOp) (u : Whole) (b : RestsBefore bound r op u) (items : List T) (none : T) (name : Option ℕ)
+    (types : T → List ValType) (outcome : ℕ → T → Outcome) where
   abbrev OutcomeOf : ℕ → T → Type 0
   OutcomeOf address t = HasOutcome u.ghost (cells_in u.ghost (machine_of r)) (machine_of r).place (height_in (machine_of r)) (height_in (machine_of r) - length (types t)) (outcome address t)
 
@@ -241,7 +244,8 @@ module _ (r : AtRest) (u : Whole) where
     -- ---- instructions on one object
 
     -- table.get.
-    pub gets : (index : ℕ) → RestsBefore bound r (Table (table.Get index)) u → ReadyOnTable index (λ (t : TableInstance). I32 ∷ []) (λ (a : ℕ) (t : TableInstance). read_outcome its_store (read_entry t.entries (topmost_of r)))
+    pub gets : (index : ℕ) → RestsBefore bound r (Table (table.Get index)) u
+        → ReadyOnTable index (λ (t : TableInstance). I32 ∷ []) (λ (a : ℕ) (t : TableInstance). read_outcome its_store (read_entry t.entries (topmost_of r)))
     gets index b =
         let (a, t, there, (cells, leads)) = gets-entry u.ghost frame_cells machine.place height index (before bound r (Table (table.Get index)) u b) in
         let o = operands bound r (Table (table.Get index)) u b (I32 ∷ []) cells in
@@ -250,7 +254,9 @@ module _ (r : AtRest) (u : Whole) where
         (over-one bound r (Table (table.Get index)) u b 1 o.low _ (omega arith) (λ (s : Store) (x : ℕ). read_outcome s (read_entry t.entries x)) (leads _ refl))
 
     -- table.set.
-    pub sets : (index : ℕ) → RestsBefore bound r (Table (table.Set index)) u → ReadyOnTable index (λ (t : TableInstance). entry_of t ∷ I32 ∷ []) (λ (a : ℕ) (t : TableInstance). written_table its_store 1 a t (write_entry t.entries (second_of r) (value_of (entry_of t) (topmost_of r))))
+    pub sets : (index : ℕ) → RestsBefore bound r (Table (table.Set index)) u
+        → ReadyOnTable index (λ (t : TableInstance). entry_of t ∷ I32 ∷ [])
+        (λ (a : ℕ) (t : TableInstance). written_table its_store 1 a t (write_entry t.entries (second_of r) (value_of (entry_of t) (topmost_of r))))
     sets index b =
         let (a, t, there, (cells, leads)) = sets-entry u.ghost frame_cells machine.place height index (before bound r (Table (table.Set index)) u b) in
         let o = operands bound r (Table (table.Set index)) u b (I32 ∷ entry_of t ∷ []) cells in
@@ -259,25 +265,35 @@ module _ (r : AtRest) (u : Whole) where
         (over-two bound r (Table (table.Set index)) u b 2 o.low _ (omega arith) (λ (s : Store) (x y : ℕ). written_table s 1 a t (write_entry t.entries y (value_of (entry_of t) x))) (leads _ refl))
 
     -- table.grow.
-    pub grows : (index : ℕ) → RestsBefore bound r (Table (table.Grow index)) u → ReadyOnTable index (λ (t : TableInstance). I32 ∷ entry_of t ∷ []) (λ (a : ℕ) (t : TableInstance). grown_table its_store a t (value_of (entry_of t) (second_of r)) (topmost_of r) (can_grow its_store.entries most_entries t.ty.limits (topmost_of r)))
+    pub grows : (index : ℕ) → RestsBefore bound r (Table (table.Grow index)) u
+        → ReadyOnTable index (λ (t : TableInstance). I32 ∷ entry_of t ∷ [])
+        (λ (a : ℕ) (t : TableInstance).
+        grown_table its_store a t (value_of (entry_of t) (second_of r)) (topmost_of r) (can_grow its_store.entries most_entries t.ty.limits (topmost_of r)))
     grows index b =
         let (a, t, there, (cells, leads)) = grows-table u.ghost frame_cells machine.place height index (before bound r (Table (table.Grow index)) u b) in
         let o = operands bound r (Table (table.Grow index)) u b (entry_of t ∷ I32 ∷ []) cells in
         ready bound r (Table (table.Grow index)) u b its_store.tables no_table (slice_get its.tables index) _ _ a t
         (found bound r (Table (table.Grow index)) u b no_table (λ (s : Store). s.tables) (λ (i : ModuleInstance). i.tables) index a t there) o
-        (over-two bound r (Table (table.Grow index)) u b 2 o.low _ (omega arith) (λ (s : Store) (x y : ℕ). grown_table s a t (value_of (entry_of t) y) x (can_grow s.entries most_entries t.ty.limits x)) (leads _ refl))
+        (over-two bound r (Table (table.Grow index)) u b 2 o.low _ (omega arith)
+        (λ (s : Store) (x y : ℕ). grown_table s a t (value_of (entry_of t) y) x (can_grow s.entries most_entries t.ty.limits x)) (leads _ refl))
 
     -- table.fill.
-    pub fills : (index : ℕ) → RestsBefore bound r (Table (table.Fill index)) u → ReadyOnTable index (λ (t : TableInstance). I32 ∷ entry_of t ∷ I32 ∷ []) (λ (a : ℕ) (t : TableInstance). written_table its_store (entries_cost (topmost_of r)) a t (fill_entries t.entries (third_of r) (value_of (entry_of t) (second_of r)) (topmost_of r)))
+    pub fills : (index : ℕ) → RestsBefore bound r (Table (table.Fill index)) u
+        → ReadyOnTable index (λ (t : TableInstance). I32 ∷ entry_of t ∷ I32 ∷ [])
+        (λ (a : ℕ) (t : TableInstance).
+        written_table its_store (entries_cost (topmost_of r)) a t (fill_entries t.entries (third_of r) (value_of (entry_of t) (second_of r)) (topmost_of r)))
     fills index b =
         let (a, t, there, (cells, leads)) = fills-table u.ghost frame_cells machine.place height index (before bound r (Table (table.Fill index)) u b) in
         let o = operands bound r (Table (table.Fill index)) u b (I32 ∷ entry_of t ∷ I32 ∷ []) cells in
         ready bound r (Table (table.Fill index)) u b its_store.tables no_table (slice_get its.tables index) _ _ a t
         (found bound r (Table (table.Fill index)) u b no_table (λ (s : Store). s.tables) (λ (i : ModuleInstance). i.tables) index a t there) o
-        (over-three bound r (Table (table.Fill index)) u b 3 o.low _ (omega arith) (λ (s : Store) (x y z : ℕ). written_table s (entries_cost x) a t (fill_entries t.entries z (value_of (entry_of t) y) x)) (leads _ refl))
+        (over-three bound r (Table (table.Fill index)) u b 3 o.low _ (omega arith)
+        (λ (s : Store) (x y z : ℕ). written_table s (entries_cost x) a t (fill_entries t.entries z (value_of (entry_of t) y) x)) (leads _ refl))
 
     -- memory.grow.
-    pub grows-bytes : RestsBefore bound r (Memory memory.Grow) u → ReadyOnMemory (I32 ∷ []) (λ (a : ℕ) (t : MemoryInstance). grown_memory its_store a t (topmost_of r) (can_grow its_store.pages most_pages t.limits (topmost_of r)))
+    pub grows-bytes : RestsBefore bound r (Memory memory.Grow) u
+        → ReadyOnMemory (I32 ∷ []) (λ (a : ℕ) (t : MemoryInstance).
+        grown_memory its_store a t (topmost_of r) (can_grow its_store.pages most_pages t.limits (topmost_of r)))
     grows-bytes b =
         let (a, t, there, (cells, leads)) = grows-memory u.ghost frame_cells machine.place height (before bound r (Memory memory.Grow) u b) in
         let o = operands bound r (Memory memory.Grow) u b (I32 ∷ []) cells in
@@ -286,7 +302,9 @@ module _ (r : AtRest) (u : Whole) where
         (over-one bound r (Memory memory.Grow) u b 1 o.low _ (omega arith) (λ (s : Store) (x : ℕ). grown_memory s a t x (can_grow s.pages most_pages t.limits x)) (leads _ refl))
 
     -- memory.fill.
-    pub fills-bytes : RestsBefore bound r (Memory memory.Fill) u → ReadyOnMemory (I32 ∷ I32 ∷ I32 ∷ []) (λ (a : ℕ) (t : MemoryInstance). written_memory its_store (topmost_of r) a t (fill_bytes t.bytes (third_of r) (second_of r) (topmost_of r)))
+    pub fills-bytes : RestsBefore bound r (Memory memory.Fill) u
+        → ReadyOnMemory (I32 ∷ I32 ∷ I32 ∷ [])
+        (λ (a : ℕ) (t : MemoryInstance). written_memory its_store (topmost_of r) a t (fill_bytes t.bytes (third_of r) (second_of r) (topmost_of r)))
     fills-bytes b =
         let (a, t, there, (cells, leads)) = fills-memory u.ghost frame_cells machine.place height (before bound r (Memory memory.Fill) u b) in
         let o = operands bound r (Memory memory.Fill) u b (I32 ∷ I32 ∷ I32 ∷ []) cells in
@@ -295,7 +313,9 @@ module _ (r : AtRest) (u : Whole) where
         (over-three bound r (Memory memory.Fill) u b 3 o.low _ (omega arith) (λ (s : Store) (x y z : ℕ). written_memory s x a t (fill_bytes t.bytes z y x)) (leads _ refl))
 
     -- memory.copy.
-    pub copies-bytes : RestsBefore bound r (Memory memory.Copy) u → ReadyOnMemory (I32 ∷ I32 ∷ I32 ∷ []) (λ (a : ℕ) (t : MemoryInstance). written_memory its_store (topmost_of r) a t (copy_bytes t.bytes t.bytes (third_of r) (second_of r) (topmost_of r)))
+    pub copies-bytes : RestsBefore bound r (Memory memory.Copy) u
+        → ReadyOnMemory (I32 ∷ I32 ∷ I32 ∷ [])
+        (λ (a : ℕ) (t : MemoryInstance). written_memory its_store (topmost_of r) a t (copy_bytes t.bytes t.bytes (third_of r) (second_of r) (topmost_of r)))
     copies-bytes b =
         let (a, t, there, (cells, leads)) = copies-memory u.ghost frame_cells machine.place height (before bound r (Memory memory.Copy) u b) in
         let o = operands bound r (Memory memory.Copy) u b (I32 ∷ I32 ∷ I32 ∷ []) cells in
@@ -316,11 +336,13 @@ module _ (r : AtRest) (u : Whole) where
 
     -- elem.drop.
     pub drops : (index : ℕ) → RestsBefore bound r (Table (table.ElemDrop index)) u
-        → Ready r u.ghost its_store.elements no_elements (slice_get its.elements index) (λ (e : ElementInstance). []) (λ (a : ℕ) (e : ElementInstance). made 1 (with_elements its_store a (record { ty = e.ty; references = [] })) [])
+        → Ready r u.ghost its_store.elements no_elements (slice_get its.elements index) (λ (e : ElementInstance). [])
+        (λ (a : ℕ) (e : ElementInstance). made 1 (with_elements its_store a (record { ty = e.ty; references = [] })) [])
     drops index b =
         let (a, e, there, has) = drops-elements u.ghost frame_cells machine.place height index (before bound r (Table (table.ElemDrop index)) u b) in
         ready bound r (Table (table.ElemDrop index)) u b its_store.elements no_elements (slice_get its.elements index) _ _ a e
-        (found bound r (Table (table.ElemDrop index)) u b no_elements (λ (s : Store). s.elements) (λ (i : ModuleInstance). i.elements) index a e there) (no-operands bound r (Table (table.ElemDrop index)) u b)
+        (found bound r (Table (table.ElemDrop index)) u b no_elements (λ (s : Store). s.elements) (λ (i : ModuleInstance). i.elements) index a e
+        there) (no-operands bound r (Table (table.ElemDrop index)) u b)
         (over-all bound r (Table (table.ElemDrop index)) u b (λ (s : Store). made 1 (with_elements s a (record { ty = e.ty; references = [] })) []) has)
 
     -- data.drop.
@@ -329,7 +351,8 @@ module _ (r : AtRest) (u : Whole) where
     drops-bytes index b =
         let (a, d, there, has) = drops-data u.ghost frame_cells machine.place height index (before bound r (Memory (memory.DataDrop index)) u b) in
         ready bound r (Memory (memory.DataDrop index)) u b its_store.datas no_data (slice_get its.datas index) _ _ a d
-        (found bound r (Memory (memory.DataDrop index)) u b no_data (λ (s : Store). s.datas) (λ (i : ModuleInstance). i.datas) index a d there) (no-operands bound r (Memory (memory.DataDrop index)) u b)
+        (found bound r (Memory (memory.DataDrop index)) u b no_data (λ (s : Store). s.datas) (λ (i : ModuleInstance). i.datas) index a d there)
+        (no-operands bound r (Memory (memory.DataDrop index)) u b)
         (over-all bound r (Memory (memory.DataDrop index)) u b (λ (s : Store). made 1 (with_data s a (record { bytes = [] })) []) has)
 
     -- ---- from one object to another
@@ -337,47 +360,69 @@ module _ (r : AtRest) (u : Whole) where
     -- table.copy.
     pub copies : (x y : ℕ) → RestsBefore bound r (Table (table.Copy x y)) u
         → (other : ℕ) × (slice_get its.tables y ≡ Some other) × (other < length its_store.tables)
-        × ReadyOnTable x (λ (t : TableInstance). I32 ∷ I32 ∷ I32 ∷ []) (λ (a : ℕ) (t : TableInstance). written_table its_store (entries_cost (topmost_of r)) a t (copy_entries t.entries (get_or its_store.tables other no_table).entries (third_of r) (second_of r) (topmost_of r)))
+        × ReadyOnTable x (λ (t : TableInstance). I32 ∷ I32 ∷ I32 ∷ [])
+        (λ (a : ℕ) (t : TableInstance).
+        written_table its_store (entries_cost (topmost_of r)) a t
+        (copy_entries t.entries (get_or its_store.tables other no_table).entries (third_of r) (second_of r) (topmost_of r)))
     copies x y b =
         let (a, t, there, other, source, there_too, (cells, leads)) = copies-table u.ghost frame_cells machine.place height x y (before bound r (Table (table.Copy x y)) u b) in
         let o = operands bound r (Table (table.Copy x y)) u b (I32 ∷ I32 ∷ I32 ∷ []) cells in
         let named = found bound r (Table (table.Copy x y)) u b no_table (λ (s : Store). s.tables) (λ (i : ModuleInstance). i.tables) y other source there_too in
-        let has = over-three bound r (Table (table.Copy x y)) u b 3 o.low _ (omega arith) (λ (s : Store) (n from target : ℕ). written_table s (entries_cost n) a t (copy_entries t.entries source.entries target from n)) (leads _ refl) in (
+        let has = over-three bound r (Table (table.Copy x y)) u b 3 o.low _ (omega arith)
+        (λ (s : Store) (n from target : ℕ). written_table s (entries_cost n) a t (copy_entries t.entries source.entries target from n)) (leads _ refl) in (
           other,
           named.named,
           named.inside,
-          ready bound r (Table (table.Copy x y)) u b its_store.tables no_table (slice_get its.tables x) _ _ a t (found bound r (Table (table.Copy x y)) u b no_table (λ (s : Store). s.tables) (λ (i : ModuleInstance). i.tables) x a t there) o
-              (subst (λ (z : TableInstance). HasAt bound r (Table (table.Copy x y)) u b (height - 3) (written_table its_store (entries_cost (topmost_of r)) a t (copy_entries t.entries z.entries (third_of r) (second_of r) (topmost_of r)))) (sym named.is) has),
+          ready bound r (Table (table.Copy x y)) u b its_store.tables no_table (slice_get its.tables x) _ _ a t
+              (found bound r (Table (table.Copy x y)) u b no_table (λ (s : Store). s.tables) (λ (i : ModuleInstance). i.tables) x a t there) o
+              (subst (λ (z : TableInstance). HasAt bound r (Table (table.Copy x y)) u b (height - 3)
+              (written_table its_store (entries_cost (topmost_of r)) a t
+              (copy_entries t.entries z.entries (third_of r) (second_of r) (topmost_of r)))) (sym named.is) has),
         )
 
     -- table.init.
     pub initializes : (segment x : ℕ) → RestsBefore bound r (Table (table.Init segment x)) u
         → (other : ℕ) × (slice_get its.elements segment ≡ Some other) × (other < length its_store.elements)
-        × ReadyOnTable x (λ (t : TableInstance). I32 ∷ I32 ∷ I32 ∷ []) (λ (a : ℕ) (t : TableInstance). written_table its_store (entries_cost (topmost_of r)) a t (copy_entries t.entries (get_or its_store.elements other no_elements).references (third_of r) (second_of r) (topmost_of r)))
+        × ReadyOnTable x (λ (t : TableInstance). I32 ∷ I32 ∷ I32 ∷ [])
+        (λ (a : ℕ) (t : TableInstance).
+        written_table its_store (entries_cost (topmost_of r)) a t
+        (copy_entries t.entries (get_or its_store.elements other no_elements).references (third_of r) (second_of r) (topmost_of r)))
     initializes segment x b =
         let (a, t, there, other, source, there_too, (cells, leads)) = initializes-table u.ghost frame_cells machine.place height segment x (before bound r (Table (table.Init segment x)) u b) in
         let o = operands bound r (Table (table.Init segment x)) u b (I32 ∷ I32 ∷ I32 ∷ []) cells in
         let named = found bound r (Table (table.Init segment x)) u b no_elements (λ (s : Store). s.elements) (λ (i : ModuleInstance). i.elements) segment other source there_too in
-        let has = over-three bound r (Table (table.Init segment x)) u b 3 o.low _ (omega arith) (λ (s : Store) (n from target : ℕ). written_table s (entries_cost n) a t (copy_entries t.entries source.references target from n)) (leads _ refl) in (
+        let has = over-three bound r (Table (table.Init segment x)) u b 3 o.low _ (omega arith)
+        (λ (s : Store) (n from target : ℕ). written_table s (entries_cost n) a t (copy_entries t.entries source.references target from n))
+        (leads _ refl) in (
           other,
           named.named,
           named.inside,
-          ready bound r (Table (table.Init segment x)) u b its_store.tables no_table (slice_get its.tables x) _ _ a t (found bound r (Table (table.Init segment x)) u b no_table (λ (s : Store). s.tables) (λ (i : ModuleInstance). i.tables) x a t there) o
-              (subst (λ (z : ElementInstance). HasAt bound r (Table (table.Init segment x)) u b (height - 3) (written_table its_store (entries_cost (topmost_of r)) a t (copy_entries t.entries z.references (third_of r) (second_of r) (topmost_of r)))) (sym named.is) has),
+          ready bound r (Table (table.Init segment x)) u b its_store.tables no_table (slice_get its.tables x) _ _ a t
+              (found bound r (Table (table.Init segment x)) u b no_table (λ (s : Store). s.tables) (λ (i : ModuleInstance). i.tables) x a t there) o
+              (subst (λ (z : ElementInstance).
+              HasAt bound r (Table (table.Init segment x)) u b (height - 3)
+              (written_table its_store (entries_cost (topmost_of r)) a t
+              (copy_entries t.entries z.references (third_of r) (second_of r) (topmost_of r)))) (sym named.is) has),
         )
 
     -- memory.init.
     pub initializes-bytes : (segment : ℕ) → RestsBefore bound r (Memory (memory.Init segment)) u
         → (other : ℕ) × (slice_get its.datas segment ≡ Some other) × (other < length its_store.datas)
-        × ReadyOnMemory (I32 ∷ I32 ∷ I32 ∷ []) (λ (a : ℕ) (t : MemoryInstance). written_memory its_store (topmost_of r) a t (copy_bytes t.bytes (get_or its_store.datas other no_data).bytes (third_of r) (second_of r) (topmost_of r)))
+        × ReadyOnMemory (I32 ∷ I32 ∷ I32 ∷ [])
+        (λ (a : ℕ) (t : MemoryInstance).
+        written_memory its_store (topmost_of r) a t
+        (copy_bytes t.bytes (get_or its_store.datas other no_data).bytes (third_of r) (second_of r) (topmost_of r)))
     initializes-bytes segment b =
         let (a, t, there, other, source, there_too, (cells, leads)) = initializes-memory u.ghost frame_cells machine.place height segment (before bound r (Memory (memory.Init segment)) u b) in
         let o = operands bound r (Memory (memory.Init segment)) u b (I32 ∷ I32 ∷ I32 ∷ []) cells in
         let named = found bound r (Memory (memory.Init segment)) u b no_data (λ (s : Store). s.datas) (λ (i : ModuleInstance). i.datas) segment other source there_too in
-        let has = over-three bound r (Memory (memory.Init segment)) u b 3 o.low _ (omega arith) (λ (s : Store) (n from target : ℕ). written_memory s n a t (copy_bytes t.bytes source.bytes target from n)) (leads _ refl) in (
+        let has = over-three bound r (Memory (memory.Init segment)) u b 3 o.low _ (omega arith)
+        (λ (s : Store) (n from target : ℕ). written_memory s n a t (copy_bytes t.bytes source.bytes target from n)) (leads _ refl) in (
           other,
           named.named,
           named.inside,
-          ready bound r (Memory (memory.Init segment)) u b its_store.memories no_memory (slice_get its.memories 0) _ _ a t (found bound r (Memory (memory.Init segment)) u b no_memory (λ (s : Store). s.memories) (λ (i : ModuleInstance). i.memories) 0 a t there) o
-              (subst (λ (z : DataInstance). HasAt bound r (Memory (memory.Init segment)) u b (height - 3) (written_memory its_store (topmost_of r) a t (copy_bytes t.bytes z.bytes (third_of r) (second_of r) (topmost_of r)))) (sym named.is) has),
+          ready bound r (Memory (memory.Init segment)) u b its_store.memories no_memory (slice_get its.memories 0) _ _ a t
+              (found bound r (Memory (memory.Init segment)) u b no_memory (λ (s : Store). s.memories) (λ (i : ModuleInstance). i.memories) 0 a t there) o
+              (subst (λ (z : DataInstance). HasAt bound r (Memory (memory.Init segment)) u b (height - 3)
+              (written_memory its_store (topmost_of r) a t (copy_bytes t.bytes z.bytes (third_of r) (second_of r) (topmost_of r)))) (sym named.is) has),
         )

@@ -1,5 +1,6 @@
 -- Calls of host functions: the steps of the whole.
-use Rattle.std.proofs.Common.{IfErr, IfOk, Result, Ok, Err, ◌≡◌, ℕ, suc, ◌+◌, ◌-◌, ◌<◌, ◌≤◌, List, [], ◌∷◌, ◌++◌, length, map, reverse, take, drop, set, refl, ap, sym, subst, ◌∙◌, arith, append_assoc, length-append}
+use Rattle.std.proofs.Common.{IfErr, IfOk, Result, Ok, Err, ◌≡◌, ℕ, suc, ◌+◌, ◌-◌, ◌<◌, ◌≤◌, List, [], ◌∷◌, ◌++◌, length, map, reverse, take, drop, set, refl}
+use Rattle.std.proofs.Common.{ap, sym, subst, ◌∙◌, arith, append_assoc, length-append}
 use Rattle.std.proofs.lemmas.List.{append-nil, length-drop, length-reverse, length-set, reverse-reverse, take-set-le, take-take}
 use Rattle.std.proofs.lemmas.Option.{same_Some}
 use Rattle.std.specs.Prelude.{Option, Some, slice_get}
@@ -12,7 +13,8 @@ use Rattle.meaning.specs.structure.Bodies.{Body, Empty}
 use Rattle.meaning.specs.execution.Configurations.{Activation, Configuration, Frame as Activated, InFrame, Running, answered, depth, no_frame}
 use Rattle.meaning.specs.execution.Instructions.{CallsHost, Next, TailCalls, call_function, lent_memory, next, step_instruction}
 use Rattle.meaning.specs.execution.Layers.{Layer, plug}
-use Rattle.meaning.specs.execution.Runs.{Answer, AsksForMemory, HostTrap, IsWithinBound, OutOfMemory, Results, Run, State, Steps, WithTrap, WithValues, calls, end, host_trapped, no_memory, one_more, price, values_left}
+use Rattle.meaning.specs.execution.Runs.{Answer, AsksForMemory, HostTrap, IsWithinBound, OutOfMemory, Results, Run, State, Steps, WithTrap, WithValues, calls}
+use Rattle.meaning.specs.execution.Runs.{end, host_trapped, no_memory, one_more, price, values_left}
 use Rattle.meaning.specs.execution.Hosts.{IsHostStep}
 use Rattle.meaning.specs.execution.Store.{FunctionInstance, Store, instance_of}
 use Rattle.meaning.specs.execution.Values.{type_of}
@@ -86,7 +88,8 @@ cells_held r = set (machine_of r).cells (machine_of r).top (machine_of r).operan
 
 -- ---- a host function that is called
 
-module _ (bound : ℕ) (r : AtRest) (w : Whole) (rests : Rests bound r w) (op : PlainOp) (address : ℕ) (function : FunctionInstance) (height behind : ℕ) (lies : behind ≡ (machine_of r).base + height + 1) (paid : 1 ≤ fuel_left r)
+module _ (bound : ℕ) (r : AtRest) (w : Whole) (rests : Rests bound r w) (op : PlainOp) (address : ℕ) (function : FunctionInstance) (height behind : ℕ)
+    (lies : behind ≡ (machine_of r).base + height + 1) (paid : 1 ≤ fuel_left r)
     (c : ReachesCall op address function w.ghost (cells_in w.ghost (machine_of r)) (machine_of r).place (height_in (machine_of r)) height)
     (number : ℕ) (t : FuncType) (found : slice_get (functions_in r.code) address ≡ Some (host_function number t)) where
   abbrev m : Machine
@@ -189,7 +192,9 @@ module _ (bound : ℕ) (r : AtRest) (w : Whole) (rests : Rests bound r w) (op : 
   lent-is = ap (λ (i : ℕ). first_memory (code_store r.code) i) instance-is
 
   -- The next step of the whole is the call, with the arguments read.
-  next-read : (waiting : Configuration) → next g.store no_frame (whole there.new) ≡ CallsHost 1 number (lent_memory g.store (frame_of g)) arguments_read waiting → next (store_around r) no_frame (whole there.new) ≡ CallsHost 1 number lent arguments waiting
+  next-read : (waiting : Configuration) → next g.store no_frame (whole there.new)
+      ≡ CallsHost 1 number (lent_memory g.store (frame_of g)) arguments_read waiting → next (store_around r) no_frame (whole there.new)
+      ≡ CallsHost 1 number lent arguments waiting
   next-read waiting is =
       subst (λ (o : Option ℕ). next (store_around r) no_frame (whole there.new) ≡ CallsHost 1 number o arguments waiting) lent-is
       (subst (λ (vs : List Val). next (store_around r) no_frame (whole there.new) ≡ CallsHost 1 number (lent_memory (store_around r) (frame_of g)) vs waiting) arguments-are
@@ -208,7 +213,8 @@ module _ (bound : ℕ) (r : AtRest) (w : Whole) (rests : Rests bound r w) (op : 
 
   -- ---- the result of the call
 
-  module _ {H : Type 0} (host_type : H → FuncType) (Answers : H → List Val → List ℕ → Answer → List ℕ → H → Type 0) (hosts hosts' : List H) (waiting : Configuration) (calls-next : next (store_around r) no_frame (whole there.new) ≡ CallsHost 1 number lent arguments waiting) where
+  module _ {H : Type 0} (host_type : H → FuncType) (Answers : H → List Val → List ℕ → Answer → List ℕ → H → Type 0) (hosts hosts' : List H)
+      (waiting : Configuration) (calls-next : next (store_around r) no_frame (whole there.new) ≡ CallsHost 1 number lent arguments waiting) where
     abbrev Over : List H → ℕ → Option ℕ → List Val → Store → Answer → Store → List H → Type 0
     Over = IsHostStep host_type Answers
 
@@ -255,7 +261,8 @@ module _ (bound : ℕ) (r : AtRest) (w : Whole) (rests : Rests bound r w) (op : 
       fit = subst (λ (u : FuncType). ValuesHaveTypes (store_around r) values u.results) one answer.typed
 
       pub fit-there : ValuesHaveTypes g.store values function.ty.results
-      fit-there = subst (λ (s : Store). ValuesHaveTypes s values function.ty.results) (sym store-is) (subst (λ (f : FunctionInstance). ValuesHaveTypes (store_around r) values f.ty.results) (sym function-is) fit)
+      fit-there = subst (λ (s : Store). ValuesHaveTypes s values function.ty.results) (sym store-is)
+          (subst (λ (f : FunctionInstance). ValuesHaveTypes (store_around r) values f.ty.results) (sym function-is) fit)
 
       as-many : length values ≡ length function.ty.results
       as-many = values-length g.store values function.ty.results fit-there
@@ -278,7 +285,9 @@ module _ (bound : ℕ) (r : AtRest) (w : Whole) (rests : Rests bound r w) (op : 
   -- ---- a call, whose results replace its arguments
 
   module _ (counted : counts_of c.new.code.signatures op ≡ Some (counts (c.over + length function.ty.params) (length function.ty.results)))
-      (goes_on : (results : List Val) → ValuesHaveTypes c.new.store results function.ty.results → ConfigurationHasType c.new.store (place_of c.new) (in_frame (reverse results ++ drop (length function.ty.params) c.values) c.new.labels c.rest) c.new.results)
+      (goes_on : (results : List Val) → ValuesHaveTypes c.new.store results function.ty.results
+      → ConfigurationHasType c.new.store (place_of c.new)
+      (in_frame (reverse results ++ drop (length function.ty.params) c.values) c.new.labels c.rest) c.new.results)
       (step : step_instruction c.new.store (frame_of c.new) op c.new.values c.rest ≡ call_function 1 c.new.store (lent_memory c.new.store (frame_of c.new)) (Some function) c.values c.rest) where
     abbrev nested : IsCalling op address function w.ghost (cells_in w.ghost m) m.place (height_in m) height
     nested = record { reached = c; counted = counted; goes_on = goes_on; step = step }
@@ -295,10 +304,12 @@ module _ (bound : ℕ) (r : AtRest) (w : Whole) (rests : Rests bound r w) (op : 
     pub nested-next : next (store_around r) no_frame (whole there.new) ≡ CallsHost 1 number lent arguments waiting_nested
     nested-next =
         next-read waiting_nested
-        (subst (λ (f : Activated). next g.store f (whole there.new) ≡ CallsHost 1 number (lent_memory g.store (frame_of g)) arguments_read waiting_nested) (layers-out w.callers g.code.outermost.kept (frame_of g))
+        (subst (λ (f : Activated). next g.store f (whole there.new)
+        ≡ CallsHost 1 number (lent_memory g.store (frame_of g)) arguments_read waiting_nested) (layers-out w.callers g.code.outermost.kept (frame_of g))
         (plugged-calls g.store (layers_of there.new) (frame_of g) 1 number (lent_memory g.store (frame_of g)) arguments_read (config_of g) inner call.calls))
 
-    module _ {H : Type 0} (host_type : H → FuncType) (Answers : H → List Val → List ℕ → Answer → List ℕ → H → Type 0) (hosts hosts' : List H) (ready : AreReady host_type (store_around r) hosts) (state' : StateContents) (values : List Val)
+    module _ {H : Type 0} (host_type : H → FuncType) (Answers : H → List Val → List ℕ → Answer → List ℕ → H → Type 0) (hosts hosts' : List H)
+        (ready : AreReady host_type (store_around r) hosts) (state' : StateContents) (values : List Val)
         (told : IsHostStep host_type Answers hosts number lent arguments (store_around r) (Results values) (store_with r.code state') hosts') where
       abbrev its_store : Store
       its_store = store_with r.code state'
@@ -310,10 +321,13 @@ module _ (bound : ℕ) (r : AtRest) (w : Whole) (rests : Rests bound r w) (op : 
       answered-is = plugged-answered (layers_of there.new) (frame_of g) values inner ∙ ap (plug (layers_of there.new) (frame_of g)) (call.answer its_store values)
 
       new-typed : ConfigurationHasType its_store outermost (whole new) w.results
-      new-typed = subst (λ (d : Configuration). ConfigurationHasType its_store outermost d w.results) answered-is (then-typed host_type Answers hosts hosts' waiting_nested nested-next ready state' values told)
+      new-typed = subst (λ (d : Configuration). ConfigurationHasType its_store outermost d w.results) answered-is
+          (then-typed host_type Answers hosts hosts' waiting_nested nested-next ready state' values told)
 
       new-steps : Steps (IsHostStep host_type Answers) bound no_frame (run_state (store_around r) hosts (fuel_left r)) (whole w) (run_state its_store hosts' (fuel_left r - 1)) (whole new)
-      new-steps = subst (λ (d : Configuration). Steps (IsHostStep host_type Answers) bound no_frame (run_state (store_around r) hosts (fuel_left r)) (whole w) (run_state its_store hosts' (fuel_left r - 1)) d) answered-is
+      new-steps = subst (λ (d : Configuration).
+          Steps (IsHostStep host_type Answers) bound no_frame (run_state (store_around r) hosts (fuel_left r)) (whole w)
+          (run_state its_store hosts' (fuel_left r - 1)) d) answered-is
           (steps host_type Answers hosts hosts' waiting_nested nested-next ready state' values told)
 
       -- ---- the cells after it
@@ -389,12 +403,17 @@ module _ (bound : ℕ) (r : AtRest) (w : Whole) (rests : Rests bound r w) (op : 
       runs-then other sees = record {
         runs = record {
           runs = subst (λ (n : ℕ). Runs new.ghost (put_back n m'.base m'.cells m'.top m'.operand) m'.place (height_in m')) (sym locals-are)
-              (call.goes_on its_store values (then-valid host_type Answers hosts hosts' waiting_nested nested-next ready state' values told) (subst (λ (s : Store). Follows s its_store) (sym store-is) (follows host_type Answers hosts hosts' waiting_nested nested-next ready state' values told))
-              (same-instances host_type Answers hosts hosts' waiting_nested nested-next ready state' values told) (fit-there host_type Answers hosts hosts' waiting_nested nested-next ready state' values told)
+              (call.goes_on its_store values (then-valid host_type Answers hosts hosts' waiting_nested nested-next ready state' values told)
+              (subst (λ (s : Store). Follows s its_store) (sym store-is)
+              (follows host_type Answers hosts hosts' waiting_nested nested-next ready state' values told))
+              (same-instances host_type Answers hosts hosts' waiting_nested nested-next ready state' values told)
+              (fit-there host_type Answers hosts hosts' waiting_nested nested-next ready state' values told)
               (cells_in w.ghost m') (m.place + 1) (height_in m') put-there frame-size' (omega arith) height-is);
           low = omega (arith, first-is, above, locals-are);
           scrap = let scrap = rests.runs.runs.scrap in omega (arith, size-is, scrap, locals-are);
-          operations = there.runs.runs.operations ∙ ap operations_of (rests.sees.instance.flat ∙ sym (flat-seen r.code r.call.position.instance rests.world.instance instance-there other sees.code sees.seen_from sees.instance));
+          operations = there.runs.runs.operations ∙ ap operations_of
+              (rests.sees.instance.flat ∙ sym
+              (flat-seen r.code r.call.position.instance rests.world.instance instance-there other sees.code sees.seen_from sees.instance));
           store = sym sees.store;
           number = instance-is ∙ sym sees.seen_from;
           instance = sees.instance;
@@ -408,12 +427,14 @@ module _ (bound : ℕ) (r : AtRest) (w : Whole) (rests : Rests bound r w) (op : 
         typed = subst (λ (s : Store). ConfigurationHasType s outermost (whole new) new.results) (sym sees.store) new-typed;
       }
 
-      comes-over : (call' : Call) → call'.cells.items ≡ cells' → call'.position ≡ position' → call'.callers ≡ r.call.callers → ComesOver (IsHostStep host_type Answers) bound r hosts w (at_rest r.code state' call') hosts'
+      comes-over : (call' : Call) → call'.cells.items ≡ cells' → call'.position ≡ position' → call'.callers ≡ r.call.callers
+          → ComesOver (IsHostStep host_type Answers) bound r hosts w (at_rest r.code state' call') hosts'
       comes-over call' cells_is position_is callers_is =
           let (other, sees) = seen-from r.code state' r.call.position.instance (rests.world.instance, instance-there) in record {
             new = new;
             results = refl;
-            steps = subst (λ (n : ℕ). Steps (IsHostStep host_type Answers) bound no_frame (run_state (store_around r) hosts (fuel_left r)) (whole w) (run_state its_store hosts' n) (whole new)) (sym (ap (λ (p : Position). p.fuel) position_is)) new-steps;
+            steps = subst (λ (n : ℕ). Steps (IsHostStep host_type Answers) bound no_frame (run_state (store_around r) hosts (fuel_left r)) (whole w)
+                (run_state its_store hosts' n) (whole new)) (sym (ap (λ (p : Position). p.fuel) position_is)) new-steps;
             rests = record {
               world = other;
               sees = subst (λ (i : ℕ). Sees r.code its_store i other) (sym (ap (λ (p : Position). p.instance) position_is)) sees;
@@ -425,7 +446,9 @@ module _ (bound : ℕ) (r : AtRest) (w : Whole) (rests : Rests bound r w) (op : 
 
   -- ---- a tail call, whose results replace the frame
 
-  module _ (results_are : function.ty.results ≡ c.new.results) (step : step_instruction c.new.store (frame_of c.new) op c.new.values c.rest ≡ TailCalls (lent_memory c.new.store (frame_of c.new)) function c.values) where
+  module _ (results_are : function.ty.results ≡ c.new.results)
+      (step : step_instruction c.new.store (frame_of c.new) op c.new.values c.rest
+      ≡ TailCalls (lent_memory c.new.store (frame_of c.new)) function c.values) where
     abbrev last : IsTailCalling op address function w.ghost (cells_in w.ghost m) m.place (height_in m) height
     last = record { reached = c; results = results_are; step = step }
 
@@ -434,22 +457,28 @@ module _ (bound : ℕ) (r : AtRest) (w : Whole) (rests : Rests bound r w) (op : 
     waiting_around [] = Running [] Empty
     waiting_around (b ∷ bs) = plug (around b.labels (layers_around bs b.code.outermost.kept)) (record { instance = Some b.instance; locals = b.locals }) (Running b.values b.rest)
 
-    reaches-host : (outer : Activated) (activation : Activation) → next g.store outer (InFrame activation (frame_of g) (config_of g)) ≡ CallsHost 1 number (lent_memory g.store (frame_of g)) arguments_read (Running activation.values activation.rest)
+    reaches-host : (outer : Activated) (activation : Activation) → next g.store outer (InFrame activation (frame_of g) (config_of g))
+        ≡ CallsHost 1 number (lent_memory g.store (frame_of g)) arguments_read (Running activation.values activation.rest)
     reaches-host = tail-calls-reach-hosts op address function w.ghost (cells_in w.ghost m) m.place (height_in m) height number last (ap (λ (f : FunctionInstance). f.implementation) function-is)
 
-    next-around : (bs : List Caller) (arity : ℕ) → next g.store no_frame (plug (layers_around bs arity) (frame_of g) (config_of g)) ≡ CallsHost 1 number (lent_memory g.store (frame_of g)) arguments_read (waiting_around bs)
+    next-around : (bs : List Caller) (arity : ℕ) → next g.store no_frame (plug (layers_around bs arity) (frame_of g) (config_of g))
+        ≡ CallsHost 1 number (lent_memory g.store (frame_of g)) arguments_read (waiting_around bs)
     next-around [] arity = reaches-host no_frame (activation_of arity [] Empty)
     next-around (b ∷ bs) arity =
         let outer : Activated = record { instance = Some b.instance; locals = b.locals } in
         let layers : List Layer = around b.labels (layers_around bs b.code.outermost.kept) in
-        subst (λ (f : Activated). next g.store f (plug layers outer (InFrame (activation_of arity b.values b.rest) (frame_of g) (config_of g))) ≡ CallsHost 1 number (lent_memory g.store (frame_of g)) arguments_read (plug layers outer (Running b.values b.rest)))
+        subst (λ (f : Activated). next g.store f (plug layers outer (InFrame (activation_of arity b.values b.rest) (frame_of g) (config_of g)))
+        ≡ CallsHost 1 number (lent_memory g.store (frame_of g)) arguments_read (plug layers outer (Running b.values b.rest)))
         (layers-out (b ∷ bs) arity outer)
-        (plugged-calls g.store layers outer 1 number (lent_memory g.store (frame_of g)) arguments_read (InFrame (activation_of arity b.values b.rest) (frame_of g) (config_of g)) (Running b.values b.rest) (reaches-host outer (activation_of arity b.values b.rest)))
+        (plugged-calls g.store layers outer 1 number (lent_memory g.store (frame_of g)) arguments_read
+        (InFrame (activation_of arity b.values b.rest) (frame_of g) (config_of g)) (Running b.values b.rest)
+        (reaches-host outer (activation_of arity b.values b.rest)))
 
     pub last-next : next (store_around r) no_frame (whole there.new) ≡ CallsHost 1 number lent arguments (waiting_around w.callers)
     last-next = next-read (waiting_around w.callers) (next-around w.callers g.code.outermost.kept)
 
-    module _ {H : Type 0} (host_type : H → FuncType) (Answers : H → List Val → List ℕ → Answer → List ℕ → H → Type 0) (hosts hosts' : List H) (ready : AreReady host_type (store_around r) hosts) (state' : StateContents) (values : List Val)
+    module _ {H : Type 0} (host_type : H → FuncType) (Answers : H → List Val → List ℕ → Answer → List ℕ → H → Type 0) (hosts hosts' : List H)
+        (ready : AreReady host_type (store_around r) hosts) (state' : StateContents) (values : List Val)
         (told : IsHostStep host_type Answers hosts number lent arguments (store_around r) (Results values) (store_with r.code state') hosts') where
       abbrev then_store : Store
       then_store = store_with r.code state'
@@ -473,11 +502,14 @@ module _ (bound : ℕ) (r : AtRest) (w : Whole) (rests : Rests bound r w) (op : 
 
       -- ---- no frame waits
 
-      ends-alone : (bs : List Caller) → CallersStand rests.world.code (length m.cells) [] bs g.code.outermost.kept (take m.base m.cells) → answered values (waiting_around bs) ≡ Running (reverse values) Empty
+      ends-alone : (bs : List Caller) → CallersStand rests.world.code (length m.cells) [] bs g.code.outermost.kept (take m.base m.cells)
+          → answered values (waiting_around bs) ≡ Running (reverse values) Empty
       ends-alone [] stand = ap (λ (vs : List Val). Running vs Empty) (append-nil (reverse values))
       ends-alone (b ∷ bs) stand = absurd stand
 
-      ends-with : r.call.callers ≡ [] → Run (IsHostStep host_type Answers) bound no_frame (run_state (store_around r) hosts (fuel_left r)) (whole w) (WithValues values) (run_state then_store hosts' (fuel_left r - 1))
+      ends-with : r.call.callers ≡ []
+          → Run (IsHostStep host_type Answers) bound no_frame (run_state (store_around r) hosts (fuel_left r)) (whole w) (WithValues values)
+          (run_state then_store hosts' (fuel_left r - 1))
       ends-with none =
           let stand = subst (λ (fs : List Frame). CallersStand rests.world.code (length m.cells) fs w.callers g.code.outermost.kept (take m.base m.cells)) none there.runs.callers in
           Steps-run (IsHostStep host_type Answers) bound no_frame (subst LeadsOn (ends-alone w.callers stand) last-steps) (end (values_left refl (ap WithValues (sym (reverse-reverse values))) refl))
@@ -530,14 +562,17 @@ module _ (bound : ℕ) (r : AtRest) (w : Whole) (rests : Rests bound r w) (op : 
 
             -- The instance's context is that of the code.
             its-context : AreOfContext b.code.signatures (instance_context (code_store r.code) (instance_of (code_store r.code) (Some b.instance)))
-            its-context = subst (λ (code : Contents). AreOfContext b.code.signatures (instance_context (code_store code) (instance_of (code_store code) (Some b.instance)))) rests.sees.code stands_by.signatures
+            its-context = subst (λ (code : Contents).
+                AreOfContext b.code.signatures (instance_context (code_store code) (instance_of (code_store code) (Some b.instance)))) rests.sees.code
+                stands_by.signatures
 
             valid-then : StoreIsValid then_store
             valid-then = then-valid host_type Answers hosts hosts' (waiting_around w.callers) last-next ready state' values told
 
             room-back : frame.base + b.code.locals + held_values b + length (reverse values) < length m.cells
             room-back =
-                caller-room rests.world.code (length m.cells) frame b g.code.outermost.kept (take m.base m.cells) stands_by then_store valid-then resumed.types resumed.given resumed.own its-context.types its-context.functions
+                caller-room rests.world.code (length m.cells) frame b g.code.outermost.kept (take m.base m.cells) stands_by then_store valid-then
+                resumed.types resumed.given resumed.own its-context.types its-context.functions
                 (reverse values) last-many resumed.typed
 
             room-held-back : base + length values ≤ length held
@@ -579,8 +614,11 @@ module _ (bound : ℕ) (r : AtRest) (w : Whole) (rests : Rests bound r w) (op : 
             runs-back : (other : World) → Sees r.code then_store frame.instance other → RunsWhole bound (loop_at other cells_back others position_back) new_back
             runs-back other sees = record {
               runs =
-                  caller-runs rests.world.code (length m.cells) frame b g.code.outermost.kept (take m.base m.cells) stands_by then_store valid-then resumed.types resumed.given resumed.own its-context.types its-context.functions
-                  (reverse values) last-many resumed.typed cells_back position_back.top position_back.operand size-back (omega (arith, begins-at, length-reverse values)) cells-back other sees.store (sees.code ∙ sym rests.sees.code) sees.seen_from sees.instance;
+                  caller-runs rests.world.code (length m.cells) frame b g.code.outermost.kept (take m.base m.cells) stands_by then_store valid-then
+                  resumed.types resumed.given resumed.own its-context.types its-context.functions
+                  (reverse values) last-many resumed.typed cells_back position_back.top position_back.operand size-back
+                  (omega (arith, begins-at, length-reverse values)) cells-back other sees.store (sees.code ∙ sym rests.sees.code) sees.seen_from
+                  sees.instance;
               number = sym sees.seen_from;
               callers = subst (λ (code : Contents). CallersStand code (length cells_back) others bs b.code.outermost.kept (take frame.base cells_back)) (rests.sees.code ∙ sym sees.code)
                   (subst (λ (n : ℕ). CallersStand rests.world.code n others bs b.code.outermost.kept (take frame.base cells_back)) (sym size-back)
@@ -595,12 +633,15 @@ module _ (bound : ℕ) (r : AtRest) (w : Whole) (rests : Rests bound r w) (op : 
                 subst (λ (n : ℕ). IsLoaded r.code n stands_by.instance) (sym stands_by.number)
                 (subst (λ (code : Contents). IsLoaded code b.instance stands_by.instance) rests.sees.code stands_by.loaded)
 
-            goes-back : LeadsOn (answered values (waiting_around (b ∷ bs))) → (call' : Call) → call'.cells.items ≡ cells_back → call'.position ≡ position_back → call'.callers ≡ others → ComesOver (IsHostStep host_type Answers) bound r hosts w (at_rest r.code state' call') hosts'
+            goes-back : LeadsOn (answered values (waiting_around (b ∷ bs))) → (call' : Call) → call'.cells.items ≡ cells_back → call'.position
+                ≡ position_back → call'.callers ≡ others → ComesOver (IsHostStep host_type Answers) bound r hosts w (at_rest r.code state' call') hosts'
             goes-back steps_all call' cells_is position_is callers_is =
                 let (other, sees) = seen-from r.code state' frame.instance (stands_by.instance, frame-there) in record {
                   new = new_back;
                   results = refl;
-                  steps = subst (λ (n : ℕ). Steps (IsHostStep host_type Answers) bound no_frame (run_state (store_around r) hosts (fuel_left r)) (whole w) (run_state then_store hosts' n) (whole new_back)) (sym (ap (λ (p : Position). p.fuel) position_is)) (subst LeadsOn answered-around steps_all);
+                  steps = subst (λ (n : ℕ). Steps (IsHostStep host_type Answers) bound no_frame (run_state (store_around r) hosts (fuel_left r))
+                      (whole w) (run_state then_store hosts' n) (whole new_back)) (sym (ap (λ (p : Position). p.fuel) position_is))
+                      (subst LeadsOn answered-around steps_all);
                   rests = record {
                     world = other;
                     sees = subst (λ (i : ℕ). Sees r.code then_store i other) (sym (ap (λ (p : Position). p.instance) position_is)) sees;
@@ -618,11 +659,15 @@ module _ (bound : ℕ) (r : AtRest) (w : Whole) (rests : Rests bound r w) (op : 
         last-fits = fits-by w.callers stand-so last-typed
 
         comes-by : (bs : List Caller) → Stand bs → ConfigurationHasType then_store outermost (answered values (waiting_around bs)) w.results → LeadsOn (answered values (waiting_around bs))
-            → (call' : Call) → call'.cells.items ≡ with_results held base values → call'.position ≡ position_answered frame r.call.position base values held → call'.callers ≡ others → ComesOver (IsHostStep host_type Answers) bound r hosts w (at_rest r.code state' call') hosts'
+            → (call' : Call) → call'.cells.items ≡ with_results held base values → call'.position
+            ≡ position_answered frame r.call.position base values held → call'.callers ≡ others
+            → ComesOver (IsHostStep host_type Answers) bound r hosts w (at_rest r.code state' call') hosts'
         comes-by [] stand typed_all steps_all call' cells_is position_is callers_is = absurd stand
         comes-by (b ∷ bs) stand typed_all steps_all call' cells_is position_is callers_is = goes-back b bs stand typed_all steps_all call' cells_is position_is callers_is
 
-        comes-back : (call' : Call) → call'.cells.items ≡ with_results held base values → call'.position ≡ position_answered frame r.call.position base values held → call'.callers ≡ others → ComesOver (IsHostStep host_type Answers) bound r hosts w (at_rest r.code state' call') hosts'
+        comes-back : (call' : Call) → call'.cells.items ≡ with_results held base values → call'.position
+            ≡ position_answered frame r.call.position base values held → call'.callers ≡ others
+            → ComesOver (IsHostStep host_type Answers) bound r hosts w (at_rest r.code state' call') hosts'
         comes-back call' cells_is position_is callers_is = comes-by w.callers stand-so last-typed last-steps call' cells_is position_is callers_is
 
 -- ---- what a call waits for
@@ -667,52 +712,68 @@ module _ (bound : ℕ) (r : AtRest) (w : Whole) (address behind : ℕ) (number :
 
   pub out-of-memory : (kind : CallKind) → WaitsForHost bound r w kind address behind → Run HostsAnswer bound no_frame start (whole w) OutOfMemory start
   out-of-memory Nested wait =
-      lacks-memory bound r w wait.rests wait.next.op address wait.next.function wait.next.height behind wait.next.lies wait.next.paid wait.next.calls.reached number t found host_type Answers hosts hosts' _
-      (nested-next bound r w wait.rests wait.next.op address wait.next.function wait.next.height behind wait.next.lies wait.next.paid wait.next.calls.reached number t found wait.next.calls.counted wait.next.calls.goes_on wait.next.calls.step)
+      lacks-memory bound r w wait.rests wait.next.op address wait.next.function wait.next.height behind wait.next.lies wait.next.paid
+      wait.next.calls.reached number t found host_type Answers hosts hosts' _
+      (nested-next bound r w wait.rests wait.next.op address wait.next.function wait.next.height behind wait.next.lies wait.next.paid
+      wait.next.calls.reached number t found wait.next.calls.counted wait.next.calls.goes_on wait.next.calls.step)
   out-of-memory Tail wait =
-      lacks-memory bound r w wait.rests wait.next.op address wait.next.function wait.next.height behind wait.next.lies wait.next.paid wait.next.calls.reached number t found host_type Answers hosts hosts' _
-      (last-next bound r w wait.rests wait.next.op address wait.next.function wait.next.height behind wait.next.lies wait.next.paid wait.next.calls.reached number t found wait.next.calls.results wait.next.calls.step)
+      lacks-memory bound r w wait.rests wait.next.op address wait.next.function wait.next.height behind wait.next.lies wait.next.paid
+      wait.next.calls.reached number t found host_type Answers hosts hosts' _
+      (last-next bound r w wait.rests wait.next.op address wait.next.function wait.next.height behind wait.next.lies wait.next.paid
+      wait.next.calls.reached number t found wait.next.calls.results wait.next.calls.step)
 
-  pub traps-there : (kind : CallKind) → WaitsForHost bound r w kind address behind → (store' : Store) (why : ℕ) → HostsAnswer hosts number its_lent its_arguments (store_around r) (HostTrap why) store' hosts'
+  pub traps-there : (kind : CallKind) → WaitsForHost bound r w kind address behind → (store' : Store) (why : ℕ)
+      → HostsAnswer hosts number its_lent its_arguments (store_around r) (HostTrap why) store' hosts'
       → Run HostsAnswer bound no_frame start (whole w) (WithTrap (Host why)) (run_state store' hosts' (fuel_left r - 1))
   traps-there Nested wait =
-      host-traps bound r w wait.rests wait.next.op address wait.next.function wait.next.height behind wait.next.lies wait.next.paid wait.next.calls.reached number t found host_type Answers hosts hosts' _
-      (nested-next bound r w wait.rests wait.next.op address wait.next.function wait.next.height behind wait.next.lies wait.next.paid wait.next.calls.reached number t found wait.next.calls.counted wait.next.calls.goes_on wait.next.calls.step)
+      host-traps bound r w wait.rests wait.next.op address wait.next.function wait.next.height behind wait.next.lies wait.next.paid
+      wait.next.calls.reached number t found host_type Answers hosts hosts' _
+      (nested-next bound r w wait.rests wait.next.op address wait.next.function wait.next.height behind wait.next.lies wait.next.paid
+      wait.next.calls.reached number t found wait.next.calls.counted wait.next.calls.goes_on wait.next.calls.step)
   traps-there Tail wait =
-      host-traps bound r w wait.rests wait.next.op address wait.next.function wait.next.height behind wait.next.lies wait.next.paid wait.next.calls.reached number t found host_type Answers hosts hosts' _
-      (last-next bound r w wait.rests wait.next.op address wait.next.function wait.next.height behind wait.next.lies wait.next.paid wait.next.calls.reached number t found wait.next.calls.results wait.next.calls.step)
+      host-traps bound r w wait.rests wait.next.op address wait.next.function wait.next.height behind wait.next.lies wait.next.paid
+      wait.next.calls.reached number t found host_type Answers hosts hosts' _
+      (last-next bound r w wait.rests wait.next.op address wait.next.function wait.next.height behind wait.next.lies wait.next.paid
+      wait.next.calls.reached number t found wait.next.calls.results wait.next.calls.step)
 
-  module _ (ready : AreReady host_type (store_around r) hosts) (state' : StateContents) (values : List Val) (told : HostsAnswer hosts number its_lent its_arguments (store_around r) (Results values) (store_with r.code state') hosts') where
+  module _ (ready : AreReady host_type (store_around r) hosts) (state' : StateContents) (values : List Val)
+      (told : HostsAnswer hosts number its_lent its_arguments (store_around r) (Results values) (store_with r.code state') hosts') where
     -- After a call.
     module _ (wait : WaitsForHost bound r w Nested address behind) where
       pub room-behind : behind - length t.params + length values ≤ length (machine_of r).cells
       room-behind =
-          room bound r w wait.rests wait.next.op address wait.next.function wait.next.height behind wait.next.lies wait.next.paid wait.next.calls.reached number t found wait.next.calls.counted wait.next.calls.goes_on wait.next.calls.step
+          room bound r w wait.rests wait.next.op address wait.next.function wait.next.height behind wait.next.lies wait.next.paid
+          wait.next.calls.reached number t found wait.next.calls.counted wait.next.calls.goes_on wait.next.calls.step
           host_type Answers hosts hosts' ready state' values told
 
       pub comes-behind : (call' : Call) → call'.cells.items ≡ with_results (cells_held r) (behind - length t.params) values
           → call'.position ≡ position_answered (frame_waiting r.call.position) r.call.position (behind - length t.params) values (cells_held r) → call'.callers ≡ r.call.callers
           → ComesOver HostsAnswer bound r hosts w (at_rest r.code state' call') hosts'
       comes-behind =
-          comes-over bound r w wait.rests wait.next.op address wait.next.function wait.next.height behind wait.next.lies wait.next.paid wait.next.calls.reached number t found wait.next.calls.counted wait.next.calls.goes_on wait.next.calls.step
+          comes-over bound r w wait.rests wait.next.op address wait.next.function wait.next.height behind wait.next.lies wait.next.paid
+          wait.next.calls.reached number t found wait.next.calls.counted wait.next.calls.goes_on wait.next.calls.step
           host_type Answers hosts hosts' ready state' values told
 
     -- After a tail call.
     module _ (wait : WaitsForHost bound r w Tail address behind) where
       pub ends-there : r.call.callers ≡ [] → Run HostsAnswer bound no_frame start (whole w) (WithValues values) (run_state (store_with r.code state') hosts' (fuel_left r - 1))
       ends-there =
-          ends-with bound r w wait.rests wait.next.op address wait.next.function wait.next.height behind wait.next.lies wait.next.paid wait.next.calls.reached number t found wait.next.calls.results wait.next.calls.step
+          ends-with bound r w wait.rests wait.next.op address wait.next.function wait.next.height behind wait.next.lies wait.next.paid
+          wait.next.calls.reached number t found wait.next.calls.results wait.next.calls.step
           host_type Answers hosts hosts' ready state' values told
 
       pub room-back-there : (frame : Frame) (others : List Frame) → r.call.callers ≡ frame ∷ others → (1 ≤ r.call.position.base) × (r.call.position.base + length values ≤ length (cells_held r))
       room-back-there =
-          last-fits bound r w wait.rests wait.next.op address wait.next.function wait.next.height behind wait.next.lies wait.next.paid wait.next.calls.reached number t found wait.next.calls.results wait.next.calls.step
+          last-fits bound r w wait.rests wait.next.op address wait.next.function wait.next.height behind wait.next.lies wait.next.paid
+          wait.next.calls.reached number t found wait.next.calls.results wait.next.calls.step
           host_type Answers hosts hosts' ready state' values told
 
       pub comes-back-there : (frame : Frame) (others : List Frame) → r.call.callers ≡ frame ∷ others → (call' : Call) → call'.cells.items ≡ with_results (cells_held r) r.call.position.base values
-          → call'.position ≡ position_answered frame r.call.position r.call.position.base values (cells_held r) → call'.callers ≡ others → ComesOver HostsAnswer bound r hosts w (at_rest r.code state' call') hosts'
+          → call'.position ≡ position_answered frame r.call.position r.call.position.base values (cells_held r) → call'.callers ≡ others
+          → ComesOver HostsAnswer bound r hosts w (at_rest r.code state' call') hosts'
       comes-back-there =
-          comes-back bound r w wait.rests wait.next.op address wait.next.function wait.next.height behind wait.next.lies wait.next.paid wait.next.calls.reached number t found wait.next.calls.results wait.next.calls.step
+          comes-back bound r w wait.rests wait.next.op address wait.next.function wait.next.height behind wait.next.lies wait.next.paid
+          wait.next.calls.reached number t found wait.next.calls.results wait.next.calls.step
           host_type Answers hosts hosts' ready state' values told
 
 -- A call returns from a host function, or ends the run there: it does one of the two.

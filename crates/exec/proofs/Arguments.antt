@@ -21,7 +21,8 @@ values-types store (v ∷ vs) [] h = absurd h
 values-types store (v ∷ vs) (t ∷ ts) h = ap₂ (λ (u : ValType) (us : List ValType). u ∷ us) (value-type store v t h.0) (values-types store vs ts h.1)
 
 -- The arguments that a function takes have its parameter types.
-pub argument_types : (store : Store) (address : ℕ) (args : List Val) (f : FunctionInstance) → slice_get store.functions address ≡ Some f → TakesArguments store address args → map type_of args ≡ f.ty.params
+pub argument_types : (store : Store) (address : ℕ) (args : List Val) (f : FunctionInstance) → slice_get store.functions address ≡ Some f
+    → TakesArguments store address args → map type_of args ≡ f.ty.params
 argument_types store address args f is (g, there, typed) =
     let same : g ≡ f = (let both = sym there ∙ is in cc) in
     values-types store args g.ty.params typed ∙ ap (λ (k : FunctionInstance). k.ty.params) same

@@ -1,5 +1,6 @@
 -- The beginning of a call from outside.
-use Rattle.std.proofs.Common.{◌≡◌, ℕ, ◌+◌, ◌-◌, ◌<◌, ◌≤◌, List, [], ◌∷◌, ◌++◌, length, map, reverse, take, drop, set, replicate, Option, Some, None, slice_get, refl, ap, sym, ◌∙◌, arith, length-append, subst}
+use Rattle.std.proofs.Common.{◌≡◌, ℕ, ◌+◌, ◌-◌, ◌<◌, ◌≤◌, List, [], ◌∷◌, ◌++◌, length, map, reverse, take, drop, set, replicate, Option, Some, None, slice_get}
+use Rattle.std.proofs.Common.{refl, ap, sym, ◌∙◌, arith, length-append, subst}
 use Rattle.std.proofs.lemmas.Option.{same_Some}
 use Rattle.std.proofs.lemmas.List.{append-nil, drop-replicate, drop_all, length-map, length-replicate, length-reverse, length-set, map-append, reverse-reverse, take-replicate, take_all}
 use Rattle.std.proofs.Math.Seq.{take-append-add}
@@ -113,7 +114,9 @@ module _ (a : FunctionAddress) (f : ModuleFunction) (arguments : List Val) (take
       ap (λ (g : Option FunctionInstance). call_function 0 store None g (reverse arguments) Empty) takes.found ∙ if-at-most n (length (reverse arguments)) _ NotReady many in
       rw (all, rest, reverse-reverse arguments) at goes
 
-  pub steps : (bound fuel : ℕ) → 1 ≤ bound → Steps NoHosts bound no_frame (record { store = store; hosts = []; fuel = fuel }) (Invoking (reverse arguments) a.address) (record { store = store; hosts = []; fuel = fuel }) (whole begun)
+  pub steps : (bound fuel : ℕ) → 1 ≤ bound
+      → Steps NoHosts bound no_frame (record { store = store; hosts = []; fuel = fuel }) (Invoking (reverse arguments) a.address)
+      (record { store = store; hosts = []; fuel = fuel }) (whole begun)
   steps bound fuel some = one_more none (opens opens-first (omega arith) (omega arith) refl some)
 
   pub starts-typed : ConfigurationHasType store outermost (Invoking (reverse arguments) a.address) t.results
@@ -171,7 +174,8 @@ module _ (a : FunctionAddress) (f : ModuleFunction) (arguments : List Val) (take
         let put = length-set first (0 + (n + k)) 0 in
         let own = frame-length (n + k) 0 (set first (0 + (n + k)) 0) (omega (arith, put, first-size, enough)) in
         record {
-          stands = functions-entered (context_at store (body_place t f.instance code)) s takes.types.types takes.types.functions t code.body valid.1 ops (n + k) f.flat.now.place at-address.flat.begins;
+          stands = functions-entered (context_at store (body_place t f.instance code)) s takes.types.types takes.types.functions t code.body valid.1
+              ops (n + k) f.flat.now.place at-address.flat.begins;
           holds = record {
             held = own-cells (n + k) 0 first 0 (omega (arith, first-size, enough)) ∙ first-held;
             top_is = omega (arith, locals-size);

@@ -70,7 +70,8 @@ module _ (bound : ℕ) (r : AtRest) (u : Whole) (rests : Rests bound r u) (state
   abbrev RestsAt : Whole → (cells : List ℕ) → List WaitingFrame → Position → Type 0
   RestsAt new cells callers position = (w : World) × Sees r.code (store_with r.code state') position.instance w × RunsWhole bound (loop_at w cells callers position) new
 
-  abbrev rests-so : (new : Whole) (cells : List ℕ) (callers : List WaitingFrame) (position : Position) → call'.cells.items ≡ cells → call'.callers ≡ callers → call'.position ≡ position → RestsAt new cells callers position → Rests bound there new
+  abbrev rests-so : (new : Whole) (cells : List ℕ) (callers : List WaitingFrame) (position : Position) → call'.cells.items ≡ cells → call'.callers
+      ≡ callers → call'.position ≡ position → RestsAt new cells callers position → Rests bound there new
   rests-so new cells callers position cells_are callers_are position_is at =
       let (w, sees, its) = subst (λ (p : Position). RestsAt new call'.cells.items call'.callers p) (sym position_is)
       (subst (λ (fs : List WaitingFrame). RestsAt new call'.cells.items fs position) (sym callers_are)
@@ -79,7 +80,9 @@ module _ (bound : ℕ) (r : AtRest) (u : Whole) (rests : Rests bound r u) (state
 
   -- ---- the call continues in its frame
 
-  module _ (cells' : List ℕ) (place top operand left : ℕ) (goes : (w' : World) → Sees r.code (store_with r.code state') number w' → GoesTo u.ghost (machine_of r) (fuel_left r) w' (record (machine_of r) { cells = cells'; place = place; top = top; operand = operand }) left) where
+  module _ (cells' : List ℕ) (place top operand left : ℕ)
+      (goes : (w' : World) → Sees r.code (store_with r.code state') number w'
+      → GoesTo u.ghost (machine_of r) (fuel_left r) w' (record (machine_of r) { cells = cells'; place = place; top = top; operand = operand }) left) where
     abbrev position : Position
     position = record r.call.position { place = place; top = top; operand = operand; fuel = left }
 
@@ -91,10 +94,13 @@ module _ (bound : ℕ) (r : AtRest) (u : Whole) (rests : Rests bound r u) (state
         let same = led.leads.same in
         let kept : h.code.outermost.kept ≡ u.ghost.code.outermost.kept = ap (λ (f : FrameCode). f.outermost.kept) same.code in
         let steps : Steps NoHosts bound no_frame (state (store_around r) (fuel_left r)) (whole u) (state (store_in w') left) (whole (with_ghost u h)) =
-        subst (λ (n : ℕ). Steps NoHosts bound no_frame (state (store_around r) (fuel_left r)) (whole u) (state (store_in w') left) (plug (layers_around u.callers n) (frame_of h) (config_of h))) (sym kept)
+        subst (λ (n : ℕ). Steps NoHosts bound no_frame (state (store_around r) (fuel_left r)) (whole u) (state (store_in w') left)
+        (plug (layers_around u.callers n) (frame_of h) (config_of h))) (sym kept)
         (subst (λ (s : Store). Steps NoHosts bound no_frame (state s (fuel_left r)) (whole u) (state (store_in w') left) (plug (layers_of u) (frame_of h) (config_of h))) store-is
-        (steps-lifted u.ghost.store (store_in w') bound (layers_of u) (layers-out u.callers u.ghost.code.outermost.kept) (frame_of u.ghost) (frame_of h) (config_of u.ghost) (config_of h) (fuel_left r) left led.leads.steps)) in
-        let before : ConfigurationHasType (store_around r) outside_place (whole u) u.results = subst (λ (s : Store). ConfigurationHasType s outside_place (whole u) u.results) rests.sees.store rests.runs.typed in
+        (steps-lifted u.ghost.store (store_in w') bound (layers_of u) (layers-out u.callers u.ghost.code.outermost.kept) (frame_of u.ghost)
+        (frame_of h) (config_of u.ghost) (config_of h) (fuel_left r) left led.leads.steps)) in
+        let before : ConfigurationHasType (store_around r) outside_place (whole u) u.results = subst
+        (λ (s : Store). ConfigurationHasType s outside_place (whole u) u.results) rests.sees.store rests.runs.typed in
         let (valid, typed) = steps-typed bound u.results (subst StoreIsValid store-is runs.runs.typed.valid, before) steps in
         let code_is : rests.world.code ≡ w'.code = rests.sees.code ∙ sym sees.code in
         record {
@@ -120,13 +126,15 @@ module _ (bound : ℕ) (r : AtRest) (u : Whole) (rests : Rests bound r u) (state
 
   -- ---- the call stays where it is
 
-  module _ (same : store_with r.code state' ≡ store_around r) (cells_are : call'.cells.items ≡ r.call.cells.items) (callers_are : call'.callers ≡ r.call.callers) (left : ℕ) (position_is : call'.position ≡ record r.call.position { fuel = left }) where
+  module _ (same : store_with r.code state' ≡ store_around r) (cells_are : call'.cells.items ≡ r.call.cells.items)
+      (callers_are : call'.callers ≡ r.call.callers) (left : ℕ) (position_is : call'.position ≡ record r.call.position { fuel = left }) where
     abbrev its_loop : Loop
     its_loop = loop_of rests.world r
 
     abbrev stayed : (fuel : ℕ) → Reaches bound its_loop u (record its_loop { fuel = fuel }) → Comes bound r u there fuel
     stayed fuel t =
-        let sees : Sees r.code (store_with r.code state') number rests.world = record { store = rests.sees.store ∙ sym same; code = rests.sees.code; seen_from = rests.sees.seen_from; instance = rests.sees.instance } in
+        let sees : Sees r.code (store_with r.code state') number rests.world =
+        record { store = rests.sees.store ∙ sym same; code = rests.sees.code; seen_from = rests.sees.seen_from; instance = rests.sees.instance } in
         let its = t.runs in
         record {
           new = t.new;
@@ -141,7 +149,9 @@ module _ (bound : ℕ) (r : AtRest) (u : Whole) (rests : Rests bound r u) (state
         }
 
     -- The next step costs more than is left.
-    pub lacks-fuel : left ≡ fuel_left r → Lacks u.ghost (fuel_left r) (cells_in u.ghost (machine_of r)) (machine_of r).place (height_in (machine_of r)) (fuel_left r) → StopsAtRest bound r u stop.NoFuel there
+    pub lacks-fuel : left ≡ fuel_left r
+        → Lacks u.ghost (fuel_left r) (cells_in u.ghost (machine_of r)) (machine_of r).place (height_in (machine_of r)) (fuel_left r)
+        → StopsAtRest bound r u stop.NoFuel there
     lacks-fuel left_is lacks =
         let (t, dear) = lacks-whole bound its_loop u rests.runs lacks in
         let dear' = subst (λ (s : Store). fuel_left r < price (next s no_frame (whole t.new))) (rests.sees.store ∙ sym same) dear in
@@ -150,23 +160,29 @@ module _ (bound : ℕ) (r : AtRest) (u : Whole) (rests : Rests bound r u) (state
         record { there = both.0; by = both.1 }
 
     -- The call traps.
-    pub traps : (trap : Trap) → 1 ≤ fuel_left r → left ≡ fuel_left r - 1 → Fails u.ghost (fuel_left r) (cells_in u.ghost (machine_of r)) (machine_of r).place (height_in (machine_of r)) left trap → StopsAtRest bound r u (stop.Traps trap) there
+    pub traps : (trap : Trap) → 1 ≤ fuel_left r → left ≡ fuel_left r - 1
+        → Fails u.ghost (fuel_left r) (cells_in u.ghost (machine_of r)) (machine_of r).place (height_in (machine_of r)) left trap
+        → StopsAtRest bound r u (stop.Traps trap) there
     traps trap enough left_is fails =
         let (t, wrong) = fails-whole bound its_loop u rests.runs left trap fails in
         let wrong' = subst (λ (s : Store). next s no_frame (whole t.new) ≡ Traps 1 trap) (rests.sees.store ∙ sym same) wrong in
         let now : left + 1 ≡ fuel_left there + 1 = ap (λ (p : Position). p.fuel + 1) (sym position_is) in
-        let both = subst (λ (n : ℕ). (c : Comes bound r u there n) × StopsBy bound (stop.Traps trap) c.rests.world (store_around there) n (machine_of there) c.new) now (stayed (left + 1) t, (wrong', omega arith)) in
+        let both = subst (λ (n : ℕ). (c : Comes bound r u there n)
+        × StopsBy bound (stop.Traps trap) c.rests.world (store_around there) n (machine_of there) c.new) now (stayed (left + 1) t, (wrong', omega arith)) in
         record { there = both.0; by = both.1 }
 
     -- The call asks to grow.
-    pub lacks-memory : left ≡ fuel_left r → (cost : ℕ) → cost ≤ fuel_left r → AsksToGrow u.ghost (fuel_left r) (cells_in u.ghost (machine_of r)) (machine_of r).place (height_in (machine_of r)) cost → LacksMemory bound r u there
+    pub lacks-memory : left ≡ fuel_left r → (cost : ℕ) → cost ≤ fuel_left r
+        → AsksToGrow u.ghost (fuel_left r) (cells_in u.ghost (machine_of r)) (machine_of r).place (height_in (machine_of r)) cost → LacksMemory bound r u there
     lacks-memory left_is cost enough asks =
         let t = lifted-there bound its_loop u rests.runs (fuel_left r) asks.leads in
         let h = asks.leads.new in
         let inside : next (store_around there) (frame_of h) (config_of h) ≡ Grows cost asks.grown asks.frame asks.behind =
         subst (λ (s : Store). next s (frame_of h) (config_of h) ≡ Grows cost asks.grown asks.frame asks.behind) (asks.leads.store ∙ store-is ∙ sym same) asks.grows in
         let grows : next (store_around there) no_frame (whole t.new) ≡ Grows cost asks.grown (outermost (layers_of t.new) asks.frame) (plug (layers_of t.new) asks.frame asks.behind) =
-        subst (λ (f : Frame). next (store_around there) f (whole t.new) ≡ Grows cost asks.grown (outermost (layers_of t.new) asks.frame) (plug (layers_of t.new) asks.frame asks.behind)) (layers-out u.callers h.code.outermost.kept (frame_of h))
+        subst (λ (f : Frame). next (store_around there) f (whole t.new)
+        ≡ Grows cost asks.grown (outermost (layers_of t.new) asks.frame) (plug (layers_of t.new) asks.frame asks.behind))
+        (layers-out u.callers h.code.outermost.kept (frame_of h))
         (plugged-grows (store_around there) (layers_of t.new) (frame_of h) asks.frame asks.grown cost (config_of h) asks.behind inside) in
         let now : fuel_left r ≡ fuel_left there = left_is_now left_is in
         let asked : AsksNext bound (store_around there) (fuel_left r) t.new = record {
@@ -200,13 +216,17 @@ module _ (r : AtRest) (op : PlainOp) (taken : ℕ) (state' : StateContents) wher
 
   module _ (paid : Paid) (acts : Acted (Ok paid)) (call' : Call) where
     module _ (bound : ℕ) (u : Whole) (b : RestsBefore bound r op u) where
-      its-goes : (o : Outcome) → HasOutcome u.ghost (cells_in u.ghost (machine_of r)) (machine_of r).place (height_in (machine_of r)) (height_in (machine_of r) - taken) o → (low : (machine_of r).base + u.ghost.code.locals + taken ≤ (machine_of r).top) → HasRoom (machine_of r) taken paid.result
+      its-goes : (o : Outcome) → HasOutcome u.ghost (cells_in u.ghost (machine_of r)) (machine_of r).place (height_in (machine_of r))
+          (height_in (machine_of r) - taken) o → (low : (machine_of r).base + u.ghost.code.locals + taken ≤ (machine_of r).top)
+          → HasRoom (machine_of r) taken paid.result
           → IsDone o (store_with r.code state') (fuel_left r) paid → (w' : World) → Sees r.code (store_with r.code state') r.call.position.instance w'
           → GoesTo u.ghost (machine_of r) (fuel_left r) w' (machine_behind b.rests.world (machine_of r) u.ghost b.rests.runs.runs taken low paid.result) paid.fuel
       its-goes (made cost store results) (makes, dear) low room (is, store_is) w' sees =
-          goes-on b.rests.world (machine_of r) u.ghost b.rests.runs.runs taken low cost store results paid.result is.result room makes w' (sym store_is ∙ sym sees.store) (fuel_left r) paid.fuel is.enough is.left
+          goes-on b.rests.world (machine_of r) u.ghost b.rests.runs.runs taken low cost store results paid.result is.result room makes w'
+          (sym store_is ∙ sym sees.store) (fuel_left r) paid.fuel is.enough is.left
       its-goes (grown cost store results) (makes, dear, asks) low room (is, store_is) w' sees =
-          goes-on b.rests.world (machine_of r) u.ghost b.rests.runs.runs taken low cost store results paid.result is.result room makes w' (sym store_is ∙ sym sees.store) (fuel_left r) paid.fuel is.enough is.left
+          goes-on b.rests.world (machine_of r) u.ghost b.rests.runs.runs taken low cost store results paid.result is.result room makes w'
+          (sym store_is ∙ sym sees.store) (fuel_left r) paid.fuel is.enough is.left
       its-goes (failed trap) has low room wrong w' sees = absurd wrong
 
       its-falls : (o : Outcome) → IsDone o (store_with r.code state') (fuel_left r) paid → paid.fuel < fuel_left r
@@ -214,13 +234,15 @@ module _ (r : AtRest) (op : PlainOp) (taken : ℕ) (state' : StateContents) wher
       its-falls (grown cost store results) (is, store_is) = omega (arith, is.some, is.enough, is.left)
       its-falls (failed trap) wrong = absurd wrong
 
-    pub did : RestsSomeBefore r op → call'.cells.items ≡ cells_behind r.call → call'.callers ≡ r.call.callers → call'.position ≡ position_behind r.call taken paid → GoesOn r op (at_rest r.code state' call')
+    pub did : RestsSomeBefore r op → call'.cells.items ≡ cells_behind r.call → call'.callers ≡ r.call.callers → call'.position
+        ≡ position_behind r.call taken paid → GoesOn r op (at_rest r.code state' call')
     did (bound, u, b) cells_are callers_are position_is =
         let fuel_is : call'.position.fuel ≡ paid.fuel = ap (λ (p : Position). p.fuel) position_is in record {
           comes = λ bound u b.
               let has = acts bound u b in
               subst (λ (n : ℕ). Comes bound r u (at_rest r.code state' call') n) (sym fuel_is)
-              (went bound r u b.rests state' call' (cells_behind r.call) (r.call.position.place + 1) (top_behind r.call.position.top taken paid.result) (operand_behind (cells_behind r.call) r.call.position.top taken paid.result) paid.fuel
+              (went bound r u b.rests state' call' (cells_behind r.call) (r.call.position.place + 1)
+              (top_behind r.call.position.top taken paid.result) (operand_behind (cells_behind r.call) r.call.position.top taken paid.result) paid.fuel
               (its-goes bound u b has.outcome has.has has.low has.room has.gives) cells_are callers_are position_is);
           falls = let less = its-falls bound u b (acts bound u b).outcome (acts bound u b).gives in omega (arith, less, fuel_is);
           size = ap (λ (z : List ℕ). length z) cells_are ∙ length-set r.call.cells.items r.call.position.top r.call.position.operand;
@@ -252,15 +274,19 @@ module _ (r : AtRest) (op : PlainOp) (taken : ℕ) (state' : StateContents) wher
     refused-memory acts = let has = acts bound u b in its-growth has.gives.1 has.outcome has.has has.gives.0
 
     module _ (trap : Trap) where
-      its-trap : (same : store_with r.code state' ≡ store_around r) (o : Outcome) → Has o → IsRefused o (fuel_left r) (refusal.Traps trap) → (call' : Call) → call'.cells.items ≡ r.call.cells.items → call'.callers ≡ r.call.callers → call'.position ≡ record r.call.position { fuel = fuel_left r - 1 }
+      its-trap : (same : store_with r.code state' ≡ store_around r) (o : Outcome) → Has o → IsRefused o (fuel_left r) (refusal.Traps trap)
+          → (call' : Call) → call'.cells.items ≡ r.call.cells.items → call'.callers ≡ r.call.callers → call'.position
+          ≡ record r.call.position { fuel = fuel_left r - 1 }
           → StopsAtRest bound r u (stop.Traps trap) (at_rest r.code state' call')
       its-trap same (made cost store results) has wrong call' cells_are callers_are position_is = absurd wrong
       its-trap same (grown cost store results) has wrong call' cells_are callers_are position_is = absurd wrong
       its-trap same (failed other) (fails, dear) (is, paid) call' cells_are callers_are position_is =
           traps bound r u b.rests state' call' same cells_are callers_are (fuel_left r - 1) position_is trap paid refl
-          (subst (λ (t : Trap). Fails u.ghost (fuel_left r) (cells_in u.ghost (machine_of r)) (machine_of r).place (height_in (machine_of r)) (fuel_left r - 1) t) (sym is) (fails (fuel_left r) (fuel_left r - 1) paid refl))
+          (subst (λ (t : Trap). Fails u.ghost (fuel_left r) (cells_in u.ghost (machine_of r)) (machine_of r).place (height_in (machine_of r))
+          (fuel_left r - 1) t) (sym is) (fails (fuel_left r) (fuel_left r - 1) paid refl))
 
-      pub refused-trap : Acted (Err (refusal.Traps trap)) → (call' : Call) → call'.cells.items ≡ r.call.cells.items → call'.callers ≡ r.call.callers → call'.position ≡ record r.call.position { fuel = fuel_left r - 1 } → StopsAtRest bound r u (stop.Traps trap) (at_rest r.code state' call')
+      pub refused-trap : Acted (Err (refusal.Traps trap)) → (call' : Call) → call'.cells.items ≡ r.call.cells.items → call'.callers ≡ r.call.callers
+          → call'.position ≡ record r.call.position { fuel = fuel_left r - 1 } → StopsAtRest bound r u (stop.Traps trap) (at_rest r.code state' call')
       refused-trap acts = let has = acts bound u b in its-trap has.gives.1 has.outcome has.has has.gives.0
 
   -- There is fuel for a trap.

@@ -37,7 +37,8 @@ cells-read store (v ∷ vs) (t ∷ ts) typed = rw (value-read store v t typed.0,
 
 map-reversed : (vs : List Val) → map cell_of (reverse vs) ≡ reverse (map cell_of vs)
 map-reversed [] = refl
-map-reversed (v ∷ vs) = ap (map cell_of) (reverse-append (v ∷ []) vs) ∙ map-append cell_of (reverse vs) (v ∷ []) ∙ ap (λ (z : List ℕ). z ++ (cell_of v ∷ [])) (map-reversed vs) ∙ sym (reverse-append (cell_of v ∷ []) (map cell_of vs))
+map-reversed (v ∷ vs) = ap (map cell_of) (reverse-append (v ∷ []) vs) ∙ map-append cell_of (reverse vs) (v ∷ []) ∙ ap
+    (λ (z : List ℕ). z ++ (cell_of v ∷ [])) (map-reversed vs) ∙ sym (reverse-append (cell_of v ∷ []) (map cell_of vs))
 
 module _ (store : Store) (m : Machine) (types : List ValType) (values : List Val) (h : HasResults store m types values) where
   typed : ValuesHaveTypes store (reverse values) types

@@ -71,7 +71,8 @@ module _ (a : FunctionAddress) (f : ModuleFunction) (arguments : List Val) (take
         instance = sees.instance;
       }
 
-  runs-whole : (bound : ℕ) → 1 ≤ bound → (fuel : ℕ) (w : World) → Sees a.code (store a f arguments takes) f.instance w → RunsWhole bound (loop_at w cells [] (first_position f fuel)) (begun a f arguments takes)
+  runs-whole : (bound : ℕ) → 1 ≤ bound → (fuel : ℕ) (w : World) → Sees a.code (store a f arguments takes) f.instance w
+      → RunsWhole bound (loop_at w cells [] (first_position f fuel)) (begun a f arguments takes)
   runs-whole bound some fuel w sees =
       let (valid, typed) = steps-typed bound f.ty.now.results (takes.valid, starts-typed a f arguments takes) (steps a f arguments takes bound fuel some) in record {
         runs = runs-at fuel w sees;
@@ -83,7 +84,8 @@ module _ (a : FunctionAddress) (f : ModuleFunction) (arguments : List Val) (take
       }
 
   -- The function runs at the first place of its code.
-  pub begins : (bound : ℕ) → 1 ≤ bound → (fuel : ℕ) (v : Vec ℕ) → v.items ≡ cells → (callers : List Frame) → callers ≡ [] → Begins bound a f arguments fuel (record { cells = v; callers = callers; position = first_position f fuel })
+  pub begins : (bound : ℕ) → 1 ≤ bound → (fuel : ℕ) (v : Vec ℕ) → v.items ≡ cells → (callers : List Frame) → callers ≡ []
+      → Begins bound a f arguments fuel (record { cells = v; callers = callers; position = first_position f fuel })
   begins bound some fuel v v_is callers callers_are =
       let (w, sees) = seen-from a.code a.state f.instance (takes.flat.0, takes.flat.1) in record {
         new = begun a f arguments takes;

@@ -7,7 +7,8 @@ use Rattle.core_types.specs.declared.outcome.Val.{Val}
 use Rattle.core_types.specs.declared.types.ValType.{ValType}
 use Rattle.meaning.specs.execution.Configurations.{depth, no_frame}
 use Rattle.meaning.specs.execution.Instructions.{Traps, next}
-use Rattle.meaning.specs.execution.Runs.{Answer, Ending, OutOfDepth, OutOfFuel, OutOfMemory, Run, State, Steps, WithTrap, WithValues, end, no_depth, no_fuel, no_memory, none, price, trapped, values_left}
+use Rattle.meaning.specs.execution.Runs.{Answer, Ending, OutOfDepth, OutOfFuel, OutOfMemory, Run, State, Steps, WithTrap, WithValues, end, no_depth, no_fuel}
+use Rattle.meaning.specs.execution.Runs.{no_memory, none, price, trapped, values_left}
 use Rattle.meaning.specs.execution.Store.{Store}
 use Rattle.meaning.proofs.lemmas.Hosts.{steps-over}
 use Rattle.meaning.proofs.lemmas.Runs.{Steps-fuel, Steps-join, Steps-run}
@@ -24,7 +25,8 @@ module _ {H : Type 0} (HostStep : List H → ℕ → Option ℕ → List Val →
   pub over-first : (r : AtRest) (hosts : List H) (w : Whole) (types : List ValType) → RestsWith bound r w types → ComesOver HostStep bound r hosts w r hosts
   over-first r hosts w types (rests, is) = record { new = w; results = refl; steps = none; rests = rests }
 
-  abbrev pub over-then : (r r' r'' : AtRest) (hosts hosts' hosts'' : List H) (w : Whole) (first : ComesOver HostStep bound r hosts w r' hosts') → ComesOver HostStep bound r' hosts' first.new r'' hosts'' → ComesOver HostStep bound r hosts w r'' hosts''
+  abbrev pub over-then : (r r' r'' : AtRest) (hosts hosts' hosts'' : List H) (w : Whole) (first : ComesOver HostStep bound r hosts w r' hosts')
+      → ComesOver HostStep bound r' hosts' first.new r'' hosts'' → ComesOver HostStep bound r hosts w r'' hosts''
   over-then r r' r'' hosts hosts' hosts'' w first second = record {
     new = second.new;
     results = second.results ∙ first.results;
@@ -34,7 +36,8 @@ module _ {H : Type 0} (HostStep : List H → ℕ → Option ℕ → List Val →
 
   module _ (r r' : AtRest) (hosts : List H) (u : Whole) where
     -- Code of modules has the same steps over any host functions.
-    pub led : (left : ℕ) (there : Comes bound r u r' left) → Steps HostStep bound no_frame (run_state (store_around r) hosts (fuel_left r)) (whole u) (run_state (store_around r') hosts left) (whole there.new)
+    pub led : (left : ℕ) (there : Comes bound r u r' left)
+        → Steps HostStep bound no_frame (run_state (store_around r) hosts (fuel_left r)) (whole u) (run_state (store_around r') hosts left) (whole there.new)
     led left there = steps-over HostStep hosts bound no_frame there.steps
 
     -- The call is over.
@@ -62,7 +65,8 @@ module _ {H : Type 0} (HostStep : List H → ℕ → Option ℕ → List Val →
 
       pub stops-trapped : (trap : Trap) → next (store_around r') no_frame (whole there.new) ≡ Traps 1 trap → paid_for s ≡ 1
           → Run HostStep bound no_frame (run_state (store_around r) hosts (fuel_left r)) (whole u) (WithTrap trap) last
-      stops-trapped trap traps paid = Steps-run HostStep bound no_frame (led (fuel_left r' + paid_for s) there) (end (trapped traps (omega (arith, paid)) refl (ap (run_state (store_around r') hosts) (omega (arith, paid)))))
+      stops-trapped trap traps paid = Steps-run HostStep bound no_frame (led (fuel_left r' + paid_for s) there)
+          (end (trapped traps (omega (arith, paid)) refl (ap (run_state (store_around r') hosts) (omega (arith, paid)))))
 
       module _ (unpaid : paid_for s ≡ 0) where
         abbrev RunsTo : Ending → Type 0
@@ -79,12 +83,14 @@ module _ {H : Type 0} (HostStep : List H → ℕ → Option ℕ → List Val →
         stops-over = record {
           new = there.new;
           results = there.results;
-          steps = subst (λ (n : ℕ). Steps HostStep bound no_frame (run_state (store_around r) hosts (fuel_left r)) (whole u) (run_state (store_around r') hosts n) (whole there.new)) (omega (arith, unpaid))
+          steps = subst (λ (n : ℕ). Steps HostStep bound no_frame (run_state (store_around r) hosts (fuel_left r)) (whole u)
+              (run_state (store_around r') hosts n) (whole there.new)) (omega (arith, unpaid))
               (led (fuel_left r' + paid_for s) there);
           rests = there.rests;
         }
 
-        pub stops-waiting : (kind : CallKind) (address behind : ℕ) → CallsHostNext (fuel_left r' + paid_for s) (machine_of r') there.new kind address behind → WaitsForHost bound r' there.new kind address behind
+        pub stops-waiting : (kind : CallKind) (address behind : ℕ)
+            → CallsHostNext (fuel_left r' + paid_for s) (machine_of r') there.new kind address behind → WaitsForHost bound r' there.new kind address behind
         stops-waiting kind address behind calls = record {
           rests = there.rests;
           next = subst (λ (n : ℕ). CallsHostNext n (machine_of r') there.new kind address behind) (omega (arith, unpaid)) calls;
@@ -122,13 +128,16 @@ module _ {H : Type 0} {HostStep : List H → ℕ → Option ℕ → List Val →
       -- With the results, as they are read, in the place of that many values.
       pub ends-taken : (c : Concludes bound r' stop.Over r'') (values old : List Val) (n : ℕ) (results : List Val) (fuel : ℕ) → length values ≡ n
           → ((s : Store) (given : List Val) → HasResults s (machine_of r'') types given → values ≡ reverse given)
-          → results ≡ take n (values ++ drop (length values) old) → fuel ≡ fuel_left r'' → Run HostStep bound no_frame (run_state (store_around r) hosts (fuel_left r)) (whole w) (WithValues results) (run_state (store_around r'') hosts' fuel)
+          → results ≡ take n (values ++ drop (length values) old) → fuel ≡ fuel_left r''
+          → Run HostStep bound no_frame (run_state (store_around r) hosts (fuel_left r)) (whole w) (WithValues results)
+          (run_state (store_around r'') hosts' fuel)
       ends-taken c values old n results fuel size reads taken left =
           subst (λ (k : ℕ). Run HostStep bound no_frame (run_state (store_around r) hosts (fuel_left r)) (whole w) (WithValues results) (run_state (store_around r'') hosts' k)) (sym left)
           (ends-so c results (taken ∙ take_at values (drop (length values) old) n size ∙ reads (store_around r'') (c first.new first.rests).values (over-typed c)))
 
       pub traps-so : (trap : Trap) → Concludes bound r' (stop.Traps trap) r'' → RunsSo HostStep bound r hosts w (WithTrap trap) r'' hosts'
-      traps-so trap c = let stops = c first.new first.rests in Steps-run HostStep bound no_frame first.steps (stops-trapped HostStep bound r' r'' hosts' first.new (stop.Traps trap) stops trap stops.by.0 refl)
+      traps-so trap c = let stops = c first.new first.rests in
+          Steps-run HostStep bound no_frame first.steps (stops-trapped HostStep bound r' r'' hosts' first.new (stop.Traps trap) stops trap stops.by.0 refl)
 
       pub dear-so : Concludes bound r' stop.NoFuel r'' → RunsSo HostStep bound r hosts w OutOfFuel r'' hosts'
       dear-so c = let stops = c first.new first.rests in Steps-run HostStep bound no_frame first.steps (stops-dear HostStep bound r' r'' hosts' first.new stop.NoFuel stops refl stops.by)
@@ -154,7 +163,9 @@ module _ {H : Type 0} {HostStep : List H → ℕ → Option ℕ → List Val →
         called = over-then HostStep bound r r' r'' hosts hosts' hosts' w first (stops-over HostStep bound r' r'' hosts' first.new (stop.CallsHost kind address behind) stops refl)
 
         pub ended-so : (r3 : AtRest) (hosts3 : List H) (ending : Ending)
-            → ((u : Whole) → WaitsForHost bound r'' u kind address behind → Run HostStep bound no_frame (run_state (store_around r'') hosts' (fuel_left r'')) (whole u) ending (run_state (store_around r3) hosts3 (fuel_left r3)))
+            → ((u : Whole) → WaitsForHost bound r'' u kind address behind
+            → Run HostStep bound no_frame (run_state (store_around r'') hosts' (fuel_left r'')) (whole u) ending
+            (run_state (store_around r3) hosts3 (fuel_left r3)))
             → RunsSo HostStep bound r hosts w ending r3 hosts3
         ended-so r3 hosts3 ending ended = Steps-run HostStep bound no_frame called.steps (ended waiting waits-so)
 
@@ -162,7 +173,8 @@ module _ {H : Type 0} {HostStep : List H → ℕ → Option ℕ → List Val →
         pub called-fuel : fuel_left r'' ≤ fuel_left r'
         called-fuel = Steps-fuel HostStep bound no_frame (stops-over HostStep bound r' r'' hosts' first.new (stop.CallsHost kind address behind) stops refl).steps
 
-  pub came-answered : {r' r'' r3 : AtRest} {hosts' hosts3 : List H} → (came : CameOver HostStep bound r hosts types r' hosts') → {kind : CallKind} {address behind : ℕ} → (c : Concludes bound r' (stop.CallsHost kind address behind) r'')
+  pub came-answered : {r' r'' r3 : AtRest} {hosts' hosts3 : List H} → (came : CameOver HostStep bound r hosts types r' hosts')
+      → {kind : CallKind} {address behind : ℕ} → (c : Concludes bound r' (stop.CallsHost kind address behind) r'')
       → ((u : Whole) → WaitsForHost bound r'' u kind address behind → ComesOver HostStep bound r'' hosts' u r3 hosts3) → CameOver HostStep bound r hosts types r3 hosts3
   came-answered {r'} {r''} {r3} {hosts'} {hosts3} came c answered = record {
     from = λ w is. over-then HostStep bound r r'' r3 hosts hosts' hosts3 w (called came is c) (answered (waiting came is c) (waits-so came is c));

@@ -47,7 +47,8 @@ measure-grows left left' old mid new le same some is few =
     omega (arith, le, same, some, all, sum, more, few)
 
 -- Less work is left with less fuel.
-measure-falls : (fuel fuel' callers callers' place place' size size' : ℕ) → fuel' < fuel → suc callers' < 2 ^ 64 → size' ≡ size → 2 ^ 64 * left_at fuel' callers' place' + (2 ^ 64 - size') < 2 ^ 64 * left_at fuel callers place + (2 ^ 64 - size)
+measure-falls : (fuel fuel' callers callers' place place' size size' : ℕ) → fuel' < fuel → suc callers' < 2 ^ 64 → size' ≡ size
+    → 2 ^ 64 * left_at fuel' callers' place' + (2 ^ 64 - size') < 2 ^ 64 * left_at fuel callers place + (2 ^ 64 - size)
 measure-falls fuel fuel' callers callers' place place' size size' less few same = omega (arith, less, few, same)
 
 -- Steps spend fuel.
@@ -96,7 +97,8 @@ module _ (bound : ℕ) where
     came-switched runs = record { from = λ u rests. let first = came.from u rests in comes-then r r' r'' u (fuel_left r'') first (runs.from first.new first.rests) }
 
     -- The call is over, or stops.
-    concludes-from : (s : Stop) → s ≢ stop.Switches → s ≢ stop.NoRoom → ((kind : OtherInstruction) (n : ℕ) → s ≢ stop.LeavesOther kind n) → (u : Whole) (first : Comes bound r u r' (fuel_left r')) → RunsTo bound r' first.new s r'' → ConcludesFrom bound r u s r''
+    concludes-from : (s : Stop) → s ≢ stop.Switches → s ≢ stop.NoRoom → ((kind : OtherInstruction) (n : ℕ) → s ≢ stop.LeavesOther kind n)
+        → (u : Whole) (first : Comes bound r u r' (fuel_left r')) → RunsTo bound r' first.new s r'' → ConcludesFrom bound r u s r''
     concludes-from stop.Over apart roomy its u first ends = record {
       values = ends.values;
       steps = Steps-join NoHosts bound no_frame first.steps ends.steps;
@@ -111,14 +113,16 @@ module _ (bound : ℕ) where
     pub concludes-so : (s : Stop) → s ≢ stop.Switches → s ≢ stop.NoRoom → ((kind : OtherInstruction) (n : ℕ) → s ≢ stop.LeavesOther kind n) → RunsFrom bound r' s r'' → Concludes bound r s r''
     concludes-so s apart roomy its runs u rests = let first = came.from u rests in concludes-from s apart roomy its u first (runs.from first.new first.rests)
 
-    valid-from : (s : Stop) → s ≢ stop.Switches → s ≢ stop.NoRoom → ((kind : OtherInstruction) (n : ℕ) → s ≢ stop.LeavesOther kind n) → (u : Whole) → ConcludesFrom bound r u s r'' → StoreIsValid (store_around r'')
+    valid-from : (s : Stop) → s ≢ stop.Switches → s ≢ stop.NoRoom → ((kind : OtherInstruction) (n : ℕ) → s ≢ stop.LeavesOther kind n) → (u : Whole)
+        → ConcludesFrom bound r u s r'' → StoreIsValid (store_around r'')
     valid-from stop.Over apart roomy its u ends = ends.results.valid
     valid-from stop.Switches apart roomy its u wrong = absurd wrong
     valid-from stop.NoRoom apart roomy its u wrong = absurd wrong
     valid-from (stop.LeavesOther kind n) apart roomy its u wrong = absurd wrong
     valid-from s apart roomy its u stops = rests-valid bound r'' (stops.there.new, stops.there.rests)
 
-    pub concludes-valid : (s : Stop) → s ≢ stop.Switches → s ≢ stop.NoRoom → ((kind : OtherInstruction) (n : ℕ) → s ≢ stop.LeavesOther kind n) → RunsFrom bound r' s r'' → RestsSome bound r → StoreIsValid (store_around r'')
+    pub concludes-valid : (s : Stop) → s ≢ stop.Switches → s ≢ stop.NoRoom → ((kind : OtherInstruction) (n : ℕ) → s ≢ stop.LeavesOther kind n)
+        → RunsFrom bound r' s r'' → RestsSome bound r → StoreIsValid (store_around r'')
     concludes-valid s apart roomy its runs (u, rests) = valid-from s apart roomy its u (concludes-so s apart roomy its runs u rests)
 
     -- The loop stops with `NoRoom`.
@@ -131,7 +135,8 @@ module _ (bound : ℕ) where
 
       -- Then there are other cells.
       module _ (v : Vec ℕ) where
-        abbrev moved : (u : Whole) (left : ℕ) (there : Comes bound r u r'' left) → RunsWhole bound (loop_at there.rests.world v.items r''.call.callers r''.call.position) there.new → Comes bound r u (with_cells r'' v) left
+        abbrev moved : (u : Whole) (left : ℕ) (there : Comes bound r u r'' left)
+            → RunsWhole bound (loop_at there.rests.world v.items r''.call.callers r''.call.position) there.new → Comes bound r u (with_cells r'' v) left
         moved u left there runs_whole = record {
           new = there.new;
           results = there.results;
@@ -163,7 +168,8 @@ module _ (bound : ℕ) where
   -- ---- instructions that the loop leaves to others
 
   -- The instance whose code is next exists.
-  pub left-there : (r r' r'' : AtRest) → Came bound r r' → (kind : OtherInstruction) (n : ℕ) → RunsFrom bound r' (stop.LeavesOther kind n) r'' → RestsSome bound r → r''.call.position.instance < length r''.code.instances
+  pub left-there : (r r' r'' : AtRest) → Came bound r r' → (kind : OtherInstruction) (n : ℕ) → RunsFrom bound r' (stop.LeavesOther kind n) r''
+      → RestsSome bound r → r''.call.position.instance < length r''.code.instances
   left-there r r' r'' came kind n runs (u, rests) =
       let first = came.from u rests in
       let its = (runs.from first.new first.rests).there.rests in
@@ -181,7 +187,8 @@ module _ (bound : ℕ) where
     tables-seen : (w : World) → Sees r''.code (store_around r'') r''.call.position.instance w → w.flat.tables ≡ tables
     tables-seen w sees =
         ap (λ (z : FlatModule). z.tables) sees.instance.flat
-        ∙ sym (are w.instance (subst (λ (n : ℕ). slice_get r''.code.instances n ≡ Some w.instance) sees.seen_from (subst (λ (c : Contents). slice_get c.instances w.number ≡ Some w.instance) sees.code sees.instance.loaded.there)))
+        ∙ sym (are w.instance (subst (λ (n : ℕ). slice_get r''.code.instances n ≡ Some w.instance) sees.seen_from
+        (subst (λ (c : Contents). slice_get c.instances w.number ≡ Some w.instance) sees.code sees.instance.loaded.there)))
 
     -- The call has arrived before the instruction.
     come-before : (u : Whole) → Rests bound r u → (there : Comes bound r u r'' (fuel_left r'')) × RestsBefore bound r'' op there.new
@@ -189,7 +196,8 @@ module _ (bound : ℕ) where
         let first = came.from u rests in
         let stops = stops-later r r' r'' u (stop.LeavesOther kind n) first (runs.from first.new first.rests) in
         let same : fuel_left r'' + 0 ≡ fuel_left r'' = omega arith in
-        let stands = subst (λ (ts : SideTables). StandsThere (machine_of r'') stops.there.new.ghost (Plain (other_op ts kind n))) (tables-seen stops.there.rests.world stops.there.rests.sees) stops.by.1 in
+        let stands = subst (λ (ts : SideTables). StandsThere (machine_of r'') stops.there.new.ghost (Plain (other_op ts kind n)))
+        (tables-seen stops.there.rests.world stops.there.rests.sees) stops.by.1 in
         let (there, its) = subst (λ (left : ℕ). (c : Comes bound r u r'' left) × StandsThere (machine_of r'') c.new.ghost (Plain op)) same (stops.there, stands) in
         (there, record { rests = there.rests; there = its })
 
@@ -210,7 +218,8 @@ module _ (bound : ℕ) where
         let spent : fuel_left r'' + 0 ≤ fuel_left r' = steps-spend bound (runs.from first.new first.rests).there.steps in
         let deep = (come-before u rests).1.rests.runs.deep in
         let as_many = ap (λ (fs : List Frame). length fs) done.callers in
-        measure-falls (fuel_left r') (fuel_left r3) (length r'.call.callers) (length r3.call.callers) r'.call.position.place r3.call.position.place (length r'.call.cells.items) (length r3.call.cells.items)
+        measure-falls (fuel_left r') (fuel_left r3) (length r'.call.callers) (length r3.call.callers) r'.call.position.place r3.call.position.place
+        (length r'.call.cells.items) (length r3.call.cells.items)
         (omega (arith, spent, done.falls)) (omega (arith, deep, as_many, small)) (done.size ∙ size)
 
     -- The call stops there.

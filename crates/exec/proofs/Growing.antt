@@ -20,13 +20,15 @@ longer-frame locals base cells more scrap =
     ∙ ap (λ (z : List ℕ). take locals (drop base cells) ++ z) (drop-append-le (suc (base + locals)) cells more (omega (arith, scrap)))
     ∙ sym (append_assoc (take locals (drop base cells)) (drop (suc (base + locals)) cells) more)
 
-longer-put_back : (locals base : ℕ) (cells more : List ℕ) (top operand : ℕ) → base + locals < length cells → top < length cells → put_back locals base (cells ++ more) top operand ≡ put_back locals base cells top operand ++ more
+longer-put_back : (locals base : ℕ) (cells more : List ℕ) (top operand : ℕ) → base + locals < length cells → top < length cells
+    → put_back locals base (cells ++ more) top operand ≡ put_back locals base cells top operand ++ more
 longer-put_back locals base cells more top operand scrap within =
     let size = length-set cells top operand in
     ap (without_scrap locals base) (set-append_left cells more top operand within) ∙ longer-frame locals base (set cells top operand) more (omega (arith, size, scrap))
 
 -- The waiting frames are in more cells.
-longer-caller : (code : Contents) (size size' : ℕ) → size ≤ size' → (frame : Frame) (c : Caller) (arity : ℕ) (below : List ℕ) → CallerStands code size frame c arity below → CallerStands code size' frame c arity below
+longer-caller : (code : Contents) (size size' : ℕ) → size ≤ size' → (frame : Frame) (c : Caller) (arity : ℕ) (below : List ℕ)
+    → CallerStands code size frame c arity below → CallerStands code size' frame c arity below
 longer-caller code size size' le frame c arity below s = record {
   place = s.place;
   number = s.number;
@@ -41,7 +43,8 @@ longer-caller code size size' le frame c arity below s = record {
   stands = s.stands;
 }
 
-longer-callers : (code : Contents) (size size' : ℕ) → size ≤ size' → (frames : List Frame) (cs : List Caller) (arity : ℕ) (below : List ℕ) → CallersStand code size frames cs arity below → CallersStand code size' frames cs arity below
+longer-callers : (code : Contents) (size size' : ℕ) → size ≤ size' → (frames : List Frame) (cs : List Caller) (arity : ℕ) (below : List ℕ)
+    → CallersStand code size frames cs arity below → CallersStand code size' frames cs arity below
 longer-callers code size size' le [] [] arity below stand = tt
 longer-callers code size size' le [] (c ∷ cs) arity below stand = absurd stand
 longer-callers code size size' le (frame ∷ frames) [] arity below stand = absurd stand
@@ -89,8 +92,10 @@ longer-whole bound l u more r =
     record {
       runs = longer-at l.world l.machine u.ghost more r.runs;
       number = r.number;
-      callers = subst (λ (z : List ℕ). CallersStand l.world.code (length (l.machine.cells ++ more)) l.callers u.callers u.ghost.code.outermost.kept z) (sym (take-append-le l.machine.base l.machine.cells more (omega (arith, within, low))))
-          (longer-callers l.world.code (length l.machine.cells) (length (l.machine.cells ++ more)) (omega (arith, all)) l.callers u.callers u.ghost.code.outermost.kept (take l.machine.base l.machine.cells) r.callers);
+      callers = subst (λ (z : List ℕ). CallersStand l.world.code (length (l.machine.cells ++ more)) l.callers u.callers u.ghost.code.outermost.kept z)
+          (sym (take-append-le l.machine.base l.machine.cells more (omega (arith, within, low))))
+          (longer-callers l.world.code (length l.machine.cells) (length (l.machine.cells ++ more)) (omega (arith, all)) l.callers u.callers
+          u.ghost.code.outermost.kept (take l.machine.base l.machine.cells) r.callers);
       arity = r.arity;
       deep = r.deep;
       typed = r.typed;

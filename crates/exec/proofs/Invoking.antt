@@ -9,7 +9,8 @@ use Rattle.meaning.specs.structure.Bodies.{Empty}
 use Rattle.meaning.specs.execution.Configurations.{Configuration, Invoking, Running, no_frame}
 use Rattle.meaning.specs.execution.Hosts.{IsHostCall, IsHostStep}
 use Rattle.meaning.specs.execution.Instructions.{CallsHost, Next, NotReady, call_function, call_host, next}
-use Rattle.meaning.specs.execution.Runs.{Answer, AsksForMemory, Ending, HostTrap, IsWithinBound, OutOfDepth, OutOfMemory, Results, Run, State, WithTrap, WithValues, calls, end, host_trapped, no_depth, no_memory, price, step, values_left}
+use Rattle.meaning.specs.execution.Runs.{Answer, AsksForMemory, Ending, HostTrap, IsWithinBound, OutOfDepth, OutOfMemory, Results, Run, State, WithTrap}
+use Rattle.meaning.specs.execution.Runs.{WithValues, calls, end, host_trapped, no_depth, no_memory, price, step, values_left}
 use Rattle.meaning.specs.execution.Store.{FunctionInstance, Store}
 use Rattle.meaning.specs.execution.Values.{type_of}
 use Rattle.meaning.specs.validation.Types.{are_same_types}
@@ -27,7 +28,8 @@ use Rattle.exec.proofs.Beginning.{opens-first}
 
 -- ---- functions of modules
 
-module _ {H : Type 0} (HostStep : List H → ℕ → Option ℕ → List Val → Store → Answer → Store → List H → Type 0) (hosts : List H) (depth fuel : ℕ) (a : FunctionAddress) (f : ModuleFunction) (arguments : List Val) (takes : Takes a f arguments) where
+module _ {H : Type 0} (HostStep : List H → ℕ → Option ℕ → List Val → Store → Answer → Store → List H → Type 0) (hosts : List H) (depth fuel : ℕ)
+    (a : FunctionAddress) (f : ModuleFunction) (arguments : List Val) (takes : Takes a f arguments) where
   abbrev at : State H
   at = run_state (store_with a.code a.state) hosts fuel
 
@@ -57,7 +59,8 @@ module _ {H : Type 0} (HostStep : List H → ℕ → Option ℕ → List Val →
 
 -- ---- host functions
 
-module _ {H : Type 0} (host_type : H → FuncType) (Answers : H → List Val → List ℕ → Answer → List ℕ → H → Type 0) (store : Store) (hosts hosts' : List H) (number : ℕ) (args : List Val) (bytes' : List ℕ) (bound fuel address : ℕ) (t : FuncType)
+module _ {H : Type 0} (host_type : H → FuncType) (Answers : H → List Val → List ℕ → Answer → List ℕ → H → Type 0) (store : Store)
+    (hosts hosts' : List H) (number : ℕ) (args : List Val) (bytes' : List ℕ) (bound fuel address : ℕ) (t : FuncType)
     (is : slice_get store.functions address ≡ Some (host_function number t)) (typed : map type_of args ≡ t.params) where
   abbrev Called : Answer → Type 0
   Called answer = IsHostCall host_type Answers hosts number args [] answer bytes' hosts'

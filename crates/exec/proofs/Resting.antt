@@ -27,7 +27,9 @@ runs-seen bound l u other seen r = record {
     runs = r.runs.runs;
     low = r.runs.low;
     scrap = r.runs.scrap;
-    operations = r.runs.operations ∙ ap operations_of (r.runs.instance.flat ∙ sym (flat-seen l.world.code l.world.number l.world.instance r.runs.instance.loaded other seen.code (seen.seen_from ∙ r.number) seen.instance));
+    operations = r.runs.operations ∙ ap operations_of
+        (r.runs.instance.flat ∙ sym (flat-seen l.world.code l.world.number l.world.instance r.runs.instance.loaded other seen.code
+        (seen.seen_from ∙ r.number) seen.instance));
     store = r.runs.store ∙ sym seen.store;
     number = r.runs.number ∙ sym r.number ∙ sym seen.seen_from;
     instance = seen.instance;
@@ -46,7 +48,13 @@ refuelled bound l fuel u r = record { runs = r.runs; number = r.number; callers 
 module _ (bound : ℕ) (r : AtRest) where
   pub runs-at : (u : Whole) → Rests bound r u → (w : World) → Sees r.code (store_around r) r.call.position.instance w → RunsWhole bound (loop_of w r) u
   runs-at u rests w sees =
-      runs-seen bound (loop_of rests.world r) u w (record { store = sees.store ∙ sym rests.sees.store; code = sees.code ∙ sym rests.sees.code; seen_from = sees.seen_from; instance = sees.instance }) rests.runs
+      runs-seen bound (loop_of rests.world r) u w
+      (record {
+        store = sees.store ∙ sym rests.sees.store;
+        code = sees.code ∙ sym rests.sees.code;
+        seen_from = sees.seen_from;
+        instance = sees.instance;
+      }) rests.runs
 
   abbrev rests-so : (u : Whole) (w : World) → w.code ≡ r.code → store_in w ≡ store_around r → RunsWhole bound (loop_of w r) u → Rests bound r u
   rests-so u w code store runs = record { world = w; sees = record { store = store; code = code; seen_from = sym runs.number; instance = runs.runs.instance }; runs = runs }
@@ -57,12 +65,14 @@ module _ (bound : ℕ) (r : AtRest) where
 -- ---- a run of the loop
 
 module _ (bound : ℕ) (r r' : AtRest) (w w' : World) (start : Sees r.code (store_around r) r.call.position.instance w) (code_is : w'.code ≡ r'.code) (store_is : store_in w' ≡ store_around r') where
-  led : (u : Whole) (end : Store) → end ≡ store_around r' → (left : ℕ) (c : Configuration) → Steps NoHosts bound no_frame (state (store_in w) (fuel_left r)) (whole u) (state end left) c → LeadsTo bound r u r' left c
+  led : (u : Whole) (end : Store) → end ≡ store_around r' → (left : ℕ) (c : Configuration)
+      → Steps NoHosts bound no_frame (state (store_in w) (fuel_left r)) (whole u) (state end left) c → LeadsTo bound r u r' left c
   led u end end_is left c steps =
       subst (λ (s : Store). Steps NoHosts bound no_frame (state (store_around r) (fuel_left r)) (whole u) (state s left) c) end_is
       (subst (λ (s : Store). Steps NoHosts bound no_frame (state s (fuel_left r)) (whole u) (state end left) c) start.store steps)
 
-  abbrev comes : (u : Whole) (other : World) → other.code ≡ r'.code → store_in other ≡ store_around r' → (left : ℕ) → Reaches bound (loop_of w r) u (record (loop_of other r') { fuel = left }) → Comes bound r u r' left
+  abbrev comes : (u : Whole) (other : World) → other.code ≡ r'.code → store_in other ≡ store_around r' → (left : ℕ)
+      → Reaches bound (loop_of w r) u (record (loop_of other r') { fuel = left }) → Comes bound r u r' left
   comes u other code store left t = record {
     new = t.new;
     results = t.results;
@@ -102,5 +112,6 @@ module _ (bound : ℕ) (l l' : Loop) (u : Whole) where
       subst StoreIsValid (t.runs.runs.store ∙ sees.store) t.runs.runs.runs.typed.valid
   valid-from s stops = subst StoreIsValid stops.there.runs.runs.store stops.there.runs.runs.runs.typed.valid
 
-pub stops-valid : (bound : ℕ) (r : AtRest) (w : World) → Sees r.code (store_around r) r.call.position.instance w → RestsSome bound r → (s : Stop) (l' : Loop) → StopsAt bound (loop_of w r) s l' → StoreIsValid (store_in l'.world)
+pub stops-valid : (bound : ℕ) (r : AtRest) (w : World) → Sees r.code (store_around r) r.call.position.instance w → RestsSome bound r
+    → (s : Stop) (l' : Loop) → StopsAt bound (loop_of w r) s l' → StoreIsValid (store_in l'.world)
 stops-valid bound r w sees (u, rests) s l' stops = valid-from bound (loop_of w r) l' u s (stops.from u (runs-at bound r u rests w sees))

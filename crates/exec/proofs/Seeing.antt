@@ -76,7 +76,8 @@ module _ (code : Contents) (state : StateContents) where
       pub memory-inside : a < length state.contents.memories
       memory-inside =
           let in_store = slice_get-map module_instance_of code.instances number ∙ ap (option_map module_instance_of) there in
-          All-at (λ (n : ℕ). n < length state.contents.memories) i.addresses.memories.items 0 a has (All-at (InstanceIsValid store) store.instances number (module_instance_of i) in_store valid.instances).memories
+          All-at (λ (n : ℕ). n < length state.contents.memories) i.addresses.memories.items 0 a has
+          (All-at (InstanceIsValid store) store.instances number (module_instance_of i) in_store valid.instances).memories
 
       memory-valid : MemoryIsValid state.bounds.pages (memory_of state a)
       memory-valid = All-at (MemoryIsValid state.bounds.pages) state.contents.memories a (memory_of state a) (slice_get-get_or state.contents.memories a no_memory memory-inside) valid.memories
@@ -86,7 +87,8 @@ pub record IsBack (state : StateContents) (a : ℕ) (memory : MemoryInstance) : 
   pub inside : a < length state.contents.memories
   pub few : memory.limits.min ≤ state.bounds.pages
 
-pub is-back : (code : Contents) (state : StateContents) (number : ℕ) (i : Instance) → slice_get code.instances number ≡ Some i → (a : ℕ) → slice_get i.addresses.memories.items 0 ≡ Some a → (memory : MemoryInstance)
+pub is-back : (code : Contents) (state : StateContents) (number : ℕ) (i : Instance) → slice_get code.instances number ≡ Some i → (a : ℕ)
+    → slice_get i.addresses.memories.items 0 ≡ Some a → (memory : MemoryInstance)
     → StoreIsValid (store_with code (put_memory state a memory)) → IsBack state a memory
 is-back code state number i there a has memory valid =
     let in_set = memory-inside code (put_memory state a memory) number i there valid a has in

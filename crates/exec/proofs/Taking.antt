@@ -52,11 +52,14 @@ module _ (bound : ℕ) (r : AtRest) (i : Instance) (loaded : IsLoaded r.code r.c
   pub none-taken : slice_get i.addresses.memories.items 0 ≡ None → (limits : Limits) (bytes : List ℕ) → IsSeen (world None limits r.state bytes)
   none-taken has limits bytes = record { store = refl; code = refl; seen_from = refl; instance = record { loaded = loaded; flat = flat_is; memory = has } }
 
-  pub one-taken : (a : ℕ) → slice_get i.addresses.memories.items 0 ≡ Some a → (memory : MemoryInstance) → memory ≡ memory_of r.state a → (limits : Limits) → limits ≡ memory.limits → (bytes : List ℕ) → bytes ≡ memory.bytes
+  pub one-taken : (a : ℕ) → slice_get i.addresses.memories.items 0 ≡ Some a → (memory : MemoryInstance) → memory ≡ memory_of r.state a
+      → (limits : Limits) → limits ≡ memory.limits → (bytes : List ℕ) → bytes ≡ memory.bytes
       → (state : StateContents) → state ≡ put_memory r.state a no_memory → IsSeen (world (Some a) limits state bytes)
   one-taken a has memory memory_is limits limits_are bytes bytes_are state state_is =
       let wanted = seen-taken r.code r.state r.call.position.instance i loaded a has in
-      let its = subst (λ (z : FlatModule). IsSeen (record (world (Some a) (memory_of r.state a).limits (put_memory r.state a no_memory) (memory_of r.state a).bytes) { flat = z })) (sym flat_is) wanted in
+      let its = subst (λ (z : FlatModule).
+      IsSeen (record (world (Some a) (memory_of r.state a).limits (put_memory r.state a no_memory) (memory_of r.state a).bytes) { flat = z }))
+      (sym flat_is) wanted in
       subst (λ (z : StateContents). IsSeen (world (Some a) limits z bytes)) (sym state_is)
       (subst (λ (z : Limits). IsSeen (world (Some a) z (put_memory r.state a no_memory) bytes)) (sym limits_are)
       (subst (λ (z : List ℕ). IsSeen (world (Some a) memory.limits (put_memory r.state a no_memory) z)) (sym bytes_are)
@@ -64,7 +67,11 @@ module _ (bound : ℕ) (r : AtRest) (i : Instance) (loaded : IsLoaded r.code r.c
 
   -- The memory is back.
   pub store-back : (a : ℕ) (memory : MemoryInstance) (limits : Limits) → limits ≡ memory.limits → (bytes : List ℕ) → length bytes ≡ length memory.bytes → (state state' : StateContents)
-      → state' ≡ put_memory state a (record { limits = memory.limits; bytes = take (length memory.bytes) (bytes ++ drop (length bytes) memory.bytes) }) → store_in (world (Some a) limits state bytes) ≡ store_with r.code state'
+      → state' ≡ put_memory state a (record {
+        limits = memory.limits;
+        bytes = take (length memory.bytes) (bytes ++ drop (length bytes) memory.bytes);
+      }) → store_in (world (Some a) limits state bytes)
+      ≡ store_with r.code state'
   store-back a memory limits limits_are bytes size state state' state_is =
       ap (λ (z : Limits). store_in (world (Some a) z state bytes)) limits_are
       ∙ ap (λ (z : List ℕ). store_with r.code (put_memory state a (record { limits = memory.limits; bytes = z }))) (sym (written-over (length memory.bytes) memory.bytes bytes size))
@@ -78,7 +85,8 @@ module _ (bound : ℕ) (r : AtRest) (i : Instance) (loaded : IsLoaded r.code r.c
     pub valid-after : RestsSome bound r → StoreIsValid (store_in w')
     valid-after some = stops-valid bound r w sees some s (loop_at w' cells' callers' position') same
 
-    pub runs-after : w'.code ≡ r.code → (state' : StateContents) → store_in w' ≡ store_with r.code state' → (v : Vec ℕ) → v.items ≡ cells' → RunsFrom bound r s (at_rest r.code state' (record { cells = v; callers = callers'; position = position' }))
+    pub runs-after : w'.code ≡ r.code → (state' : StateContents) → store_in w' ≡ store_with r.code state' → (v : Vec ℕ) → v.items ≡ cells'
+        → RunsFrom bound r s (at_rest r.code state' (record { cells = v; callers = callers'; position = position' }))
     runs-after code_is state' store_is v v_is =
         runs-on bound r (at_rest r.code state' (record { cells = v; callers = callers'; position = position' })) w w' sees code_is store_is s
         (subst (λ (z : List ℕ). StopsAt bound (loop_of w r) s (loop_at w' z callers' position')) (sym v_is) same)

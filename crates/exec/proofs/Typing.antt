@@ -26,4 +26,6 @@ module _ {I : Type 0} {F : I → Type 0} (members : (i : I) → Ghosts (F i)) (b
       → EndsTyped (HostStep members) HaveHosts (results_of (slice_get old.functions address)) (run_state old hosts fuel) ending (run_state new hosts' fuel')
   call-ends address args ending valid ready (f, there, typed) run =
       subst (λ (found : Option FunctionInstance). EndsTyped (HostStep members) HaveHosts (results_of found) (run_state old hosts fuel) ending (run_state new hosts' fuel')) (sym there)
-      (never-goes-wrong (HostStep members) HaveHosts (ready-still type_of_host) (boxes-answer-well members) bound no_frame outermost (run_state old hosts fuel) (run_state new hosts' fuel') (Invoking (reverse args) address) f.ty.results ending out valid ready (f, there, values-reversed old args f.ty.params typed, refl) run)
+      (never-goes-wrong (HostStep members) HaveHosts (ready-still type_of_host) (boxes-answer-well members) bound no_frame outermost
+      (run_state old hosts fuel) (run_state new hosts' fuel') (Invoking (reverse args) address) f.ty.results ending out valid ready
+      (f, there, values-reversed old args f.ty.params typed, refl) run)

@@ -4,6 +4,12 @@ ghost use Rattle.interpreter.specs.Calling.{frame_waiting};
 use core_types::Stack;
 use interpreter::{Frame, Position};
 
+/// How many bytes of a quota a cell counts.
+pub const CELL_BYTES: u64 = 8;
+
+/// How many bytes of a quota a frame that may be open counts.
+pub const FRAME_BYTES: u64 = 32;
+
 /// A call that runs or has stopped: its cells, the waiting frames, the innermost first, and its position.
 #[derive(Drop)]
 pub struct Call {

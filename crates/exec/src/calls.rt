@@ -3,7 +3,7 @@ ghost use Rattle.soundness.specs.Stores.{StoreIsValid};
 ghost use Rattle.store.specs.declared.instances.Instance.{Instance as AnyInstance};
 ghost use Rattle.exec.specs.Resting.{Concludes, RestsSome, RunsFrom, at_rest, store_around};
 
-use crate::call::Call;
+use crate::call::{CELL_BYTES, Call};
 use crate::instructions::step;
 use core_types::Limits;
 use interpreter::{Stop, Surroundings, run};
@@ -101,13 +101,15 @@ fn run_code(code: &Code, state: &mut State, bound: u64, call: &mut Call) -> Stop
     }
 }
 
-// Doubles the number of cells. If memory runs out, the number is unchanged.
-fn grow(cells: &mut Vec<u64>) -> Result<(), AllocError>
+// Doubles the number of cells. If memory or the quota runs out, the number is unchanged.
+fn grow(state: &mut State, cells: &mut Vec<u64>) -> Result<(), AllocError>
+    ensures state { state.new ≡ state.old }
     ensures grown { OnOk result (cells.new.items ≡ cells.old.items ++ replicate
         (length cells.old.items) 0) }
     ensures unchanged { OnErr result (cells.new.items ≡ cells.old.items) }
 {
     let size = cells.len() * 2;
+    state.borrow(CELL_BYTES.saturating_mul(size as u64))?;
     cells.resize(size, 0)
 }
 
@@ -138,7 +140,7 @@ pub fn go_on(code: &Code, state: &mut State, bound: u64, call: &mut Call) -> Sto
         match run_code(code, state, bound, call) {
             Stop::Switches => {}
             Stop::NoRoom => {
-                let Ok(()) = grow(&mut call.cells) else {
+                let Ok(()) = grow(state, &mut call.cells) else {
                     return Stop::NoMemory;
                 };
             }

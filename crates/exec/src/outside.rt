@@ -19,7 +19,7 @@ ghost use Rattle.exec.specs.Hosting.{RestsWith};
 ghost use Rattle.exec.specs.Resting.{at_rest};
 ghost use Rattle.exec.specs.Starting.{Takes, address_in};
 
-use crate::call::Call;
+use crate::call::{CELL_BYTES, Call, FRAME_BYTES};
 use crate::calls::go_on;
 use crate::hosts::{HostCall, call_host};
 use crate::invocation::{begin, results};
@@ -88,6 +88,12 @@ fn reserve_results(alloc: Global, count: usize) -> Result<Vec<Val>, AllocError>
     Ok(values)
 }
 
+// Returns how many bytes of a quota a call counts at first: the cells of its frame, and the frames that may be open.
+fn bytes_of_call(function: &ModuleFunction<'_>, depth: u32) -> u64 {
+    let cells = CELL_BYTES.saturating_mul(function.flat.greatest.saturating_add(1));
+    cells.saturating_add(FRAME_BYTES * u64::from(depth))
+}
+
 // Calls a function of a module from outside, over both parts of a store.
 fn call_code<'a>(
     alloc: Global,
@@ -113,6 +119,9 @@ fn call_code<'a>(
     }
     let types = function.ty.results.as_slice();
     let Ok(values) = reserve_results(alloc, types.len()) else {
+        return Outcome::Exhausted(Exhaustion::Memory);
+    };
+    let Ok(()) = state.borrow(bytes_of_call(function, depth)) else {
         return Outcome::Exhausted(Exhaustion::Memory);
     };
     let Ok(mut call) = begin(alloc, function, args, *fuel) else {

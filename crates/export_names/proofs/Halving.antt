@@ -69,7 +69,8 @@ place_of exports indices h k inside =
     Contains-permutation (range_with_len 0 (length exports)) indices k h.permutes
     (k, rw (length-range_with_len 0 (length exports)) inside, get_or-range_with_len 0 (length exports) k k inside ∙ omega arith)
 
-name_there : (exports : List Export) (indices : List ℕ) → IsNameOrder exports indices → (i k : ℕ) (d : Export) → i < length indices → get_or indices i k ≡ k → k < length exports → get_or (names_at exports indices) i [] ≡ (get_or exports k d).name
+name_there : (exports : List Export) (indices : List ℕ) → IsNameOrder exports indices → (i k : ℕ) (d : Export) → i < length indices
+    → get_or indices i k ≡ k → k < length exports → get_or (names_at exports indices) i [] ≡ (get_or exports k d).name
 name_there exports indices h i k d within is inside =
     let at : ℕ → List ℕ = λ j. get_or (names exports) j [] in
     get_or-map at indices i k [] within ∙ ap at is ∙ get_or-map (λ (e : Export). e.name) exports k d [] inside
@@ -84,26 +85,24 @@ module _ (exports : List Export) (indices : List ℕ) (name : List ℕ) (h : IsN
   rise : (i j : ℕ) → i < j → j < length indices → order (get_or names_there i []) (get_or names_there j []) ≡ Less
   rise i j lt within = Less-from_sorted order names_there i j [] (sorted_then exports indices h differ) lt (rw as_long within)
 
-  pub lies_in_all : LiesBetween exports indices name 0 (length indices)
-  lies_in_all = record {
-    rises = omega arith;
-    within = omega arith;
-    before = λ i lt. absurd (omega arith);
-    after = λ i most within. absurd (omega arith);
-  }
-
-  pub lies_behind : (low high middle : ℕ) → LiesBetween exports indices name low high → middle < high → order (get_or names_there middle []) name ≡ Less → LiesBetween exports indices name (middle + 1) high
+  pub lies_behind : (low high middle : ℕ) → LiesBetween exports indices name low high → middle < high → order (get_or names_there middle []) name
+      ≡ Less → LiesBetween exports indices name (middle + 1) high
   lies_behind low high middle so_far lt less = record {
     rises = omega arith;
     within = so_far.within;
-    before = λ i below. elim (eq-or-lt_of_le (here i below)) [ inl same ↦ subst (λ j. order (get_or names_there j []) name ≡ Less) (sym same) less | inr earlier ↦ nat_list_cmp_total.trans (get_or names_there i []) (get_or names_there middle []) name (rise i middle earlier (omega (arith, so_far.within))) less ];
+    before = λ i below. elim (eq-or-lt_of_le (here i below)) [
+      | inl same ↦ subst (λ j. order (get_or names_there j []) name ≡ Less) (sym same) less
+      | inr earlier ↦ nat_list_cmp_total.trans
+          (get_or names_there i []) (get_or names_there middle []) name (rise i middle earlier (omega (arith, so_far.within))) less
+    ];
     after = so_far.after;
   }
     where
       here : (i : ℕ) → i < middle + 1 → i ≤ middle
       here i below = omega arith
 
-  pub lies_before : (low high middle : ℕ) → LiesBetween exports indices name low high → low ≤ middle → middle < high → order (get_or names_there middle []) name ≡ Greater → LiesBetween exports indices name low middle
+  pub lies_before : (low high middle : ℕ) → LiesBetween exports indices name low high → low ≤ middle → middle < high
+      → order (get_or names_there middle []) name ≡ Greater → LiesBetween exports indices name low middle
   lies_before low high middle so_far least lt greater = record {
     rises = least;
     within = omega (arith, so_far.within);
@@ -113,7 +112,8 @@ module _ (exports : List Export) (indices : List ℕ) (name : List ℕ) (h : IsN
     where
       behind : (i : ℕ) → middle < i → i < length indices → order (get_or names_there i []) name ≡ Greater
       behind i later within =
-          let less = nat_list_cmp_total.trans name (get_or names_there middle []) (get_or names_there i []) (flipped (get_or names_there middle []) name Greater greater) (rise middle i later within) in
+          let less = nat_list_cmp_total.trans name (get_or names_there middle []) (get_or names_there i [])
+          (flipped (get_or names_there middle []) name Greater greater) (rise middle i later within) in
           flipped name (get_or names_there i []) Less less
 
   -- Nothing is left: no export has the name.
@@ -121,10 +121,16 @@ module _ (exports : List Export) (indices : List ℕ) (name : List ℕ) (h : IsN
   none_there low high so_far empty = ap (option_map (λ (e : Export). e.desc)) (none_found name exports unlike)
     where
       apart : (i : ℕ) → i < length indices → order (get_or names_there i []) name ≢ Equal
-      apart i within same = elim (below_or_from i low) [ inl earlier ↦ less_differs (sym (so_far.before i earlier) ∙ same) | inr later ↦ greater_differs (sym (so_far.after i (omega (arith, later)) within) ∙ same) ]
+      apart i within same = elim (below_or_from i low) [
+        | inl earlier ↦ less_differs (sym (so_far.before i earlier) ∙ same)
+        | inr later ↦ greater_differs
+            (sym (so_far.after i (omega (arith, later)) within) ∙ same)
+      ]
 
       unlike : All (λ (e : Export). bytes_eq e.name name ≡ false) exports
       unlike k d inside =
           let (i, within, is) = place_of exports indices h k inside in
           let there : get_or names_there i [] ≡ (get_or exports k d).name = name_there exports indices h i k d within is inside in
-          false_from_ne_true (bytes_eq (get_or exports k d).name name) (λ same. apart i within (ap (λ n. order n name) (there ∙ (bytes_eq-Decides (get_or exports k d).name name).0 same) ∙ tied_itself nat_list_cmp_total name))
+          false_from_ne_true (bytes_eq (get_or exports k d).name name)
+          (λ same. apart i within (ap (λ n. order n name) (there ∙ (bytes_eq-Decides (get_or exports k d).name name).0 same) ∙ tied_itself
+          nat_list_cmp_total name))

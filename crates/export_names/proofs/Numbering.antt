@@ -25,7 +25,8 @@ range_more a (suc n) =
 module _ (exports : List Export) (found then : Numbered) (i : ℕ) (name : Bor (List ℕ)) (pushed : then ≡ found ++ (name, i) ∷ []) where
   pub indices_more : indices_of found ≡ range_with_len 0 i → indices_of then ≡ range_with_len 0 (i + 1)
   indices_more so_far =
-      ap indices_of pushed ∙ map_push (λ (p : Bor (List ℕ) × ℕ). p.1) found (name, i) ∙ ap (λ xs. xs ++ i ∷ []) so_far ∙ sym (ap (range_with_len 0) (add-one i) ∙ range_more 0 i ∙ ap (λ x. range_with_len 0 i ++ x ∷ []) (omega arith))
+      ap indices_of pushed ∙ map_push (λ (p : Bor (List ℕ) × ℕ). p.1) found (name, i) ∙ ap (λ xs. xs ++ i ∷ []) so_far ∙ sym
+      (ap (range_with_len 0) (add-one i) ∙ range_more 0 i ∙ ap (λ x. range_with_len 0 i ++ x ∷ []) (omega arith))
 
   pub names_more : (e : Export) → i < length exports → name.now ≡ (get_or exports i e).name → HaveNames exports found → HaveNames exports then
   names_more e within named so_far =

@@ -113,7 +113,8 @@ module _ (exports : List Export) (indices : List ℕ) (h : IsNameOrder exports i
   moved : IsPermutation (names exports) (names_at exports indices)
   moved =
       let at : ℕ → List ℕ = λ k. get_or (names exports) k [] in
-      let whole : names exports ≡ names_at exports (range_with_len 0 (length exports)) = fill_by_all at (names exports) (length exports) [] (length-map exports (λ (e : Export). e.name)) (λ k within. refl) in
+      let whole : names exports ≡ names_at exports (range_with_len 0 (length exports)) = fill_by_all at (names exports) (length exports) []
+      (length-map exports (λ (e : Export). e.name)) (λ k within. refl) in
       subst (λ ns. IsPermutation ns (names_at exports indices)) (sym whole) (IsPermutation-map at (range_with_len 0 (length exports)) indices h.permutes)
 
   distinct_then : NamesDiffer exports → IsDistinct alike (names_at exports indices)
@@ -145,5 +146,7 @@ module _ (exports : List Export) (indices : List ℕ) (h : IsNameOrder exports i
   pub name_at : (place : ℕ) (e : Export) → place < length indices → e ≡ get_or exports (get_or indices place 0) e → e.name ≡ get_or (names_at exports indices) place []
   name_at place e within is =
       let at : ℕ → List ℕ = λ k. get_or (names exports) k [] in
-      let read : at (get_or indices place 0) ≡ e.name = get_or-map (λ (x : Export). x.name) exports (get_or indices place 0) e [] (index_within place 0 within) ∙ ap (λ (x : Export). x.name) (sym is) in
+      let read : at (get_or indices place 0)
+      ≡ e.name = get_or-map (λ (x : Export). x.name) exports (get_or indices place 0) e [] (index_within place 0 within) ∙ ap
+      (λ (x : Export). x.name) (sym is) in
       sym (get_or-map at indices place 0 [] within ∙ read)

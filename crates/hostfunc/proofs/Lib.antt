@@ -1,4 +1,3 @@
 pub mod Faults
 pub mod Fitting
-pub mod Funcrefs
 pub mod Own

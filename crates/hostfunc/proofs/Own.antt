@@ -15,7 +15,8 @@ use Rattle.hostfunc.specs.declared.host_function.HostFn.{Ghosts}
 use Rattle.hostfunc.specs.declared.host_object.HostObject.{HostObject}
 
 module _ {I : Type 0} {F : I → Type 0} (members : (i : I) → Ghosts (F i)) where
-  answers-own : (h h' : HostObject I F) (arguments : List Val) (bytes bytes' : List ℕ) (answer : Answer) → KeepsItsType members h → HostAnswers members h arguments bytes answer bytes' h' → h'.ty ≡ h.ty
+  answers-own : (h h' : HostObject I F) (arguments : List Val) (bytes bytes' : List ℕ) (answer : Answer) → KeepsItsType members h
+      → HostAnswers members h arguments bytes answer bytes' h' → h'.ty ≡ h.ty
       → OwnAnswers members h arguments bytes answer bytes' h' × KeepsItsType members h'
   answers-own h h' arguments bytes bytes' answer keeps told same = (told.answers keeps, told.same_declared ∙ keeps ∙ sym same)
 
@@ -32,6 +33,7 @@ module _ {I : Type 0} {F : I → Type 0} (members : (i : I) → Ghosts (F i)) wh
   own-command old new command reply applies kept = command-of-own type_of_host (HostAnswers members) (OwnAnswers members) (KeepsItsType members) answers-own old new reply kept command applies
 
   pub own-run : {old last : Embedding (HostObject I F)} {commands : List Command} {replies : List Reply} (run : AppliesAll (HostStep members) old commands replies last)
-      → IfHostsKeep members old.state.hosts last.state.hosts ((own : AppliesAll (OwnHostStep members) old commands replies last) × (states_of (OwnHostStep members) own ≡ states_of (HostStep members) run))
+      → IfHostsKeep members old.state.hosts last.state.hosts
+      ((own : AppliesAll (OwnHostStep members) old commands replies last) × (states_of (OwnHostStep members) own ≡ states_of (HostStep members) run))
   own-run run kept =
       let (own, same, keeps) = run-of-own type_of_host (HostAnswers members) (OwnAnswers members) (KeepsItsType members) answers-own kept run in ((own, same), keeps)

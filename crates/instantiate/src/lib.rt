@@ -10,8 +10,10 @@ mod limits;
 mod link_end;
 mod objects;
 mod offsets;
+mod sizes;
 mod tasks;
 
 pub use instantiation::instantiate;
 pub use link_end::{LinkEnd, LinkRefusal};
+pub use sizes::bytes_of_instance;
 pub use store::LoadedModule;

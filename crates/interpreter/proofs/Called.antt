@@ -59,7 +59,8 @@ record CallsFrom (w : World) (cells : List ℕ) (at from : Position) (kind : Cal
   pub calls : (g : Ghost) → RunsAt w (machine_at cells at) g → IsCalled kind op address function g (cells_in g (machine_at cells at)) at.place (height_in (machine_at cells at)) height
 
 -- What comes to a call is at the call then.
-abbrev settled : (op : PlainOp) (address : ℕ) (function : FunctionInstance) (g : Ghost) (cells : List ℕ) (at top height : ℕ) (c : ReachesCall op address function g cells at top height) → ReachesCall op address function c.new cells at top height
+abbrev settled : (op : PlainOp) (address : ℕ) (function : FunctionInstance) (g : Ghost) (cells : List ℕ) (at top height : ℕ)
+    (c : ReachesCall op address function g cells at top height) → ReachesCall op address function c.new cells at top height
 settled op address function g cells at top height c = record {
   new = c.new;
   same = record { code = refl; instance = refl; types = refl; results = refl };
@@ -80,10 +81,12 @@ settled op address function g cells at top height c = record {
   operands = c.operands;
 }
 
-calling-there : (op : PlainOp) (address : ℕ) (function : FunctionInstance) (g : Ghost) (cells : List ℕ) (at top height : ℕ) (c : IsCalling op address function g cells at top height) → IsCalling op address function c.reached.new cells at top height
+calling-there : (op : PlainOp) (address : ℕ) (function : FunctionInstance) (g : Ghost) (cells : List ℕ) (at top height : ℕ)
+    (c : IsCalling op address function g cells at top height) → IsCalling op address function c.reached.new cells at top height
 calling-there op address function g cells at top height c = record { reached = settled op address function g cells at top height c.reached; counted = c.counted; goes_on = c.goes_on; step = c.step }
 
-tail-calling-there : (op : PlainOp) (address : ℕ) (function : FunctionInstance) (g : Ghost) (cells : List ℕ) (at top height : ℕ) (c : IsTailCalling op address function g cells at top height) → IsTailCalling op address function c.reached.new cells at top height
+tail-calling-there : (op : PlainOp) (address : ℕ) (function : FunctionInstance) (g : Ghost) (cells : List ℕ) (at top height : ℕ)
+    (c : IsTailCalling op address function g cells at top height) → IsTailCalling op address function c.reached.new cells at top height
 tail-calling-there op address function g cells at top height c = record { reached = settled op address function g cells at top height c.reached; results = c.results; step = c.step }
 
 module _ (bound : ℕ) (w : World) (cells : List ℕ) (callers : List Frame) (at from : Position) (op : PlainOp) (address : ℕ) where
@@ -95,7 +98,8 @@ module _ (bound : ℕ) (w : World) (cells : List ℕ) (callers : List Frame) (at
 
   -- ---- of a module
 
-  module _ (f : ModuleFunction) (is : IsCalleeAt w.code address (callee.InModule f)) (found : IsAtAddress w.code address f) (height : ℕ) (top_is : from.top ≡ at.base + height) (in_cells : from.top < length cells)
+  module _ (f : ModuleFunction) (is : IsCalleeAt w.code address (callee.InModule f)) (found : IsAtAddress w.code address f) (height : ℕ)
+      (top_is : from.top ≡ at.base + height) (in_cells : from.top < length cells)
       (same : (g : Ghost) → RunsAt w (machine_at cells at) g → take height (put_back g.code.locals at.base cells from.top from.operand) ≡ take height (cells_in g (machine_at cells at))) where
     abbrev function : FunctionInstance
     function = function_of f.ty.now f.instance f.func.now
@@ -200,7 +204,8 @@ module _ (bound : ℕ) (w : World) (cells : List ℕ) (callers : List Frame) (at
         no_memory = λ some shallow. record { from = λ u r. stops-unpaid bound stop.NoMemory refl l l u (nested u r) (asks-to-open u r some shallow); falls = tt };
         opens = λ some shallow room cells' filled size u r.
             let k = calls u.ghost r.runs in
-            let o = opened bound w cells callers at (nested u r).new (nested u r).runs op from.top from.operand address f found (arguments u r k.reached) k.counted k.step cells' filled size room some shallow in
+            let o = opened bound w cells callers at (nested u r).new (nested u r).runs op from.top from.operand address f found
+            (arguments u r k.reached) k.counted k.step cells' filled size room some shallow in
             (o.0, λ other seen. reaches-then bound l l _ u (nested u r) (o.1 other seen));
       }
 
@@ -243,16 +248,28 @@ module _ (bound : ℕ) (w : World) (cells : List ℕ) (callers : List Frame) (at
             (o.0, λ other seen. reaches-then bound l l _ u (last u r) (o.1 other seen));
       }
 
-  calls-in-module : (kind : CallKind) (f : ModuleFunction) → IsCalleeAt w.code address (callee.InModule f) → IsAtAddress w.code address f → CallsFrom w cells at from kind op address (function_of f.ty.now f.instance f.func.now) → RunsSomeWhole bound l → CallsInModule kind bound w cells callers at from f
+  calls-in-module : (kind : CallKind) (f : ModuleFunction) → IsCalleeAt w.code address (callee.InModule f) → IsAtAddress w.code address f
+      → CallsFrom w cells at from kind op address (function_of f.ty.now f.instance f.func.now) → RunsSomeWhole bound l
+      → CallsInModule kind bound w cells callers at from f
   calls-in-module Nested f is found k some = calls-module f is found k.height k.top_is k.inside k.same k.calls some
   calls-in-module Tail f is found k some = replaces-module f is found k.height k.top_is k.inside k.same k.calls some
 
   -- ---- of a host function
 
-  calls-host : (kind : CallKind) (f : HostFunction) → CallsFrom w cells at from kind op address (host_function f.number f.ty.now) → 1 ≤ at.fuel → StopsAt bound l (stop.CallsHost kind address (from.top + 1)) l
+  calls-host : (kind : CallKind) (f : HostFunction) → CallsFrom w cells at from kind op address (host_function f.number f.ty.now) → 1 ≤ at.fuel
+      → StopsAt bound l (stop.CallsHost kind address (from.top + 1)) l
   calls-host kind f k some = record {
     from = λ u r. stops-unpaid bound (stop.CallsHost kind address (from.top + 1)) refl l l u (reaches-first bound l u r)
-        (record { op = op; function = host_function f.number f.ty.now; number = f.number; is_host = refl; height = k.height; lies = omega (arith, k.top_is); calls = k.calls u.ghost r.runs; paid = some });
+        (record {
+          op = op;
+          function = host_function f.number f.ty.now;
+          number = f.number;
+          is_host = refl;
+          height = k.height;
+          lies = omega (arith, k.top_is);
+          calls = k.calls u.ghost r.runs;
+          paid = some;
+        });
     falls = tt;
   }
 
@@ -267,7 +284,8 @@ module _ (bound : ℕ) (w : World) (cells : List ℕ) (callers : List Frame) (at
       }
 
   -- The function that is found there is called.
-  calls-found : (kind : CallKind) → RunsSomeWhole bound l → (found : Callee) → IsCalleeAt w.code address found → CallsFrom w cells at from kind op address (callee_function found) → Calls bound w cells callers at from kind address found
+  calls-found : (kind : CallKind) → RunsSomeWhole bound l → (found : Callee) → IsCalleeAt w.code address found
+      → CallsFrom w cells at from kind op address (callee_function found) → Calls bound w cells callers at from kind address found
   calls-found kind some (callee.InModule f) is k =
       calls-in-module kind f is (at-address f is) k some
   calls-found kind some (callee.InHost f) is k = (k.inside, calls-host kind f k)
@@ -309,7 +327,8 @@ module _ (bound : ℕ) (w : World) (cells : List ℕ) (callers : List Frame) (at
         let (function, named, calls) = (by-name-leads kind w its x turns u.ghost r.runs).0 in
         subst (λ (a : ℕ). a < length w.code.functions) (sym is) (within-code w.code (function_address w x) function named)
 
-    pub call-calls : RunsSomeWhole bound loop → (address : ℕ) → address ≡ function_address w x → (found : Callee) → IsCalleeAt w.code address found → Calls bound w cells callers at at kind address found
+    pub call-calls : RunsSomeWhole bound loop → (address : ℕ) → address ≡ function_address w x → (found : Callee) → IsCalleeAt w.code address found
+        → Calls bound w cells callers at at kind address found
     call-calls (u, r) address is found there =
         calls-found bound w cells callers at at (by_name kind x) address kind (u, r) found there
         (record {
@@ -325,7 +344,8 @@ module _ (bound : ℕ) (w : World) (cells : List ℕ) (callers : List Frame) (at
         })
 
     -- A function of the instance's own module is called without its address.
-    module _ (some : RunsSomeWhole bound loop) (f : ModuleFunction) (number : f.instance ≡ w.number) (index : ℕ) (index_is : x ≡ w.instance.imported + index) (inside : x < length w.instance.addresses.functions.items) where
+    module _ (some : RunsSomeWhole bound loop) (f : ModuleFunction) (number : f.instance ≡ w.number) (index : ℕ)
+        (index_is : x ≡ w.instance.imported + index) (inside : x < length w.instance.addresses.functions.items) where
       its-loaded : IsLoaded w.code f.instance w.instance
       its-loaded = subst (λ (n : ℕ). IsLoaded w.code n w.instance) (sym number) some.1.runs.instance.loaded
 
@@ -336,7 +356,8 @@ module _ (bound : ℕ) (w : World) (cells : List ℕ) (callers : List Frame) (at
       own = its-loaded.own.own index own-within
 
       own-address : own.0 ≡ function_address w x
-      own-address = sym (ap (λ (n : ℕ). get_or w.instance.addresses.functions.items n 0) index_is ∙ get_or_from_slice_get w.instance.addresses.functions.items (w.instance.imported + index) own.0 0 own.1.named)
+      own-address = sym (ap (λ (n : ℕ). get_or w.instance.addresses.functions.items n 0) index_is ∙ get_or_from_slice_get
+          w.instance.addresses.functions.items (w.instance.imported + index) own.0 0 own.1.named)
 
       pub own-calls : slice_get w.instance.loaded.value.source.funcs index ≡ Some f.func.now
           → slice_get w.instance.loaded.value.source.types f.func.now.ty ≡ Some f.ty.now
@@ -379,13 +400,15 @@ module _ (bound : ℕ) (w : World) (cells : List ℕ) (callers : List Frame) (at
     pub through-traps : (left : ℕ) → (1 ≤ at.fuel) × (left ≡ at.fuel - 1) → (trap : Trap) → FindsEntry w.code (type_of w.instance type) entry (Err trap)
         → StopsAt bound loop (stop.Traps trap) (loop_at w cells callers (record at { fuel = left }))
     through-traps left (paid, left_is) trap finds = stops-failing bound loop left trap
-        (λ g r. entry-traps w.code g (found-in g r) (cells_in g its) its.place (height_in its) (CalledSo g) (type_of w.instance type) entry trap finds (through g r entry refl) at.fuel left paid left_is)
+        (λ g r. entry-traps w.code g (found-in g r) (cells_in g its) its.place (height_in its) (CalledSo g) (type_of w.instance type) entry trap finds
+        (through g r entry refl) at.fuel left paid left_is)
 
     pub through-calls : RunsSomeWhole bound loop → at.base + 1 ≤ at.top → (f : Found) → FindsEntry w.code (type_of w.instance type) entry (Ok f)
         → Calls bound w cells callers at (record at { top = at.top - 1; operand = get_or cells (at.top - 1) 0 }) kind f.address f.callee
     through-calls (u, r) some f finds =
         let in_cells = inside w its u.ghost r.runs in
-        calls-found bound w cells callers at (record at { top = at.top - 1; operand = get_or cells (at.top - 1) 0 }) (through_table kind type x) f.address kind (u, r) f.callee (entry-found w.code (type_of w.instance type) entry f finds)
+        calls-found bound w cells callers at (record at { top = at.top - 1; operand = get_or cells (at.top - 1) 0 }) (through_table kind type x)
+        f.address kind (u, r) f.callee (entry-found w.code (type_of w.instance type) entry f finds)
         (record {
           height = height_in its - 1;
           top_is = omega (arith, some);

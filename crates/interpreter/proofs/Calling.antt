@@ -40,7 +40,8 @@ found-through : (kind : CallKind) (g : Ghost) (cells : List ℕ) (at top type x 
 found-through Nested g cells at top type x b = calls-through g cells at top type x b
 found-through Tail g cells at top type x b = tail-calls-through g cells at top type x b
 
-pub reached-by : (kind : CallKind) (op : PlainOp) (address : ℕ) (function : FunctionInstance) (g : Ghost) (cells : List ℕ) (at top height : ℕ) → IsCalled kind op address function g cells at top height → ReachesCall op address function g cells at top height
+pub reached-by : (kind : CallKind) (op : PlainOp) (address : ℕ) (function : FunctionInstance) (g : Ghost) (cells : List ℕ) (at top height : ℕ)
+    → IsCalled kind op address function g cells at top height → ReachesCall op address function g cells at top height
 reached-by Nested op address function g cells at top height c = c.reached
 reached-by Tail op address function g cells at top height c = c.reached
 
@@ -49,7 +50,8 @@ module _ (w : World) (m : Machine) (g : Ghost) (r : RunsAt w m g) (kind : CallKi
   calls-there x b =
       let ((address, function, named, calling), costs) = found-by-name kind g (cells_in g m) m.place (height_in m) x b in
       let (inside, is) = function-there w m g r x address named in
-      let c : ReachesCall (by_name kind x) address function g (cells_in g m) m.place (height_in m) (height_in m) = reached-by kind (by_name kind x) address function g (cells_in g m) m.place (height_in m) (height_in m) calling in
+      let c : ReachesCall (by_name kind x) address function g (cells_in g m) m.place (height_in m) (height_in m) = reached-by kind (by_name kind x)
+      address function g (cells_in g m) m.place (height_in m) (height_in m) calling in
       let there : slice_get (functions_in w.code) (function_address w x) ≡ Some function =
       ap (slice_get (functions_in w.code)) is ∙ ap (λ (s : Store). slice_get s.functions address) (sym (c.store ∙ r.store)) ∙ c.there in
       (inside, ((function, there, subst (λ (a : ℕ). IsCalled kind (by_name kind x) a function g (cells_in g m) m.place (height_in m) (height_in m)) (sym is) calling), costs))
@@ -65,7 +67,9 @@ module _ (w : World) (m : Machine) (g : Ghost) (r : RunsAt w m g) (kind : CallKi
         (some, type_inside, t.named, t.inside),
         (
           λ entry is.
-              subst (λ (u : FuncType). CallsEntry g (cells_in g m) m.place (height_in m) (λ a function. IsCalled kind (through_table kind type x) a function g (cells_in g m) m.place (height_in m) (height_in m - 1)) u entry) (sym type_is)
+              subst (λ (u : FuncType). CallsEntry g (cells_in g m) m.place (height_in m)
+              (λ a function. IsCalled kind (through_table kind type x) a function g (cells_in g m) m.place (height_in m) (height_in m - 1)) u
+              entry) (sym type_is)
               (entries entry (ap (slice_get table.entries) (topmost w m g r 1 (omega arith) some.0) ∙ sym (t.entry m.operand) ∙ is)),
           costs,
         ),
@@ -80,7 +84,8 @@ within-code code address f there =
 
 -- ---- by an entry
 
-module _ (code : Contents) (g : Ghost) (store : (address : ℕ) → slice_get (functions_in code) address ≡ slice_get g.store.functions address) (cells : List ℕ) (at top : ℕ) (Called : ℕ → FunctionInstance → Type 0) (wanted : FuncType) where
+module _ (code : Contents) (g : Ghost) (store : (address : ℕ) → slice_get (functions_in code) address ≡ slice_get g.store.functions address)
+    (cells : List ℕ) (at top : ℕ) (Called : ℕ → FunctionInstance → Type 0) (wanted : FuncType) where
   pub refers : (entry : Option Val) → CallsEntry g cells at top Called wanted entry → RefersToFunction code entry
   refers None calls = tt
   refers (Some (FuncRef None)) calls = tt

@@ -1,6 +1,8 @@
 -- A frame's cells with the topmost operand written back and the scrap left out.
 use Rattle.std.proofs.Common.{◌≡◌, ℕ, suc, ◌+◌, ◌-◌, ◌<◌, ◌≤◌, List, [], ◌∷◌, ◌++◌, length, take, drop, set, get_or, ap, sym, ◌∙◌, arith, length-append}
-use Rattle.std.proofs.lemmas.List.{drop-set-add, drop-set-lt, get_or-append_right, get_or-drop, get_or-set_other, get_or-set_same, get_or-take, get_or_append_left, length-drop, length-set, length-take-le, set-append_left, set-append_right, set-get_or, set_comm, take-set-le}
+use Rattle.std.proofs.lemmas.List.{drop-set-add, drop-set-lt, get_or-append_right, get_or-drop, get_or-set_other, get_or-set_same, get_or-take}
+use Rattle.std.proofs.lemmas.List.{get_or_append_left, length-drop, length-set, length-take-le, set-append_left, set-append_right, set-get_or, set_comm}
+use Rattle.std.proofs.lemmas.List.{take-set-le}
 use Rattle.std.proofs.Math.Seq.{take-append-add, take-set-lt, take-suc-set}
 use Rattle.interpreter.specs.Layout.{put_back, without_scrap}
 

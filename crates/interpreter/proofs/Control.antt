@@ -55,7 +55,9 @@ module _ (w : World) (m : Machine) (g : Ghost) (r : RunsAt w m g) where
       let c = chooses g (cells_in g m) m.place (height_in m) e b in
       let Zero : Type 0 = IsCharged g (cells_in g m) m.place (height_in m) e.target (height_in m - 1) in
       let Other : Type 0 = IsCharged g (cells_in g m) m.place (height_in m) (suc m.place) (height_in m - 1) in
-      let some : HasOwn g m 1 = has-operands w m g r 1 (condition-low g (cells_in g m) m.place (height_in m) b.runs e.target Other (charged-low g (cells_in g m) m.place (height_in m) b.runs (suc m.place) (height_in m - 1)) c) (omega arith) in
+      let some : HasOwn g m 1 = has-operands w m g r 1
+      (condition-low g (cells_in g m) m.place (height_in m) b.runs e.target Other
+      (charged-low g (cells_in g m) m.place (height_in m) b.runs (suc m.place) (height_in m - 1)) c) (omega arith) in
       let few = some.0 in (
         some,
         (
@@ -88,7 +90,8 @@ module _ (w : World) (m : Machine) (g : Ghost) (r : RunsAt w m g) where
       let as_many = length-set m.cells m.top m.operand in (
         (inside w m g r, omega (arith, l.0, r.runs.holds.count, r.low)),
         (
-          lands w m g r (set m.cells m.top m.operand) m.top (height_in m) e l refl as_many (take-set-le m.base m.cells m.top m.operand (omega (arith, r.low))) (omega (arith, r.low)) (omega (arith, as_many, inside w m g r)),
+          lands w m g r (set m.cells m.top m.operand) m.top (height_in m) e l refl as_many
+              (take-set-le m.base m.cells m.top m.operand (omega (arith, r.low))) (omega (arith, r.low)) (omega (arith, as_many, inside w m g r)),
           l.3,
         ),
       )
@@ -99,5 +102,6 @@ module _ (w : World) (m : Machine) (g : Ghost) (r : RunsAt w m g) where
       let c = branches-table g (cells_in g m) m.place (height_in m) es e b in
       let some : HasOwn g m 1 = has-operands w m g r 1 (omega (arith, c.0, c.2.0)) (omega arith) in
       let few = some.0 in
-      let l : IsLanded g (cells_in g m) m.place (height_in m) (height_in m - 1) (get_or es m.operand e) = subst (λ (n : ℕ). IsLanded g (cells_in g m) m.place (height_in m) (height_in m - 1) (get_or es n e)) (condition few) c.2 in
+      let l : IsLanded g (cells_in g m) m.place (height_in m) (height_in m - 1) (get_or es m.operand e) = subst
+      (λ (n : ℕ). IsLanded g (cells_in g m) m.place (height_in m) (height_in m - 1) (get_or es n e)) (condition few) c.2 in
       ((some, kept-below few (get_or es m.operand e) l), (falls-to few (get_or es m.operand e) l, l.3))

@@ -65,7 +65,8 @@ module _ (w : World) (m : Machine) (h : Ghost) (r : RunsAt w m h) (op : PlainOp)
   module _ (cells' : List ℕ) (base' : ℕ) (own : take (n + k) (drop base' cells') ≡ take n (drop (b.height - n) (put_back h.code.locals m.base m.cells top operand)) ++ replicate k 0)
       (room : base' + f.flat.now.greatest < length cells') where
     runs : Runs new (put_back (n + k) base' cells' (base' + (n + k)) 0) f.flat.now.place (n + k)
-    runs = callee-runs w m h r op top operand f.ty.now f.instance (code_of f.func.now) b cells' base' own s ops f.flat.now.place types functions found.flat.begins (omega (arith, room, found.flat.greatest))
+    runs = callee-runs w m h r op top operand f.ty.now f.instance (code_of f.func.now) b cells' base' own s ops f.flat.now.place types functions
+        found.flat.begins (omega (arith, room, found.flat.greatest))
 
     pub entered-runs : (other : World) → IsSeenFrom f.instance w other → RunsAt other (machine_entered f cells' base' (base' + f.flat.now.locals)) new
     entered-runs other seen =

@@ -22,7 +22,8 @@ pub record HasFlatBody (s : Signatures) (ops : List FlatOp) (f : ModuleFunction)
   pub params : f.flat.now.params ≡ length f.ty.now.params
   pub locals : f.flat.now.locals ≡ length f.ty.now.params + length f.func.now.locals
 
-pub flat-body : (s : Signatures) (ops : List FlatOp) (f : ModuleFunction) → IsFlat s ops f.func.now f.flat.now → slice_get s.types f.func.now.ty ≡ Some f.ty.now → f.func.now.body ≡ writing (code_of f.func.now).body → HasFlatBody s ops f
+pub flat-body : (s : Signatures) (ops : List FlatOp) (f : ModuleFunction) → IsFlat s ops f.func.now f.flat.now → slice_get s.types f.func.now.ty
+    ≡ Some f.ty.now → f.func.now.body ≡ writing (code_of f.func.now).body → HasFlatBody s ops f
 flat-body s ops f is declared written =
     let type_is : type_at s.types f.func.now.ty ≡ f.ty.now = ap (λ (o : Option FuncType). unwrap_or o (function_type [] [])) declared in
     let b = is.flat (code_of f.func.now).body written in

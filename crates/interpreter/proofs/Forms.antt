@@ -22,7 +22,8 @@ use Rattle.interpreter.proofs.Moves.{moved-below, moved-frame}
 use Rattle.interpreter.proofs.Operands.{takes-operands}
 
 -- Steps to cells are steps to those that are the same up to the top.
-leads-same : (g : Ghost) (fuel : ℕ) (store' : Store) (cells cells' : List ℕ) (at top left : ℕ) → take top cells' ≡ take top cells → length cells' ≡ length cells → Leads g fuel store' cells at top left → Leads g fuel store' cells' at top left
+leads-same : (g : Ghost) (fuel : ℕ) (store' : Store) (cells cells' : List ℕ) (at top left : ℕ) → take top cells' ≡ take top cells → length cells'
+    ≡ length cells → Leads g fuel store' cells at top left → Leads g fuel store' cells' at top left
 leads-same g fuel store' cells cells' at top left same size l = record {
   new = l.new;
   same = l.same;
@@ -90,13 +91,17 @@ module _ (w : World) (m : Machine) (g : Ghost) (r : RunsAt w m g) where
   put : (cell below : ℕ) → IsPut g (cells_in g m) m.place cell below → GoesOn (store_in w) (take below (cells_in g m) ++ (cell ∷ [])) (m.place + 1) (suc below)
   put cell below p = from-store _ _ _ (λ cells' fuel left is same enough left_is. p cells' (m.place + 1) (suc below) fuel left is same (omega arith) refl enough left_is)
 
-  pub kept : (store' : Store) (w' : World) → store' ≡ store_in w' → (cells : List ℕ) (below : ℕ) → length cells ≡ length (cells_in g m) → IsKept g store' cells m.place below → GoesOn (store_in w') (take below cells) (m.place + 1) below
+  pub kept : (store' : Store) (w' : World) → store' ≡ store_in w' → (cells : List ℕ) (below : ℕ) → length cells ≡ length (cells_in g m)
+      → IsKept g store' cells m.place below → GoesOn (store_in w') (take below cells) (m.place + 1) below
   kept store' w' store_is cells below as_many k =
-      subst (λ (s : Store). GoesOn s (take below cells) (m.place + 1) below) store_is (λ cells' fuel left is same enough left_is. k cells' (m.place + 1) below fuel left is (same ∙ sym as_many) (omega arith) refl enough left_is)
+      subst (λ (s : Store). GoesOn s (take below cells) (m.place + 1) below) store_is
+      (λ cells' fuel left is same enough left_is. k cells' (m.place + 1) below fuel left is (same ∙ sym as_many) (omega arith) refl enough left_is)
 
   pub charged : (place height next_at : ℕ) → place ≡ next_at → IsCharged g (cells_in g m) m.place (height_in m) next_at height → GoesOn (store_in w) (take height (cells_in g m)) place height
   charged place height next_at is c = from-store _ _ _
-      (λ cells' fuel left same as_many enough left_is. leads-same g fuel g.store (cells_in g m) cells' place height left same as_many (subst (λ (n : ℕ). Leads g fuel g.store (cells_in g m) n height left) (sym is) (c.0 fuel left enough left_is)))
+      (λ cells' fuel left same as_many enough left_is.
+      leads-same g fuel g.store (cells_in g m) cells' place height left same as_many
+      (subst (λ (n : ℕ). Leads g fuel g.store (cells_in g m) n height left) (sym is) (c.0 fuel left enough left_is)))
 
   -- The machine's cells begin with these.
   pub pays : (w' : World) (cells' : List ℕ) (place top operand height : ℕ) (firsts : List ℕ) → GoesOn (store_in w') firsts place height → top ≡ m.base + height → g.code.locals ≤ height
@@ -120,7 +125,8 @@ module _ (w : World) (m : Machine) (g : Ghost) (r : RunsAt w m g) where
   pushes cell cell' is room p =
       let as_many = length-set m.cells m.top m.operand in
       pays w (set m.cells m.top m.operand) (m.place + 1) (m.top + 1) cell' (suc (height_in m)) _ (put cell (height_in m) p) (omega (arith, r.low)) (omega (arith, r.low))
-      (to-top g.code.locals m.base (set m.cells m.top m.operand) (omega (arith, as_many, r.scrap)) (height_in m) (m.top + 1) cell' (omega (arith, r.low)) (omega (arith, r.low)) (omega (arith, as_many, room, size, r.low, r.scrap))
+      (to-top g.code.locals m.base (set m.cells m.top m.operand) (omega (arith, as_many, r.scrap)) (height_in m) (m.top + 1) cell'
+      (omega (arith, r.low)) (omega (arith, r.low)) (omega (arith, as_many, room, size, r.low, r.scrap))
       ∙ ap (λ (c : ℕ). take (height_in m) (cells_in g m) ++ (c ∷ [])) is)
       as_many (take-set-le m.base m.cells m.top m.operand (omega (arith, r.low)))
 
@@ -137,7 +143,8 @@ module _ (w : World) (m : Machine) (g : Ghost) (r : RunsAt w m g) where
     lower = below-top g.code.locals m.base m.cells r.scrap (height_in m - 1) m.top m.operand (omega (arith, some, few)) topmost-is (height_in m - n) (omega (arith, some))
 
     -- One operand in their place.
-    pub puts : (top : ℕ) → top + n ≡ m.top + 1 → (cell cell' : ℕ) → cell' ≡ cell → IsPut g (cells_in g m) m.place cell (height_in m - n) → Pays g m w (record m { place = m.place + 1; top = top; operand = cell' })
+    pub puts : (top : ℕ) → top + n ≡ m.top + 1 → (cell cell' : ℕ) → cell' ≡ cell → IsPut g (cells_in g m) m.place cell (height_in m - n)
+        → Pays g m w (record m { place = m.place + 1; top = top; operand = cell' })
     puts top top_is cell cell' is p =
         pays w m.cells (m.place + 1) top cell' (suc (height_in m - n)) _ (put cell (height_in m - n) p) (omega (arith, top_is, few)) (omega (arith, few))
         (to-top g.code.locals m.base m.cells r.scrap (height_in m - n) top cell' (omega (arith, few)) (omega (arith, top_is, few)) (omega (arith, top_is, some, inside))
@@ -145,13 +152,17 @@ module _ (w : World) (m : Machine) (g : Ghost) (r : RunsAt w m g) where
         refl refl
 
     -- A result's number, or its trap.
-    pub answers : (top : ℕ) → top + n ≡ m.top + 1 → (result : Result ℕ Trap) → IsAnswered g (cells_in g m) m.place (height_in m) (height_in m - n) result → Answers w m g (λ cell. record m { place = m.place + 1; top = top; operand = cell }) result
+    pub answers : (top : ℕ) → top + n ≡ m.top + 1 → (result : Result ℕ Trap)
+        → IsAnswered g (cells_in g m) m.place (height_in m) (height_in m - n) result
+        → Answers w m g (λ cell. record m { place = m.place + 1; top = top; operand = cell }) result
     answers top top_is (Ok k) a = puts top top_is k k refl a
     answers top top_is (Err trap) a = a
 
     -- No operand in their place.
-    pub pops : (w' : World) (place : ℕ) → GoesOn (store_in w') (take (height_in m - n) (cells_in g m)) place (height_in m - n) → Pays g m w' (record m { place = place; top = m.top - n; operand = get_or m.cells (m.top - n) 0 })
-    pops w' place on = pays w' m.cells place (m.top - n) (get_or m.cells (m.top - n) 0) (height_in m - n) _ on (omega (arith, few)) (omega (arith, few)) (ap (take (height_in m - n)) (popped-frame g.code.locals m.base m.cells (m.top - n)) ∙ sym lower) refl refl
+    pub pops : (w' : World) (place : ℕ) → GoesOn (store_in w') (take (height_in m - n) (cells_in g m)) place (height_in m - n)
+        → Pays g m w' (record m { place = place; top = m.top - n; operand = get_or m.cells (m.top - n) 0 })
+    pops w' place on = pays w' m.cells place (m.top - n) (get_or m.cells (m.top - n) 0) (height_in m - n) _ on (omega (arith, few))
+        (omega (arith, few)) (ap (take (height_in m - n)) (popped-frame g.code.locals m.base m.cells (m.top - n)) ∙ sym lower) refl refl
 
     -- ---- operands
 
@@ -160,12 +171,14 @@ module _ (w : World) (m : Machine) (g : Ghost) (r : RunsAt w m g) where
 
     -- The last of them, below others.
     pub under : 2 ≤ n → (place : ℕ) → place + n ≡ m.top + 1 → get_or (cells_in g m) (height_in m - n) 0 ≡ get_or m.cells place 0
-    under two place is = under-top g.code.locals m.base m.cells r.scrap (height_in m - 1) m.top m.operand (omega (arith, some, few)) topmost-is (height_in m - n) place (omega (arith, few)) (omega (arith, two, few)) (omega (arith, few, is))
+    under two place is = under-top g.code.locals m.base m.cells r.scrap (height_in m - 1) m.top m.operand (omega (arith, some, few)) topmost-is
+        (height_in m - n) place (omega (arith, few)) (omega (arith, two, few)) (omega (arith, few, is))
 
   -- ---- moves
 
   -- Operands are moved down from cells that are those of the frame, up to a height.
-  pub lands : (held : List ℕ) (top above : ℕ) (e : Entry) → IsLanded g (cells_in g m) m.place (height_in m) above e → take above (cells_in g m) ≡ take above (without_scrap g.code.locals m.base held) → length held ≡ length m.cells → take m.base held ≡ take m.base m.cells
+  pub lands : (held : List ℕ) (top above : ℕ) (e : Entry) → IsLanded g (cells_in g m) m.place (height_in m) above e → take above (cells_in g m)
+      ≡ take above (without_scrap g.code.locals m.base held) → length held ≡ length m.cells → take m.base held ≡ take m.base m.cells
       → top ≡ m.base + above → top < length held → Lands w m g held top e
   lands held top above e l same as_many below top_is room cells' operand' moved =
       let h : ℕ = e.height - g.code.locals in
@@ -176,11 +189,17 @@ module _ (w : World) (m : Machine) (g : Ghost) (r : RunsAt w m g) where
       let scrap : m.base + g.code.locals < length held = omega (arith, r.scrap, as_many) in
       let first = part-first e.height above (cells_in g m) (without_scrap g.code.locals m.base held) same (omega (arith, l.0)) in
       let last = part-last e.kept above (cells_in g m) (without_scrap g.code.locals m.base held) same (omega (arith, l.0)) in
-      let whole : take (g.code.locals + h + e.kept) (put_back g.code.locals m.base cells' (m.base + g.code.locals + h + e.kept) operand') ≡ take (g.code.locals + h) (without_scrap g.code.locals m.base held) ++ take e.kept (drop (above - e.kept) (without_scrap g.code.locals m.base held)) =
+      let whole : take (g.code.locals + h + e.kept) (put_back g.code.locals m.base cells' (m.base + g.code.locals + h + e.kept) operand')
+      ≡ take (g.code.locals + h) (without_scrap g.code.locals m.base held) ++ take e.kept
+      (drop (above - e.kept) (without_scrap g.code.locals m.base held)) =
       moved-frame g.code.locals m.base held scrap top h e.kept cells' operand' kept_is room moved' above top_is in
-      let landed : take (e.height + e.kept) (put_back g.code.locals m.base cells' (m.base + e.height + e.kept) operand') ≡ take e.height (without_scrap g.code.locals m.base held) ++ take e.kept (drop (above - e.kept) (without_scrap g.code.locals m.base held)) =
-      subst (λ (n : ℕ). take (n + e.kept) (put_back g.code.locals m.base cells' (m.base + e.height + e.kept) operand') ≡ take n (without_scrap g.code.locals m.base held) ++ take e.kept (drop (above - e.kept) (without_scrap g.code.locals m.base held))) (sym height_is)
-      (subst (λ (n : ℕ). take (g.code.locals + h + e.kept) (put_back g.code.locals m.base cells' (n + e.kept) operand') ≡ take (g.code.locals + h) (without_scrap g.code.locals m.base held) ++ take e.kept (drop (above - e.kept) (without_scrap g.code.locals m.base held))) (sym to_is) whole) in
+      let landed : take (e.height + e.kept) (put_back g.code.locals m.base cells' (m.base + e.height + e.kept) operand')
+      ≡ take e.height (without_scrap g.code.locals m.base held) ++ take e.kept (drop (above - e.kept) (without_scrap g.code.locals m.base held)) =
+      subst (λ (n : ℕ). take (n + e.kept) (put_back g.code.locals m.base cells' (m.base + e.height + e.kept) operand')
+      ≡ take n (without_scrap g.code.locals m.base held) ++ take e.kept (drop (above - e.kept) (without_scrap g.code.locals m.base held))) (sym height_is)
+      (subst (λ (n : ℕ). take (g.code.locals + h + e.kept) (put_back g.code.locals m.base cells' (n + e.kept) operand')
+      ≡ take (g.code.locals + h) (without_scrap g.code.locals m.base held) ++ take e.kept
+      (drop (above - e.kept) (without_scrap g.code.locals m.base held))) (sym to_is) whole) in
       pays w cells' e.target (m.base + e.height + e.kept) operand' (e.height + e.kept) _ (from-store _ _ _ l.2) (omega arith) (omega (arith, l.4))
       (landed ∙ ap (λ (z : List ℕ). z ++ take e.kept (drop (above - e.kept) (without_scrap g.code.locals m.base held))) (sym first) ∙ ap (λ (z : List ℕ). take e.height (cells_in g m) ++ z) (sym last))
       (moved.size ∙ as_many) (moved-below g.code.locals m.base held scrap top h e.kept cells' operand' kept_is room moved' ∙ below)

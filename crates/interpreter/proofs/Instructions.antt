@@ -48,8 +48,10 @@ module _ (w : World) (m : Machine) (g : Ghost) (r : RunsAt w m g) where
       let condition = topmost w m g r 3 (omega arith) few in (
         some,
         (
-          λ z. puts w m g r 3 (omega arith) few (m.top - 2) (omega (arith, few)) (get_or (cells_in g m) (height_in m - 2) 0) (second_of m) (sym (under w m g r 2 (omega arith) (omega (arith, few)) (omega arith) (m.top - 1) (omega (arith, few)))) (c.2 (condition ∙ z)),
-          λ n. puts w m g r 3 (omega arith) few (m.top - 2) (omega (arith, few)) (get_or (cells_in g m) (height_in m - 3) 0) (third_of m) (sym (under w m g r 3 (omega arith) few (omega arith) (m.top - 2) (omega (arith, few)))) (c.3 (λ z. n (sym condition ∙ z))),
+          λ z. puts w m g r 3 (omega arith) few (m.top - 2) (omega (arith, few)) (get_or (cells_in g m) (height_in m - 2) 0) (second_of m)
+              (sym (under w m g r 2 (omega arith) (omega (arith, few)) (omega arith) (m.top - 1) (omega (arith, few)))) (c.2 (condition ∙ z)),
+          λ n. puts w m g r 3 (omega arith) few (m.top - 2) (omega (arith, few)) (get_or (cells_in g m) (height_in m - 3) 0) (third_of m)
+              (sym (under w m g r 3 (omega arith) few (omega arith) (m.top - 2) (omega (arith, few)))) (c.3 (λ z. n (sym condition ∙ z))),
           dear,
         ),
       )
@@ -79,7 +81,8 @@ module _ (w : World) (m : Machine) (g : Ghost) (r : RunsAt w m g) where
 
   -- ---- locals
 
-  pub gets-local-there : (x : ℕ) → IsAt m g (Plain (plain.Variable (LocalGet x))) → ((m.top < length m.cells) × (m.base + x < length m.cells)) × Costs w m g (pushed m (get_or (set m.cells m.top m.operand) (m.base + x) 0))
+  pub gets-local-there : (x : ℕ) → IsAt m g (Plain (plain.Variable (LocalGet x))) → ((m.top < length m.cells) × (m.base + x < length m.cells))
+      × Costs w m g (pushed m (get_or (set m.cells m.top m.operand) (m.base + x) 0))
   gets-local-there x b =
       let (mine, within, room, put, dear) = gets-local g (cells_in g m) m.place (height_in m) x b in
       let as_many = length-set m.cells m.top m.operand in
@@ -94,7 +97,9 @@ module _ (w : World) (m : Machine) (g : Ghost) (r : RunsAt w m g) where
       let own : x < g.code.locals = omega (arith, mine, r.runs.holds.count) in
       let read = topmost w m g r 1 (omega arith) few in
       let cells = set m.cells (m.base + x) m.operand in
-      let same : take (height_in m - 1) (put_back g.code.locals m.base (set m.cells (m.base + x) m.operand) (m.top - 1) (get_or (set m.cells (m.base + x) m.operand) (m.top - 1) 0)) ≡ take (height_in m - 1) (set (cells_in g m) x (get_or (cells_in g m) (height_in m - 1) 0)) =
+      let same : take (height_in m - 1)
+      (put_back g.code.locals m.base (set m.cells (m.base + x) m.operand) (m.top - 1) (get_or (set m.cells (m.base + x) m.operand) (m.top - 1) 0))
+      ≡ take (height_in m - 1) (set (cells_in g m) x (get_or (cells_in g m) (height_in m - 1) 0)) =
       ap (take (height_in m - 1)) (popped-frame g.code.locals m.base cells (m.top - 1) ∙ local-set g.code.locals m.base m.cells r.scrap x m.operand own)
       ∙ take-set-lt (height_in m - 1) (without_scrap g.code.locals m.base m.cells) x m.operand lower_down
       ∙ ap (λ (z : List ℕ). set z x m.operand) (sym (lower w m g r 1 (omega arith) few))
@@ -102,7 +107,8 @@ module _ (w : World) (m : Machine) (g : Ghost) (r : RunsAt w m g) where
       ∙ ap (λ (c : ℕ). take (height_in m - 1) (set (cells_in g m) x c)) (sym read) in (
         (some, own),
         (
-          pays w m g r w cells (m.place + 1) (m.top - 1) _ (height_in m - 1) _ (kept w m g r g.store w r.store _ (height_in m - 1) (length-set (cells_in g m) x _) keeps) (omega (arith, few)) (omega (arith, few)) same
+          pays w m g r w cells (m.place + 1) (m.top - 1) _ (height_in m - 1) _
+              (kept w m g r g.store w r.store _ (height_in m - 1) (length-set (cells_in g m) x _) keeps) (omega (arith, few)) (omega (arith, few)) same
               (length-set m.cells (m.base + x) m.operand) (take-set-le m.base m.cells (m.base + x) m.operand (omega arith)),
           dear,
         ),
@@ -117,7 +123,9 @@ module _ (w : World) (m : Machine) (g : Ghost) (r : RunsAt w m g) where
       let same = local-put_back g.code.locals m.base m.cells r.scrap m.top m.operand x m.operand own r.low ∙ ap (set (cells_in g m) x) (sym (topmost w m g r 1 (omega arith) few)) in (
         (some, own),
         (
-          pays w m g r w (set m.cells (m.base + x) m.operand) (m.place + 1) m.top m.operand (height_in m) _ (kept w m g r g.store w r.store _ (height_in m) (length-set (cells_in g m) x _) keeps) (omega (arith, few)) (omega (arith, few)) (ap (take (height_in m)) same)
+          pays w m g r w (set m.cells (m.base + x) m.operand) (m.place + 1) m.top m.operand (height_in m) _
+              (kept w m g r g.store w r.store _ (height_in m) (length-set (cells_in g m) x _) keeps) (omega (arith, few)) (omega (arith, few))
+              (ap (take (height_in m)) same)
               (length-set m.cells (m.base + x) m.operand) (take-set-le m.base m.cells (m.base + x) m.operand (omega arith)),
           dear,
         ),

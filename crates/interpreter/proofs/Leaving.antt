@@ -40,7 +40,8 @@ module _ (h : Ghost) where
 
   -- The next step in a frame with this inside.
   abbrev next_inside : List Layer → Activated → List Val → Body → List Label → (labels : List Label) → (rest : Body) → Next
-  next_inside layers outer beneath behind waiting labels rest = next h.store (outermost layers outer) (plug (opened_in arity beneath behind outer waiting layers) (frame_of h) (in_frame h.values labels rest))
+  next_inside layers outer beneath behind waiting labels rest = next h.store (outermost layers outer)
+      (plug (opened_in arity beneath behind outer waiting layers) (frame_of h) (in_frame h.values labels rest))
 
   -- The frame is left.
   abbrev left_for : (cost : ℕ) → List Layer → Activated → List Val → Body → List Label → Next
@@ -81,21 +82,26 @@ module _ (bound : ℕ) (w : World) (cells : List ℕ) (at : Position) (fuel : �
       (u : Whole) → RunsWhole bound (before callers) u → (s : Reaches bound (before callers) u (before callers)) × IsLeft cost s.new.ghost × (results ≡ s.new.ghost.code.outermost.kept)
 
   module _ (cost results : ℕ) (paid : cost ≤ fuel) (left_is : at.fuel ≡ fuel - cost) where
-    over-from : (h : Ghost) (cs : List Caller) (all_results : List ValType) → RunsWhole bound (before []) (record { ghost = h; callers = cs; results = all_results }) → IsLeft cost h → results ≡ h.code.outermost.kept
+    over-from : (h : Ghost) (cs : List Caller) (all_results : List ValType)
+        → RunsWhole bound (before []) (record { ghost = h; callers = cs; results = all_results }) → IsLeft cost h → results ≡ h.code.outermost.kept
         → IsOver bound (before []) (record { ghost = h; callers = cs; results = all_results }) (loop_at w cells [] at)
     over-from h [] all_results r left is = ended bound w cells at fuel cost paid left_is h left results is all_results r
     over-from h (c ∷ cs) all_results r left is = absurd r.callers
 
-    fits-from : (frame : Frame) (others : List Frame) (h : Ghost) (cs : List Caller) (all_results : List ValType) → RunsWhole bound (before (frame ∷ others)) (record { ghost = h; callers = cs; results = all_results }) → IsLeft cost h → results ≡ h.code.outermost.kept
+    fits-from : (frame : Frame) (others : List Frame) (h : Ghost) (cs : List Caller) (all_results : List ValType)
+        → RunsWhole bound (before (frame ∷ others)) (record { ghost = h; callers = cs; results = all_results }) → IsLeft cost h → results
+        ≡ h.code.outermost.kept
         → (1 ≤ at.base) × (at.base - 1 + results ≤ at.top)
     fits-from frame others h [] all_results r left is = absurd r.callers
     fits-from frame others h (c ∷ cs) all_results r left is = back-fits bound w cells at fuel cost paid left_is h left results is all_results frame others c cs r
 
-    back-from : (frame : Frame) (others : List Frame) (cells' : List ℕ) (operand' : ℕ) → AreMoved (set cells at.top at.operand) at.top (at.base - 1) results cells' operand' → (h : Ghost) (cs : List Caller) (all_results : List ValType)
+    back-from : (frame : Frame) (others : List Frame) (cells' : List ℕ) (operand' : ℕ)
+        → AreMoved (set cells at.top at.operand) at.top (at.base - 1) results cells' operand' → (h : Ghost) (cs : List Caller) (all_results : List ValType)
         → RunsWhole bound (before (frame ∷ others)) (record { ghost = h; callers = cs; results = all_results }) → IsLeft cost h → results ≡ h.code.outermost.kept
         → SwitchesTo bound (before (frame ∷ others)) (record { ghost = h; callers = cs; results = all_results }) (loop_at w cells' others (position_resumed at frame results operand'))
     back-from frame others cells' operand' moved h [] all_results r left is = absurd r.callers
-    back-from frame others cells' operand' moved h (c ∷ cs) all_results r left is = resumed bound w cells at fuel cost paid left_is h left results is all_results frame others c cs r cells' operand' moved
+    back-from frame others cells' operand' moved h (c ∷ cs) all_results r left is = resumed bound w cells at fuel cost paid left_is h left results is
+        all_results frame others c cs r cells' operand' moved
 
     leaves-last : RunsSomeWhole bound (before []) → CanLeave [] cost results → Leaves bound w cells [] at fuel results
     leaves-last (v, q) can = record {
@@ -113,7 +119,8 @@ module _ (bound : ℕ) (w : World) (cells : List ℕ) (at : Position) (fuel : �
       back = λ frame others are. absurd (let wrong = are in cc);
     }
 
-    leaves-inner : (frame : Frame) (others : List Frame) → RunsSomeWhole bound (before (frame ∷ others)) → CanLeave (frame ∷ others) cost results → Leaves bound w cells (frame ∷ others) at fuel results
+    leaves-inner : (frame : Frame) (others : List Frame) → RunsSomeWhole bound (before (frame ∷ others)) → CanLeave (frame ∷ others) cost results
+        → Leaves bound w cells (frame ∷ others) at fuel results
     leaves-inner frame others (v, q) can = record {
       some = (v, q);
       room = inside w m v.ghost q.runs;

@@ -157,17 +157,23 @@ module _ (bound : ℕ) (l : Loop) (w : Whole) (r : RunsWhole bound l w) where
       let h = led.leads.new in
       let same = led.leads.same in
       let kept : h.code.outermost.kept ≡ w.ghost.code.outermost.kept = ap (λ (f : FrameCode). f.outermost.kept) same.code in
-      let steps : Steps NoHosts bound no_frame (record { store = store_in l.world; hosts = []; fuel = l.fuel }) (whole w) (record { store = store_in l'.world; hosts = []; fuel = left' }) (whole (with_ghost w h)) =
-      subst (λ (n : ℕ). Steps NoHosts bound no_frame (record { store = store_in l.world; hosts = []; fuel = l.fuel }) (whole w) (record { store = store_in l'.world; hosts = []; fuel = left' }) (plug (layers_around w.callers n) (frame_of h) (config_of h))) (sym kept)
-      (subst (λ (s : Store). Steps NoHosts bound no_frame (record { store = s; hosts = []; fuel = l.fuel }) (whole w) (record { store = store_in l'.world; hosts = []; fuel = left' }) (plug (layers_of w) (frame_of h) (config_of h))) r.runs.store
-      (steps-lifted w.ghost.store (store_in l'.world) bound (layers_of w) (layers-out w.callers w.ghost.code.outermost.kept) (frame_of w.ghost) (frame_of h) (config_of w.ghost) (config_of h) l.fuel left' led.leads.steps)) in
+      let steps : Steps NoHosts bound no_frame (record { store = store_in l.world; hosts = []; fuel = l.fuel }) (whole w)
+      (record { store = store_in l'.world; hosts = []; fuel = left' }) (whole (with_ghost w h)) =
+      subst (λ (n : ℕ). Steps NoHosts bound no_frame (record { store = store_in l.world; hosts = []; fuel = l.fuel }) (whole w)
+      (record { store = store_in l'.world; hosts = []; fuel = left' }) (plug (layers_around w.callers n) (frame_of h) (config_of h))) (sym kept)
+      (subst (λ (s : Store). Steps NoHosts bound no_frame (record { store = s; hosts = []; fuel = l.fuel }) (whole w)
+      (record { store = store_in l'.world; hosts = []; fuel = left' }) (plug (layers_of w) (frame_of h) (config_of h))) r.runs.store
+      (steps-lifted w.ghost.store (store_in l'.world) bound (layers_of w) (layers-out w.callers w.ghost.code.outermost.kept) (frame_of w.ghost)
+      (frame_of h) (config_of w.ghost) (config_of h) l.fuel left' led.leads.steps)) in
       let (valid, typed) = steps-typed bound w.results (subst StoreIsValid r.runs.store r.runs.runs.typed.valid, r.typed) steps in
       record {
         new = with_ghost w h;
         results = refl;
         steps = steps;
         runs = record {
-          runs = runs-then l.world l.machine w.ghost r.runs l'.world refl refl (record { loaded = r.runs.instance.loaded; flat = r.runs.instance.flat; memory = r.runs.instance.memory }) cells' place' top' operand' l.fuel left' led;
+          runs = runs-then l.world l.machine w.ghost r.runs l'.world refl refl
+              (record { loaded = r.runs.instance.loaded; flat = r.runs.instance.flat; memory = r.runs.instance.memory }) cells' place' top' operand'
+              l.fuel left' led;
           number = r.number;
           callers = subst (λ (n : ℕ). CallersStand l.world.code n l.callers w.callers h.code.outermost.kept (take l.machine.base cells')) (sym led.size)
               (subst (λ (n : ℕ). CallersStand l.world.code (length l.machine.cells) l.callers w.callers n (take l.machine.base cells')) (sym kept)
@@ -182,10 +188,17 @@ module _ (bound : ℕ) (l : Loop) (w : Whole) (r : RunsWhole bound l w) where
   abbrev pub lifted-there : (left : ℕ) → Leads w.ghost l.fuel w.ghost.store (cells_in w.ghost l.machine) l.machine.place (height_in l.machine) left → Reaches bound l w (record l { fuel = left })
   lifted-there left leads =
       lifted l.world.state l.world.bytes l.machine.cells l.machine.place l.machine.top l.machine.operand left
-      (record { leads = leads-there w.ghost (store_in l.world) l.fuel (cells_in w.ghost l.machine) l.machine.place (height_in l.machine) left r.runs.store leads; low = r.runs.low; size = refl; below = refl })
+      (record {
+        leads = leads-there w.ghost (store_in l.world) l.fuel (cells_in w.ghost l.machine) l.machine.place (height_in l.machine) left
+            r.runs.store leads;
+        low = r.runs.low;
+        size = refl;
+        below = refl;
+      })
 
   -- If the next step in the frame costs more than is left, so does the next step of the whole.
-  pub lacks-whole : Lacks w.ghost l.fuel (cells_in w.ghost l.machine) l.machine.place (height_in l.machine) l.fuel → (there : Reaches bound l w l) × (l.fuel < price (next (store_in l.world) no_frame (whole there.new)))
+  pub lacks-whole : Lacks w.ghost l.fuel (cells_in w.ghost l.machine) l.machine.place (height_in l.machine) l.fuel → (there : Reaches bound l w l)
+      × (l.fuel < price (next (store_in l.world) no_frame (whole there.new)))
   lacks-whole lacks =
       let there = lifted-there l.fuel lacks.leads in
       let h = lacks.leads.new in
@@ -197,7 +210,8 @@ module _ (bound : ℕ) (l : Loop) (w : Whole) (r : RunsWhole bound l w) where
       )
 
   -- The same for a step that costs one unit of fuel in any frame around it.
-  pub lacks-around : CostsAround w.ghost (cells_in w.ghost l.machine) l.machine.place (height_in l.machine) → l.fuel ≡ 0 → (there : Reaches bound l w l) × (l.fuel < price (next (store_in l.world) no_frame (whole there.new)))
+  pub lacks-around : CostsAround w.ghost (cells_in w.ghost l.machine) l.machine.place (height_in l.machine) → l.fuel ≡ 0
+      → (there : Reaches bound l w l) × (l.fuel < price (next (store_in l.world) no_frame (whole there.new)))
   lacks-around costs empty =
       let there = lifted-there l.fuel (record { new = costs.new; same = costs.same; store = costs.store; steps = costs.steps l.fuel; runs = costs.runs }) in
       let h = costs.new in (
@@ -241,7 +255,8 @@ module _ (bound : ℕ) where
   ran-then l l' l'' first second = record { from = λ w r. let f = first.from w r in reaches-then l l' l'' w f (second.from f.new f.runs); falls = omega (arith, first.falls, second.falls) }
 
   -- The loop stops where nothing was paid for the next step.
-  pub stops-unpaid : (s : Stop) → paid_for s ≡ 0 → (l l' : Loop) (w : Whole) (there : Reaches bound l w l') → StopsBy bound s l'.world (store_in l'.world) l'.fuel l'.machine there.new → StopsWhole bound l w s l'
+  pub stops-unpaid : (s : Stop) → paid_for s ≡ 0 → (l l' : Loop) (w : Whole) (there : Reaches bound l w l')
+      → StopsBy bound s l'.world (store_in l'.world) l'.fuel l'.machine there.new → StopsWhole bound l w s l'
   stops-unpaid s none_paid l l' w there by =
       let same : l'.fuel ≡ l'.fuel + paid_for s = omega (arith, none_paid) in
       let both = subst (λ (n : ℕ). (t : Reaches bound l w (record l' { fuel = n })) × StopsBy bound s l'.world (store_in l'.world) n l'.machine t.new) same (there, by) in
@@ -249,9 +264,12 @@ module _ (bound : ℕ) where
 
   -- An operation continues in the frame, whatever runs there.
   pub ran-turned : (l : Loop) (state' : StateContents) (bytes' cells' : List ℕ) (place' top' operand' left' : ℕ)
-      → ((g : Ghost) → RunsAt l.world l.machine g → GoesTo g l.machine l.fuel (turned l state' bytes' cells' place' top' operand' left').world (turned l state' bytes' cells' place' top' operand' left').machine left')
+      → ((g : Ghost) → RunsAt l.world l.machine g
+      → GoesTo g l.machine l.fuel (turned l state' bytes' cells' place' top' operand' left').world
+      (turned l state' bytes' cells' place' top' operand' left').machine left')
       → left_to_do (turned l state' bytes' cells' place' top' operand' left') ≤ left_to_do l → Ran bound l (turned l state' bytes' cells' place' top' operand' left')
-  ran-turned l state' bytes' cells' place' top' operand' left' step falls = record { from = λ w r. lifted bound l w r state' bytes' cells' place' top' operand' left' (step w.ghost r.runs); falls = falls }
+  ran-turned l state' bytes' cells' place' top' operand' left' step falls =
+      record { from = λ w r. lifted bound l w r state' bytes' cells' place' top' operand' left' (step w.ghost r.runs); falls = falls }
 
   -- The loop lacks fuel, or traps.
   pub stops-lacking : (l : Loop) → ((g : Ghost) → RunsAt l.world l.machine g → Lacks g l.fuel (cells_in g l.machine) l.machine.place (height_in l.machine) l.fuel) → StopsAt bound l stop.NoFuel l
@@ -262,4 +280,9 @@ module _ (bound : ℕ) where
 
   pub stops-failing : (l : Loop) (left : ℕ) (trap : Trap) → ((g : Ghost) → RunsAt l.world l.machine g → Fails g l.fuel (cells_in g l.machine) l.machine.place (height_in l.machine) left trap)
       → StopsAt bound l (stop.Traps trap) (record l { fuel = left })
-  stops-failing l left trap fails = record { from = λ w r. let (there, traps) = fails-whole bound l w r left trap (fails w.ghost r.runs) in record { there = there; by = (traps, omega arith) }; falls = tt }
+  stops-failing l left trap fails =
+      record {
+        from = λ w r. let (there, traps) = fails-whole bound l w r left trap (fails w.ghost r.runs) in
+            record { there = there; by = (traps, omega arith) };
+        falls = tt;
+      }

@@ -63,7 +63,9 @@ module _ (bound : ℕ) (start l : Loop) (ran : Ran bound start l) where
 
     -- The operation was paid for.
     pub pays-op : (state' : StateContents) (bytes' cells' : List ℕ) (place' top' operand' : ℕ) → 1 ≤ l.fuel
-        → ((g : Ghost) → LeadsOn l.world l.machine g o' → Pays g l.machine (turned l state' bytes' cells' place' top' operand' (l.fuel - 1)).world (turned l state' bytes' cells' place' top' operand' (l.fuel - 1)).machine)
+        → ((g : Ghost) → LeadsOn l.world l.machine g o'
+        → Pays g l.machine (turned l state' bytes' cells' place' top' operand' (l.fuel - 1)).world
+        (turned l state' bytes' cells' place' top' operand' (l.fuel - 1)).machine)
         → Ran bound start (turned l state' bytes' cells' place' top' operand' (l.fuel - 1))
     pays-op state' bytes' cells' place' top' operand' paid step =
         ran-then bound start l _ ran (ran-turned bound l state' bytes' cells' place' top' operand' (l.fuel - 1) (λ g r. step g (leads g r) l.fuel (l.fuel - 1) paid refl) (omega (arith, paid)))
@@ -85,11 +87,13 @@ module _ (bound : ℕ) (start l : Loop) (ran : Ran bound start l) where
       (λ g leads. subst (Lands l.world l.machine g l.machine.cells (l.machine.top - 1)) (sym e_is) (leads.1 taken) cells' operand' moved)
 
   -- The loop stops after an operation that can continue in another frame.
-  pub stops-across : (s : Stop) (to : Position) (cells' : List ℕ) (callers' : List Frame) → StopsAt bound l s (loop_at l.world cells' callers' to) → StopsAt bound start s (loop_at l.world cells' callers' to)
+  pub stops-across : (s : Stop) (to : Position) (cells' : List ℕ) (callers' : List Frame) → StopsAt bound l s (loop_at l.world cells' callers' to)
+      → StopsAt bound start s (loop_at l.world cells' callers' to)
   stops-across s to cells' callers' stops = stops-then bound start l _ s ran stops
 
 -- The run to a position is a run to any equal position.
-pub ran-at : (bound : ℕ) (start : Loop) (w : World) (cells : List ℕ) (callers : List Frame) (at to : Position) → to ≡ at → Ran bound start (loop_at w cells callers at) → Ran bound start (loop_at w cells callers to)
+pub ran-at : (bound : ℕ) (start : Loop) (w : World) (cells : List ℕ) (callers : List Frame) (at to : Position) → to ≡ at
+    → Ran bound start (loop_at w cells callers at) → Ran bound start (loop_at w cells callers to)
 ran-at bound start w cells callers at to is ran = subst (λ (p : Position). Ran bound start (loop_at w cells callers p)) (sym is) ran
 
 module _ (bound : ℕ) (start : Loop) (w : World) (cells : List ℕ) (callers : List Frame) (at : Position) (ran : Ran bound start (loop_at w cells callers at)) where
@@ -105,12 +109,17 @@ module _ (bound : ℕ) (start : Loop) (w : World) (cells : List ℕ) (callers : 
   steps-on state' bytes' cells' to steps =
       subst (λ (p : Position). Ran bound start (loop_at (record w { state = state'; bytes = bytes' }) cells' callers p)) (sym steps.there)
       (ran-then bound start (loop_at w cells callers at) _ ran (ran-turned bound (loop_at w cells callers at) state' bytes' cells' (at.place + 1) to.top to.operand to.fuel
-      (λ g r. subst (λ (p : Position). GoesTo g (machine_at cells at) at.fuel (record w { state = state'; bytes = bytes' }) (machine_at cells' p) to.fuel) steps.there (steps.leads g r)) (omega (arith, steps.falls))))
+      (λ g r. subst (λ (p : Position).
+      GoesTo g (machine_at cells at) at.fuel (record w { state = state'; bytes = bytes' }) (machine_at cells' p) to.fuel) steps.there
+      (steps.leads g r)) (omega (arith, steps.falls))))
 
-  stays : (runs : (g : Ghost) × RunsAt w (machine_at cells at) g) (s : Stop) → ((g : Ghost) → RunsAt w (machine_at cells at) g → StopsThere s w (machine_at cells at) at.fuel g) → StopsAt bound (loop_at w cells callers at) s (loop_at w cells callers at)
+  stays : (runs : (g : Ghost) × RunsAt w (machine_at cells at) g) (s : Stop)
+      → ((g : Ghost) → RunsAt w (machine_at cells at) g → StopsThere s w (machine_at cells at) at.fuel g)
+      → StopsAt bound (loop_at w cells callers at) s (loop_at w cells callers at)
   stays runs stop.NoFuel there = stops-lacking bound (loop_at w cells callers at) there
   stays runs (stop.LeavesOther kind n) there = record {
-    from = λ whole r. stops-unpaid bound (stop.LeavesOther kind n) refl (loop_at w cells callers at) (loop_at w cells callers at) whole (reaches-first bound (loop_at w cells callers at) whole r) (there whole.ghost r.runs);
+    from = λ whole r. stops-unpaid bound (stop.LeavesOther kind n) refl (loop_at w cells callers at) (loop_at w cells callers at) whole
+        (reaches-first bound (loop_at w cells callers at) whole r) (there whole.ghost r.runs);
     falls = tt;
   }
   stays runs other there = let (g, r) = runs in absurd (there g r)

@@ -41,14 +41,17 @@ module _ (w : World) (m : Machine) (g : Ghost) (r : RunsAt w m g) where
         (some, subst (IsCellOf I32) read is_cell),
         (
           λ result loaded. answers w m g r 1 (omega arith) few m.top (omega arith) result
-              (loads result (ap (λ (x : MemoryInstance). load_from op x.bytes (get_or (cells_in g m) (height_in m - 1) 0 + offset)) is ∙ ap (λ (n : ℕ). load_from op w.bytes (n + offset)) read ∙ loaded)),
+              (loads result (ap (λ (x : MemoryInstance). load_from op x.bytes (get_or (cells_in g m) (height_in m - 1) 0 + offset)) is ∙ ap
+              (λ (n : ℕ). load_from op w.bytes (n + offset)) read ∙ loaded)),
           dear,
         ),
       )
 
   -- The memory has a result's bytes afterwards.
-  stored : (few : m.base + g.code.locals + 2 ≤ m.top) (address : ℕ) (found : MemoryInstance) → HasMemory g address found → (result : Result (List ℕ) Trap) → IsStored g address found (cells_in g m) m.place (height_in m) result → IsWritten w m g result
-  stored few address found has_memory (Ok bytes) s = pops w m g r 2 (omega arith) few (record w { bytes = bytes }) (m.place + 1) (kept w m g r _ (record w { bytes = bytes }) (with-memory w m g r address found has_memory bytes) (cells_in g m) (height_in m - 2) refl s)
+  stored : (few : m.base + g.code.locals + 2 ≤ m.top) (address : ℕ) (found : MemoryInstance) → HasMemory g address found
+      → (result : Result (List ℕ) Trap) → IsStored g address found (cells_in g m) m.place (height_in m) result → IsWritten w m g result
+  stored few address found has_memory (Ok bytes) s = pops w m g r 2 (omega arith) few (record w { bytes = bytes }) (m.place + 1)
+      (kept w m g r _ (record w { bytes = bytes }) (with-memory w m g r address found has_memory bytes) (cells_in g m) (height_in m - 2) refl s)
   stored few address found has_memory (Err trap) s = s
 
   pub stores-there : (op : StoreOp) (offset : ℕ) → IsAt m g (Plain (Memory (memory.Store op (at_offset offset)))) → (HasOwn g m 2 × IsCellOf I32 (second_of m)) × Writes w m g op offset
@@ -108,12 +111,14 @@ module _ (w : World) (m : Machine) (g : Ghost) (r : RunsAt w m g) where
         ),
         (
           pops w m g r 1 (omega arith) few w' (m.place + 1)
-              (kept w m g r _ w' (with-global w m g r x address global h (get_or (cells_in g m) (height_in m - 1) 0) ∙ ap (λ (c : ℕ). store_in (with_global_cell w (global_address w x) c)) read) (cells_in g m) (height_in m - 1) refl keeps),
+              (kept w m g r _ w' (with-global w m g r x address global h (get_or (cells_in g m) (height_in m - 1) 0) ∙ ap
+              (λ (c : ℕ). store_in (with_global_cell w (global_address w x) c)) read) (cells_in g m) (height_in m - 1) refl keeps),
           dear,
         ),
       )
 
-  pub refers-there : (x : ℕ) → IsAt m g (Plain (Reference (Func x))) → ((m.top < length m.cells) × (x < length w.instance.addresses.functions.items)) × Costs w m g (pushed m (function_address w x + 1))
+  pub refers-there : (x : ℕ) → IsAt m g (Plain (Reference (Func x))) → ((m.top < length m.cells) × (x < length w.instance.addresses.functions.items))
+      × Costs w m g (pushed m (function_address w x + 1))
   refers-there x b =
       let (address, at, room, put, dear) = refers-to-function g (cells_in g m) m.place (height_in m) x b in
       let (named, is) = function-there w m g r x address at in

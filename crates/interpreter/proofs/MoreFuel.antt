@@ -79,7 +79,12 @@ module _ (bound k : ℕ) where
     from = λ w r. whole-more l l' w (stop.Traps trap) (stops.from w (less l w r)) (λ fuel w' by. let paid = by.1 in (by.0, omega (arith, paid)));
     falls = tt;
   }
-  stops-more l l' stop.NoDepth stops = record { from = λ w r. whole-more l l' w stop.NoDepth (stops.from w (less l w r)) (λ fuel w' by. (opens-more (store_in l'.world) fuel w' by.0, by.1)); falls = tt }
+  stops-more l l' stop.NoDepth stops =
+      record {
+        from = λ w r. whole-more l l' w stop.NoDepth (stops.from w (less l w r))
+            (λ fuel w' by. (opens-more (store_in l'.world) fuel w' by.0, by.1));
+        falls = tt;
+      }
   stops-more l l' stop.NoRoom stops = record {
     from = λ w r. whole-more l l' w stop.NoRoom (stops.from w (less l w r)) (λ fuel w' by. (asks-more (store_in l'.world) fuel w' by.0, by.1));
     falls = let falls = stops.falls in omega (arith, falls);

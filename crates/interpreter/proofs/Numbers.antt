@@ -58,7 +58,8 @@ module _ (w : World) (m : Machine) (g : Ghost) (r : RunsAt w m g) where
 
   abbrev GivesTwo : NumericOp → (x y : ℕ) → Result ℕ Trap → Type 0
   GivesTwo op x y result =
-      (values : List Val) → numeric_effect g.store (frame_of g) op (value_of (operand_type op) y ∷ (value_of (operand_type op) x ∷ values)) ≡ push_result g.store (frame_of g) (value_of (result_type op)) result values
+      (values : List Val) → numeric_effect g.store (frame_of g) op (value_of (operand_type op) y ∷ (value_of (operand_type op) x ∷ values))
+      ≡ push_result g.store (frame_of g) (value_of (result_type op)) result values
 
   pub unary-there : (i : UnaryInstruction) → IsAt m g (Plain (Numeric (unary_op i)))
       → (HasOwn g m 1 × IsCellOf (operand_type (unary_op i)) m.operand) × (((n : ℕ) → GivesUnary (unary_op i) m.operand n → Pays g m w (replaced m n)) × IsDear g m)
@@ -80,7 +81,8 @@ module _ (w : World) (m : Machine) (g : Ghost) (r : RunsAt w m g) where
       → (HasOwn g m 2 × IsCellOf (operand_type op) (second_of m) × IsCellOf (operand_type op) m.operand)
       × (((result : Result ℕ Trap) → GivesBinary op (second_of m) m.operand result → Answers w m g (lowered m 1) result) × IsDear g m)
   binary-on op is b =
-      let (two, within, first_is_cell, second_is_cell, computes, dear) = computes-from-two g (cells_in g m) m.place (height_in m) op (operand_type op) (operand_type op) (result_type op) is.params is.results b in
+      let (two, within, first_is_cell, second_is_cell, computes, dear) = computes-from-two g (cells_in g m) m.place (height_in m) op (operand_type op)
+      (operand_type op) (result_type op) is.params is.results b in
       let some : HasOwn g m 2 = takes w m g r (Numeric op) (counts 2 1) (ap Some is.count) (omega arith) b in
       let few = some.0 in
       let first = under w m g r 2 (omega arith) few (omega arith) (m.top - 1) (omega (arith, few)) in
@@ -88,7 +90,8 @@ module _ (w : World) (m : Machine) (g : Ghost) (r : RunsAt w m g) where
         (some, subst (IsCellOf (operand_type op)) first first_is_cell, subst (IsCellOf (operand_type op)) second second_is_cell),
         (
           λ result gives. answers w m g r 2 (omega arith) few (m.top - 1) (omega (arith, few)) result
-              (computes result (subst (λ (x : ℕ). GivesTwo op x (get_or (cells_in g m) (height_in m - 1) 0) result) (sym first) (subst (λ (y : ℕ). GivesTwo op (second_of m) y result) (sym second) (gives g.store (frame_of g))))),
+              (computes result (subst (λ (x : ℕ). GivesTwo op x (get_or (cells_in g m) (height_in m - 1) 0) result) (sym first)
+              (subst (λ (y : ℕ). GivesTwo op (second_of m) y result) (sym second) (gives g.store (frame_of g))))),
           dear,
         ),
       )

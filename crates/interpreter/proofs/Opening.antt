@@ -32,7 +32,8 @@ use Rattle.interpreter.proofs.Parting.{below-parted}
 pub own-cells : (locals base : ℕ) (cells : List ℕ) (operand : ℕ) → base + locals < length cells → take locals (put_back locals base cells (base + locals) operand) ≡ take locals (drop base cells)
 own-cells locals base cells operand scrap =
     let size = length-set cells (base + locals) operand in
-    take_at (take locals (drop base (set cells (base + locals) operand))) (drop (suc (base + locals)) (set cells (base + locals) operand)) locals (own-length locals base (set cells (base + locals) operand) (omega (arith, size, scrap)))
+    take_at (take locals (drop base (set cells (base + locals) operand))) (drop (suc (base + locals)) (set cells (base + locals) operand)) locals
+    (own-length locals base (set cells (base + locals) operand) (omega (arith, size, scrap)))
     ∙ ap (take locals) (drop-set-add base cells locals operand) ∙ take-set-le locals (drop base cells) locals operand (omega arith)
 
 -- The arguments of a call of a function of a module are on top of the frame's cells. This is the topmost operand, at this place.
@@ -51,7 +52,8 @@ pub record ArgumentsLie (op : PlainOp) (m : Machine) (h : Ghost) (top operand : 
   pub typed : ValuesHaveTypes h.store values (reverse t.params ++ below)
   pub enough : length t.params ≤ length values
 
-module _ (w : World) (m : Machine) (h : Ghost) (r : RunsAt w m h) (op : PlainOp) (top operand : ℕ) (t : FuncType) (instance : ℕ) (code : Code) (b : ArgumentsLie op m h top operand t instance code) where
+module _ (w : World) (m : Machine) (h : Ghost) (r : RunsAt w m h) (op : PlainOp) (top operand : ℕ) (t : FuncType) (instance : ℕ) (code : Code)
+    (b : ArgumentsLie op m h top operand t instance code) where
   abbrev n : ℕ
   n = length t.params
 
@@ -89,13 +91,15 @@ module _ (w : World) (m : Machine) (h : Ghost) (r : RunsAt w m h) (op : PlainOp)
 
   -- The callee runs at its first place, in a frame that begins with the arguments, followed by cleared cells.
   module _ (cells' : List ℕ) (base' : ℕ) (own : take (n + k) (drop base' cells') ≡ take n (drop (b.height - n) frame_cells) ++ replicate k 0) where
-    pub callee-runs : (s : Signatures) (ops : List FlatOp) (at : ℕ) → (context_at h.store (body_place t instance code)).types ≡ s.types → (context_at h.store (body_place t instance code)).functions ≡ s.functions
+    pub callee-runs : (s : Signatures) (ops : List FlatOp) (at : ℕ) → (context_at h.store (body_place t instance code)).types ≡ s.types
+        → (context_at h.store (body_place t instance code)).functions ≡ s.functions
         → BeginsAt s ops (n + k) (length t.results) at code.body → base' + (callee h s ops at t instance code b.values).code.greatest < length cells'
         → Runs (callee h s ops at t instance code b.values) (put_back (n + k) base' cells' (base' + (n + k)) 0) at (n + k)
     callee-runs s ops at types functions begins room =
         let set_size = length-set cells' (base' + (n + k)) 0 in
         let whole_size = frame-length (n + k) base' (set cells' (base' + (n + k)) 0) (omega (arith, set_size, room)) in
-        call-enters (record h { values = b.values }) frame_cells b.height r.runs.typed.valid b.holds (omega (arith, frame-size, top-inside, b.top_is)) s ops at t instance code b.valid b.below b.typed b.enough types functions begins (put_back (n + k) base' cells' (base' + (n + k)) 0)
+        call-enters (record h { values = b.values }) frame_cells b.height r.runs.typed.valid b.holds (omega (arith, frame-size, top-inside, b.top_is))
+        s ops at t instance code b.valid b.below b.typed b.enough types functions begins (put_back (n + k) base' cells' (base' + (n + k)) 0)
         (own-cells (n + k) base' cells' 0 (omega (arith, room)) ∙ own)
         (omega (arith, whole_size, set_size, room))
 

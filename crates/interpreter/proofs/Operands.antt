@@ -39,7 +39,8 @@ module _ (g : Ghost) (cells : List ℕ) (at top : ℕ) where
       let (operands, results, between, rule, frames, runs) = f.runs in
       let context = context_at g.store (with_labels (place_of (here written g cells at top p)) f.carried) in
       let many : Counted (counts_of g.code.signatures written) operands results = counted operands results context g.code.signatures p.runs.typed.types p.runs.typed.functions written rule in
-      let enough : Counted (Some c) operands results = subst (λ (o : Option Counts). Counted o operands results) (sym (written-counts g.code.signatures written) ∙ ap (counts_of g.code.signatures) (sym op_is) ∙ is) many in
+      let enough : Counted (Some c) operands results = subst (λ (o : Option Counts). Counted o operands results)
+      (sym (written-counts g.code.signatures written) ∙ ap (counts_of g.code.signatures) (sym op_is) ∙ is) many in
       let stack : length (known (reverse f.stack)) ≡ length frames.below + length frames.given = ap length frames.before_is ∙ length-append frames.below frames.given in
       let given : length frames.given ≡ length operands = fits-length frames.given operands frames.fits in
       let known_size : length (known (reverse f.stack)) ≡ length f.stack = simp (length-map, length-reverse) in
@@ -66,7 +67,8 @@ module _ (g : Ghost) (cells : List ℕ) (at top : ℕ) where
       by (suc n) zeros others = second (others (λ e. absurd cc))
 
   -- The condition is above the locals.
-  pub condition-low : Runs g cells at top → (next_at : ℕ) (Other : Type 0) → (Other → length g.locals ≤ top - 1) → IsChosen cells top (IsCharged g cells at top next_at (top - 1)) Other → length g.locals + 1 ≤ top
+  pub condition-low : Runs g cells at top → (next_at : ℕ) (Other : Type 0) → (Other → length g.locals ≤ top - 1)
+      → IsChosen cells top (IsCharged g cells at top next_at (top - 1)) Other → length g.locals + 1 ≤ top
   condition-low r next_at Other low c =
       let le = either-way (IsCharged g cells at top next_at (top - 1)) Other (length g.locals ≤ top - 1) c (charged-low r next_at (top - 1)) low in
       omega (arith, le, c.0)

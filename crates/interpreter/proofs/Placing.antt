@@ -42,7 +42,8 @@ packed-at t (op ∷ ops) within (suc at) o more e =
     record { inside = omega (arith, lt); more = further.more; there = further.there; within = further.within }
 
 -- There is an operation where the machine is.
-pub stands-there : (t : SideTables) (ops : List PackedOp) → All (IsWithin t) ops → (g : Ghost) (cells : List ℕ) (at top : ℕ) → g.code.operations ≡ made t ops → Runs g cells at top → IsPackedAt t ops g.code.operations at
+pub stands-there : (t : SideTables) (ops : List PackedOp) → All (IsWithin t) ops → (g : Ghost) (cells : List ℕ) (at top : ℕ) → g.code.operations
+    ≡ made t ops → Runs g cells at top → IsPackedAt t ops g.code.operations at
 stands-there t ops within g cells at top packed r =
     let s : Settled g cells at top = settled g cells at top r in
     let (o, more, there) = stands-at g.code at s.values s.labels s.rest s.runs.stands s.settled in

@@ -34,8 +34,10 @@ use Rattle.interpreter.proofs.Opening.{ArgumentsLie, placed-below, placed-own}
 use Rattle.interpreter.proofs.Switching.{switched}
 
 -- Cells that are moved down, and others after them that are cleared.
-pub moved-and-cleared : (cells moved cleared : List ℕ) (base from count many top operand : ℕ) → base ≤ top → take (base + count) moved ≡ take base (set cells top operand) ++ take count (drop from (set cells top operand))
-    → take (base + count + many) cleared ≡ take (base + count) moved ++ replicate many 0 → take (base + (count + many)) cleared ≡ take base cells ++ (take count (drop from (set cells top operand)) ++ replicate many 0)
+pub moved-and-cleared : (cells moved cleared : List ℕ) (base from count many top operand : ℕ) → base ≤ top → take (base + count) moved
+    ≡ take base (set cells top operand) ++ take count (drop from (set cells top operand))
+    → take (base + count + many) cleared ≡ take (base + count) moved ++ replicate many 0 → take (base + (count + many)) cleared
+    ≡ take base cells ++ (take count (drop from (set cells top operand)) ++ replicate many 0)
 moved-and-cleared cells moved cleared base from count many top operand low moved_is cleared_is =
     let put = set cells top operand in
     let sum : base + count + many ≡ base + (count + many) = omega arith in
@@ -44,9 +46,11 @@ moved-and-cleared cells moved cleared base from count many top operand low moved
     ∙ ap (λ (z : List ℕ). z ++ (take count (drop from put) ++ replicate many 0)) (take-set-le base cells top operand low)
 
 module _ (bound : ℕ) (w : World) (cells : List ℕ) (callers : List Frame) (at : Position) (u : Whole) (r : RunsWhole bound (loop_at w cells callers at) u)
-    (op : PlainOp) (top operand address : ℕ) (f : ModuleFunction) (found : IsAtAddress w.code address f) (b : ArgumentsLie op (machine_at cells at) u.ghost top operand f.ty.now f.instance (code_of f.func.now))
+    (op : PlainOp) (top operand address : ℕ) (f : ModuleFunction) (found : IsAtAddress w.code address f)
+    (b : ArgumentsLie op (machine_at cells at) u.ghost top operand f.ty.now f.instance (code_of f.func.now))
     (results : f.ty.now.results ≡ u.ghost.results)
-    (step : step_instruction u.ghost.store (frame_of u.ghost) op u.ghost.values b.rest ≡ TailCalls (lent_memory u.ghost.store (frame_of u.ghost)) (function_of f.ty.now f.instance f.func.now) b.values) where
+    (step : step_instruction u.ghost.store (frame_of u.ghost) op u.ghost.values b.rest
+    ≡ TailCalls (lent_memory u.ghost.store (frame_of u.ghost)) (function_of f.ty.now f.instance f.func.now) b.values) where
   abbrev m : Machine
   m = machine_at cells at
 
@@ -65,7 +69,8 @@ module _ (bound : ℕ) (w : World) (cells : List ℕ) (callers : List Frame) (at
   -- The whole with the callee's frame.
   abbrev replaced_whole : Whole
   replaced_whole = record {
-    ghost = callee h (signatures_of_instance (slice_get w.code.instances f.instance)) (operations_of found.instance.loaded.value.flat) f.flat.now.place f.ty.now f.instance (code_of f.func.now) b.values;
+    ghost = callee h (signatures_of_instance (slice_get w.code.instances f.instance)) (operations_of found.instance.loaded.value.flat)
+        f.flat.now.place f.ty.now f.instance (code_of f.func.now) b.values;
     callers = u.callers;
     results = u.results;
   }
@@ -74,21 +79,27 @@ module _ (bound : ℕ) (w : World) (cells : List ℕ) (callers : List Frame) (at
 
   -- Within any waiting frames.
   grows-in : (cs : List Caller) (arity : ℕ) → next h.store no_frame (plug (layers_around cs arity) (frame_of h) (in_frame h.values h.labels (Then op b.rest)))
-      ≡ Grows 1 h.store no_frame (plug (layers_around cs (length f.ty.now.results)) (frame_of_call f.ty.now f.instance (code_of f.func.now) b.values) (in_frame [] (function_label (length f.ty.now.results) ∷ []) (code_of f.func.now).body))
+      ≡ Grows 1 h.store no_frame (plug (layers_around cs (length f.ty.now.results)) (frame_of_call f.ty.now f.instance (code_of f.func.now) b.values)
+      (in_frame [] (function_label (length f.ty.now.results) ∷ []) (code_of f.func.now).body))
   grows-in [] arity =
-      frames-come-and-go.replaced h.store [] no_frame (frame_of h) arity [] h.values b.values Empty op (lent_memory h.store (frame_of h)) f.ty.now f.instance (code_of f.func.now) h.labels [] b.rest step b.enough
+      frames-come-and-go.replaced h.store [] no_frame (frame_of h) arity [] h.values b.values Empty op (lent_memory h.store (frame_of h)) f.ty.now
+      f.instance (code_of f.func.now) h.labels [] b.rest step b.enough
   grows-in (c ∷ cs) arity =
       let outer : Activated = record { instance = Some c.instance; locals = c.locals } in
       let layers : List Layer = layers_around cs c.code.outermost.kept in
       subst (λ (z : Activated). next h.store z (plug (opened_in arity c.values c.rest outer c.labels layers) (frame_of h) (in_frame h.values h.labels (Then op b.rest)))
-      ≡ Grows 1 h.store z (plug (opened_in (length f.ty.now.results) c.values c.rest outer c.labels layers) (frame_of_call f.ty.now f.instance (code_of f.func.now) b.values) (in_frame [] (function_label (length f.ty.now.results) ∷ []) (code_of f.func.now).body)))
+      ≡ Grows 1 h.store z (plug (opened_in (length f.ty.now.results) c.values c.rest outer c.labels layers)
+      (frame_of_call f.ty.now f.instance (code_of f.func.now) b.values)
+      (in_frame [] (function_label (length f.ty.now.results) ∷ []) (code_of f.func.now).body)))
       (layers-out cs c.code.outermost.kept outer)
-      (frames-come-and-go.replaced h.store layers outer (frame_of h) arity c.values h.values b.values c.rest op (lent_memory h.store (frame_of h)) f.ty.now f.instance (code_of f.func.now) h.labels c.labels b.rest step b.enough)
+      (frames-come-and-go.replaced h.store layers outer (frame_of h) arity c.values h.values b.values c.rest op (lent_memory h.store (frame_of h))
+      f.ty.now f.instance (code_of f.func.now) h.labels c.labels b.rest step b.enough)
 
   pub grows-next : next (store_in w) no_frame (whole u) ≡ Grows 1 (store_in w) no_frame (whole replaced_whole)
   grows-next =
       subst (λ (z : Store). next z no_frame (whole u) ≡ Grows 1 z no_frame (whole replaced_whole)) r.runs.store
-      (subst (λ (z : Body). next h.store no_frame (plug (layers_around u.callers h.code.outermost.kept) (frame_of h) (in_frame h.values h.labels z)) ≡ Grows 1 h.store no_frame (whole replaced_whole)) (sym b.rest_is)
+      (subst (λ (z : Body). next h.store no_frame (plug (layers_around u.callers h.code.outermost.kept) (frame_of h) (in_frame h.values h.labels z))
+      ≡ Grows 1 h.store no_frame (whole replaced_whole)) (sym b.rest_is)
       (grows-in u.callers h.code.outermost.kept))
 
   pub asks : 1 ≤ at.fuel → AsksNext bound (store_in w) at.fuel u
@@ -105,8 +116,11 @@ module _ (bound : ℕ) (w : World) (cells : List ℕ) (callers : List Frame) (at
     filled : take (at.base + (n + k)) cells' ≡ take at.base cells ++ (take n (drop (top + 1 - n) (set cells top operand)) ++ replicate k 0)
     filled =
         subst (λ (q : ℕ). take (at.base + q) cells' ≡ take at.base cells ++ (take n (drop (top + 1 - n) (set cells top operand)) ++ replicate k 0)) found.flat.locals
-        (subst (λ (q : ℕ). take (at.base + f.flat.now.locals) cells' ≡ take at.base cells ++ (take n (drop (top + 1 - n) (set cells top operand)) ++ replicate q 0)) (declared-is w m h r.runs op top operand address f found b)
-        (subst (λ (q : ℕ). take (at.base + f.flat.now.locals) cells' ≡ take at.base cells ++ (take q (drop (top + 1 - q) (set cells top operand)) ++ replicate (declared_locals f) 0)) found.flat.params replaced_so.0))
+        (subst (λ (q : ℕ). take (at.base + f.flat.now.locals) cells'
+        ≡ take at.base cells ++ (take n (drop (top + 1 - n) (set cells top operand)) ++ replicate q 0))
+        (declared-is w m h r.runs op top operand address f found b)
+        (subst (λ (q : ℕ). take (at.base + f.flat.now.locals) cells'
+        ≡ take at.base cells ++ (take q (drop (top + 1 - q) (set cells top operand)) ++ replicate (declared_locals f) 0)) found.flat.params replaced_so.0))
 
     replaced-in : 1 ≤ at.fuel → (other : World) → IsSeenFrom f.instance w other → Reaches bound l u (record (loop_at w cells' callers (position_replaced at f)) { world = other })
     replaced-in some other seen =
@@ -116,7 +130,8 @@ module _ (bound : ℕ) (w : World) (cells : List ℕ) (callers : List Frame) (at
         switched bound l (loop_at w cells' callers (position_replaced at f)) u replaced_whole other seen r refl
         (one_more none (grows grows-next some refl refl))
         (entered-runs w m h r.runs op top operand address f found b cells' at.base own (omega (arith, room, size)) other seen)
-        (subst (λ (z : List ℕ). CallersStand w.code (length cells') callers u.callers (length f.ty.now.results) z) (sym (placed-below w m h r.runs op top operand f.ty.now f.instance (code_of f.func.now) b cells' filled))
+        (subst (λ (z : List ℕ). CallersStand w.code (length cells') callers u.callers (length f.ty.now.results) z)
+        (sym (placed-below w m h r.runs op top operand f.ty.now f.instance (code_of f.func.now) b cells' filled))
         (subst (λ (q : ℕ). CallersStand w.code (length cells') callers u.callers q (take at.base cells)) arity
         (subst (λ (q : ℕ). CallersStand w.code q callers u.callers h.code.outermost.kept (take at.base cells)) (sym size) r.callers)))
         refl r.deep

@@ -73,12 +73,15 @@ module _ (w : World) (m : Machine) (h : Ghost) (r : RunsAt w m h) (n : ℕ) (eno
       -- The cells below it are unchanged.
       pub under-kept : take frame.base cells' ≡ take frame.base (take m.base m.cells)
       under-kept =
-          moved-below c.code.locals frame.base put (omega (arith, base-is, r.low, inside w m h r, put-size)) m.top (held_values c) n cells' operand' (omega (arith, base-is, results-low)) (omega (arith, inside w m h r, put-size)) moved-there
+          moved-below c.code.locals frame.base put (omega (arith, base-is, r.low, inside w m h r, put-size)) m.top (held_values c) n cells' operand'
+          (omega (arith, base-is, results-low)) (omega (arith, inside w m h r, put-size)) moved-there
           ∙ take-set-le frame.base m.cells m.top m.operand (omega (arith, base-is, r.low))
           ∙ sym (take-take frame.base m.base m.cells (omega (arith, base-is)))
 
       -- Its cells before, and the results on top.
-      pub results-land : take (c.code.locals + held_values c + n) (put_back c.code.locals frame.base cells' (frame.base + c.code.locals + held_values c + n) operand') ≡ map cell_of c.locals ++ cells_of ((take n h.values ++ c.values) ++ values_under c.labels)
+      pub results-land : take (c.code.locals + held_values c + n)
+          (put_back c.code.locals frame.base cells' (frame.base + c.code.locals + held_values c + n) operand')
+          ≡ map cell_of c.locals ++ cells_of ((take n h.values ++ c.values) ++ values_under c.labels)
       results-land =
           let scrap : frame.base + c.code.locals < length put = omega (arith, base-is, r.low, inside w m h r, put-size) in
           let above : m.top ≡ frame.base + (m.top - frame.base) = omega (arith, base-is, r.low) in
@@ -88,7 +91,8 @@ module _ (w : World) (m : Machine) (h : Ghost) (r : RunsAt w m h) (n : ℕ) (eno
           let second : take n (drop (m.top - frame.base - n) (without_scrap c.code.locals frame.base put)) ≡ cells_of (take n h.values) =
           ap (λ (i : ℕ). take n (drop i (without_scrap c.code.locals frame.base put))) over
           ∙ ap (take n) (drop-frame c.code.locals frame.base put scrap j) ∙ ap (λ (i : ℕ). take n (drop i put)) at ∙ results-lie in
-          moved-frame c.code.locals frame.base put scrap m.top (held_values c) n cells' operand' (omega (arith, base-is, results-low)) (omega (arith, inside w m h r, put-size)) moved-there (m.top - frame.base) above
+          moved-frame c.code.locals frame.base put scrap m.top (held_values c) n cells' operand' (omega (arith, base-is, results-low))
+          (omega (arith, inside w m h r, put-size)) moved-there (m.top - frame.base) above
           ∙ ap (λ (z : List ℕ). z ++ take n (drop (m.top - frame.base - n) (without_scrap c.code.locals frame.base put))) caller-held
           ∙ ap (λ (z : List ℕ). (map cell_of c.locals ++ cells_of (c.values ++ values_under c.labels)) ++ z) second
           ∙ append_assoc (map cell_of c.locals) (cells_of (c.values ++ values_under c.labels)) (cells_of (take n h.values))

@@ -48,14 +48,16 @@ pub record IsLeft (cost : ℕ) (h : Ghost) : Type 0 where
       ≡ Goes cost h.store (outermost layers outer) (plug layers outer (in_frame (take h.code.outermost.kept h.values ++ beneath) waiting behind))
 
 -- What runs in the innermost frame of a typed whole is typed there.
-pub frame-typed : (store : Store) (cs : List Caller) (arity : ℕ) (frame : Activated) (x : Configuration) (results : List ValType) → ConfigurationHasType store outside_place (plug (layers_around cs arity) frame x) results
+pub frame-typed : (store : Store) (cs : List Caller) (arity : ℕ) (frame : Activated) (x : Configuration) (results : List ValType)
+    → ConfigurationHasType store outside_place (plug (layers_around cs arity) frame x) results
     → (given types : List ValType) × (arity ≡ length given) × ValuesHaveTypes store frame.locals types × ConfigurationHasType store (inside_frame frame.instance types given) x given
 frame-typed store [] arity frame x results (stack, given, types, arity_is, values, own, inside_typed, onward) = (given, types, arity_is, own, inside_typed)
 frame-typed store (c ∷ cs) arity frame x results typed =
     let outer : Activated = record { instance = Some c.instance; locals = c.locals } in
     let around_c : List Layer = around c.labels (layers_around cs c.code.outermost.kept) in
     let own : FrameHasPlace store (outermost around_c outer) outside_place = subst (λ (f : Activated). FrameHasPlace store f outside_place) (sym (layers-out (c ∷ cs) arity frame)) (refl, tt) in
-    let (place, all, there, (stack, given, types, arity_is, values, own_locals, inside_typed, onward)) = inside-typed store around_c outer (InFrame (activation_of arity c.values c.rest) frame x) outside_place results own typed in
+    let (place, all, there, (stack, given, types, arity_is, values, own_locals, inside_typed, onward)) = inside-typed store around_c outer
+    (InFrame (activation_of arity c.values c.rest) frame x) outside_place results own typed in
     (given, types, arity_is, own_locals, inside_typed)
 
 -- What runs where a waiting frame continues, with these results.
@@ -74,7 +76,8 @@ ghost_resumed c store types given values = record {
 
 module _ (code : Contents) (size : ℕ) (frame : Frame) (c : Caller) (arity : ℕ) (below : List ℕ) (stands : CallerStands code size frame c arity below)
     (store : Store) (valid : StoreIsValid store) (types given : List ValType) (own : ValuesHaveTypes store c.locals types)
-    (its_types : (context_at store (inside_frame (Some c.instance) types given)).types ≡ c.code.signatures.types) (its_functions : (context_at store (inside_frame (Some c.instance) types given)).functions ≡ c.code.signatures.functions)
+    (its_types : (context_at store (inside_frame (Some c.instance) types given)).types ≡ c.code.signatures.types)
+    (its_functions : (context_at store (inside_frame (Some c.instance) types given)).functions ≡ c.code.signatures.functions)
     (values : List Val) (many : length values ≡ arity) (typed : ConfigurationHasType store (inside_frame (Some c.instance) types given) (in_frame (values ++ c.values) c.labels c.rest) given) where
   abbrev locals : ℕ
   locals = c.code.locals
@@ -117,7 +120,8 @@ module _ (code : Contents) (size : ℕ) (frame : Frame) (c : Caller) (arity : �
         instance = instance;
       }
 
-module _ (bound : ℕ) (w : World) (cells : List ℕ) (at : Position) (fuel cost : ℕ) (paid : cost ≤ fuel) (left_is : at.fuel ≡ fuel - cost) (h : Ghost) (left : IsLeft cost h) (n : ℕ) (n_is : n ≡ h.code.outermost.kept) (all_results : List ValType) where
+module _ (bound : ℕ) (w : World) (cells : List ℕ) (at : Position) (fuel cost : ℕ) (paid : cost ≤ fuel) (left_is : at.fuel ≡ fuel - cost) (h : Ghost)
+    (left : IsLeft cost h) (n : ℕ) (n_is : n ≡ h.code.outermost.kept) (all_results : List ValType) where
   abbrev m : Machine
   m = machine_at cells at
 
@@ -142,11 +146,16 @@ module _ (bound : ℕ) (w : World) (cells : List ℕ) (at : Position) (fuel cost
     goes-back : next (store_in w) no_frame (whole (whole_of (c ∷ cs))) ≡ Goes cost (store_in w) no_frame (plug (layers_around cs c.code.outermost.kept) outer then_runs)
     goes-back =
         subst (λ (z : Store). next z no_frame (whole (whole_of (c ∷ cs))) ≡ Goes cost z no_frame (plug (layers_around cs c.code.outermost.kept) outer then_runs)) r.runs.store
-        (subst (λ (k : ℕ). next h.store no_frame (whole (whole_of (c ∷ cs))) ≡ Goes cost h.store no_frame (plug (layers_around cs c.code.outermost.kept) outer (in_frame (take k h.values ++ c.values) c.labels c.rest))) (sym n_is)
-        (subst (λ (f : Activated). next h.store f (whole (whole_of (c ∷ cs))) ≡ Goes cost h.store f (plug (layers_around cs c.code.outermost.kept) outer (in_frame (take h.code.outermost.kept h.values ++ c.values) c.labels c.rest))) (layers-out cs c.code.outermost.kept outer)
+        (subst (λ (k : ℕ). next h.store no_frame (whole (whole_of (c ∷ cs)))
+        ≡ Goes cost h.store no_frame (plug (layers_around cs c.code.outermost.kept) outer
+        (in_frame (take k h.values ++ c.values) c.labels c.rest))) (sym n_is)
+        (subst (λ (f : Activated). next h.store f (whole (whole_of (c ∷ cs)))
+        ≡ Goes cost h.store f (plug (layers_around cs c.code.outermost.kept) outer
+        (in_frame (take h.code.outermost.kept h.values ++ c.values) c.labels c.rest))) (layers-out cs c.code.outermost.kept outer)
         (left.leaves (layers_around cs c.code.outermost.kept) outer c.values c.rest c.labels)))
 
-    steps : Steps NoHosts bound no_frame (record { store = store_in w; hosts = []; fuel = fuel }) (whole (whole_of (c ∷ cs))) (record { store = store_in w; hosts = []; fuel = at.fuel }) (plug (layers_around cs c.code.outermost.kept) outer then_runs)
+    steps : Steps NoHosts bound no_frame (record { store = store_in w; hosts = []; fuel = fuel }) (whole (whole_of (c ∷ cs)))
+        (record { store = store_in w; hosts = []; fuel = at.fuel }) (plug (layers_around cs c.code.outermost.kept) outer then_runs)
     steps = one_more none (goes goes-back paid left_is refl)
 
     pub back-fits : (1 ≤ at.base) × (at.base - 1 + n ≤ at.top)
@@ -168,19 +177,28 @@ module _ (bound : ℕ) (w : World) (cells : List ℕ) (at : Position) (fuel cost
       abbrev top' : ℕ
       top' = at.base - 1 + n
 
-      resumed-in : (other : World) → IsSeenFrom frame.instance w other → Reaches bound (before (frame ∷ others)) (whole_of (c ∷ cs)) (record (loop_at w cells' others (position_resumed at frame n operand')) { world = other })
+      resumed-in : (other : World) → IsSeenFrom frame.instance w other
+          → Reaches bound (before (frame ∷ others)) (whole_of (c ∷ cs))
+          (record (loop_at w cells' others (position_resumed at frame n operand')) { world = other })
       resumed-in other seen =
           let (valid, all_typed) = steps-typed bound all_results (subst StoreIsValid r.runs.store r.runs.runs.typed.valid, r.typed) steps in
           let (given, types, arity_is, own, typed) = frame-typed (store_in w) cs c.code.outermost.kept outer then_runs all_results all_typed in
           let taken : length (take n h.values) ≡ n = length-take-le n h.values many in
           let top_is : top' ≡ frame.base + c.code.locals + held_values c + length (take n h.values) = omega (arith, base, taken) in
-          let held : take (c.code.locals + held_values c + length (take n h.values)) (put_back c.code.locals frame.base cells' top' operand') ≡ map cell_of c.locals ++ cells_of ((take n h.values ++ c.values) ++ values_under c.labels) =
-          subst (λ (k : ℕ). take (c.code.locals + held_values c + k) (put_back c.code.locals frame.base cells' top' operand') ≡ map cell_of c.locals ++ cells_of ((take n h.values ++ c.values) ++ values_under c.labels)) (sym taken)
-          (subst (λ (q : ℕ). take (c.code.locals + held_values c + n) (put_back c.code.locals frame.base cells' q operand') ≡ map cell_of c.locals ++ cells_of ((take n h.values ++ c.values) ++ values_under c.labels)) (omega (arith, base))
+          let held : take (c.code.locals + held_values c + length (take n h.values)) (put_back c.code.locals frame.base cells' top' operand')
+          ≡ map cell_of c.locals ++ cells_of ((take n h.values ++ c.values) ++ values_under c.labels) =
+          subst (λ (k : ℕ). take (c.code.locals + held_values c + k) (put_back c.code.locals frame.base cells' top' operand')
+          ≡ map cell_of c.locals ++ cells_of ((take n h.values ++ c.values) ++ values_under c.labels)) (sym taken)
+          (subst (λ (q : ℕ). take (c.code.locals + held_values c + n) (put_back c.code.locals frame.base cells' q operand')
+          ≡ map cell_of c.locals ++ cells_of ((take n h.values ++ c.values) ++ values_under c.labels)) (omega (arith, base))
           (results-land w m h r.runs n many w.code frame c h.code.outermost.kept stands cells' operand' moved)) in
-          switched bound (before (frame ∷ others)) (loop_at w cells' others (position_resumed at frame n operand')) (whole_of (c ∷ cs)) (record { ghost = ghost_resumed c (store_in w) types given (take n h.values); callers = cs; results = all_results }) other seen r refl steps
-          (caller-runs w.code (length cells) frame c h.code.outermost.kept (take at.base cells) stands (store_in w) valid types given own stands.signatures.types stands.signatures.functions (take n h.values) (taken ∙ n_is) typed cells' top' operand' size top_is held other seen.store seen.code seen.seen_from seen.instance)
-          (subst (λ (z : List ℕ). CallersStand w.code (length cells') others cs c.code.outermost.kept z) (sym (under-kept w m h r.runs n many w.code frame c h.code.outermost.kept stands cells' operand' moved))
+          switched bound (before (frame ∷ others)) (loop_at w cells' others (position_resumed at frame n operand')) (whole_of (c ∷ cs))
+          (record { ghost = ghost_resumed c (store_in w) types given (take n h.values); callers = cs; results = all_results }) other seen r refl steps
+          (caller-runs w.code (length cells) frame c h.code.outermost.kept (take at.base cells) stands (store_in w) valid types given own
+          stands.signatures.types stands.signatures.functions (take n h.values) (taken ∙ n_is) typed cells' top' operand' size top_is held other
+          seen.store seen.code seen.seen_from seen.instance)
+          (subst (λ (z : List ℕ). CallersStand w.code (length cells') others cs c.code.outermost.kept z)
+          (sym (under-kept w m h r.runs n many w.code frame c h.code.outermost.kept stands cells' operand' moved))
           (subst (λ (q : ℕ). CallersStand w.code q others cs c.code.outermost.kept (take frame.base (take at.base cells))) (sym size) r.callers.1))
           arity_is (let deep = r.deep in omega (arith, deep))
 
@@ -196,7 +214,8 @@ module _ (bound : ℕ) (w : World) (cells : List ℕ) (at : Position) (fuel cost
         (subst (λ (k : ℕ). next h.store no_frame (whole (whole_of [])) ≡ Goes cost h.store no_frame (Running (take k h.values) Empty)) (sym n_is)
         (left.leaves [] no_frame [] Empty [] ∙ ap (λ (vs : List Val). Goes cost h.store no_frame (Running vs Empty)) (append-nil (take h.code.outermost.kept h.values))))
 
-    out : Steps NoHosts bound no_frame (record { store = store_in w; hosts = []; fuel = fuel }) (whole (whole_of [])) (record { store = store_in w; hosts = []; fuel = at.fuel }) (Running (take n h.values) Empty)
+    out : Steps NoHosts bound no_frame (record { store = store_in w; hosts = []; fuel = fuel }) (whole (whole_of []))
+        (record { store = store_in w; hosts = []; fuel = at.fuel }) (Running (take n h.values) Empty)
     out = one_more none (goes goes-out paid left_is refl)
 
     pub ended : IsOver bound (before []) (whole_of []) (loop_at w cells [] at)

@@ -38,7 +38,8 @@ use Rattle.interpreter.proofs.Resuming.{IsLeft}
 -- Under a return there are as many values as the frame gives.
 enough-values : (h : Ghost) (rest : Body) (f : Inner h) → h.rest ≡ Then (plain.Control control.Return) rest → length h.results ≤ length h.values
 enough-values h rest f is =
-    let runs : RunsOn h.store (with_labels (place_of h) f.carried) (Then (plain.Control control.Return) rest) f.stack f.given = subst (λ (b : Body). RunsOn h.store (with_labels (place_of h) f.carried) b f.stack f.given) is f.runs in
+    let runs : RunsOn h.store (with_labels (place_of h) f.carried) (Then (plain.Control control.Return) rest) f.stack f.given = subst
+    (λ (b : Body). RunsOn h.store (with_labels (place_of h) f.carried) b f.stack f.given) is f.runs in
     let (operands, results, between, (below, types, results_is, operands_are), frames, more) = runs in
     let (under_types, stack_is) = types-on-top f.stack operands results between frames below types operands_are in
     let same : length types ≡ length h.results = ap (λ (ts : List ValType). length ts) (sym (same_Some h.results types results_is)) in

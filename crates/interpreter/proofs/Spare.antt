@@ -81,13 +81,16 @@ module _ (bound : ℕ) (start : Loop) (w : World) (cells : List ℕ) (callers : 
     -- The operation was paid for.
     pub pays-ahead : (state' : StateContents) (bytes' cells' : List ℕ) (top' operand' : ℕ)
         → ((g : Ghost) → LeadsOn w (machine_at cells (position_with w.number 1 at)) g o'
-        → Pays g (machine_at cells (position_with w.number 1 at)) (record w { state = state'; bytes = bytes' }) (record (machine_at cells (position_with w.number 1 at)) { cells = cells'; place = at.place + 1; top = top'; operand = operand' }))
+        → Pays g (machine_at cells (position_with w.number 1 at)) (record w { state = state'; bytes = bytes' })
+        (record (machine_at cells (position_with w.number 1 at)) { cells = cells'; place = at.place + 1; top = top'; operand = operand' }))
         → RanAhead bound start (record w { state = state'; bytes = bytes' }) cells' callers end (record at { place = at.place + 1; top = top'; operand = operand' })
     pays-ahead state' bytes' cells' top' operand' step =
         let small = ran.small in
         let paid : fuel_ahead end at - 1 ≡ fuel_ahead end (record at { place = at.place + 1 }) = omega (arith, inside) in
         record {
-          ran = subst (λ (n : ℕ). Ran bound start (loop_at (record w { state = state'; bytes = bytes' }) cells' callers (position_with w.number n (record at { place = at.place + 1; top = top'; operand = operand' })))) paid
+          ran = subst (λ (n : ℕ). Ran bound start
+              (loop_at (record w { state = state'; bytes = bytes' }) cells' callers
+              (position_with w.number n (record at { place = at.place + 1; top = top'; operand = operand' })))) paid
               (pays-op bound start all ran.ran o o' turns is_op state' bytes' cells' (at.place + 1) top' operand' (omega (arith, inside)) step);
           small = omega (arith, small, inside);
         }
@@ -112,7 +115,8 @@ module _ (bound : ℕ) (start : Loop) (w : World) (cells : List ℕ) (callers : 
         (fails-op bound start all ran.ran o o' turns is_op trap (omega (arith, inside)) fails))
 
   -- A branch that is taken goes to its entry.
-  pub branches-ahead : (o : PackedOp) (n : ℕ) → Turns w (machine_at cells (position_with w.number 1 at)) o → o ≡ op.BrIf n → (e : Entry) → e ≡ entry_of_number w.flat.tables n → (cells' : List ℕ) (operand' : ℕ)
+  pub branches-ahead : (o : PackedOp) (n : ℕ) → Turns w (machine_at cells (position_with w.number 1 at)) o → o ≡ op.BrIf n → (e : Entry) → e
+      ≡ entry_of_number w.flat.tables n → (cells' : List ℕ) (operand' : ℕ)
       → AreMoved cells (at.top - 1) (at.base + e.height) e.kept cells' operand' → (at.operand ≡ 0 → ⊥)
       → Ran bound start (loop_at w cells' callers (with_rest end at (record (position_with w.number 0 at) { place = e.target; top = at.base + e.height + e.kept; operand = operand' })))
   branches-ahead o n turns is e e_is cells' operand' moved taken =
@@ -123,7 +127,8 @@ module _ (bound : ℕ) (start : Loop) (w : World) (cells : List ℕ) (callers : 
   -- ---- where it lands
 
   -- The spare fuel there.
-  pub jumps-on : (cells' : List ℕ) (next : Ahead) → fuel_ahead end next ≡ 0 + rest_ahead end at → Ran bound start (loop_at w cells' callers (position_with w.number (0 + rest_ahead end at) next)) → RanAhead bound start w cells' callers end next
+  pub jumps-on : (cells' : List ℕ) (next : Ahead) → fuel_ahead end next ≡ 0 + rest_ahead end at
+      → Ran bound start (loop_at w cells' callers (position_with w.number (0 + rest_ahead end at) next)) → RanAhead bound start w cells' callers end next
   jumps-on cells' next fuel led =
       let small = ran.small in
       record {
@@ -205,10 +210,13 @@ module _ (bound : ℕ) (start : Loop) (w : World) (cells : List ℕ) (callers : 
         let falls = steps.falls in
         let place : to.place ≡ at.place + 1 = ap (λ (p : Position). p.place) steps.there in
         let fuel : to.fuel + rest_ahead end at ≡ fuel_ahead end (record at { place = at.place + 1 }) = omega (arith, inside, falls) in
-        let led = with-rest (record w { state = state'; bytes = bytes' }) cells' callers to (steps-on bound one w cells callers (position_with w.number 1 at) (ran-first bound one) state' bytes' cells' to steps) in
+        let led = with-rest (record w { state = state'; bytes = bytes' }) cells' callers to
+        (steps-on bound one w cells callers (position_with w.number 1 at) (ran-first bound one) state' bytes' cells' to steps) in
         subst (λ (n : ℕ). RanAhead bound start (record w { state = state'; bytes = bytes' }) cells' callers end (record at { place = n; top = to.top; operand = to.operand })) (sym place)
         (record {
-          ran = subst (λ (n : ℕ). Ran bound start (loop_at (record w { state = state'; bytes = bytes' }) cells' callers (position_with w.number n (record at { place = at.place + 1; top = to.top; operand = to.operand })))) fuel
+          ran = subst (λ (n : ℕ). Ran bound start
+              (loop_at (record w { state = state'; bytes = bytes' }) cells' callers
+              (position_with w.number n (record at { place = at.place + 1; top = to.top; operand = to.operand })))) fuel
               (subst (λ (p : Position). Ran bound start (loop_at (record w { state = state'; bytes = bytes' }) cells' callers (record p { fuel = to.fuel + rest_ahead end at }))) steps.there led);
           small = omega (arith, small, inside);
         })

@@ -20,7 +20,8 @@ use Rattle.interpreter.specs.declared.machine.Stop.{Stop}
 use Rattle.interpreter.specs.declared.machine.Stop.TheVariants as stop
 
 -- What a name of a global reads.
-pub global-read : (s : StateContents) (names : List ℕ) (n a : ℕ) (g : GlobalInstance) → n < length names → a ≡ get_or names n a → slice_get s.contents.globals a ≡ Some g → (get_or names n 0 ≡ a) × (global_of s a ≡ g)
+pub global-read : (s : StateContents) (names : List ℕ) (n a : ℕ) (g : GlobalInstance) → n < length names → a ≡ get_or names n a
+    → slice_get s.contents.globals a ≡ Some g → (get_or names n 0 ≡ a) × (global_of s a ≡ g)
 global-read s names n a g inside is there = (sym (get_or_read names n a inside is 0), get_or_from_slice_get s.contents.globals a g _ there)
 
 module _ (w : World) (m : Machine) (kind kind' : OtherInstruction) (n : ℕ) (is : kind ≡ kind') where
@@ -41,7 +42,8 @@ module _ (w : World) (cells : List ℕ) (at : Position) (kind : OtherInstruction
     stops s is none dear = rw is (record { same = refl; kept = refl; there = λ g r. dear g (leads-as g r) at.fuel (omega (arith, none)) })
 
     -- One more operand.
-    pub pushes : (result : Option Position) (why : Stop) (cell cell' : ℕ) (cells' : List ℕ) → IsPaid at result why (position_pushed at cell) → OnSome result (cells' ≡ set cells at.top at.operand) → IfNone result (cells' ≡ cells) → cell ≡ cell'
+    pub pushes : (result : Option Position) (why : Stop) (cell cell' : ℕ) (cells' : List ℕ) → IsPaid at result why (position_pushed at cell)
+        → OnSome result (cells' ≡ set cells at.top at.operand) → IfNone result (cells' ≡ cells) → cell ≡ cell'
         → ((g : Ghost) → OtherLeads w m g kind' n → Costs w m g (pushed m cell')) → Steps w cells at result why w cells'
     pushes (Some to) why cell cell' cells' (paid, there) put kept same costs =
         rw (there, put, same) (record { there = refl; falls = omega (arith, paid); leads = λ g r. (costs g (leads-as g r)).0 at.fuel (at.fuel - 1) paid refl })
@@ -59,7 +61,9 @@ module _ (w : World) (cells : List ℕ) (at : Position) (kind : OtherInstruction
   replaced-here g cell costs = let same : at.top ≡ at.top - 0 = omega arith in subst (λ (t : ℕ). Costs w m g (record (replaced m cell) { top = t })) same costs
 
   -- The null of a type.
-  pub pushes-null : (kind ≡ other.RefNullFunc) ⊎ (kind ≡ other.RefNullExtern) → (result : Option Position) (why : Stop) (cells' : List ℕ) → IsPaid at result why (position_pushed at 0) → OnSome result (cells' ≡ set cells at.top at.operand) → IfNone result (cells' ≡ cells) → Steps w cells at result why w cells'
+  pub pushes-null : (kind ≡ other.RefNullFunc) ⊎ (kind ≡ other.RefNullExtern) → (result : Option Position) (why : Stop) (cells' : List ℕ)
+      → IsPaid at result why (position_pushed at 0) → OnSome result (cells' ≡ set cells at.top at.operand) → IfNone result (cells' ≡ cells)
+      → Steps w cells at result why w cells'
   pushes-null (inl is) result why cells' paid put kept = pushes other.RefNullFunc is result why 0 0 cells' paid put kept refl (λ g leads. leads)
   pushes-null (inr is) result why cells' paid put kept = pushes other.RefNullExtern is result why 0 0 cells' paid put kept refl (λ g leads. leads)
 
@@ -69,7 +73,8 @@ module _ (w : World) (cells : List ℕ) (at : Position) (kind : OtherInstruction
   tests-null g false e (null, other, dear) = (other (eqb-false at.operand 0 e), dear)
 
   -- Another value of a global.
-  pub sets : kind ≡ other.GlobalSet → (to : Position) (state' : StateContents) → (1 ≤ at.fuel) × (to ≡ position_lowered at 1 (get_or cells (at.top - 1) 0)) → state' ≡ (with_global_cell w (global_address w n) at.operand).state
+  pub sets : kind ≡ other.GlobalSet → (to : Position) (state' : StateContents) → (1 ≤ at.fuel)
+      × (to ≡ position_lowered at 1 (get_or cells (at.top - 1) 0)) → state' ≡ (with_global_cell w (global_address w n) at.operand).state
       → StepsTo w cells at (record w { state = state' }) cells to
   sets is to state' (paid, there) same =
       rw (there, same) (record { there = refl; falls = omega (arith, paid); leads = λ g r. (leads-as other.GlobalSet is g r).0 at.fuel (at.fuel - 1) paid refl })

@@ -41,7 +41,8 @@ inside-depth : (labels : List Label) (x : Configuration) → depth (inside_label
 inside-depth [] x = refl
 inside-depth (label ∷ labels) x = inside-depth labels (InLabel label x)
 
-pub whole-depth : (cs : List Caller) (arity : ℕ) (f : Activated) (values : List Val) (labels : List Label) (rest : Body) → depth (plug (layers_around cs arity) f (in_frame values labels rest)) ≡ suc (length cs)
+pub whole-depth : (cs : List Caller) (arity : ℕ) (f : Activated) (values : List Val) (labels : List Label) (rest : Body)
+    → depth (plug (layers_around cs arity) f (in_frame values labels rest)) ≡ suc (length cs)
 whole-depth cs arity f values labels rest =
     let two = layers-count cs arity in
     let three = inside-depth labels _ in
@@ -67,14 +68,18 @@ switched bound l l' u new other seen r results steps runs callers arity deep =
     record {
       new = new;
       results = results;
-      steps = subst (λ (s : Store). Steps NoHosts bound no_frame (record { store = store_in l.world; hosts = []; fuel = l.fuel }) (whole u) (record { store = s; hosts = []; fuel = l'.fuel }) (whole new)) (sym seen.store) steps;
+      steps = subst (λ (s : Store). Steps NoHosts bound no_frame (record { store = store_in l.world; hosts = []; fuel = l.fuel }) (whole u)
+          (record { store = s; hosts = []; fuel = l'.fuel }) (whole new)) (sym seen.store) steps;
       runs = record {
         runs = runs;
         number = sym seen.seen_from;
-        callers = subst (λ (c : Contents). CallersStand c (length l'.machine.cells) l'.callers new.callers new.ghost.code.outermost.kept (take l'.machine.base l'.machine.cells)) (sym seen.code) callers;
+        callers = subst (λ (c : Contents).
+            CallersStand c (length l'.machine.cells) l'.callers new.callers new.ghost.code.outermost.kept (take l'.machine.base l'.machine.cells))
+            (sym seen.code) callers;
         arity = arity;
         deep = deep;
-        typed = subst (λ (s : Store). ConfigurationHasType s outermost (whole new) new.results) (sym seen.store) (subst (λ (ts : _). ConfigurationHasType (store_in l.world) outermost (whole new) ts) (sym results) typed);
+        typed = subst (λ (s : Store). ConfigurationHasType s outermost (whole new) new.results) (sym seen.store)
+            (subst (λ (ts : _). ConfigurationHasType (store_in l.world) outermost (whole new) ts) (sym results) typed);
       };
     }
 

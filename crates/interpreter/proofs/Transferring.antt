@@ -60,7 +60,8 @@ module _ (bound : ℕ) (w : World) (cells : List ℕ) (callers : List Frame) (at
     unreachable-traps is = stops-failing bound l left Unreachable (λ g r. (turns-at transfer.Unreachable is g r).0 at.fuel left both.0 both.1)
 
     pub back-leaves : kind ≡ transfer.Return → RunsSomeWhole bound l → (x : Entry) → x ≡ e → Leaves bound w cells callers (record at { fuel = left }) at.fuel x.kept
-    back-leaves is some x x_is = subst (λ (y : Entry). Leaves bound w cells callers (record at { fuel = left }) at.fuel y.kept) (sym x_is) (return-leaves bound w cells callers at n (turns-at transfer.Return is) some left both.0 both.1)
+    back-leaves is some x x_is = subst (λ (y : Entry). Leaves bound w cells callers (record at { fuel = left }) at.fuel y.kept) (sym x_is)
+        (return-leaves bound w cells callers at n (turns-at transfer.Return is) some left both.0 both.1)
 
     -- To another place of the frame.
     goes : (cells' : List ℕ) (place top operand : ℕ) → ((g : Ghost) → RunsAt w m g → GoesTo g m at.fuel w (record m { cells = cells'; place = place; top = top; operand = operand }) left)
@@ -80,18 +81,23 @@ module _ (bound : ℕ) (w : World) (cells : List ℕ) (callers : List Frame) (at
         → to ≡ position_landed (record at { fuel = left }) x to.operand → GoesOn bound l cells' callers to
     br-lands is x x_is cells' to moved to_is =
         lands (set cells at.top at.operand) at.top x
-        (λ g r held' operand' there. subst (λ (y : Entry). AreMoved (set cells at.top at.operand) at.top (at.base + y.height) y.kept held' operand' → GoesTo g m at.fuel w (record m { cells = held'; place = y.target; top = at.base + y.height + y.kept; operand = operand' }) left)
+        (λ g r held' operand' there. subst
+        (λ (y : Entry). AreMoved (set cells at.top at.operand) at.top (at.base + y.height) y.kept held' operand'
+        → GoesTo g m at.fuel w (record m { cells = held'; place = y.target; top = at.base + y.height + y.kept; operand = operand' }) left)
         (sym x_is) (λ landed. (turns-at transfer.Br is g r).0 held' operand' landed at.fuel left both.0 both.1) there)
         cells' to moved to_is
 
     abbrev chosen_entry : Entry
     chosen_entry = get_or (branch_entries w.flat.tables (branch_range_of w.flat.tables n)) at.operand (entry_of_number w.flat.tables (branch_range_of w.flat.tables n).default)
 
-    pub br-table-lands : kind ≡ transfer.BrTable → (x : Entry) → x ≡ chosen_entry → (cells' : List ℕ) (to : Position) (operand : ℕ) → AreMoved cells (at.top - 1) (at.base + x.height) x.kept cells' to.operand
+    pub br-table-lands : kind ≡ transfer.BrTable → (x : Entry) → x ≡ chosen_entry → (cells' : List ℕ) (to : Position) (operand : ℕ)
+        → AreMoved cells (at.top - 1) (at.base + x.height) x.kept cells' to.operand
         → to ≡ position_landed (record at { top = at.top - 1; operand = operand; fuel = left }) x to.operand → GoesOn bound l cells' callers to
     br-table-lands is x x_is cells' to operand moved to_is =
         lands cells (at.top - 1) x
-        (λ g r held' operand' there. subst (λ (y : Entry). AreMoved cells (at.top - 1) (at.base + y.height) y.kept held' operand' → GoesTo g m at.fuel w (record m { cells = held'; place = y.target; top = at.base + y.height + y.kept; operand = operand' }) left)
+        (λ g r held' operand' there. subst
+        (λ (y : Entry). AreMoved cells (at.top - 1) (at.base + y.height) y.kept held' operand'
+        → GoesTo g m at.fuel w (record m { cells = held'; place = y.target; top = at.base + y.height + y.kept; operand = operand' }) left)
         (sym x_is) (λ landed. (turns-at transfer.BrTable is g r).0 held' operand' landed at.fuel left both.0 both.1) there)
         cells' to moved to_is
 

@@ -27,7 +27,8 @@ use Rattle.interpreter.specs.declared.machine.CallKind.TheVariants.{Nested, Tail
 use Rattle.interpreter.proofs.Calling.{calls-there, calls-through-there}
 use Rattle.interpreter.proofs.Control.{branches-by-table-there, branches-if-there, branches-there, chooses-there, enters-there, jumps-there}
 use Rattle.interpreter.proofs.Forms.{IsAt, own-operands}
-use Rattle.interpreter.proofs.Instructions.{does-nothing-there, drops-there, fails-there, gets-local-there, puts-i32-there, puts-i64-there, puts-null-there, selects-there, sets-local-there, tees-local-there, tests-null-there}
+use Rattle.interpreter.proofs.Instructions.{does-nothing-there, drops-there, fails-there, gets-local-there, puts-i32-there, puts-i64-there, puts-null-there}
+use Rattle.interpreter.proofs.Instructions.{selects-there, sets-local-there, tees-local-there, tests-null-there}
 use Rattle.interpreter.proofs.Memories.{gets-global-there, loads-there, measures-there, refers-there, sets-global-there, stores-there}
 use Rattle.interpreter.proofs.Numbers.{adds-there, binary-there, unary-there}
 use Rattle.interpreter.proofs.Placing.{stands-there}

@@ -36,9 +36,12 @@ use Rattle.interpreter.proofs.Opening.{ArgumentsLie, callee-own, caller-cells, o
 use Rattle.interpreter.proofs.Switching.{callers-count, switched, whole-depth}
 
 module _ (bound : ℕ) (w : World) (cells : List ℕ) (callers : List Frame) (at : Position) (u : Whole) (r : RunsWhole bound (loop_at w cells callers at) u)
-    (op : PlainOp) (top operand address : ℕ) (f : ModuleFunction) (found : IsAtAddress w.code address f) (b : ArgumentsLie op (machine_at cells at) u.ghost top operand f.ty.now f.instance (code_of f.func.now))
+    (op : PlainOp) (top operand address : ℕ) (f : ModuleFunction) (found : IsAtAddress w.code address f)
+    (b : ArgumentsLie op (machine_at cells at) u.ghost top operand f.ty.now f.instance (code_of f.func.now))
     (counted : counts_of u.ghost.code.signatures op ≡ Some (counts (b.over + length f.ty.now.params) (length f.ty.now.results)))
-    (step : step_instruction u.ghost.store (frame_of u.ghost) op u.ghost.values b.rest ≡ call_function 1 u.ghost.store (lent_memory u.ghost.store (frame_of u.ghost)) (Some (function_of f.ty.now f.instance f.func.now)) b.values b.rest) where
+    (step : step_instruction u.ghost.store (frame_of u.ghost) op u.ghost.values b.rest
+    ≡ call_function 1 u.ghost.store (lent_memory u.ghost.store (frame_of u.ghost)) (Some (function_of f.ty.now f.instance f.func.now)) b.values
+    b.rest) where
   abbrev m : Machine
   m = machine_at cells at
 
@@ -70,7 +73,12 @@ module _ (bound : ℕ) (w : World) (cells : List ℕ) (callers : List Frame) (at
   }
 
   abbrev pub called : Whole
-  called = record { ghost = callee h s (operations_of found.instance.loaded.value.flat) f.flat.now.place f.ty.now f.instance (code_of f.func.now) b.values; callers = waiting ∷ u.callers; results = u.results }
+  called = record {
+    ghost = callee h s (operations_of found.instance.loaded.value.flat) f.flat.now.place f.ty.now f.instance (code_of f.func.now)
+        b.values;
+    callers = waiting ∷ u.callers;
+    results = u.results;
+  }
 
   -- ---- the step
 
@@ -78,7 +86,8 @@ module _ (bound : ℕ) (w : World) (cells : List ℕ) (callers : List Frame) (at
   opens-next =
       subst (λ (z : Store). next z no_frame (whole u) ≡ Opens 1 z (whole called)) r.runs.store
       (subst (λ (z : Body). next h.store no_frame (plug (layers_of u) (frame_of h) (in_frame h.values h.labels z)) ≡ Opens 1 h.store (whole called)) (sym b.rest_is)
-      (subst (λ (z : Activated). next h.store z (plug (layers_of u) (frame_of h) (in_frame h.values h.labels (Then op b.rest))) ≡ Opens 1 h.store (whole called)) (layers-out u.callers h.code.outermost.kept (frame_of h))
+      (subst (λ (z : Activated). next h.store z (plug (layers_of u) (frame_of h) (in_frame h.values h.labels (Then op b.rest)))
+      ≡ Opens 1 h.store (whole called)) (layers-out u.callers h.code.outermost.kept (frame_of h))
       (frames-come-and-go.called_by h.store (layers_of u) (frame_of h) op (lent_memory h.store (frame_of h)) f.ty.now f.instance (code_of f.func.now) h.values b.values h.labels b.rest step b.enough)))
 
   pub depth-is : depth (whole u) ≡ suc (length callers)
@@ -134,7 +143,8 @@ module _ (bound : ℕ) (w : World) (cells : List ℕ) (callers : List Frame) (at
           room = omega (arith, r.runs.runs.holds.room, whole_size, written, r.runs.scrap, size);
           stands = λ results is.
               subst (λ (p : ℕ). StandsIn h.code p (results ++ drop n b.values) h.labels b.rest) next_place
-              (callers-on h.code at.place h.values (drop n b.values) results h.labels op b.rest (b.over + n) (length f.ty.now.results) counted (omega (arith, many, b.enough)) (omega (arith, many, dropped_size)) is
+              (callers-on h.code at.place h.values (drop n b.values) results h.labels op b.rest (b.over + n) (length f.ty.now.results) counted
+              (omega (arith, many, b.enough)) (omega (arith, many, dropped_size)) is
               (subst (λ (z : Body). StandsIn h.code at.place h.values h.labels z) b.rest_is r.runs.runs.stands));
         }
 
@@ -152,7 +162,8 @@ module _ (bound : ℕ) (w : World) (cells : List ℕ) (callers : List Frame) (at
         (one_more none (opens opens-next some refl refl (omega (arith, depth-is, shallow))))
         (opened-runs other seen) (
           waits,
-          subst (λ (z : List ℕ). CallersStand w.code (length cells') callers u.callers h.code.outermost.kept z) (sym (outer-below w m h r.runs op top operand f.ty.now f.instance (code_of f.func.now) b cells' filled-all size base' base-is))
+          subst (λ (z : List ℕ). CallersStand w.code (length cells') callers u.callers h.code.outermost.kept z)
+              (sym (outer-below w m h r.runs op top operand f.ty.now f.instance (code_of f.func.now) b cells' filled-all size base' base-is))
               (subst (λ (q : ℕ). CallersStand w.code q callers u.callers h.code.outermost.kept (take at.base cells)) (sym size) r.callers),
         )
         refl (omega (arith, shallow))

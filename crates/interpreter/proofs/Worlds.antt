@@ -54,23 +54,29 @@ module _ (code : Contents) (s : StateContents) (memory : MemoryInstance) where
       let (same, there) = located-at a address (slice_get (set s.contents.memories a memory) a) found e in
       (ap Some same, written-there s.contents.memories a memory found there)
 
-  other-memory : (o : Option ℕ) (address : ℕ) (other : MemoryInstance) → o ≡ Some address → with_memory (store_with code (with_memory_back s o memory)) address other ≡ store_with code (with_memory_back s o other)
+  other-memory : (o : Option ℕ) (address : ℕ) (other : MemoryInstance) → o ≡ Some address
+      → with_memory (store_with code (with_memory_back s o memory)) address other ≡ store_with code (with_memory_back s o other)
   other-memory None address other e = absurd cc
   other-memory (Some a) address other e =
       let same : a ≡ address = cc in
       ap (λ (n : ℕ). with_memory (store_with code (with_memory_back s (Some a) memory)) n other) (sym same)
       ∙ ap (λ (ms : List MemoryInstance). record (store_with code s) { memories = ms }) (set-set s.contents.memories a memory other)
 
-  other-global : (o : Option ℕ) (address : ℕ) (value : Val) → with_global (store_with code (with_memory_back s o memory)) address (record { ty = (global_of s address).ty; value = value }) ≡ store_with code (with_memory_back (put_global s address value) o memory)
+  other-global : (o : Option ℕ) (address : ℕ) (value : Val)
+      → with_global (store_with code (with_memory_back s o memory)) address (record { ty = (global_of s address).ty; value = value })
+      ≡ store_with code (with_memory_back (put_global s address value) o memory)
   other-global None address value = refl
   other-global (Some a) address value = refl
 
 -- ---- an instance of a number
 
 -- The flat code of an instance is the same from any view of the store from that instance.
-pub flat-seen : (code : Contents) (number : ℕ) (i : Instance) → IsLoaded code number i → (other : World) → other.code ≡ code → other.number ≡ number → IsInstance other → other.flat ≡ i.loaded.value.flat
+pub flat-seen : (code : Contents) (number : ℕ) (i : Instance) → IsLoaded code number i → (other : World) → other.code ≡ code → other.number ≡ number
+    → IsInstance other → other.flat ≡ i.loaded.value.flat
 flat-seen code number i loaded other code_is number_is has =
-    let same : other.instance ≡ i = same_Some other.instance i (sym (subst (λ (n : ℕ). slice_get code.instances n ≡ Some other.instance) number_is (subst (λ (c : Contents). slice_get c.instances other.number ≡ Some other.instance) code_is has.loaded.there)) ∙ loaded.there) in
+    let same : other.instance ≡ i = same_Some other.instance i
+    (sym (subst (λ (n : ℕ). slice_get code.instances n ≡ Some other.instance) number_is
+    (subst (λ (c : Contents). slice_get c.instances other.number ≡ Some other.instance) code_is has.loaded.there)) ∙ loaded.there) in
     has.flat ∙ ap (λ (x : Instance). x.loaded.value.flat) same
 
 -- ---- what the instance has
@@ -89,9 +95,11 @@ module _ (w : World) (m : Machine) (g : Ghost) (r : RunsAt w m g) where
   pub memory-there : (address : ℕ) (memory : MemoryInstance) → HasMemory g address memory → (w.address ≡ Some address) × (memory ≡ memory_in w)
   memory-there address memory has =
       memory-back w.code w.state (memory_in w) w.address address memory
-      (ap (λ (o : Option ℕ). locate (store_in w).memories o) (sym (ap (λ (i : ModuleInstance). slice_get i.memories 0) there ∙ r.instance.memory)) ∙ ap (λ (s : Store). locate s.memories (slice_get (instance_of g.store (Some g.instance)).memories 0)) (sym r.store) ∙ has)
+      (ap (λ (o : Option ℕ). locate (store_in w).memories o) (sym (ap (λ (i : ModuleInstance). slice_get i.memories 0) there ∙ r.instance.memory)) ∙
+      ap (λ (s : Store). locate s.memories (slice_get (instance_of g.store (Some g.instance)).memories 0)) (sym r.store) ∙ has)
 
-  pub with-memory : (address : ℕ) (memory : MemoryInstance) → HasMemory g address memory → (bytes : List ℕ) → with_memory g.store address (record { limits = memory.limits; bytes = bytes }) ≡ store_in (record w { bytes = bytes })
+  pub with-memory : (address : ℕ) (memory : MemoryInstance) → HasMemory g address memory → (bytes : List ℕ)
+      → with_memory g.store address (record { limits = memory.limits; bytes = bytes }) ≡ store_in (record w { bytes = bytes })
   with-memory address memory has bytes =
       let (at, is) = memory-there address memory has in
       ap (λ (s : Store). with_memory s address (record { limits = memory.limits; bytes = bytes })) r.store
@@ -109,7 +117,9 @@ module _ (w : World) (m : Machine) (g : Ghost) (r : RunsAt w m g) where
   global-there x address global has =
       let (at, found) = located g.store.globals (slice_get (instance_of g.store (Some g.instance)).globals x) address global has in
       let named : slice_get w.instance.addresses.globals.items x ≡ Some address = ap (λ (i : ModuleInstance). slice_get i.globals x) (sym there) ∙ at in
-      let in_state : slice_get w.state.contents.globals address ≡ Some global = ap (λ (gs : List GlobalInstance). slice_get gs address) (sym (ap (λ (s : Store). s.globals) r.store ∙ globals-stay w.code w.state (memory_in w) w.address)) ∙ found in
+      let in_state : slice_get w.state.contents.globals address
+      ≡ Some global = ap (λ (gs : List GlobalInstance). slice_get gs address)
+      (sym (ap (λ (s : Store). s.globals) r.store ∙ globals-stay w.code w.state (memory_in w) w.address)) ∙ found in
       let is : global_address w x ≡ address = get_or_from_slice_get w.instance.addresses.globals.items x address 0 named in
       let within : address < length w.state.contents.globals = slice_get_within w.state.contents.globals address global in_state in record {
         named = slice_get_within w.instance.addresses.globals.items x address named;
@@ -118,14 +128,16 @@ module _ (w : World) (m : Machine) (g : Ghost) (r : RunsAt w m g) where
         global_is = ap (global_of w.state) is ∙ get_or_from_slice_get w.state.contents.globals address global _ in_state;
       }
 
-  pub with-global : (x address : ℕ) (global : GlobalInstance) → GlobalThere x address global → (cell : ℕ) → with_global g.store address (record { ty = global.ty; value = value_of global.ty.value cell }) ≡ store_in (with_global_cell w (global_address w x) cell)
+  pub with-global : (x address : ℕ) (global : GlobalInstance) → GlobalThere x address global → (cell : ℕ)
+      → with_global g.store address (record { ty = global.ty; value = value_of global.ty.value cell }) ≡ store_in (with_global_cell w (global_address w x) cell)
   with-global x address global h cell =
       ap (λ (s : Store). with_global s address (record { ty = global.ty; value = value_of global.ty.value cell })) r.store
       ∙ ap (λ (a : ℕ). with_global (store_in w) a (record { ty = global.ty; value = value_of global.ty.value cell })) (sym h.address_is)
       ∙ ap (λ (y : GlobalInstance). with_global (store_in w) (global_address w x) (record { ty = y.ty; value = value_of y.ty.value cell })) (sym h.global_is)
       ∙ other-global w.code w.state (memory_in w) w.address (global_address w x) (value_of (global_of w.state (global_address w x)).ty.value cell)
 
-  pub function-there : (x address : ℕ) → slice_get (instance_of g.store (Some g.instance)).functions x ≡ Some address → (x < length w.instance.addresses.functions.items) × (function_address w x ≡ address)
+  pub function-there : (x address : ℕ) → slice_get (instance_of g.store (Some g.instance)).functions x ≡ Some address
+      → (x < length w.instance.addresses.functions.items) × (function_address w x ≡ address)
   function-there x address at =
       let named : slice_get w.instance.addresses.functions.items x ≡ Some address = ap (λ (i : ModuleInstance). slice_get i.functions x) (sym there) ∙ at in
       (slice_get_within w.instance.addresses.functions.items x address named, get_or_from_slice_get w.instance.addresses.functions.items x address 0 named)
@@ -145,10 +157,13 @@ module _ (w : World) (m : Machine) (g : Ghost) (r : RunsAt w m g) where
   table-there x address table has =
       let (at, found) = located g.store.tables (slice_get (instance_of g.store (Some g.instance)).tables x) address table has in
       let named : slice_get w.instance.addresses.tables.items x ≡ Some address = ap (λ (i : ModuleInstance). slice_get i.tables x) (sym there) ∙ at in
-      let in_state : slice_get w.state.contents.tables address ≡ Some table = ap (λ (ts : List TableInstance). slice_get ts address) (sym (ap (λ (s : Store). s.tables) r.store ∙ tables-stay w.code w.state (memory_in w) w.address)) ∙ found in
+      let in_state : slice_get w.state.contents.tables address
+      ≡ Some table = ap (λ (ts : List TableInstance). slice_get ts address)
+      (sym (ap (λ (s : Store). s.tables) r.store ∙ tables-stay w.code w.state (memory_in w) w.address)) ∙ found in
       let is : table_address w.instance x ≡ address = get_or_from_slice_get w.instance.addresses.tables.items x address 0 named in
       let within : address < length w.state.contents.tables = slice_get_within w.state.contents.tables address table in_state in record {
         named = slice_get_within w.instance.addresses.tables.items x address named;
         inside = omega (arith, is, within);
-        entry = λ offset. ap (λ (a : ℕ). slice_get (table_of w.state a).entries offset) is ∙ ap (λ (t : TableInstance). slice_get t.entries offset) (get_or_from_slice_get w.state.contents.tables address table _ in_state);
+        entry = λ offset. ap (λ (a : ℕ). slice_get (table_of w.state a).entries offset) is ∙ ap (λ (t : TableInstance). slice_get t.entries offset)
+            (get_or_from_slice_get w.state.contents.tables address table _ in_state);
       }

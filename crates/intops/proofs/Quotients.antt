@@ -17,7 +17,9 @@ not_zero : (b : ℕ) → ¬ (b ≡ 0) → (b == 0) ≡ false
 not_zero b some = grind arith
 
 -- the remainder n of a and b, which represent the signed numbers x and y
-pub remainder_from : (w : Width) (bits a b n : ℕ) (x y r : ℤ) → ¬ (b ≡ 0) → x ≡ signed bits a → y ≡ signed bits b → FitsSigned w x → FitsSigned w y → FitsSigned w r → r ≡ int_rem (cast_signed w (cast_unsigned w x)) (cast_signed w (cast_unsigned w y)) → n ≡ integer bits (cast_signed w (cast_unsigned w r)) → Ok n ≡ remainder_signed bits a b
+pub remainder_from : (w : Width) (bits a b n : ℕ) (x y r : ℤ) → ¬ (b ≡ 0) → x ≡ signed bits a → y ≡ signed bits b → FitsSigned w x → FitsSigned w y
+    → FitsSigned w r → r ≡ int_rem (cast_signed w (cast_unsigned w x)) (cast_signed w (cast_unsigned w y)) → n
+    ≡ integer bits (cast_signed w (cast_unsigned w r)) → Ok n ≡ remainder_signed bits a b
 remainder_from w bits a b n x y r some ex ey fx fy fr er en =
     let left : r ≡ signed bits a -ℤ (signed bits b *ℤ int_div (signed bits a) (signed bits b)) =
     er ∙ ap₂ int_rem (to_z-of_z w x fx ∙ ex) (to_z-of_z w y fy ∙ ey) ∙ rest_is (signed bits a) (signed bits b) in

@@ -27,13 +27,17 @@ use Rattle.soundness.proofs.Values.{All-at}
 use Rattle.soundness.specs.Embedding.{AllGoWell, LoadsBytes}
 use Rattle.soundness.specs.Links.{IsSoundModule}
 use Rattle.soundness.specs.Stores.{StoreIsValid}
-use Rattle.isolation.specs.Apart.{AllLeaveOneAlone, AllShareNothing, DoesNotCall, GivesNothing, IsOfHost, LeavesAlone, LinksAreApart, OnlyRegisteredOnesAreShared, RefersToNone, SharesNothing, StrangersAreApart, StrangersChangeNoAnswers}
+use Rattle.isolation.specs.Apart.{AllLeaveOneAlone, AllShareNothing, DoesNotCall, GivesNothing, IsOfHost, LeavesAlone, LinksAreApart}
+use Rattle.isolation.specs.Apart.{OnlyRegisteredOnesAreShared, RefersToNone, SharesNothing, StrangersAreApart, StrangersChangeNoAnswers}
 use Rattle.isolation.specs.Commands.{ChangesNoMore, ReachesNoFurther}
-use Rattle.isolation.specs.Reach.{AreMentioned, Data, Element, Function, Global, Host, Instance, IsGivenAt, IsImportOf, IsIn, IsInstanceOf, IsPlaceIn, IsReached, AsksFrom, Leads, Memory, Mentions, Place, StartsFrom, Table, onward, reach, reach_from, reach_when_asked, reach_of, start}
+use Rattle.isolation.specs.Reach.{AreMentioned, Data, Element, Function, Global, Host, Instance, IsGivenAt, IsImportOf, IsIn, IsInstanceOf, IsPlaceIn}
+use Rattle.isolation.specs.Reach.{IsReached, AsksFrom, Leads, Memory, Mentions, Place, StartsFrom, Table, onward, reach, reach_from, reach_when_asked, reach_of}
+use Rattle.isolation.specs.Reach.{start}
 use Rattle.isolation.specs.Regions.{AreApart, Has, IsClosed, IsThere, KeepsCode, Region, with_new}
 use Rattle.isolation.proofs.Bounds.{behind}
 use Rattle.isolation.proofs.Changes.{Change, IsNoLink, call_run, command-change, fuel_set, link_failed, link_made, links-alone, modules_loaded, name_registered, nothing_done, numbers-before}
-use Rattle.isolation.proofs.Commands.{NoFuncrefs, NumbersAreThere, closed-too, command-free, command-leaves, command-reaches, command-there, fresh-free, fresh-there, kept-by, list-free, list-there, not-from, out-of-reach-changes-nothing, some-there, valid-then}
+use Rattle.isolation.proofs.Commands.{NoFuncrefs, NumbersAreThere, closed-too, command-free, command-leaves, command-reaches, command-there, fresh-free}
+use Rattle.isolation.proofs.Commands.{fresh-there, kept-by, list-free, list-there, not-from, out-of-reach-changes-nothing, some-there, valid-then}
 use Rattle.isolation.proofs.Larger.{IsPartOf, both, closed-both, externs-larger, second-part, values-larger}
 use Rattle.isolation.proofs.Reach.{least, reach-closed, reach-there, reaches-no-further}
 
@@ -49,7 +53,8 @@ apart-other mine theirs apart = record {
 }
 
 -- Parts of two regions that are apart are apart.
-apart-less : (mine theirs less less' : Region) → AreApart mine theirs → ((place : Place) → IsIn less place → IsIn mine place) → ((place : Place) → IsIn less' place → IsIn theirs place) → AreApart less less'
+apart-less : (mine theirs less less' : Region) → AreApart mine theirs → ((place : Place) → IsIn less place → IsIn mine place)
+    → ((place : Place) → IsIn less' place → IsIn theirs place) → AreApart less less'
 apart-less mine theirs less less' apart first second = record {
   tables = λ address has too. apart.tables address (first (Table address) has) (second (Table address) too);
   memories = λ address has too. apart.memories address (first (Memory address) has) (second (Memory address) too);
@@ -234,7 +239,8 @@ module _ {H : Type 0} (host_type : H → FuncType) (Answers : H → List Val →
 
   -- ---- one command
 
-  module _ (old new : Embedding H) (command : Command) (reply : Reply) (applies : Applies HostStep old command reply new) (free : NoFuncrefs host_type Answers old) (numbers : NumbersAreThere host_type Answers old)
+  module _ (old new : Embedding H) (command : Command) (reply : Reply) (applies : Applies HostStep old command reply new)
+      (free : NoFuncrefs host_type Answers old) (numbers : NumbersAreThere host_type Answers old)
       (valid : StoreIsValid old.state.store) where
     closed-grown : (region : Region) → IsClosed region old.state.store → (c : Command) → ChangesNoMore region old c reply new → IsClosed (grown region old.state.store c) new.state.store
     closed-grown region closed (Load bytes) (same, hosts) = subst (IsClosed region) (sym same) closed
@@ -271,7 +277,8 @@ module _ {H : Type 0} (host_type : H → FuncType) (Answers : H → List Val →
           (further (reach_of old command) theirs (second-part (reach_from old other) (reach_of old command)) old command (reaches-no-further old command)) applies
 
       closed-mine : IsClosed mine new.state.store
-      closed-mine = closed-too host_type Answers mine store new.state.store (kept-by host_type Answers mine theirs old new one reply command there apart-theirs changes) (reach-closed store (IsInstanceOf old one))
+      closed-mine = closed-too host_type Answers mine store new.state.store
+          (kept-by host_type Answers mine theirs old new one reply command there apart-theirs changes) (reach-closed store (IsInstanceOf old one))
 
       from-one : (place : Place) → IsInstanceOf new one place → IsIn mine place
       from-one place (instance, is, found) = subst (IsIn mine) (sym is) (elim (numbers-before HostStep change one instance found) [
@@ -289,9 +296,11 @@ module _ {H : Type 0} (host_type : H → FuncType) (Answers : H → List Val →
       apart-after : AreApart (reach_from new one) (reach_from new other)
       apart-after = apart-less mine (grown theirs store command) (reach_from new one) (reach_from new other) (apart-grown mine theirs store there apart-theirs command)
           (λ place has. least new.state.store mine closed-mine (IsInstanceOf new one) from-one place (reached-in new.state.store (IsInstanceOf new one) place has))
-          (λ place has. least new.state.store (grown theirs store command) (closed-grown theirs closed-theirs command changes) (IsInstanceOf new other) from-other place (reached-in new.state.store (IsInstanceOf new other) place has))
+          (λ place has. least new.state.store (grown theirs store command) (closed-grown theirs closed-theirs command changes)
+          (IsInstanceOf new other) from-other place (reached-in new.state.store (IsInstanceOf new other) place has))
 
-    either-after : (one other : ℕ) → (LeavesAlone old one command reply ⊎ LeavesAlone old other command reply) → AreApart (reach_from old one) (reach_from old other) → AreApart (reach_from new one) (reach_from new other)
+    either-after : (one other : ℕ) → (LeavesAlone old one command reply ⊎ LeavesAlone old other command reply)
+        → AreApart (reach_from old one) (reach_from old other) → AreApart (reach_from new one) (reach_from new other)
     either-after one other leaves apart = elim leaves [
       | inl alone ↦ apart-after one other alone apart
       | inr alone ↦ apart-other (reach_from new other) (reach_from new one) (apart-after other one alone (apart-other (reach_from old one) (reach_from old other) apart))
@@ -317,7 +326,9 @@ module _ {H : Type 0} (host_type : H → FuncType) (Answers : H → List Val →
           alone : (number : ℕ) → (reply ≡ Linked number → ⊥) → DoesNotCall number command → LeavesAlone old number command reply
           alone number another calls = record { makes_another = another; apart = reach-apart old all command number shares calls }
 
-          go : (DoesNotCall one command × DoesNotCall other command) ⊎ ((k : ℕ) × (name : List ℕ) × (arguments : List Val) × (command ≡ Call k name arguments)) → LeavesAlone old one command reply ⊎ LeavesAlone old other command reply
+          go : (DoesNotCall one command × DoesNotCall other command)
+              ⊎ ((k : ℕ) × (name : List ℕ) × (arguments : List Val) × (command ≡ Call k name arguments)) → LeavesAlone old one command reply
+              ⊎ LeavesAlone old other command reply
           go (inl (calls, calls')) = elim (makes-another one other differ reply refl) [ inl another ↦ inl (alone one another calls) | inr another ↦ inr (alone other another calls') ]
           go (inr (k, name, arguments, is)) =
               let no_link : IsNoLink reply = links-alone HostStep change (λ number link. let wrong : Call k name arguments ≡ Link number = sym is ∙ link in cc) in
@@ -344,14 +355,16 @@ module _ {H : Type 0} (host_type : H → FuncType) (Answers : H → List Val →
     valid = valid;
   }
 
-  stay-apart : (one other : ℕ) {old last : Embedding H} {commands : List Command} {replies : List Reply} → (run : AppliesAll HostStep old commands replies last) → AllGoWell HostStep run → IsTidy old → AllLeaveOneAlone HostStep one other run
+  stay-apart : (one other : ℕ) {old last : Embedding H} {commands : List Command} {replies : List Reply}
+      → (run : AppliesAll HostStep old commands replies last) → AllGoWell HostStep run → IsTidy old → AllLeaveOneAlone HostStep one other run
       → AreApart (reach_from old one) (reach_from old other) → AreApart (reach_from last one) (reach_from last other)
   stay-apart one other none well tidy leaves apart = apart
   stay-apart one other {old} (then_on {between = between} {command = command} {reply = reply} first rest) well tidy leaves apart =
       stay-apart one other rest well.1 (tidy-after old between command reply tidy first well.0.valid) leaves.1
       (either-after old between command reply first tidy.free tidy.numbers tidy.valid one other leaves.0 apart)
 
-  all-stay-apart : {old last : Embedding H} {commands : List Command} {replies : List Reply} → (run : AppliesAll HostStep old commands replies last) → AllGoWell HostStep run → IsTidy old → AllShareNothing HostStep run
+  all-stay-apart : {old last : Embedding H} {commands : List Command} {replies : List Reply} → (run : AppliesAll HostStep old commands replies last)
+      → AllGoWell HostStep run → IsTidy old → AllShareNothing HostStep run
       → ((one other : ℕ) → (one ≡ other → ⊥) → AreApart (reach_from old one) (reach_from old other)) → (one other : ℕ) → (one ≡ other → ⊥) → AreApart (reach_from last one) (reach_from last other)
   all-stay-apart none well tidy shares apart = apart
   all-stay-apart {old} (then_on {between = between} {command = command} {reply = reply} first rest) well tidy shares apart =
@@ -384,11 +397,13 @@ module _ {H : Type 0} (host_type : H → FuncType) (Answers : H → List Val →
   module _ (read : (b : Body) → body_of (writing b) ≡ b) where
     pub links-are-apart : LinksAreApart host_type Answers
     links-are-apart setup definitions fresh last commands replies one other few created bytes run leaves =
-        stay-apart one other run (goes-well setup definitions fresh created few read bytes run) (fresh-tidy setup definitions fresh created few read) leaves (fresh-apart setup definitions fresh created one other)
+        stay-apart one other run (goes-well setup definitions fresh created few read bytes run) (fresh-tidy setup definitions fresh created few read)
+        leaves (fresh-apart setup definitions fresh created one other)
 
     pub strangers-are-apart : StrangersAreApart host_type Answers
     strangers-are-apart setup definitions fresh last commands replies one other few created bytes run shares =
-        all-stay-apart run (goes-well setup definitions fresh created few read bytes run) (fresh-tidy setup definitions fresh created few read) shares (λ a b differ. fresh-apart setup definitions fresh created a b) one other
+        all-stay-apart run (goes-well setup definitions fresh created few read bytes run) (fresh-tidy setup definitions fresh created few read) shares
+        (λ a b differ. fresh-apart setup definitions fresh created a b) one other
 
   -- ---- names, if no instance is registered
 
@@ -406,12 +421,14 @@ module _ {H : Type 0} (host_type : H → FuncType) (Answers : H → List Val →
         here true same = inl cc
         here false same = inr same
 
-        there : (b : Bool) → (if b then Some first.1 else under (put_under others name item) name') ≡ Some x → (under (put_under others name item) name' ≡ Some x → (x ≡ item) ⊎ (under others name' ≡ Some x))
+        there : (b : Bool) → (if b then Some first.1 else under (put_under others name item) name') ≡ Some x
+            → (under (put_under others name item) name' ≡ Some x → (x ≡ item) ⊎ (under others name' ≡ Some x))
             → (x ≡ item) ⊎ ((if b then Some first.1 else under others name') ≡ Some x)
         there true same behind = inr same
         there false same behind = behind same
 
-        go : (b : Bool) → under (if b then (first.0, item) ∷ others else first ∷ put_under others name item) name' ≡ Some x → (under (put_under others name item) name' ≡ Some x → (x ≡ item) ⊎ (under others name' ≡ Some x))
+        go : (b : Bool) → under (if b then (first.0, item) ∷ others else first ∷ put_under others name item) name' ≡ Some x
+            → (under (put_under others name item) name' ≡ Some x → (x ≡ item) ⊎ (under others name' ≡ Some x))
             → (x ≡ item) ⊎ (under (first ∷ others) name' ≡ Some x)
         go true same behind = here (bytes_eq name' first.0) same
         go false same behind = there (bytes_eq name' first.0) same behind
@@ -449,7 +466,8 @@ module _ {H : Type 0} (host_type : H → FuncType) (Answers : H → List Val →
   none-registered names n [] = refl
   none-registered names n (d ∷ ds) = none-registered (with_host names d.module_name d.name n) (suc n) ds
 
-  host-there : (n : ℕ) (ds : List (HostDefinition H)) (address : ℕ) → address < length ds → (f : FunctionInstance) × (number : ℕ) × (slice_get (host_functions host_type n ds) address ≡ Some f) × (f.implementation ≡ InHost number)
+  host-there : (n : ℕ) (ds : List (HostDefinition H)) (address : ℕ) → address < length ds → (f : FunctionInstance) × (number : ℕ)
+      × (slice_get (host_functions host_type n ds) address ≡ Some f) × (f.implementation ≡ InHost number)
   host-there n [] address inside = absurd (let wrong : ⊥ = omega (arith, inside) in wrong)
   host-there n (d ∷ ds) zero inside = (record { ty = host_type d.host; implementation = InHost n }, n, refl, refl)
   host-there n (d ∷ ds) (suc address) inside = host-there (suc n) ds address (omega (arith, inside))
@@ -462,12 +480,18 @@ module _ {H : Type 0} (host_type : H → FuncType) (Answers : H → List Val →
   fresh-names : (setup : Setup) (definitions : List (HostDefinition H)) (fresh : Embedding H) → Creates host_type setup definitions (Ok fresh) → NamesAreOfHosts fresh
   fresh-names setup definitions fresh created = subst NamesAreOfHosts (sym created.1) (record {
     registered = none-registered no_names 0 definitions;
-    hosts = λ module_name name address is. let below = defined-below no_names 0 definitions (λ m n a found. absurd cc) module_name name address is in host-there 0 definitions address (omega (arith, below));
+    hosts = λ module_name name address is. let below = defined-below no_names 0 definitions (λ m n a found. absurd cc) module_name name address is in
+        host-there 0 definitions address (omega (arith, below));
   })
 
-  names-after : (old new : Embedding H) (command : Command) (reply : Reply) → NoFuncrefs host_type Answers old → GivesNothing command → Applies HostStep old command reply new → NamesAreOfHosts old → NamesAreOfHosts new
+  names-after : (old new : Embedding H) (command : Command) (reply : Reply) → NoFuncrefs host_type Answers old → GivesNothing command
+      → Applies HostStep old command reply new → NamesAreOfHosts old → NamesAreOfHosts new
   names-after old new command reply free gives applies names =
-      record { registered = ap (λ (ns : NamesContents). ns.registered) same ∙ names.registered; hosts = λ module_name name address is. still address (names.hosts module_name name address (ap (λ (ns : NamesContents). host_of ns module_name name) (sym same) ∙ is)) }
+      record {
+        registered = ap (λ (ns : NamesContents). ns.registered) same ∙ names.registered;
+        hosts = λ module_name name address is.
+            still address (names.hosts module_name name address (ap (λ (ns : NamesContents). host_of ns module_name name) (sym same) ∙ is));
+      }
     where
       go : Change HostStep old command reply new → new.names ≡ old.names
       go (nothing_done r n) = ap (λ (e : Embedding H). e.names) n
@@ -494,7 +518,8 @@ module _ {H : Type 0} (host_type : H → FuncType) (Answers : H → List Val →
         nothing-exported : registered_export at.state.store at.names module_name name ≡ None
         nothing-exported = ap (λ (rs : List (List ℕ × ℕ)). registered_export at.state.store (record at.names { registered = rs }) module_name name) names.registered
 
-        go : (found : Option ℕ) → host_of at.names module_name name ≡ found → option_or (option_map value.Func found) (registered_export at.state.store at.names module_name name) ≡ Some e → IsOfHost at.state.store e
+        go : (found : Option ℕ) → host_of at.names module_name name ≡ found
+            → option_or (option_map value.Func found) (registered_export at.state.store at.names module_name name) ≡ Some e → IsOfHost at.state.store e
         go None there same = absurd (let wrong : None ≡ Some e = sym nothing-exported ∙ same in cc)
         go (Some address) there same = let is_function : value.Func address ≡ e = cc in subst (IsOfHost at.state.store) is_function (names.hosts module_name name address there)
 
@@ -502,7 +527,8 @@ module _ {H : Type 0} (host_type : H → FuncType) (Answers : H → List Val →
     resolved-hosts [] given is = let nothing : [] ≡ given = cc in subst (All (IsOfHost at.state.store)) nothing (All-none (IsOfHost at.state.store))
     resolved-hosts (i ∷ imports) given is = go (resolve_name at.state.store at.names i.module_name i.name) refl (resolve_imports at.state.store at.names imports) (resolved-hosts imports) is
       where
-        go : (first : Option Extern) → resolve_name at.state.store at.names i.module_name i.name ≡ first → (others : Option (List Extern)) → ((es : List Extern) → others ≡ Some es → All (IsOfHost at.state.store) es) → cons first others ≡ Some given
+        go : (first : Option Extern) → resolve_name at.state.store at.names i.module_name i.name ≡ first → (others : Option (List Extern))
+            → ((es : List Extern) → others ≡ Some es → All (IsOfHost at.state.store) es) → cons first others ≡ Some given
             → All (IsOfHost at.state.store) given
         go None first_is others behind same = absurd cc
         go (Some e) first_is None behind same = absurd cc
@@ -518,12 +544,14 @@ module _ {H : Type 0} (host_type : H → FuncType) (Answers : H → List Val →
     shares-nothing (GetGlobal number name) gives = tt
     shares-nothing (SetFuel fuel) gives = tt
 
-  all-share-nothing : {old last : Embedding H} {commands : List Command} {replies : List Reply} → NoFuncrefs host_type Answers old → NamesAreOfHosts old → All GivesNothing commands → (run : AppliesAll HostStep old commands replies last)
+  all-share-nothing : {old last : Embedding H} {commands : List Command} {replies : List Reply} → NoFuncrefs host_type Answers old
+      → NamesAreOfHosts old → All GivesNothing commands → (run : AppliesAll HostStep old commands replies last)
       → AllShareNothing HostStep run × NamesAreOfHosts last
   all-share-nothing free names gives none = (tt, names)
   all-share-nothing {old} free names gives (then_on {between = between} {command = command} {commands = commands} {reply = reply} first rest) =
       let one = gives 0 command (omega arith) in
-      let (others, names_then) = all-share-nothing (command-free host_type Answers old between reply free command first) (names-after old between command reply free one first names) (behind GivesNothing command commands gives) rest in
+      let (others, names_then) = all-share-nothing (command-free host_type Answers old between reply free command first)
+      (names-after old between command reply free one first names) (behind GivesNothing command commands gives) rest in
       ((shares-nothing old names command one, others), names_then)
 
   pub registered-ones : OnlyRegisteredOnesAreShared host_type Answers
@@ -539,7 +567,8 @@ module _ {H : Type 0} (host_type : H → FuncType) (Answers : H → List Val →
           instance = its.0;
           is = its.1;
           arguments = λ place mentioned. absurd (nothing-mentioned place mentioned);
-          apart = apart-less (reach_from old number) (reach_of old command) (reach_when_asked old number commands) (reach_of old command) apart (part-of-reach old.state.store (AsksFrom old number commands) (IsInstanceOf old number) said) (λ place has. has);
+          apart = apart-less (reach_from old number) (reach_of old command) (reach_when_asked old number commands) (reach_of old command) apart
+              (part-of-reach old.state.store (AsksFrom old number commands) (IsInstanceOf old number) said) (λ place has. has);
           applies = applies;
           hosts = λ n has. hosts n (part-of-reach old.state.store (AsksFrom old number commands) (IsInstanceOf old number) said (Host n) has);
         }) to

@@ -21,12 +21,16 @@ module _ {H : Type 0} (HostStep : List H → ℕ → Option ℕ → List Val →
   -- ---- more fuel
 
   module _ (more bound n : ℕ) (i : ModuleInstance) where
-    tasks-more : {old last : State H} {tasks : List Task} {ending : Ending} → RunTasks HostStep bound n i old tasks ending last → (ending ≡ OutOfFuel → ⊥) → RunTasks HostStep bound n i (with_more old more) tasks ending (with_more last more)
+    tasks-more : {old last : State H} {tasks : List Task} {ending : Ending} → RunTasks HostStep bound n i old tasks ending last
+        → (ending ≡ OutOfFuel → ⊥) → RunTasks HostStep bound n i (with_more old more) tasks ending (with_more last more)
     tasks-more all_done enough = all_done
-    tasks-more {old} (done {between = between} {a = a} {values = values} is run rest) enough = done is (runs-more HostStep bound a.frame old between a.configuration (WithValues values) more run (λ e. cc)) (tasks-more rest enough)
+    tasks-more {old} (done {between = between} {a = a} {values = values} is run rest) enough = done is
+        (runs-more HostStep bound a.frame old between a.configuration (WithValues values) more run (λ e. cc)) (tasks-more rest enough)
     tasks-more {old} {last} {ending = ending} (ended {a = a} is run empty) enough = ended is (runs-more HostStep bound a.frame old last a.configuration ending more run enough) empty
 
-  link-more : (more bound : ℕ) (m : Module) (given : List Extern) (old new : State H) (ending : Ending) → Instantiation HostStep bound m given old ending new → (ending ≡ OutOfFuel → ⊥) → Instantiation HostStep bound m given (with_more old more) ending (with_more new more)
+  link-more : (more bound : ℕ) (m : Module) (given : List Extern) (old new : State H) (ending : Ending)
+      → Instantiation HostStep bound m given old ending new → (ending ≡ OutOfFuel → ⊥)
+      → Instantiation HostStep bound m given (with_more old more) ending (with_more new more)
   link-more more bound m given old new ending link enough = record { objects = link.objects; allocated = link.allocated; ran = tasks-more more bound _ _ link.ran enough }
 
   module _ (more : ℕ) (old new : Embedding H) (reply : Reply) (enough : reply ≡ Ended OutOfFuel → ⊥) where
@@ -38,8 +42,11 @@ module _ {H : Type 0} (HostStep : List H → ℕ → Option ℕ → List Val →
 
     links-more : (found : Option Module) → LinksAt HostStep old found reply new → LinksAt HostStep (fuelled old more) found reply (fuelled new more)
     links-more None (r, n) = (r, ap (λ (z : Embedding H). fuelled z more) n)
-    links-more (Some m) (machine.linked {externs = externs} {state = state} named allowed link r n) = machine.linked named allowed (link-more more old.setup.depth m externs old.state state (WithValues []) link (λ e. cc)) r (ap (λ (z : Embedding H). fuelled z more) n)
-    links-more (Some m) (machine.ended {externs = externs} {ending = ending} {state = state} named allowed link empty r n) = machine.ended named allowed (link-more more old.setup.depth m externs old.state state ending link (λ e. enough (r ∙ ap Ended e))) empty r (ap (λ (z : Embedding H). fuelled z more) n)
+    links-more (Some m) (machine.linked {externs = externs} {state = state} named allowed link r n) = machine.linked named allowed
+        (link-more more old.setup.depth m externs old.state state (WithValues []) link (λ e. cc)) r (ap (λ (z : Embedding H). fuelled z more) n)
+    links-more (Some m) (machine.ended {externs = externs} {ending = ending} {state = state} named allowed link empty r n) = machine.ended named
+        allowed (link-more more old.setup.depth m externs old.state state ending link (λ e. enough (r ∙ ap Ended e))) empty r
+        (ap (λ (z : Embedding H). fuelled z more) n)
     links-more (Some m) (machine.unknown nameless (r, n)) = machine.unknown nameless (r, ap (λ (z : Embedding H). fuelled z more) n)
     links-more (Some m) (machine.incompatible named misfit (r, n)) = machine.incompatible named misfit (r, ap (λ (z : Embedding H). fuelled z more) n)
     links-more (Some m) (machine.too_large named given large (r, n)) = machine.too_large named given large (r, ap (λ (z : Embedding H). fuelled z more) n)
@@ -64,7 +71,8 @@ module _ {H : Type 0} (HostStep : List H → ℕ → Option ℕ → List Val →
   commands-more old new (GetGlobal number name) reply more sets applies enough = gets-more more old new reply enough (as_global (export_at old number name)) applies
   commands-more old new (SetFuel fuel) reply more sets applies enough = absurd sets
 
-  list-more : (more : ℕ) {old last : Embedding H} {commands : List Command} {replies : List Reply} → AppliesAll HostStep old commands replies last → All SetsNoFuel commands → All (λ reply. reply ≡ Ended OutOfFuel → ⊥) replies
+  list-more : (more : ℕ) {old last : Embedding H} {commands : List Command} {replies : List Reply} → AppliesAll HostStep old commands replies last
+      → All SetsNoFuel commands → All (λ reply. reply ≡ Ended OutOfFuel → ⊥) replies
       → AppliesAll HostStep (fuelled old more) commands replies (fuelled last more)
   list-more more machine.none sets enough = machine.none
   list-more more {old} (machine.then_on {between = between} {command = command} {commands = commands} {reply = reply} {replies = replies} first rest) sets enough =
@@ -77,12 +85,15 @@ module _ {H : Type 0} (HostStep : List H → ℕ → Option ℕ → List Val →
   -- ---- a larger bound
 
   module _ (bound deeper : ℕ) (larger : bound ≤ deeper) (n : ℕ) (i : ModuleInstance) where
-    tasks-deeper : {old last : State H} {tasks : List Task} {ending : Ending} → RunTasks HostStep bound n i old tasks ending last → (ending ≡ OutOfDepth → ⊥) → RunTasks HostStep deeper n i old tasks ending last
+    tasks-deeper : {old last : State H} {tasks : List Task} {ending : Ending} → RunTasks HostStep bound n i old tasks ending last
+        → (ending ≡ OutOfDepth → ⊥) → RunTasks HostStep deeper n i old tasks ending last
     tasks-deeper all_done enough = all_done
-    tasks-deeper {old} (done {between = between} {a = a} {values = values} is run rest) enough = done is (runs-deeper HostStep bound deeper a.frame old between a.configuration (WithValues values) larger run (λ e. cc)) (tasks-deeper rest enough)
+    tasks-deeper {old} (done {between = between} {a = a} {values = values} is run rest) enough = done is
+        (runs-deeper HostStep bound deeper a.frame old between a.configuration (WithValues values) larger run (λ e. cc)) (tasks-deeper rest enough)
     tasks-deeper {old} {last} {ending = ending} (ended {a = a} is run empty) enough = ended is (runs-deeper HostStep bound deeper a.frame old last a.configuration ending larger run enough) empty
 
-  link-deeper : (bound deeper : ℕ) → bound ≤ deeper → (m : Module) (given : List Extern) (old new : State H) (ending : Ending) → Instantiation HostStep bound m given old ending new → (ending ≡ OutOfDepth → ⊥) → Instantiation HostStep deeper m given old ending new
+  link-deeper : (bound deeper : ℕ) → bound ≤ deeper → (m : Module) (given : List Extern) (old new : State H) (ending : Ending)
+      → Instantiation HostStep bound m given old ending new → (ending ≡ OutOfDepth → ⊥) → Instantiation HostStep deeper m given old ending new
   link-deeper bound deeper larger m given old new ending link enough = record { objects = link.objects; allocated = link.allocated; ran = tasks-deeper bound deeper larger _ _ link.ran enough }
 
   module _ (deeper : ℕ) (old new : Embedding H) (reply : Reply) (larger : old.setup.depth ≤ deeper) (enough : reply ≡ Ended OutOfDepth → ⊥) where
@@ -94,8 +105,11 @@ module _ {H : Type 0} (HostStep : List H → ℕ → Option ℕ → List Val →
 
     links-deeper : (found : Option Module) → LinksAt HostStep old found reply new → LinksAt HostStep (bounded old deeper) found reply (bounded new deeper)
     links-deeper None (r, n) = (r, ap (λ (z : Embedding H). bounded z deeper) n)
-    links-deeper (Some m) (machine.linked {externs = externs} {state = state} named allowed link r n) = machine.linked named allowed (link-deeper old.setup.depth deeper larger m externs old.state state (WithValues []) link (λ e. cc)) r (ap (λ (z : Embedding H). bounded z deeper) n)
-    links-deeper (Some m) (machine.ended {externs = externs} {ending = ending} {state = state} named allowed link empty r n) = machine.ended named allowed (link-deeper old.setup.depth deeper larger m externs old.state state ending link (λ e. enough (r ∙ ap Ended e))) empty r (ap (λ (z : Embedding H). bounded z deeper) n)
+    links-deeper (Some m) (machine.linked {externs = externs} {state = state} named allowed link r n) = machine.linked named allowed
+        (link-deeper old.setup.depth deeper larger m externs old.state state (WithValues []) link (λ e. cc)) r (ap (λ (z : Embedding H). bounded z deeper) n)
+    links-deeper (Some m) (machine.ended {externs = externs} {ending = ending} {state = state} named allowed link empty r n) = machine.ended named
+        allowed (link-deeper old.setup.depth deeper larger m externs old.state state ending link (λ e. enough (r ∙ ap Ended e))) empty r
+        (ap (λ (z : Embedding H). bounded z deeper) n)
     links-deeper (Some m) (machine.unknown nameless (r, n)) = machine.unknown nameless (r, ap (λ (z : Embedding H). bounded z deeper) n)
     links-deeper (Some m) (machine.incompatible named misfit (r, n)) = machine.incompatible named misfit (r, ap (λ (z : Embedding H). bounded z deeper) n)
     links-deeper (Some m) (machine.too_large named given large (r, n)) = machine.too_large named given large (r, ap (λ (z : Embedding H). bounded z deeper) n)
@@ -120,7 +134,8 @@ module _ {H : Type 0} (HostStep : List H → ℕ → Option ℕ → List Val →
   commands-deeper old new (GetGlobal number name) reply deeper larger applies enough = gets-deeper deeper old new reply larger enough (as_global (export_at old number name)) applies
   commands-deeper old new (SetFuel fuel) reply deeper larger applies enough = (applies.0, ap (λ (z : Embedding H). bounded z deeper) applies.1)
 
-  list-deeper : (deeper : ℕ) {old last : Embedding H} {commands : List Command} {replies : List Reply} → AppliesAll HostStep old commands replies last → old.setup.depth ≤ deeper → (numbers : (a b : Embedding H) (command : Command) (reply : Reply) → Applies HostStep a command reply b → b.setup ≡ a.setup)
+  list-deeper : (deeper : ℕ) {old last : Embedding H} {commands : List Command} {replies : List Reply} → AppliesAll HostStep old commands replies last
+      → old.setup.depth ≤ deeper → (numbers : (a b : Embedding H) (command : Command) (reply : Reply) → Applies HostStep a command reply b → b.setup ≡ a.setup)
       → All (λ reply. reply ≡ Ended OutOfDepth → ⊥) replies → AppliesAll HostStep (bounded old deeper) commands replies (bounded last deeper)
   list-deeper deeper machine.none larger setup enough = machine.none
   list-deeper deeper {old} (machine.then_on {between = between} {command = command} {commands = commands} {reply = reply} {replies = replies} first rest) larger setup enough =

@@ -15,7 +15,8 @@ use Rattle.core_types.specs.declared.types.FuncType.{FuncType}
 use Rattle.core_types.specs.declared.types.ValType.{ValType}
 use Rattle.meaning.specs.embedding.Commands.{Command, Load, Link, Register, Call, GetGlobal, SetFuel, Refusal, Reply, Linked, Ended, Refused}
 use Rattle.meaning.specs.embedding.Creation.{Creates, HostDefinition}
-use Rattle.meaning.specs.embedding.Machine.{Applies, AppliesAll, CallsAt, Embedding, GetsAt, LinksAt, Loads, Refuses, RegistersAt, as_function, as_global, export_at, export_from, export_in, resolve_imports, with_fuel}
+use Rattle.meaning.specs.embedding.Machine.{Applies, AppliesAll, CallsAt, Embedding, GetsAt, LinksAt, Loads, Refuses, RegistersAt, as_function, as_global}
+use Rattle.meaning.specs.embedding.Machine.{export_at, export_from, export_in, resolve_imports, with_fuel}
 use Rattle.meaning.specs.embedding.Machine as machine
 use Rattle.meaning.specs.embedding.Names.{export_of, extern_of}
 use Rattle.meaning.specs.execution.Configurations.{Invoking, no_frame}
@@ -33,10 +34,15 @@ use Rattle.soundness.specs.Links.{IsSoundModule}
 use Rattle.soundness.specs.Stores.{StoreIsValid}
 use Rattle.soundness.proofs.Values.{All-at}
 use Rattle.soundness.specs.Hosts.{GivesNoFuncref}
-use Rattle.isolation.specs.Commands.{AnyInstanceIsIn, ChangesNothing, LeavesHosts, AllKeepToTheirReach, ChangesNoMore, CommandsKeepToTheirReach, IsOthersCommand, AsksWithin, KeepsToItsReach, MayReply, OthersChangeNoAnswers, OutOfReachChangesNoAnswers, ReachesNoFurther, ReplyIsWithin}
+use Rattle.isolation.specs.Commands.{AnyInstanceIsIn, ChangesNothing, LeavesHosts, AllKeepToTheirReach, ChangesNoMore, CommandsKeepToTheirReach}
+use Rattle.isolation.specs.Commands.{IsOthersCommand, AsksWithin, KeepsToItsReach, MayReply, OthersChangeNoAnswers, OutOfReachChangesNoAnswers}
+use Rattle.isolation.specs.Commands.{ReachesNoFurther, ReplyIsWithin}
 use Rattle.isolation.specs.Isolation.{LookAlike}
-use Rattle.isolation.specs.Regions.{AreApart, IsThere, AgreeWithin, AllocatesNothing, ExternIsWithin, ExternsAreWithin, Has, HasNot, ImplementationIsWithin, InstanceIsWithin, IsClosed, KeepsCode, LeavesOutside, IsSameWithin, Region, StaysOutside, ValueIsWithin, ValuesAreWithin, and_from, with_new, marked}
-use Rattle.isolation.proofs.Changes.{Change, IsNoLink, call_run, command-change, fuel_set, link_failed, link_made, modules_loaded, name_registered, nothing_done, numbers-before, numbers-kept, setup-kept}
+use Rattle.isolation.specs.Regions.{AreApart, IsThere, AgreeWithin, AllocatesNothing, ExternIsWithin, ExternsAreWithin, Has, HasNot, ImplementationIsWithin}
+use Rattle.isolation.specs.Regions.{InstanceIsWithin, IsClosed, KeepsCode, LeavesOutside, IsSameWithin, Region, StaysOutside, ValueIsWithin, ValuesAreWithin}
+use Rattle.isolation.specs.Regions.{and_from, with_new, marked}
+use Rattle.isolation.proofs.Changes.{Change, IsNoLink, call_run, command-change, fuel_set, link_failed, link_made, modules_loaded, name_registered}
+use Rattle.isolation.proofs.Changes.{nothing_done, numbers-before, numbers-kept, setup-kept}
 use Rattle.isolation.proofs.Effects.{instance-same, instance-within}
 use Rattle.isolation.proofs.Links.{links-keep-to}
 use Rattle.isolation.proofs.Moves.{LeavesOutside-same}
@@ -55,10 +61,14 @@ made-of f (Some x) y is = (x, refl, cc)
 
 module _ (region : Region) (i : ModuleInstance) (has : InstanceIsWithin region i) where
   desc-within : (desc : ExportDesc) (e : Extern) → extern_of i desc ≡ Some e → ExternIsWithin region e
-  desc-within (export.Func x) e is = let (a, there, same) = made-of value.Func (slice_get i.functions x) e is in subst (ExternIsWithin region) same (All-at (Has region.functions) i.functions x a there has.functions)
-  desc-within (export.Table x) e is = let (a, there, same) = made-of value.Table (slice_get i.tables x) e is in subst (ExternIsWithin region) same (All-at (Has region.tables) i.tables x a there has.tables)
-  desc-within (export.Memory x) e is = let (a, there, same) = made-of value.Memory (slice_get i.memories x) e is in subst (ExternIsWithin region) same (All-at (Has region.memories) i.memories x a there has.memories)
-  desc-within (export.Global x) e is = let (a, there, same) = made-of value.Global (slice_get i.globals x) e is in subst (ExternIsWithin region) same (All-at (Has region.globals) i.globals x a there has.globals)
+  desc-within (export.Func x) e is = let (a, there, same) = made-of value.Func (slice_get i.functions x) e is in
+      subst (ExternIsWithin region) same (All-at (Has region.functions) i.functions x a there has.functions)
+  desc-within (export.Table x) e is = let (a, there, same) = made-of value.Table (slice_get i.tables x) e is in
+      subst (ExternIsWithin region) same (All-at (Has region.tables) i.tables x a there has.tables)
+  desc-within (export.Memory x) e is = let (a, there, same) = made-of value.Memory (slice_get i.memories x) e is in
+      subst (ExternIsWithin region) same (All-at (Has region.memories) i.memories x a there has.memories)
+  desc-within (export.Global x) e is = let (a, there, same) = made-of value.Global (slice_get i.globals x) e is in
+      subst (ExternIsWithin region) same (All-at (Has region.globals) i.globals x a there has.globals)
 
   export-within : (name : List ℕ) (e : Extern) → export_of i name ≡ Some e → ExternIsWithin region e
   export-within name e is = go (find (λ (x : Export). bytes_eq x.name name) i.exports) is
@@ -186,7 +196,8 @@ module _ {H : Type 0} (host_type : H → FuncType) (Answers : H → List Val →
       one_more = λ number linked. absurd (other number linked);
     }
 
-    leaves-link : {m : Module} {given : List Extern} {ending : Ending} {state : State H} → Instantiation HostStep old.setup.depth m given old.state ending state → new.state ≡ state → Leaves old reply new
+    leaves-link : {m : Module} {given : List Extern} {ending : Ending} {state : State H}
+        → Instantiation HostStep old.setup.depth m given old.state ending state → new.state ≡ state → Leaves old reply new
     leaves-link {m} {given} {ending} {state} link is =
         let keeps = links-keep-to host_type Answers everything old.setup.depth m given old.state state ending (any-store old.state.store) free (any-externs given) link in
         subst (λ (s : State H). Leaves old reply (record new { state = s })) (sym is) (record {
@@ -226,9 +237,6 @@ module _ {H : Type 0} (host_type : H → FuncType) (Answers : H → List Val →
   -- ---- each command keeps to its reach
 
   module _ (region : Region) (old new : Embedding H) (reply : Reply) (free : NoFuncrefs old) (closed : IsClosed region old.state.store) where
-    same-store : {state : State H} → new.state ≡ state → state.store ≡ old.state.store → new.state.store ≡ old.state.store
-    same-store is same = ap (λ (s : State H). s.store) is ∙ same
-
     unchanged : new ≡ old → ChangesNothing old new
     unchanged is = (ap (λ (e : Embedding H). e.state.store) is, ap (λ (e : Embedding H). e.state.hosts) is)
 
@@ -239,7 +247,8 @@ module _ {H : Type 0} (host_type : H → FuncType) (Answers : H → List Val →
     loads-reach bytes (machine.no_memory (r, n)) = unchanged n
 
     abbrev LinkedWithin : Embedding H → Type 0
-    LinkedWithin e = LeavesOutside (with_new region old.state.store) old.state.store e.state.store × KeepsCode old.state.store e.state.store × IsClosed (with_new region old.state.store) e.state.store × StaysOutside region region.hosts old.state.hosts e.state.hosts
+    LinkedWithin e = LeavesOutside (with_new region old.state.store) old.state.store e.state.store × KeepsCode old.state.store e.state.store
+        × IsClosed (with_new region old.state.store) e.state.store × StaysOutside region region.hosts old.state.hosts e.state.hosts
 
     nothing-linked : LinkedWithin old
     nothing-linked = (LeavesOutside-same (with_new region old.state.store) old.state.store, code-same old.state.store, closed-more region old.state.store closed, λ number not. refl)
@@ -247,7 +256,9 @@ module _ {H : Type 0} (host_type : H → FuncType) (Answers : H → List Val →
     refused-link : new ≡ old → LinkedWithin new
     refused-link is = subst LinkedWithin (sym is) nothing-linked
 
-    links-reach : (found : Option Module) → ((m : Module) (given : List Extern) → found ≡ Some m → resolve_imports old.state.store old.names m.imports ≡ Some given → ExternsAreWithin region given) → LinksAt HostStep old found reply new → LinkedWithin new
+    links-reach : (found : Option Module)
+        → ((m : Module) (given : List Extern) → found ≡ Some m → resolve_imports old.state.store old.names m.imports ≡ Some given
+        → ExternsAreWithin region given) → LinksAt HostStep old found reply new → LinkedWithin new
     links-reach None imports (r, n) = refused-link n
     links-reach (Some m) imports (machine.linked {externs = externs} {state = state} named allowed link r n) =
         let keeps = links-keep-to host_type Answers region old.setup.depth m externs old.state state (WithValues []) closed free (imports m externs refl named) link in
@@ -272,18 +283,23 @@ module _ {H : Type 0} (host_type : H → FuncType) (Answers : H → List Val →
     gets-reach (Ok address) (machine.no_memory (r, n)) = unchanged n
 
     abbrev CalledWithin : Reply → Embedding H → Type 0
-    CalledWithin r e = LeavesOutside region old.state.store e.state.store × KeepsCode old.state.store e.state.store × IsClosed region e.state.store × ReplyIsWithin region r × StaysOutside region region.hosts old.state.hosts e.state.hosts
+    CalledWithin r e = LeavesOutside region old.state.store e.state.store × KeepsCode old.state.store e.state.store × IsClosed region e.state.store
+        × ReplyIsWithin region r × StaysOutside region region.hosts old.state.hosts e.state.hosts
 
     refused-call : {why : Refusal} → reply ≡ Refused why → new ≡ old → CalledWithin reply new
     refused-call {why} r n =
-        subst (λ (x : Reply). CalledWithin x new) (sym r) (subst (CalledWithin (Refused why)) (sym n) (LeavesOutside-same region old.state.store, code-same old.state.store, closed, tt, λ number not. refl))
+        subst (λ (x : Reply). CalledWithin x new) (sym r)
+        (subst (CalledWithin (Refused why)) (sym n) (LeavesOutside-same region old.state.store, code-same old.state.store, closed, tt, λ number not. refl))
 
-    calls-reach : (arguments : List Val) → ValuesAreWithin region arguments → (found : Result ℕ Refusal) → ((address : ℕ) → found ≡ Ok address → Has region.functions address) → CallsAt HostStep old found arguments reply new → CalledWithin reply new
+    calls-reach : (arguments : List Val) → ValuesAreWithin region arguments → (found : Result ℕ Refusal)
+        → ((address : ℕ) → found ≡ Ok address → Has region.functions address) → CallsAt HostStep old found arguments reply new → CalledWithin reply new
     calls-reach arguments within (Err why) has (r, n) = refused-call r n
     calls-reach arguments within (Ok address) has (machine.called {ending = ending} {state = state} takes run r n) =
         let (keeps, ends) = runs-keep-to host_type Answers region old.setup.depth no_frame old.state state (Invoking (reverse arguments) address) ending
         (record { closed = closed; no_funcrefs = free; frame = record { instance = tt; locals = tt }; within = (reverse-within region arguments within, has address refl) }) run in
-        subst (λ (x : Reply). CalledWithin x new) (sym r) (subst (CalledWithin (Ended ending)) (sym n) (keeps.outside, code-kept old.state.store state.store keeps.nothing_new, keeps.closed, ends, keeps.hosts))
+        subst (λ (x : Reply). CalledWithin x new) (sym r)
+        (subst (CalledWithin (Ended ending)) (sym n)
+        (keeps.outside, code-kept old.state.store state.store keeps.nothing_new, keeps.closed, ends, keeps.hosts))
     calls-reach arguments within (Ok address) has (machine.bad_arguments misfit (r, n)) = refused-call r n
 
     function-reached : (number : ℕ) (name : List ℕ) → AnyInstanceIsIn region old number → (address : ℕ) → as_function (export_at old number name) ≡ Ok address → Has region.functions address
@@ -292,7 +308,9 @@ module _ {H : Type 0} (host_type : H → FuncType) (Answers : H → List Val →
         go : (o : Option ℕ) → slice_get old.instances number ≡ o → as_function (export_from old.state.store name o) ≡ Ok address → Has region.functions address
         go None is found = absurd cc
         go (Some instance) is found =
-            function-exported region (instance_of old.state.store (Some instance)) (instance-within region old.state.store old.state.store closed (looks-like-itself region old.state).stores (Some instance) (each instance is)) name address found
+            function-exported region (instance_of old.state.store (Some instance))
+            (instance-within region old.state.store old.state.store closed (looks-like-itself region old.state).stores (Some instance)
+            (each instance is)) name address found
 
     pub command-reaches : (command : Command) → ReachesNoFurther region old command → Applies HostStep old command reply new → ChangesNoMore region old command reply new
     command-reaches (Load bytes) reach applies = loads-reach bytes applies
@@ -313,10 +331,12 @@ module _ {H : Type 0} (host_type : H → FuncType) (Answers : H → List Val →
   pub commands-keep : CommandsKeepToTheirReach host_type Answers
   commands-keep setup definitions fresh last commands replies created run = list-reaches (fresh-free setup definitions fresh created) run
 
-  pub keeps-to-its-reach : (setup : machine.Setup) (definitions : List (HostDefinition H)) (fresh : Embedding H) {old : Embedding H} {before : List Command} {replied : List Reply} → Creates host_type setup definitions (Ok fresh) → AppliesAll HostStep fresh before replied old
+  pub keeps-to-its-reach : (setup : machine.Setup) (definitions : List (HostDefinition H)) (fresh : Embedding H) {old : Embedding H}
+      {before : List Command} {replied : List Reply} → Creates host_type setup definitions (Ok fresh) → AppliesAll HostStep fresh before replied old
       → (command : Command) (reply : Reply) (new : Embedding H) → Applies HostStep old command reply new → KeepsToItsReach old command reply new
   keeps-to-its-reach setup definitions fresh {old} created run command reply new applies =
-      command-reaches (reach_of old command) old new reply (list-free (fresh-free setup definitions fresh created) run) (reach-closed old.state.store (StartsFrom old command)) command (reaches-no-further old command) applies
+      command-reaches (reach_of old command) old new reply (list-free (fresh-free setup definitions fresh created) run)
+      (reach-closed old.state.store (StartsFrom old command)) command (reaches-no-further old command) applies
 
   -- ---- embeddings that look alike from an instance
 
@@ -405,24 +425,32 @@ module _ {H : Type 0} (host_type : H → FuncType) (Answers : H → List Val →
     export-alike : (name : List ℕ) → export_at b number name ≡ export_at a number name
     export-alike name =
         ap (export_from b.state.store name) alike.seems.second
-        ∙ ap (λ (i : ModuleInstance). export_in (export_of i name)) (instance-same region a.state.store b.state.store alike.closed alike.seems.states.stores (Some alike.seems.instance) alike.seems.within)
+        ∙ ap (λ (i : ModuleInstance). export_in (export_of i name))
+        (instance-same region a.state.store b.state.store alike.closed alike.seems.states.stores (Some alike.seems.instance) alike.seems.within)
         ∙ sym (ap (export_from a.state.store name) alike.seems.first)
 
     its-instance : InstanceIsWithin region (instance_of a.state.store (Some alike.seems.instance))
     its-instance = instance-within region a.state.store b.state.store alike.closed alike.seems.states.stores (Some alike.seems.instance) alike.seems.within
 
     function-of : (name : List ℕ) (address : ℕ) → as_function (export_at a number name) ≡ Ok address → Has region.functions address
-    function-of name address found = function-exported region _ its-instance name address (subst (λ (o : Option ℕ). as_function (export_from a.state.store name o) ≡ Ok address) alike.seems.first found)
+    function-of name address found = function-exported region _ its-instance name address
+        (subst (λ (o : Option ℕ). as_function (export_from a.state.store name o) ≡ Ok address) alike.seems.first found)
 
     global-of : (name : List ℕ) (address : ℕ) → as_global (export_at a number name) ≡ Ok address → Has region.globals address
     global-of name address found = global-exported region _ its-instance name address (subst (λ (o : Option ℕ). as_global (export_from a.state.store name o) ≡ Ok address) alike.seems.first found)
 
-    calls-alike : (arguments : List Val) → ValuesAreWithin region arguments → (found : Result ℕ Refusal) → ((address : ℕ) → found ≡ Ok address → Has region.functions address) → CallsAt HostStep a found arguments reply a'
+    calls-alike : (arguments : List Val) → ValuesAreWithin region arguments → (found : Result ℕ Refusal)
+        → ((address : ℕ) → found ≡ Ok address → Has region.functions address) → CallsAt HostStep a found arguments reply a'
         → Answered (CallsAt HostStep b found arguments reply)
     calls-alike arguments within (Err why) has (r, n) = (b, (r, refl), stay n)
     calls-alike arguments within (Ok address) has (machine.called {ending = ending} {state = state} takes run r n) =
         let after = run-alike host_type Answers region a.setup.depth no_frame run b.state
-        (record { closed = alike.closed; no_funcrefs = alike.free; frame = record { instance = tt; locals = tt }; within = (reverse-within region arguments within, has address refl) }) alike.seems.states in
+        (record {
+          closed = alike.closed;
+          no_funcrefs = alike.free;
+          frame = record { instance = tt; locals = tt };
+          within = (reverse-within region arguments within, has address refl);
+        }) alike.seems.states in
         let there = takes-alike region a.state.store b.state.store alike.seems.states.stores address (has address refl) arguments within takes in (
           record b { state = after.last' },
           machine.called there (subst (λ (bound : ℕ). Run HostStep bound no_frame b.state (Invoking (reverse arguments) address) ending after.last') (sym alike.seems.depth) after.runs) r refl,
@@ -439,8 +467,13 @@ module _ {H : Type 0} (host_type : H → FuncType) (Answers : H → List Val →
             free = after.keeps.no_funcrefs;
           }),
         )
-    calls-alike arguments within (Ok address) has (machine.bad_arguments misfit (r, n)) =
-        (b, machine.bad_arguments (λ takes. misfit (takes-alike region b.state.store a.state.store (agree-back region a.state.store b.state.store alike.seems.states.stores) address (has address refl) arguments within takes)) (r, refl), stay n)
+    calls-alike arguments within (Ok address) has (machine.bad_arguments misfit (r, n)) = (
+      b,
+      machine.bad_arguments (λ takes.
+          misfit (takes-alike region b.state.store a.state.store (agree-back region a.state.store b.state.store alike.seems.states.stores) address
+          (has address refl) arguments within takes)) (r, refl),
+      stay n,
+    )
 
     gets-alike : (found : Result ℕ Refusal) → ((address : ℕ) → found ≡ Ok address → Has region.globals address) → GetsAt a found reply a' → Answered (GetsAt b found reply)
     gets-alike (Err why) has (r, n) = (b, (r, refl), stay n)
@@ -465,25 +498,29 @@ module _ {H : Type 0} (host_type : H → FuncType) (Answers : H → List Val →
       }),
     )
 
-    its-calls : (name : List ℕ) (arguments : List Val) → ValuesAreWithin region arguments → Applies HostStep a (Call number name arguments) reply a' → Answered (Applies HostStep b (Call number name arguments) reply)
+    its-calls : (name : List ℕ) (arguments : List Val) → ValuesAreWithin region arguments → Applies HostStep a (Call number name arguments) reply a'
+        → Answered (Applies HostStep b (Call number name arguments) reply)
     its-calls name arguments within applies =
         subst (λ (found : Result Extern Refusal). Answered (CallsAt HostStep b (as_function found) arguments reply)) (sym (export-alike name))
         (calls-alike arguments within (as_function (export_at a number name)) (function-of name) applies)
 
     its-gets : (name : List ℕ) → Applies HostStep a (GetGlobal number name) reply a' → Answered (Applies HostStep b (GetGlobal number name) reply)
-    its-gets name applies = subst (λ (found : Result Extern Refusal). Answered (GetsAt b (as_global found) reply)) (sym (export-alike name)) (gets-alike (as_global (export_at a number name)) (global-of name) applies)
+    its-gets name applies = subst (λ (found : Result Extern Refusal). Answered (GetsAt b (as_global found) reply)) (sym (export-alike name))
+        (gets-alike (as_global (export_at a number name)) (global-of name) applies)
 
     said-alike : (command : Command) → AsksWithin region number command → Applies HostStep a command reply a' → Answered (Applies HostStep b command reply)
     said-alike (Load bytes) said applies = absurd said
     said-alike (Link other) said applies = absurd said
     said-alike (Register other name) said applies = absurd said
     said-alike (Call other name arguments) (same, within) applies =
-        subst (λ (n : ℕ). Answered (Applies HostStep b (Call n name arguments) reply)) (sym same) (its-calls name arguments within (subst (λ (n : ℕ). Applies HostStep a (Call n name arguments) reply a') same applies))
+        subst (λ (n : ℕ). Answered (Applies HostStep b (Call n name arguments) reply)) (sym same)
+        (its-calls name arguments within (subst (λ (n : ℕ). Applies HostStep a (Call n name arguments) reply a') same applies))
     said-alike (GetGlobal other name) same applies =
         subst (λ (n : ℕ). Answered (Applies HostStep b (GetGlobal n name) reply)) (sym same) (its-gets name (subst (λ (n : ℕ). Applies HostStep a (GetGlobal n name) reply a') same applies))
     said-alike (SetFuel fuel) said applies = sets-alike fuel applies
 
-  conversation : (region : Region) (number : ℕ) {a last : Embedding H} {commands : List Command} {replies : List Reply} → AppliesAll HostStep a commands replies last → (b : Embedding H) → StaysAlike region number a b
+  conversation : (region : Region) (number : ℕ) {a last : Embedding H} {commands : List Command} {replies : List Reply}
+      → AppliesAll HostStep a commands replies last → (b : Embedding H) → StaysAlike region number a b
       → All (AsksWithin region number) commands → MayReply HostStep b commands replies
   conversation region number machine.none b alike said = (b, machine.none)
   conversation region number {a} (machine.then_on {between = between} {command = command} {commands = commands} {reply = reply} first rest) b alike said =
@@ -540,7 +577,8 @@ module _ {H : Type 0} (host_type : H → FuncType) (Answers : H → List Val →
     hosts-kept-by (GetGlobal other name) apart (same, hosts) = λ n has. ap (λ (hs : List H). slice_get hs n) hosts
     hosts-kept-by (SetFuel fuel) apart (same, hosts) = λ n has. ap (λ (hs : List H). slice_get hs n) hosts
 
-    seem-alike : (command : Command) (fuel : ℕ) → NoFuncrefs old → IsOthersCommand host_type Answers region theirs old number command reply new → StaysAlike region number (with_fuel old fuel) (with_fuel new fuel)
+    seem-alike : (command : Command) (fuel : ℕ) → NoFuncrefs old → IsOthersCommand host_type Answers region theirs old number command reply new
+        → StaysAlike region number (with_fuel old fuel) (with_fuel new fuel)
     seem-alike command fuel free others =
         let changes = command-reaches theirs old new reply free others.their_closed command others.reach others.applies in
         let change = command-change HostStep old new reply command others.applies in
@@ -558,7 +596,8 @@ module _ {H : Type 0} (host_type : H → FuncType) (Answers : H → List Val →
           free = free;
         }
 
-  fuelled : (region : Region) (number fuel : ℕ) (a b : Embedding H) (commands : List Command) (replies : List Reply) → StaysAlike region number (with_fuel a fuel) (with_fuel b fuel) → All (AsksWithin region number) commands
+  fuelled : (region : Region) (number fuel : ℕ) (a b : Embedding H) (commands : List Command) (replies : List Reply)
+      → StaysAlike region number (with_fuel a fuel) (with_fuel b fuel) → All (AsksWithin region number) commands
       → MayReply HostStep a (SetFuel fuel ∷ commands) replies → MayReply HostStep b (SetFuel fuel ∷ commands) replies
   fuelled region number fuel a b commands replies alike said (last, run) = go run
     where
@@ -572,7 +611,8 @@ module _ {H : Type 0} (host_type : H → FuncType) (Answers : H → List Val →
       let free = list-free (fresh-free setup definitions fresh created) run in
       let alike = seem-alike (marked mine) (marked theirs) old new number reply command fuel free others in (
         fuelled (marked mine) number fuel old new commands replies alike said,
-        fuelled (marked mine) number fuel new old commands replies (alike-back (marked mine) number (with_fuel old fuel) (with_fuel new fuel) (command-free old new reply free command others.applies) alike) said,
+        fuelled (marked mine) number fuel new old commands replies
+            (alike-back (marked mine) number (with_fuel old fuel) (with_fuel new fuel) (command-free old new reply free command others.applies) alike) said,
       )
 
   -- ---- the addresses of numbered instances
@@ -589,7 +629,8 @@ module _ {H : Type 0} (host_type : H → FuncType) (Answers : H → List Val →
         | inr made ↦ let is_last = made.1 in let more = leaves.one_more number made.0 in omega (arith, is_last, more)
       ]
 
-  pub list-there : {old last : Embedding H} {commands : List Command} {replies : List Reply} → NoFuncrefs old → NumbersAreThere old → AppliesAll HostStep old commands replies last → NumbersAreThere last
+  pub list-there : {old last : Embedding H} {commands : List Command} {replies : List Reply} → NoFuncrefs old → NumbersAreThere old
+      → AppliesAll HostStep old commands replies last → NumbersAreThere last
   list-there free there machine.none = there
   list-there {old} free there (machine.then_on {between = between} {command = command} {reply = reply} first rest) =
       list-there (command-free old between reply free command first) (command-there old between reply free there command first) rest
@@ -598,7 +639,8 @@ module _ {H : Type 0} (host_type : H → FuncType) (Answers : H → List Val →
   fresh-there setup definitions fresh (faultless, is) = subst NumbersAreThere (sym is) (λ number instance found. absurd cc)
 
   module _ (read : (b : Body) → body_of (writing b) ≡ b) where
-    pub valid-then : (setup : machine.Setup) (definitions : List (HostDefinition H)) (fresh old : Embedding H) (before : List Command) (replied : List Reply) → length definitions < 2 ^ 32 → Creates host_type setup definitions (Ok fresh)
+    pub valid-then : (setup : machine.Setup) (definitions : List (HostDefinition H)) (fresh old : Embedding H) (before : List Command)
+        (replied : List Reply) → length definitions < 2 ^ 32 → Creates host_type setup definitions (Ok fresh)
         → All LoadsBytes before → AppliesAll HostStep fresh before replied old → StoreIsValid old.state.store
     valid-then setup definitions fresh old before replied few created bytes run =
         (commands-go-well read host_type Answers fresh old before replied run (fresh-sound host_type setup definitions fresh few created)
@@ -621,9 +663,12 @@ module _ {H : Type 0} (host_type : H → FuncType) (Answers : H → List Val →
         } in
         let alike = seem-alike (reach_when_asked old number commands) (reach_of old command) old new number reply command fuel free others in (
           fuelled (reach_when_asked old number commands) number fuel old new commands replies alike said,
-          fuelled (reach_when_asked old number commands) number fuel new old commands replies (alike-back (reach_when_asked old number commands) number (with_fuel old fuel) (with_fuel new fuel) (command-free old new reply free command out.applies) alike) said,
+          fuelled (reach_when_asked old number commands) number fuel new old commands replies
+              (alike-back (reach_when_asked old number commands) number (with_fuel old fuel) (with_fuel new fuel)
+              (command-free old new reply free command out.applies) alike) said,
         )
       where
-        from : NumbersAreThere old → ((place : Place) → AreMentioned commands place → IsPlaceIn old.state.store place) → (place : Place) → AsksFrom old number commands place → IsPlaceIn old.state.store place
+        from : NumbersAreThere old → ((place : Place) → AreMentioned commands place → IsPlaceIn old.state.store place) → (place : Place)
+            → AsksFrom old number commands place → IsPlaceIn old.state.store place
         from numbers mentioned place (inl (instance, is, found)) = subst (IsPlaceIn old.state.store) (sym is) (numbers number instance found)
         from numbers mentioned place (inr says) = mentioned place says

@@ -73,7 +73,8 @@ module _ (region : Region) (a b : Store) (closed : IsClosed region a) (agree : A
   function-within (Some address) there = there address refl
 
   global-same : (o : Option ℕ) → ((address : ℕ) → o ≡ Some address → Has region.globals address)
-      → (option_map (λ (g : GlobalInstance). g.value) (item_of b.globals o) ≡ option_map (λ (g : GlobalInstance). g.value) (item_of a.globals o)) × Within (option_map (λ (g : GlobalInstance). g.value) (item_of a.globals o))
+      → (option_map (λ (g : GlobalInstance). g.value) (item_of b.globals o) ≡ option_map (λ (g : GlobalInstance). g.value) (item_of a.globals o))
+      × Within (option_map (λ (g : GlobalInstance). g.value) (item_of a.globals o))
   global-same None there = (refl, tt)
   global-same (Some address) there = (ap (option_map (λ (g : GlobalInstance). g.value)) (agree.globals address (there address refl)), go (slice_get a.globals address) refl)
     where
@@ -89,7 +90,8 @@ module _ (region : Region) (a b : Store) (closed : IsClosed region a) (agree : A
   constants-agree (Variable (GlobalGet x)) = global-same (slice_get i.globals x) (λ address is. All-at (Has region.globals) i.globals x address is has.globals)
   constants-agree op = (refl, tt)
 
-  with-integer : (integer : ℕ → Val) → ((n : ℕ) → ValueIsWithin region (integer n)) → (r : Result ℕ Trap) (operands : List Val) → ValuesAreWithin region operands → AreWithin (with_integer integer r operands)
+  with-integer : (integer : ℕ → Val) → ((n : ℕ) → ValueIsWithin region (integer n)) → (r : Result ℕ Trap) (operands : List Val)
+      → ValuesAreWithin region operands → AreWithin (with_integer integer r operands)
   with-integer integer fits (Ok n) operands within = (fits n, within)
   with-integer integer fits (Err trap) operands within = tt
 
@@ -108,14 +110,16 @@ module _ (region : Region) (a b : Store) (closed : IsClosed region a) (agree : A
   steps-agree (Numeric op) operands within = (refl, operates op operands within)
   steps-agree op operands within = pushes op operands within
 
-  operands-agree : (ops : List Op) (operands : List Val) → ValuesAreWithin region operands → (constant_operands b i ops operands ≡ constant_operands a i ops operands) × AreWithin (constant_operands a i ops operands)
+  operands-agree : (ops : List Op) (operands : List Val) → ValuesAreWithin region operands
+      → (constant_operands b i ops operands ≡ constant_operands a i ops operands) × AreWithin (constant_operands a i ops operands)
   operands-agree [] operands within = (refl, within)
   operands-agree (Plain op ∷ ops) operands within =
       let (same, fits) = steps-agree op operands within in
       let (others, fit) = go (λ vs vs_within. operands-agree ops vs vs_within) (constant_step a i op operands) fits in
       (ap (option_and_then (constant_operands b i ops)) same ∙ others, fit)
     where
-      go : ((vs : List Val) → ValuesAreWithin region vs → (constant_operands b i ops vs ≡ constant_operands a i ops vs) × AreWithin (constant_operands a i ops vs)) → (o : Option (List Val)) → AreWithin o
+      go : ((vs : List Val) → ValuesAreWithin region vs → (constant_operands b i ops vs ≡ constant_operands a i ops vs)
+          × AreWithin (constant_operands a i ops vs)) → (o : Option (List Val)) → AreWithin o
           → (option_and_then (constant_operands b i ops) o ≡ option_and_then (constant_operands a i ops) o) × AreWithin (option_and_then (constant_operands a i ops) o)
       go each None fits = (refl, tt)
       go each (Some vs) fits = each vs fits
@@ -134,12 +138,15 @@ module _ (region : Region) (a b : Store) (closed : IsClosed region a) (agree : A
 
   globals-agree : (g : Global) → (new_global b i g ≡ new_global a i g) × OfSome (GlobalIsWithin region) (new_global a i g)
   globals-agree g =
-      let (same, fits) = values-agree g.init in
-      (ap (option_map (λ (v : Val). record { ty = g.ty; value = v })) same, maps-of (λ (v : Val). record { ty = g.ty; value = v }) (ValueIsWithin region) (GlobalIsWithin region) (λ v fit. fit) (constant_value a i g.init) fits)
+      let (same, fits) = values-agree g.init in (
+        ap (option_map (λ (v : Val). record { ty = g.ty; value = v })) same,
+        maps-of (λ (v : Val). record { ty = g.ty; value = v }) (ValueIsWithin region) (GlobalIsWithin region) (λ v fit. fit) (constant_value a i g.init) fits,
+      )
 
   references-agree : (items : ElementItems) → (references b i items ≡ references a i items) × OfSome (OfEach (ValueIsWithin region)) (references a i items)
   references-agree (Functions indices) =
-      maps-agree (λ (x : ℕ). constant a i (Reference (reference.Func x))) (λ (x : ℕ). constant b i (Reference (reference.Func x))) (ValueIsWithin region) (λ x. constants-agree (Reference (reference.Func x))) indices
+      maps-agree (λ (x : ℕ). constant a i (Reference (reference.Func x))) (λ (x : ℕ). constant b i (Reference (reference.Func x)))
+      (ValueIsWithin region) (λ x. constants-agree (Reference (reference.Func x))) indices
   references-agree (Expressions expressions) = maps-agree (constant_value a i) (constant_value b i) (ValueIsWithin region) values-agree expressions
 
   elements-agree : (e : ElementSegment) → (new_elements b i e ≡ new_elements a i e) × OfSome (ElementIsWithin region) (new_elements a i e)

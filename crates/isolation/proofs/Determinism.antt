@@ -10,7 +10,8 @@ use Rattle.meaning.proofs.lemmas.Runs.{AnswersInOneWay, Runs-agree}
 use Rattle.meaning.specs.binary.Modules.{SpellsModule}
 use Rattle.meaning.specs.embedding.Commands.{Command, Load, Link, Register, Call, GetGlobal, SetFuel, Reply, Refusal, Ended, Refused}
 use Rattle.meaning.specs.embedding.Commands as refusal
-use Rattle.meaning.specs.embedding.Machine.{Applies, AppliesAll, Calls, CallsAt, Embedding, Gets, GetsAt, Links, LinksAt, Loads, Refuses, Registers, RegistersAt, as_function, as_global, export_at, resolve_imports}
+use Rattle.meaning.specs.embedding.Machine.{Applies, AppliesAll, Calls, CallsAt, Embedding, Gets, GetsAt, Links, LinksAt, Loads, Refuses, Registers}
+use Rattle.meaning.specs.embedding.Machine.{RegistersAt, as_function, as_global, export_at, resolve_imports}
 use Rattle.meaning.specs.embedding.Machine as machine
 use Rattle.meaning.specs.validation.Modules.{IsValid}
 use Rattle.meaning.specs.execution.Configurations.{Invoking, no_frame}
@@ -19,7 +20,8 @@ use Rattle.meaning.specs.execution.Modules.{Activity, AreGiven, HasNoValues, Ins
 use Rattle.meaning.specs.execution.Runs.{Answer, Ending, WithValues, OutOfMemory, State}
 use Rattle.meaning.specs.execution.Store.{GlobalInstance, ModuleInstance, ObjectLists, Store}
 use Rattle.isolation.proofs.Bounds.{behind}
-use Rattle.isolation.specs.Determinism.{AllAreFunctions, AreSameReplies, CommandListsAreFunctions, CommandsAreFunctions, EmbeddingsAreFunctions, HadMemory, HostsAreFunctions, IsSameReply, LinksAreFunctions, RunsAreFunctions, refused}
+use Rattle.isolation.specs.Determinism.{AllAreFunctions, AreSameReplies, CommandListsAreFunctions, CommandsAreFunctions, EmbeddingsAreFunctions, HadMemory}
+use Rattle.isolation.specs.Determinism.{HostsAreFunctions, IsSameReply, LinksAreFunctions, RunsAreFunctions, refused}
 
 -- ---- host functions
 
@@ -64,17 +66,21 @@ module _ {H : Type 0} (HostStep : List H → ℕ → Option ℕ → List Val →
     tasks-agree : {old a b : State H} {tasks : List Task} {e f : Ending} → RunTasks HostStep bound n i old tasks e a → RunTasks HostStep bound n i old tasks f b
         → (e ≡ OutOfMemory → ⊥) → (f ≡ OutOfMemory → ⊥) → Agree e f a b
     tasks-agree all_done all_done some_a some_b = (refl, refl)
-    tasks-agree {old} {a} {b} {e = e} {f = f} (done {between = between} {task = task} {a = x} {values = values} is run rest) (done {between = other} {a = y} {values = values'} is' run' rest') some_a some_b =
+    tasks-agree {old} {a} {b} {e = e} {f = f} (done {between = between} {task = task} {a = x} {values = values} is run rest)
+        (done {between = other} {a = y} {values = values'} is' run' rest') some_a some_b =
         let same = activities-agree old.store task is is' in
-        let (endings, states) = runs-agree bound x.frame old between other x.configuration (WithValues values) (WithValues values') run (subst (λ (z : Activity). RunOf HostStep bound old z (WithValues values') other) same run') with-values with-values in
+        let (endings, states) = runs-agree bound x.frame old between other x.configuration (WithValues values) (WithValues values') run
+        (subst (λ (z : Activity). RunOf HostStep bound old z (WithValues values') other) same run') with-values with-values in
         tasks-agree rest (rw states rest') some_a some_b
     tasks-agree {old} {a} {b} {e = e} {f = f} (done {between = between} {task = task} {a = x} {values = values} is run rest) (ended {a = y} is' run' none) some_a some_b =
         let same = activities-agree old.store task is is' in
-        let (endings, states) = runs-agree bound x.frame old between b x.configuration (WithValues values) f run (subst (λ (z : Activity). RunOf HostStep bound old z f b) same run') with-values some_b in
+        let (endings, states) = runs-agree bound x.frame old between b x.configuration (WithValues values) f run
+        (subst (λ (z : Activity). RunOf HostStep bound old z f b) same run') with-values some_b in
         absurd (no-values f (sym endings) none)
     tasks-agree {old} {a} {b} {e = e} {f = f} (ended {task = task} {a = x} is run none) (done {between = other} {a = y} {values = values'} is' run' rest') some_a some_b =
         let same = activities-agree old.store task is is' in
-        let (endings, states) = runs-agree bound x.frame old a other x.configuration e (WithValues values') run (subst (λ (z : Activity). RunOf HostStep bound old z (WithValues values') other) same run') some_a with-values in
+        let (endings, states) = runs-agree bound x.frame old a other x.configuration e (WithValues values') run
+        (subst (λ (z : Activity). RunOf HostStep bound old z (WithValues values') other) same run') some_a with-values in
         absurd (no-values e endings none)
     tasks-agree {old} {a} {b} {e = e} {f = f} (ended {task = task} {a = x} is run none) (ended {a = y} is' run' none') some_a some_b =
         let same = activities-agree old.store task is is' in
@@ -84,7 +90,9 @@ module _ {H : Type 0} (HostStep : List H → ℕ → Option ℕ → List Val →
   links-agree bound m given old a b e f first second some_a some_b =
       let same : second.objects ≡ first.objects = (let both : Some second.objects ≡ Some first.objects = sym second.allocated ∙ first.allocated in cc) in
       tasks-agree bound (length old.store.instances) (new_instance old.store m given) first.ran
-      (subst (λ (objects : ObjectLists). RunTasks HostStep bound (length old.store.instances) (new_instance old.store m given) (record old { store = with_module old.store (new_instance old.store m given) m objects }) (tasks_of m) f b) same second.ran) some_a some_b
+      (subst (λ (objects : ObjectLists).
+      RunTasks HostStep bound (length old.store.instances) (new_instance old.store m given)
+      (record old { store = with_module old.store (new_instance old.store m given) m objects }) (tasks_of m) f b) same second.ran) some_a some_b
 
   -- ---- commands
 
@@ -127,47 +135,61 @@ module _ {H : Type 0} (HostStep : List H → ℕ → Option ℕ → List Val →
     links-alike : (m : Module) → Links HostStep old m reply_a a → Links HostStep old m reply_b b → Alike
     links-alike m (machine.linked {externs = xs} {state = s} named allowed link r n) (machine.linked {externs = ys} {state = t} named' allowed' link' r' n') =
         let same = names-agree m named named' in
-        let (endings, states) = links-agree old.setup.depth m xs old.state s t (WithValues []) (WithValues []) link (subst (λ (zs : List Extern). Instantiation HostStep old.setup.depth m zs old.state (WithValues []) t) same link') with-values with-values in
+        let (endings, states) = links-agree old.setup.depth m xs old.state s t (WithValues []) (WithValues []) link
+        (subst (λ (zs : List Extern). Instantiation HostStep old.setup.depth m zs old.state (WithValues []) t) same link') with-values with-values in
         (r ∙ sym r', n ∙ ap (λ (z : State H). record old { instances = old.instances ++ (length old.state.store.instances ∷ []); state = z }) states ∙ sym n')
     links-alike m (machine.linked {externs = xs} {state = s} named allowed link r n) (machine.ended {externs = ys} {ending = f} {state = t} named' allowed' link' none r' n') =
         let same = names-agree m named named' in
-        let (endings, states) = links-agree old.setup.depth m xs old.state s t (WithValues []) f link (subst (λ (zs : List Extern). Instantiation HostStep old.setup.depth m zs old.state f t) same link') with-values (λ wants. had_b.run (r' ∙ ap Ended wants)) in
+        let (endings, states) = links-agree old.setup.depth m xs old.state s t (WithValues []) f link
+        (subst (λ (zs : List Extern). Instantiation HostStep old.setup.depth m zs old.state f t) same link') with-values
+        (λ wants. had_b.run (r' ∙ ap Ended wants)) in
         absurd (no-values f (sym endings) none)
     links-alike m (machine.linked named allowed link r n) (machine.unknown none refuses) = absurd (nameless m named none)
-    links-alike m (machine.linked named allowed link r n) (machine.incompatible named' misfit refuses) = absurd (misfit (subst (AreGiven old.state.store m m.imports) (sym (names-agree m named named')) allowed.given))
+    links-alike m (machine.linked named allowed link r n) (machine.incompatible named' misfit refuses) = absurd
+        (misfit (subst (AreGiven old.state.store m m.imports) (sym (names-agree m named named')) allowed.given))
     links-alike m (machine.linked named allowed link r n) (machine.too_large named' given large refuses) = absurd (large allowed.within)
     links-alike m (machine.ended {externs = xs} {ending = e} {state = s} named allowed link none r n) (machine.linked {externs = ys} {state = t} named' allowed' link' r' n') =
         let same = names-agree m named named' in
-        let (endings, states) = links-agree old.setup.depth m xs old.state s t e (WithValues []) link (subst (λ (zs : List Extern). Instantiation HostStep old.setup.depth m zs old.state (WithValues []) t) same link') (λ wants. had_a.run (r ∙ ap Ended wants)) with-values in
+        let (endings, states) = links-agree old.setup.depth m xs old.state s t e (WithValues []) link
+        (subst (λ (zs : List Extern). Instantiation HostStep old.setup.depth m zs old.state (WithValues []) t) same link')
+        (λ wants. had_a.run (r ∙ ap Ended wants)) with-values in
         absurd (no-values e endings none)
     links-alike m (machine.ended {externs = xs} {ending = e} {state = s} named allowed link none r n) (machine.ended {externs = ys} {ending = f} {state = t} named' allowed' link' none' r' n') =
         let same = names-agree m named named' in
-        let (endings, states) = links-agree old.setup.depth m xs old.state s t e f link (subst (λ (zs : List Extern). Instantiation HostStep old.setup.depth m zs old.state f t) same link') (λ wants. had_a.run (r ∙ ap Ended wants)) (λ wants. had_b.run (r' ∙ ap Ended wants)) in
+        let (endings, states) = links-agree old.setup.depth m xs old.state s t e f link
+        (subst (λ (zs : List Extern). Instantiation HostStep old.setup.depth m zs old.state f t) same link')
+        (λ wants. had_a.run (r ∙ ap Ended wants)) (λ wants. had_b.run (r' ∙ ap Ended wants)) in
         (r ∙ ap Ended endings ∙ sym r', n ∙ ap (λ (z : State H). record old { state = z }) states ∙ sym n')
     links-alike m (machine.ended named allowed link none r n) (machine.unknown nameless' refuses) = absurd (nameless m named nameless')
-    links-alike m (machine.ended named allowed link none r n) (machine.incompatible named' misfit refuses) = absurd (misfit (subst (AreGiven old.state.store m m.imports) (sym (names-agree m named named')) allowed.given))
+    links-alike m (machine.ended named allowed link none r n) (machine.incompatible named' misfit refuses) = absurd
+        (misfit (subst (AreGiven old.state.store m m.imports) (sym (names-agree m named named')) allowed.given))
     links-alike m (machine.ended named allowed link none r n) (machine.too_large named' given large refuses) = absurd (large allowed.within)
     links-alike m (machine.unknown none refuses) (machine.linked named allowed link r n) = absurd (nameless m named none)
     links-alike m (machine.unknown none refuses) (machine.ended named allowed link none' r n) = absurd (nameless m named none)
     links-alike m (machine.unknown none refuses) (machine.unknown none' refuses') = refused-alike refl refuses refuses'
     links-alike m (machine.unknown none refuses) (machine.incompatible named misfit refuses') = absurd (nameless m named none)
     links-alike m (machine.unknown none refuses) (machine.too_large named given large refuses') = absurd (nameless m named none)
-    links-alike m (machine.incompatible named' misfit refuses) (machine.linked named allowed link r n) = absurd (misfit (subst (AreGiven old.state.store m m.imports) (sym (names-agree m named named')) allowed.given))
-    links-alike m (machine.incompatible named' misfit refuses) (machine.ended named allowed link none r n) = absurd (misfit (subst (AreGiven old.state.store m m.imports) (sym (names-agree m named named')) allowed.given))
+    links-alike m (machine.incompatible named' misfit refuses) (machine.linked named allowed link r n) = absurd
+        (misfit (subst (AreGiven old.state.store m m.imports) (sym (names-agree m named named')) allowed.given))
+    links-alike m (machine.incompatible named' misfit refuses) (machine.ended named allowed link none r n) = absurd
+        (misfit (subst (AreGiven old.state.store m m.imports) (sym (names-agree m named named')) allowed.given))
     links-alike m (machine.incompatible named misfit refuses) (machine.unknown none refuses') = absurd (nameless m named none)
     links-alike m (machine.incompatible named misfit refuses) (machine.incompatible named' misfit' refuses') = refused-alike refl refuses refuses'
-    links-alike m (machine.incompatible named' misfit refuses) (machine.too_large named given large refuses') = absurd (misfit (subst (AreGiven old.state.store m m.imports) (sym (names-agree m named named')) given))
+    links-alike m (machine.incompatible named' misfit refuses) (machine.too_large named given large refuses') = absurd
+        (misfit (subst (AreGiven old.state.store m m.imports) (sym (names-agree m named named')) given))
     links-alike m (machine.too_large named' given large refuses) (machine.linked named allowed link r n) = absurd (large allowed.within)
     links-alike m (machine.too_large named' given large refuses) (machine.ended named allowed link none r n) = absurd (large allowed.within)
     links-alike m (machine.too_large named given large refuses) (machine.unknown none refuses') = absurd (nameless m named none)
-    links-alike m (machine.too_large named given large refuses) (machine.incompatible named' misfit refuses') = absurd (misfit (subst (AreGiven old.state.store m m.imports) (names-agree m named' named) given))
+    links-alike m (machine.too_large named given large refuses) (machine.incompatible named' misfit refuses') = absurd
+        (misfit (subst (AreGiven old.state.store m m.imports) (names-agree m named' named) given))
     links-alike m (machine.too_large named given large refuses) (machine.too_large named' given' large' refuses') = refused-alike refl refuses refuses'
     links-alike m (machine.no_memory refuses) other = absurd (wanted-a refuses)
     links-alike m other (machine.no_memory refuses) = absurd (wanted-b refuses)
 
     calls-alike : (address : ℕ) (arguments : List Val) → Calls HostStep old address arguments reply_a a → Calls HostStep old address arguments reply_b b → Alike
     calls-alike address arguments (machine.called {ending = e} {state = s} takes run r n) (machine.called {ending = f} {state = t} takes' run' r' n') =
-        let (endings, states) = runs-agree old.setup.depth no_frame old.state s t (Invoking (reverse arguments) address) e f run run' (λ wants. had_a.run (r ∙ ap Ended wants)) (λ wants. had_b.run (r' ∙ ap Ended wants)) in
+        let (endings, states) = runs-agree old.setup.depth no_frame old.state s t (Invoking (reverse arguments) address) e f run run'
+        (λ wants. had_a.run (r ∙ ap Ended wants)) (λ wants. had_b.run (r' ∙ ap Ended wants)) in
         (r ∙ ap Ended endings ∙ sym r', n ∙ ap (λ (z : State H). record old { state = z }) states ∙ sym n')
     calls-alike address arguments (machine.called takes run r n) (machine.bad_arguments misfit refuses) = absurd (misfit takes)
     calls-alike address arguments (machine.bad_arguments misfit refuses) (machine.called takes run r n) = absurd (misfit takes)
@@ -219,7 +241,8 @@ module _ {H : Type 0} (HostStep : List H → ℕ → Option ℕ → List Val →
     lists-alike : {old a b : Embedding H} {commands : List Command} {replies_a replies_b : List Reply} → AppliesAll HostStep old commands replies_a a → AppliesAll HostStep old commands replies_b b
         → All HadMemory replies_a → All HadMemory replies_b → AreSameReplies commands replies_a replies_b × (a ≡ b)
     lists-alike machine.none machine.none had_a had_b = (tt, refl)
-    lists-alike {old} {a} {b} (machine.then_on {between = s} {command = command} {commands = commands} {reply = reply_a} {replies = others} first rest) (machine.then_on {between = t} {reply = reply_b} {replies = more} second rest') had_a had_b =
+    lists-alike {old} {a} {b} (machine.then_on {between = s} {command = command} {commands = commands} {reply = reply_a} {replies = others} first
+        rest) (machine.then_on {between = t} {reply = reply_b} {replies = more} second rest') had_a had_b =
         let (same, states) = commands-agree old s t command reply_a reply_b first second (had_a 0 reply_a (omega arith)) (had_b 0 reply_b (omega arith)) in
         let (replies, last) = lists-alike rest (rw states rest') (behind HadMemory reply_a others had_a) (behind HadMemory reply_b more had_b) in
         ((same, replies), last)

@@ -13,7 +13,8 @@ use Rattle.meaning.specs.execution.Modules.{Instantiation, RunTasks, Task, all_d
 use Rattle.meaning.specs.execution.Runs.{Answer, Ending, OutOfFuel, State, WithValues}
 use Rattle.meaning.specs.execution.Store.{ModuleInstance, Store}
 use Rattle.isolation.specs.Determinism.{CommandsAreFunctions, HadMemory, IsSameReply, LinksAreFunctions, refused}
-use Rattle.isolation.specs.Fuel.{AgreeUntilOutOfFuel, CommandListsAllEndEarly, CommandListsEndEarly, LinksAllEndEarly, LinksEndEarly, SameUntilOutOfFuel, SetsNoFuel, all_same, fuelled, out_of_fuel, same, with_more}
+use Rattle.isolation.specs.Fuel.{AgreeUntilOutOfFuel, CommandListsAllEndEarly, CommandListsEndEarly, LinksAllEndEarly, LinksEndEarly, SameUntilOutOfFuel}
+use Rattle.isolation.specs.Fuel.{SetsNoFuel, all_same, fuelled, out_of_fuel, same, with_more}
 use Rattle.isolation.proofs.Bounds.{behind}
 use Rattle.isolation.proofs.Fuel.{run-less, with-fuel-left}
 
@@ -100,10 +101,11 @@ module _ {H : Type 0} (HostStep : List H → ℕ → Option ℕ → List Val →
       | inl fits ↦ inl (_, machine.linked named allowed fits.1 r refl, n ∙ ap (λ (s : State H). record old { instances = old.instances ++ (length old.state.store.instances ∷ []); state = s }) fits.2)
       | inr early ↦ inr (_, machine.ended named allowed early.1 tt refl refl)
     ]
-    links-less (Some m) (machine.ended {externs = externs} {ending = ending} {state = state} named allowed link empty r n) = elim (link-less old.setup.depth m externs old.state state ending less link) [
-      | inl fits ↦ inl (_, machine.ended named allowed fits.1 empty r refl, n ∙ ap (λ (s : State H). record old { state = s }) fits.2)
-      | inr early ↦ inr (_, machine.ended named allowed early.1 tt refl refl)
-    ]
+    links-less (Some m) (machine.ended {externs = externs} {ending = ending} {state = state} named allowed link empty r n) = elim
+        (link-less old.setup.depth m externs old.state state ending less link) [
+          | inl fits ↦ inl (_, machine.ended named allowed fits.1 empty r refl, n ∙ ap (λ (s : State H). record old { state = s }) fits.2)
+          | inr early ↦ inr (_, machine.ended named allowed early.1 tt refl refl)
+        ]
     links-less (Some m) (machine.unknown nameless (r, n)) = inl (old, machine.unknown nameless (r, refl), n)
     links-less (Some m) (machine.incompatible named misfit (r, n)) = inl (old, machine.incompatible named misfit (r, refl), n)
     links-less (Some m) (machine.too_large named given large (r, n)) = inl (old, machine.too_large named given large (r, refl), n)
@@ -128,7 +130,8 @@ module _ {H : Type 0} (HostStep : List H → ℕ → Option ℕ → List Val →
 
   -- ---- consecutive commands
 
-  list-less : (less : ℕ) {with_more last : Embedding H} {commands : List Command} {replies : List Reply} → AppliesAll HostStep with_more commands replies last → (old : Embedding H) → with_more ≡ fuelled old less
+  list-less : (less : ℕ) {with_more last : Embedding H} {commands : List Command} {replies : List Reply}
+      → AppliesAll HostStep with_more commands replies last → (old : Embedding H) → with_more ≡ fuelled old less
       → All SetsNoFuel commands → SameUntilOutOfFuel HostStep less old commands replies last
   list-less less machine.none old is sets = subst (λ (e : Embedding H). SameUntilOutOfFuel HostStep less old [] [] e) (sym is) all_same
   list-less less (machine.then_on {between = between} {command = command} {commands = commands} {reply = reply} first rest) old is sets =
@@ -154,14 +157,20 @@ module _ {H : Type 0} (HostStep : List H → ℕ → Option ℕ → List Val →
     had-memory : HadMemory (Ended OutOfFuel)
     had-memory = record { run = λ is. cc; command = λ is. cc }
 
-    lists-cut : (less : ℕ) {with_more old last last' : Embedding H} {commands : List Command} {replies replies' : List Reply} → AppliesAll HostStep with_more commands replies last → AppliesAll HostStep old commands replies' last' → with_more ≡ fuelled old less
+    lists-cut : (less : ℕ) {with_more old last last' : Embedding H} {commands : List Command} {replies replies' : List Reply}
+        → AppliesAll HostStep with_more commands replies last → AppliesAll HostStep old commands replies' last' → with_more ≡ fuelled old less
         → All SetsNoFuel commands → All HadMemory replies → All HadMemory replies' → AgreeUntilOutOfFuel commands replies replies'
     lists-cut less machine.none machine.none is sets had had' = tt
-    lists-cut less {old = old} (machine.then_on {between = between} {command = command} {commands = commands} {reply = reply} {replies = others} first rest) (machine.then_on {between = between'} {reply = reply'} {replies = others'} first' rest') is sets had had' =
+    lists-cut less {old = old} (machine.then_on {between = between} {command = command} {commands = commands} {reply = reply} {replies = others} first
+        rest) (machine.then_on {between = between'} {reply = reply'} {replies = others'} first' rest') is sets had had' =
         elim (command-less less old between reply command (sets 0 command (omega arith)) (subst (λ (e : Embedding H). Applies HostStep e command reply between) is first)) [
           | inl fits ↦
               let one = agree old fits.0 between' command reply reply' fits.1 first' (had 0 reply (omega arith)) (had' 0 reply' (omega arith)) in
-              inr (one.0, lists-cut less rest rest' (fits.2 ∙ ap (λ (e : Embedding H). fuelled e less) one.1) (behind SetsNoFuel command commands sets) (behind HadMemory reply others had) (behind HadMemory reply' others' had'))
+              inr (
+                one.0,
+                lists-cut less rest rest' (fits.2 ∙ ap (λ (e : Embedding H). fuelled e less) one.1)
+                    (behind SetsNoFuel command commands sets) (behind HadMemory reply others had) (behind HadMemory reply' others' had'),
+              )
           | inr early ↦ inl (out-of-fuel-alone command reply' (agree old early.0 between' command (Ended OutOfFuel) reply' early.1 first' had-memory (had' 0 reply' (omega arith))).0)
         ]
 

@@ -28,11 +28,16 @@ use Rattle.core_types.specs.declared.outcome.Val.{Val}
 use Rattle.core_types.specs.declared.outcome.Val.TheVariants.{I32, I64, FuncRef, ExternRef}
 use Rattle.meaning.specs.execution.Configurations.{Frame}
 use Rattle.meaning.specs.execution.Costs.{bulk_cost, entries_cost, growth_cost, instruction_cost}
-use Rattle.meaning.specs.execution.Effects.{Effect, Done, Grown, Fails, Lacks, copy_table, data_at, drop_data, drop_elements, effect, elements_at, get_global, get_local, global_at, grow_memory, grow_table, in_memory, init_memory, init_table, memory_effect, memory_or_data_effect, numeric_effect, on_table, parametric_effect, push_read, push_result, refer_to_function, reference_effect, select_operand, set_global, set_local, store_number, table_at, table_effect, table_or_elements_effect, variable_effect, write_memory, write_table}
+use Rattle.meaning.specs.execution.Effects.{Effect, Done, Grown, Fails, Lacks, copy_table, data_at, drop_data, drop_elements, effect, elements_at, get_global}
+use Rattle.meaning.specs.execution.Effects.{get_local, global_at, grow_memory, grow_table, in_memory, init_memory, init_table, memory_effect}
+use Rattle.meaning.specs.execution.Effects.{memory_or_data_effect, numeric_effect, on_table, parametric_effect, push_read, push_result, refer_to_function}
+use Rattle.meaning.specs.execution.Effects.{reference_effect, select_operand, set_global, set_local, store_number, table_at, table_effect}
+use Rattle.meaning.specs.execution.Effects.{table_or_elements_effect, variable_effect, write_memory, write_table}
 use Rattle.meaning.specs.execution.Memories.{MemoryInstance, can_grow, copy_bytes, fill_bytes, grow_by, load_from, loaded_value, store_into, stored_number}
 use Rattle.meaning.specs.execution.Numerics.{binary_operator}
 use Rattle.meaning.specs.execution.Storage.{items_at, number_of_bytes, overwrite}
-use Rattle.meaning.specs.execution.Store.{DataInstance, GlobalInstance, ModuleInstance, Store, instance_of, locate, locate_at, no_instance, with_data, with_elements, with_global, with_memory, with_table}
+use Rattle.meaning.specs.execution.Store.{DataInstance, GlobalInstance, ModuleInstance, Store, instance_of, locate, locate_at, no_instance, with_data}
+use Rattle.meaning.specs.execution.Store.{with_elements, with_global, with_memory, with_table}
 use Rattle.meaning.specs.execution.Tables.{ElementInstance, TableInstance, copy_entries, entry_or_trap, fill_entries, grow_entries, most_entries, read_entry, write_entry}
 use Rattle.meaning.specs.validation.Instructions.{load_width, store_width}
 use Rattle.meaning.specs.validation.Types.{most_pages}
@@ -120,11 +125,13 @@ module _ (region : Region) (a b : Store) (closed : IsClosed region a) (agree : A
     sets-local : (x : ℕ) (v : Val) → ValueIsWithin region v → (values : List Val) → ValuesAreWithin region values → Agree (set_local a frame x v values) (set_local b frame x v values)
     sets-local x v fits values within = go (nat_lt x (length frame.locals))
       where
-        go : (yes : Bool) → Agree (if yes then Done instruction_cost a (slice_set frame.locals x v) values else Lacks) (if yes then Done instruction_cost b (slice_set frame.locals x v) values else Lacks)
+        go : (yes : Bool) → Agree (if yes then Done instruction_cost a (slice_set frame.locals x v) values else Lacks)
+            (if yes then Done instruction_cost b (slice_set frame.locals x v) values else Lacks)
         go true = (b, refl, Moves-same region a b closed agree, set-within region frame.locals x v own.locals fits, within)
         go false = refl
 
-    gets-global : (o : Option (ℕ × GlobalInstance)) → Found region.globals a.globals o → (values : List Val) → ValuesAreWithin region values → Agree (get_global a frame o values) (get_global b frame o values)
+    gets-global : (o : Option (ℕ × GlobalInstance)) → Found region.globals a.globals o → (values : List Val) → ValuesAreWithin region values
+        → Agree (get_global a frame o values) (get_global b frame o values)
     gets-global None found values within = refl
     gets-global (Some (address, g)) found values within = stays instruction_cost (g.value ∷ values) (closed.globals address g found.0 found.1, within)
 
@@ -141,15 +148,18 @@ module _ (region : Region) (a b : Store) (closed : IsClosed region a) (agree : A
     variables (LocalTee x) (v ∷ values) within = sets-local x v within.0 (v ∷ values) within
     variables (GlobalGet x) values within =
         let (same, found) = global-found x in
-        subst (λ (o : Option (ℕ × GlobalInstance)). Agree (get_global a frame (global_at a frame x) values) (get_global b frame o values)) (sym same) (gets-global (global_at a frame x) found values within)
+        subst (λ (o : Option (ℕ × GlobalInstance)). Agree (get_global a frame (global_at a frame x) values) (get_global b frame o values)) (sym same)
+        (gets-global (global_at a frame x) found values within)
     variables (GlobalSet x) (v ∷ values) within =
         let (same, found) = global-found x in
-        subst (λ (o : Option (ℕ × GlobalInstance)). Agree (set_global a frame (global_at a frame x) v values) (set_global b frame o v values)) (sym same) (sets-global (global_at a frame x) found v within.0 values within.1)
+        subst (λ (o : Option (ℕ × GlobalInstance)). Agree (set_global a frame (global_at a frame x) v values) (set_global b frame o v values))
+        (sym same) (sets-global (global_at a frame x) found v within.0 values within.1)
     variables op values within = refl
 
     -- ---- numbers
 
-    push-result : (integer : ℕ → Val) → ((n : ℕ) → ValueIsWithin region (integer n)) → (r : Result ℕ Trap) (values : List Val) → ValuesAreWithin region values → Agree (push_result a frame integer r values) (push_result b frame integer r values)
+    push-result : (integer : ℕ → Val) → ((n : ℕ) → ValueIsWithin region (integer n)) → (r : Result ℕ Trap) (values : List Val)
+        → ValuesAreWithin region values → Agree (push_result a frame integer r values) (push_result b frame integer r values)
     push-result integer fits (Ok n) values within = stays instruction_cost (integer n ∷ values) (fits n, within)
     push-result integer fits (Err trap) values within = refl
 
@@ -180,7 +190,8 @@ module _ (region : Region) (a b : Store) (closed : IsClosed region a) (agree : A
 
     -- ---- references
 
-    refers : (o : Option ℕ) → ((address : ℕ) → o ≡ Some address → Has region.functions address) → (values : List Val) → ValuesAreWithin region values → Agree (refer_to_function a frame o values) (refer_to_function b frame o values)
+    refers : (o : Option ℕ) → ((address : ℕ) → o ≡ Some address → Has region.functions address) → (values : List Val) → ValuesAreWithin region values
+        → Agree (refer_to_function a frame o values) (refer_to_function b frame o values)
     refers None there values within = refl
     refers (Some address) there values within = stays instruction_cost (FuncRef (Some address) ∷ values) (there address refl, within)
 
@@ -189,7 +200,8 @@ module _ (region : Region) (a b : Store) (closed : IsClosed region a) (agree : A
     references IsNull (FuncRef r ∷ values) within = stays instruction_cost _ (tt, within.1)
     references IsNull (ExternRef r ∷ values) within = stays instruction_cost _ (tt, within.1)
     references (Func x) values within =
-        subst (λ (i : ModuleInstance). Agree (refer_to_function a frame (slice_get (instance_of a frame.instance).functions x) values) (refer_to_function b frame (slice_get i.functions x) values)) (sym same-instance)
+        subst (λ (i : ModuleInstance). Agree (refer_to_function a frame (slice_get (instance_of a frame.instance).functions x) values)
+        (refer_to_function b frame (slice_get i.functions x) values)) (sym same-instance)
         (refers (slice_get (instance_of a frame.instance).functions x) (λ address is. All-at (Has region.functions) (instance_of a frame.instance).functions x address is has.functions) values within)
     references op values within = refl
 
@@ -209,10 +221,16 @@ module _ (region : Region) (a b : Store) (closed : IsClosed region a) (agree : A
     reads (Ok v) fits values within = stays instruction_cost (v ∷ values) (fits, within)
     reads (Err trap) fits values within = refl
 
-    writes-table : (cost address : ℕ) → Has region.tables address → (table : TableInstance) (r : Result (List Val) Trap) → IfOk r (ValuesAreWithin region) → (values : List Val) → ValuesAreWithin region values
+    writes-table : (cost address : ℕ) → Has region.tables address → (table : TableInstance) (r : Result (List Val) Trap)
+        → IfOk r (ValuesAreWithin region) → (values : List Val) → ValuesAreWithin region values
         → Agree (write_table a frame cost address table r values) (write_table b frame cost address table r values)
-    writes-table cost address there table (Ok entries) fits values within =
-        (with_table b address (record { ty = table.ty; entries = entries }), refl, table-moves region a b closed agree address there (record { ty = table.ty; entries = entries }) fits, own.locals, within)
+    writes-table cost address there table (Ok entries) fits values within = (
+      with_table b address (record { ty = table.ty; entries = entries }),
+      refl,
+      table-moves region a b closed agree address there (record { ty = table.ty; entries = entries }) fits,
+      own.locals,
+      within,
+    )
     writes-table cost address there table (Err trap) fits values within = refl
 
     entry-read : (entries : List Val) → ValuesAreWithin region entries → (i : ℕ) → IfOk (read_entry entries i) (ValueIsWithin region)
@@ -229,29 +247,36 @@ module _ (region : Region) (a b : Store) (closed : IsClosed region a) (agree : A
         go true = set-within region entries i v within fits
         go false = tt
 
-    entries-filled : (entries : List Val) → ValuesAreWithin region entries → (offset : ℕ) (v : Val) (count : ℕ) → ValueIsWithin region v → IfOk (fill_entries entries offset v count) (ValuesAreWithin region)
+    entries-filled : (entries : List Val) → ValuesAreWithin region entries → (offset : ℕ) (v : Val) (count : ℕ) → ValueIsWithin region v
+        → IfOk (fill_entries entries offset v count) (ValuesAreWithin region)
     entries-filled entries within offset v count fits = go (nat_le (offset + count) (length entries))
       where
         go : (yes : Bool) → IfOk (if yes then Ok (overwrite entries offset (replicate count v)) else Err TableBounds) (ValuesAreWithin region)
         go true = overwrite-within region entries offset (replicate count v) within (replicate-within region count v fits)
         go false = tt
 
-    entries-copied : (entries source : List Val) → ValuesAreWithin region entries → ValuesAreWithin region source → (target from count : ℕ) → IfOk (copy_entries entries source target from count) (ValuesAreWithin region)
+    entries-copied : (entries source : List Val) → ValuesAreWithin region entries → ValuesAreWithin region source → (target from count : ℕ)
+        → IfOk (copy_entries entries source target from count) (ValuesAreWithin region)
     entries-copied entries source within fits target from count = go (nat_le (from + count) (length source) && nat_le (target + count) (length entries))
       where
         go : (yes : Bool) → IfOk (if yes then Ok (overwrite entries target (items_at source from count)) else Err TableBounds) (ValuesAreWithin region)
         go true = overwrite-within region entries target (items_at source from count) within (items-within region source from count fits)
         go false = tt
 
-    grows-table : (address : ℕ) → Has region.tables address → (table : TableInstance) → ValuesAreWithin region table.entries → (v : Val) → ValueIsWithin region v → (count : ℕ) (values : List Val) → ValuesAreWithin region values
+    grows-table : (address : ℕ) → Has region.tables address → (table : TableInstance) → ValuesAreWithin region table.entries → (v : Val)
+        → ValueIsWithin region v → (count : ℕ) (values : List Val) → ValuesAreWithin region values
         → Agree (grow_table a frame address table v count values) (grow_table b frame address table v count values)
     grows-table address there table held v fits count values within =
-        subst (λ (n : ℕ). Agree (grow_table a frame address table v count values) (if can_grow n most_entries table.ty.limits count then Grown (entries_cost count) (with_table b address (grow_entries table v count)) frame.locals (I32 table.ty.limits.min ∷ values) else Done instruction_cost b frame.locals (I32 4294967295 ∷ values)))
+        subst (λ (n : ℕ). Agree (grow_table a frame address table v count values)
+        (if can_grow n most_entries table.ty.limits count then Grown (entries_cost count) (with_table b address (grow_entries table v count))
+        frame.locals (I32 table.ty.limits.min ∷ values) else Done instruction_cost b frame.locals (I32 4294967295 ∷ values)))
         (sym agree.entries) (go (can_grow a.entries most_entries table.ty.limits count))
       where
         go : (yes : Bool)
-            → Agree (if yes then Grown (entries_cost count) (with_table a address (grow_entries table v count)) frame.locals (I32 table.ty.limits.min ∷ values) else Done instruction_cost a frame.locals (I32 4294967295 ∷ values))
-            (if yes then Grown (entries_cost count) (with_table b address (grow_entries table v count)) frame.locals (I32 table.ty.limits.min ∷ values) else Done instruction_cost b frame.locals (I32 4294967295 ∷ values))
+            → Agree (if yes then Grown (entries_cost count) (with_table a address (grow_entries table v count)) frame.locals
+            (I32 table.ty.limits.min ∷ values) else Done instruction_cost a frame.locals (I32 4294967295 ∷ values))
+            (if yes then Grown (entries_cost count) (with_table b address (grow_entries table v count)) frame.locals
+            (I32 table.ty.limits.min ∷ values) else Done instruction_cost b frame.locals (I32 4294967295 ∷ values))
         go true = (
           with_table b address (grow_entries table v count),
           refl,
@@ -264,21 +289,25 @@ module _ (region : Region) (a b : Store) (closed : IsClosed region a) (agree : A
     in-table : (address : ℕ) → Has region.tables address → (table : TableInstance) → ValuesAreWithin region table.entries → (op : TableOp) (values : List Val) → ValuesAreWithin region values
         → Agree (table_effect a frame address table op values) (table_effect b frame address table op values)
     in-table address there table held (table_op.Get x) (I32 i ∷ values) within = reads (read_entry table.entries i) (entry-read table.entries held i) values within.1
-    in-table address there table held (table_op.Set x) (v ∷ (I32 i ∷ values)) within = writes-table instruction_cost address there table (write_entry table.entries i v) (entry-written table.entries held i v within.0) values within.1.1
+    in-table address there table held (table_op.Set x) (v ∷ (I32 i ∷ values)) within = writes-table instruction_cost address there table
+        (write_entry table.entries i v) (entry-written table.entries held i v within.0) values within.1.1
     in-table address there table held (table_op.Size x) values within = stays instruction_cost _ (tt, within)
     in-table address there table held (table_op.Grow x) (I32 count ∷ (v ∷ values)) within = grows-table address there table held v within.1.0 count values within.1.1
     in-table address there table held (table_op.Fill x) (I32 count ∷ (v ∷ (I32 offset ∷ values))) within =
         writes-table (entries_cost count) address there table (fill_entries table.entries offset v count) (entries-filled table.entries held offset v count within.1.0) values within.1.1.1
     in-table address there table held op values within = refl
 
-    on-table : (o : Option (ℕ × TableInstance)) → Found region.tables a.tables o → (op : TableOp) (values : List Val) → ValuesAreWithin region values → Agree (on_table a frame o op values) (on_table b frame o op values)
+    on-table : (o : Option (ℕ × TableInstance)) → Found region.tables a.tables o → (op : TableOp) (values : List Val) → ValuesAreWithin region values
+        → Agree (on_table a frame o op values) (on_table b frame o op values)
     on-table None found op values within = refl
     on-table (Some (address, table)) found op values within = in-table address found.0 table (closed.tables address table found.0 found.1) op values within
 
-    on-its-table : (x : ℕ) (op : TableOp) (values : List Val) → ValuesAreWithin region values → Agree (on_table a frame (table_at a frame x) op values) (on_table b frame (table_at b frame x) op values)
+    on-its-table : (x : ℕ) (op : TableOp) (values : List Val) → ValuesAreWithin region values
+        → Agree (on_table a frame (table_at a frame x) op values) (on_table b frame (table_at b frame x) op values)
     on-its-table x op values within =
         let (same, found) = table-found x in
-        subst (λ (o : Option (ℕ × TableInstance)). Agree (on_table a frame (table_at a frame x) op values) (on_table b frame o op values)) (sym same) (on-table (table_at a frame x) found op values within)
+        subst (λ (o : Option (ℕ × TableInstance)). Agree (on_table a frame (table_at a frame x) op values) (on_table b frame o op values)) (sym same)
+        (on-table (table_at a frame x) found op values within)
 
     copies-table : (into from : Option (ℕ × TableInstance)) → Found region.tables a.tables into → Found region.tables a.tables from → (values : List Val) → ValuesAreWithin region values
         → Agree (copy_table a frame into from values) (copy_table b frame into from values)
@@ -287,34 +316,49 @@ module _ (region : Region) (a b : Store) (closed : IsClosed region a) (agree : A
         (entries-copied table.entries source.entries (closed.tables address table found.0 found.1) (closed.tables other source found'.0 found'.1) target from count) values within.1.1.1
     copies-table into from found found' values within = refl
 
-    inits-table : (into : Option (ℕ × TableInstance)) (from : Option (ℕ × ElementInstance)) → Found region.tables a.tables into → Found region.elements a.elements from → (values : List Val) → ValuesAreWithin region values
+    inits-table : (into : Option (ℕ × TableInstance)) (from : Option (ℕ × ElementInstance)) → Found region.tables a.tables into
+        → Found region.elements a.elements from → (values : List Val) → ValuesAreWithin region values
         → Agree (init_table a frame into from values) (init_table b frame into from values)
     inits-table (Some (address, table)) (Some (other, segment)) found found' (I32 count ∷ (I32 from ∷ (I32 target ∷ values))) within =
         writes-table (entries_cost count) address found.0 table (copy_entries table.entries segment.references target from count)
         (entries-copied table.entries segment.references (closed.tables address table found.0 found.1) (closed.elements other segment found'.0 found'.1) target from count) values within.1.1.1
     inits-table into from found found' values within = refl
 
-    drops-elements : (o : Option (ℕ × ElementInstance)) → Found region.elements a.elements o → (values : List Val) → ValuesAreWithin region values → Agree (drop_elements a frame o values) (drop_elements b frame o values)
+    drops-elements : (o : Option (ℕ × ElementInstance)) → Found region.elements a.elements o → (values : List Val) → ValuesAreWithin region values
+        → Agree (drop_elements a frame o values) (drop_elements b frame o values)
     drops-elements None found values within = refl
-    drops-elements (Some (address, segment)) found values within =
-        (with_elements b address (record { ty = segment.ty; references = [] }), refl, elements-moves region a b closed agree address found.0 (record { ty = segment.ty; references = [] }) tt, own.locals, within)
+    drops-elements (Some (address, segment)) found values within = (
+      with_elements b address (record { ty = segment.ty; references = [] }),
+      refl,
+      elements-moves region a b closed agree address found.0 (record { ty = segment.ty; references = [] }) tt,
+      own.locals,
+      within,
+    )
 
     tables : (op : TableOp) (values : List Val) → ValuesAreWithin region values → Agree (table_or_elements_effect a frame op values) (table_or_elements_effect b frame op values)
     tables (table_op.Copy target source) values within =
         let (same, found) = table-found target in
         let (same', found') = table-found source in
-        subst (λ (o : Option (ℕ × TableInstance)). Agree (copy_table a frame (table_at a frame target) (table_at a frame source) values) (copy_table b frame o (table_at b frame source) values)) (sym same)
-        (subst (λ (o : Option (ℕ × TableInstance)). Agree (copy_table a frame (table_at a frame target) (table_at a frame source) values) (copy_table b frame (table_at a frame target) o values)) (sym same')
+        subst (λ (o : Option (ℕ × TableInstance)).
+        Agree (copy_table a frame (table_at a frame target) (table_at a frame source) values)
+        (copy_table b frame o (table_at b frame source) values)) (sym same)
+        (subst (λ (o : Option (ℕ × TableInstance)).
+        Agree (copy_table a frame (table_at a frame target) (table_at a frame source) values)
+        (copy_table b frame (table_at a frame target) o values)) (sym same')
         (copies-table (table_at a frame target) (table_at a frame source) found found' values within))
     tables (table_op.Init segment x) values within =
         let (same, found) = table-found x in
         let (same', found') = elements-found segment in
-        subst (λ (o : Option (ℕ × TableInstance)). Agree (init_table a frame (table_at a frame x) (elements_at a frame segment) values) (init_table b frame o (elements_at b frame segment) values)) (sym same)
-        (subst (λ (o : Option (ℕ × ElementInstance)). Agree (init_table a frame (table_at a frame x) (elements_at a frame segment) values) (init_table b frame (table_at a frame x) o values)) (sym same')
+        subst (λ (o : Option (ℕ × TableInstance)).
+        Agree (init_table a frame (table_at a frame x) (elements_at a frame segment) values)
+        (init_table b frame o (elements_at b frame segment) values)) (sym same)
+        (subst (λ (o : Option (ℕ × ElementInstance)).
+        Agree (init_table a frame (table_at a frame x) (elements_at a frame segment) values) (init_table b frame (table_at a frame x) o values)) (sym same')
         (inits-table (table_at a frame x) (elements_at a frame segment) found found' values within))
     tables (table_op.ElemDrop x) values within =
         let (same, found) = elements-found x in
-        subst (λ (o : Option (ℕ × ElementInstance)). Agree (drop_elements a frame (elements_at a frame x) values) (drop_elements b frame o values)) (sym same) (drops-elements (elements_at a frame x) found values within)
+        subst (λ (o : Option (ℕ × ElementInstance)). Agree (drop_elements a frame (elements_at a frame x) values) (drop_elements b frame o values))
+        (sym same) (drops-elements (elements_at a frame x) found values within)
     tables (table_op.Get x) values within = on-its-table x (table_op.Get x) values within
     tables (table_op.Set x) values within = on-its-table x (table_op.Set x) values within
     tables (table_op.Size x) values within = on-its-table x (table_op.Size x) values within
@@ -338,8 +382,13 @@ module _ (region : Region) (a b : Store) (closed : IsClosed region a) (agree : A
 
     writes-memory : (cost address : ℕ) → Has region.memories address → (memory : MemoryInstance) (r : Result (List ℕ) Trap) (values : List Val) → ValuesAreWithin region values
         → Agree (write_memory a frame cost address memory r values) (write_memory b frame cost address memory r values)
-    writes-memory cost address there memory (Ok bytes) values within =
-        (with_memory b address (record { limits = memory.limits; bytes = bytes }), refl, memory-moves region a b closed agree address there (record { limits = memory.limits; bytes = bytes }), own.locals, within)
+    writes-memory cost address there memory (Ok bytes) values within = (
+      with_memory b address (record { limits = memory.limits; bytes = bytes }),
+      refl,
+      memory-moves region a b closed agree address there (record { limits = memory.limits; bytes = bytes }),
+      own.locals,
+      within,
+    )
     writes-memory cost address there memory (Err trap) values within = refl
 
     loaded-within : (op : LoadOp) (n : ℕ) → ValueIsWithin region (loaded_value op n)
@@ -371,12 +420,16 @@ module _ (region : Region) (a b : Store) (closed : IsClosed region a) (agree : A
     grows-memory : (address : ℕ) → Has region.memories address → (memory : MemoryInstance) (pages : ℕ) (values : List Val) → ValuesAreWithin region values
         → Agree (grow_memory a frame address memory pages values) (grow_memory b frame address memory pages values)
     grows-memory address there memory pages values within =
-        subst (λ (n : ℕ). Agree (grow_memory a frame address memory pages values) (if can_grow n most_pages memory.limits pages then Grown (growth_cost pages) (with_memory b address (grow_by memory pages)) frame.locals (I32 memory.limits.min ∷ values) else Done instruction_cost b frame.locals (I32 4294967295 ∷ values)))
+        subst (λ (n : ℕ). Agree (grow_memory a frame address memory pages values)
+        (if can_grow n most_pages memory.limits pages then Grown (growth_cost pages) (with_memory b address (grow_by memory pages)) frame.locals
+        (I32 memory.limits.min ∷ values) else Done instruction_cost b frame.locals (I32 4294967295 ∷ values)))
         (sym agree.pages) (go (can_grow a.pages most_pages memory.limits pages))
       where
         go : (yes : Bool)
-            → Agree (if yes then Grown (growth_cost pages) (with_memory a address (grow_by memory pages)) frame.locals (I32 memory.limits.min ∷ values) else Done instruction_cost a frame.locals (I32 4294967295 ∷ values))
-            (if yes then Grown (growth_cost pages) (with_memory b address (grow_by memory pages)) frame.locals (I32 memory.limits.min ∷ values) else Done instruction_cost b frame.locals (I32 4294967295 ∷ values))
+            → Agree (if yes then Grown (growth_cost pages) (with_memory a address (grow_by memory pages)) frame.locals
+            (I32 memory.limits.min ∷ values) else Done instruction_cost a frame.locals (I32 4294967295 ∷ values))
+            (if yes then Grown (growth_cost pages) (with_memory b address (grow_by memory pages)) frame.locals (I32 memory.limits.min ∷ values) else
+            Done instruction_cost b frame.locals (I32 4294967295 ∷ values))
         go true = (with_memory b address (grow_by memory pages), refl, memory-moves region a b closed agree address there (grow_by memory pages), own.locals, (tt, within))
         go false = stays instruction_cost (I32 4294967295 ∷ values) (tt, within)
 
@@ -392,25 +445,31 @@ module _ (region : Region) (a b : Store) (closed : IsClosed region a) (agree : A
     in-memory address there memory (StoreNumber op arg) (v ∷ (I32 i ∷ values)) within = stores address there memory op (i + arg.offset) (stored_number op v) values within.1.1
     in-memory address there memory Size values within = stays instruction_cost _ (tt, within)
     in-memory address there memory Grow (I32 pages ∷ values) within = grows-memory address there memory pages values within.1
-    in-memory address there memory Fill (I32 count ∷ (I32 value ∷ (I32 target ∷ values))) within = writes-memory (bulk_cost count) address there memory (fill_bytes memory.bytes target value count) values within.1.1.1
+    in-memory address there memory Fill (I32 count ∷ (I32 value ∷ (I32 target ∷ values))) within = writes-memory (bulk_cost count) address there
+        memory (fill_bytes memory.bytes target value count) values within.1.1.1
     in-memory address there memory Copy (I32 count ∷ (I32 from ∷ (I32 target ∷ values))) within =
         writes-memory (bulk_cost count) address there memory (copy_bytes memory.bytes memory.bytes target from count) values within.1.1.1
     in-memory address there memory (Init x) values within =
         let (same, found) = data-found x in
-        subst (λ (o : Option (ℕ × DataInstance)). Agree (init_memory a frame address memory (data_at a frame x) values) (init_memory b frame address memory o values)) (sym same) (inits-memory address there memory (data_at a frame x) values within)
+        subst (λ (o : Option (ℕ × DataInstance)).
+        Agree (init_memory a frame address memory (data_at a frame x) values) (init_memory b frame address memory o values)) (sym same)
+        (inits-memory address there memory (data_at a frame x) values within)
     in-memory address there memory op values within = refl
 
-    of-memory : (o : Option (ℕ × MemoryInstance)) → Found region.memories a.memories o → (op : MemoryOp) (values : List Val) → ValuesAreWithin region values → Agree (in_memory a frame o op values) (in_memory b frame o op values)
+    of-memory : (o : Option (ℕ × MemoryInstance)) → Found region.memories a.memories o → (op : MemoryOp) (values : List Val)
+        → ValuesAreWithin region values → Agree (in_memory a frame o op values) (in_memory b frame o op values)
     of-memory None found op values within = refl
     of-memory (Some (address, memory)) found op values within = in-memory address found.0 memory op values within
 
     of-its-memory : (op : MemoryOp) (values : List Val) → ValuesAreWithin region values → Agree (in_memory a frame (its_memory a) op values) (in_memory b frame (its_memory b) op values)
     of-its-memory op values within =
-        subst (λ (o : Option (ℕ × MemoryInstance)). Agree (in_memory a frame (its_memory a) op values) (in_memory b frame o op values)) (sym memory-found.0) (of-memory (its_memory a) memory-found.1 op values within)
+        subst (λ (o : Option (ℕ × MemoryInstance)). Agree (in_memory a frame (its_memory a) op values) (in_memory b frame o op values))
+        (sym memory-found.0) (of-memory (its_memory a) memory-found.1 op values within)
 
     drops-data : (o : Option (ℕ × DataInstance)) → Found region.datas a.datas o → (values : List Val) → ValuesAreWithin region values → Agree (drop_data a frame o values) (drop_data b frame o values)
     drops-data None found values within = refl
-    drops-data (Some (address, segment)) found values within = (with_data b address (record { bytes = [] }), refl, data-moves region a b closed agree address found.0 (record { bytes = [] }), own.locals, within)
+    drops-data (Some (address, segment)) found values within =
+        (with_data b address (record { bytes = [] }), refl, data-moves region a b closed agree address found.0 (record { bytes = [] }), own.locals, within)
 
     memories : (op : MemoryOp) (values : List Val) → ValuesAreWithin region values → Agree (memory_or_data_effect a frame op values) (memory_or_data_effect b frame op values)
     memories (DataDrop x) values within =

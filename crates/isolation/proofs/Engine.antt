@@ -41,7 +41,8 @@ module _ {I : Type 0} {F : I → Type 0} (members : (i : I) → Ghosts (F i)) wh
       let (same, same_bytes, objects) = function h.object.value arguments bytes a b bytes_a bytes_b v w first second in
       (same, same_bytes, same-host x y (x_type ∙ sym y_type) (x_is ∙ ap (λ (u : F h.object.vtable). record h.object { value = u }) objects ∙ sym y_is))
 
-  narrow-function : (h h' : HostObject I F) (arguments : List Val) (bytes bytes' : List ℕ) (answer : Answer) → IsFunction members h → HostAnswers members h arguments bytes answer bytes' h' → h'.ty ≡ h.ty
+  narrow-function : (h h' : HostObject I F) (arguments : List Val) (bytes bytes' : List ℕ) (answer : Answer) → IsFunction members h
+      → HostAnswers members h arguments bytes answer bytes' h' → h'.ty ≡ h.ty
       → Functional h arguments bytes answer bytes' h' × IsFunction members h'
   narrow-function h h' arguments bytes bytes' answer (keeps, function) told same =
       let own = told.answers keeps in
@@ -51,9 +52,11 @@ module _ {I : Type 0} {F : I → Type 0} (members : (i : I) → Ghosts (F i)) wh
   pub replies-of-the-engine : ((bytes : List ℕ) (m n : Module) → SpellsModule bytes m → SpellsModule bytes n → m ≡ n) → RepliesOfTheEngine members
   replies-of-the-engine spelt old a b commands replies_a replies_b kept first second had_a had_b =
       lists-agree (IsHostStep type_of_host Functional) (steps-agree type_of_host Functional functional) spelt old a b commands replies_a replies_b
-      (run-of-own type_of_host (HostAnswers members) Functional (IsFunction members) narrow-function kept first).0 (run-of-own type_of_host (HostAnswers members) Functional (IsFunction members) narrow-function kept second).0 had_a had_b
+      (run-of-own type_of_host (HostAnswers members) Functional (IsFunction members) narrow-function kept first).0
+      (run-of-own type_of_host (HostAnswers members) Functional (IsFunction members) narrow-function kept second).0 had_a had_b
 
-  still : (h h' : HostObject I F) (arguments : List Val) (bytes bytes' : List ℕ) (answer : Answer) → KeepsNothing members h → HostAnswers members h arguments bytes answer bytes' h' → h'.ty ≡ h.ty → h' ≡ h
+  still : (h h' : HostObject I F) (arguments : List Val) (bytes bytes' : List ℕ) (answer : Answer) → KeepsNothing members h
+      → HostAnswers members h arguments bytes answer bytes' h' → h'.ty ≡ h.ty → h' ≡ h
   still h h' arguments bytes bytes' answer (keeps, nothing) told same =
       let (w, is, answers) = told.answers keeps in
       same-host h' h same (is ∙ ap (λ (u : F h.object.vtable). record h.object { value = u }) (nothing h.object.value w arguments bytes bytes' answer answers))

@@ -9,7 +9,8 @@ use Rattle.meaning.specs.embedding.Machine as machine
 use Rattle.meaning.proofs.lemmas.Runs.{AnswersInOneWay, Runs-agree, Steps-join}
 use Rattle.meaning.specs.execution.Configurations.{Configuration, Frame, Invoking, depth, no_frame}
 use Rattle.meaning.specs.execution.Instructions.{Next, Goes, Grows, Opens, CallsHost, Traps, Branches, Returns, TailCalls, Over, NotReady, next}
-use Rattle.meaning.specs.execution.Runs.{Answer, Ending, IsEnd, IsStep, IsWithinBound, OutOfFuel, OutOfDepth, Run, State, goes, grows, opens, calls, values_left, trapped, host_trapped, no_fuel, no_depth, no_memory, end, step, none, one_more, price}
+use Rattle.meaning.specs.execution.Runs.{Answer, Ending, IsEnd, IsStep, IsWithinBound, OutOfFuel, OutOfDepth, Run, State, goes, grows, opens, calls}
+use Rattle.meaning.specs.execution.Runs.{values_left, trapped, host_trapped, no_fuel, no_depth, no_memory, end, step, none, one_more, price}
 use Rattle.meaning.specs.execution.Store.{Store}
 use Rattle.soundness.proofs.Fuel.{run-costs}
 use Rattle.soundness.specs.Costs.{cost_of_step}
@@ -22,7 +23,8 @@ module _ {H : Type 0} (HostStep : List H → ℕ → Option ℕ → List Val →
   module _ (bound : ℕ) (outside : Frame) where
     -- ---- more fuel
 
-    step-more : {old new : State H} {first then : Configuration} (more : ℕ) → IsStep HostStep bound outside old first new then → IsStep HostStep bound outside (with_more old more) first (with_more new more) then
+    step-more : {old new : State H} {first then : Configuration} (more : ℕ) → IsStep HostStep bound outside old first new then
+        → IsStep HostStep bound outside (with_more old more) first (with_more new more) then
     step-more more (goes is enough left hosts) = goes is (omega (arith, enough)) (omega (arith, enough, left)) hosts
     step-more more (grows is enough left hosts) = grows is (omega (arith, enough)) (omega (arith, enough, left)) hosts
     step-more more (opens is enough left hosts within) = opens is (omega (arith, enough)) (omega (arith, enough, left)) hosts within
@@ -60,7 +62,8 @@ module _ {H : Type 0} (HostStep : List H → ℕ → Option ℕ → List Val →
         ends = end (no_fuel little refl refl);
       }
 
-    price-of-step : {old new : State H} {first then : Configuration} (is : IsStep HostStep bound outside old first new then) → price (next old.store outside first) ≡ cost_of_step HostStep bound outside is
+    price-of-step : {old new : State H} {first then : Configuration} (is : IsStep HostStep bound outside old first new then)
+        → price (next old.store outside first) ≡ cost_of_step HostStep bound outside is
     price-of-step (goes is enough left hosts) = rw is refl
     price-of-step (grows is enough left hosts) = rw is refl
     price-of-step (opens is enough left hosts within) = rw is refl
@@ -149,7 +152,8 @@ module _ {H : Type 0} (HostStep : List H → ℕ → Option ℕ → List Val →
     where
       go : (found : Result ℕ Refusal) → CallsAt HostStep old found arguments reply new → CallsAt HostStep (fuelled old more) found arguments reply (fuelled new more)
       go (Ok address) (machine.called {ending = ending} {state = state} takes run r n) =
-          machine.called takes (runs-more old.setup.depth no_frame old.state state (Invoking (reverse arguments) address) ending more run (λ e. enough (r ∙ ap Ended e))) r (ap (λ (z : Embedding H). fuelled z more) n)
+          machine.called takes (runs-more old.setup.depth no_frame old.state state (Invoking (reverse arguments) address) ending more run
+          (λ e. enough (r ∙ ap Ended e))) r (ap (λ (z : Embedding H). fuelled z more) n)
       go (Ok address) (machine.bad_arguments misfit (r, n)) = machine.bad_arguments misfit (r, ap (λ (z : Embedding H). fuelled z more) n)
       go (Err why) (r, n) = (r, ap (λ (z : Embedding H). fuelled z more) n)
 
@@ -182,7 +186,8 @@ module _ {H : Type 0} (HostStep : List H → ℕ → Option ℕ → List Val →
     end-deeper (no_depth is le deep e l) enough = absurd (enough e)
     end-deeper {at} {c = c} (no_memory asks within le e l) enough = no_memory asks (within-deeper (depth c) (next at.store outside c) within) le e l
 
-    run-deeper : {old last : State H} {first : Configuration} {ending : Ending} → Run HostStep bound outside old first ending last → (ending ≡ OutOfDepth → ⊥) → Run HostStep deeper outside old first ending last
+    run-deeper : {old last : State H} {first : Configuration} {ending : Ending} → Run HostStep bound outside old first ending last
+        → (ending ≡ OutOfDepth → ⊥) → Run HostStep deeper outside old first ending last
     run-deeper (end is) enough = end (end-deeper is enough)
     run-deeper (step one rest) enough = step (step-deeper one) (run-deeper rest enough)
 
@@ -194,6 +199,7 @@ module _ {H : Type 0} (HostStep : List H → ℕ → Option ℕ → List Val →
     where
       go : (found : Result ℕ Refusal) → CallsAt HostStep old found arguments reply new → CallsAt HostStep (bounded old deeper) found arguments reply (bounded new deeper)
       go (Ok address) (machine.called {ending = ending} {state = state} takes run r n) =
-          machine.called takes (runs-deeper old.setup.depth deeper no_frame old.state state (Invoking (reverse arguments) address) ending more run (λ e. enough (r ∙ ap Ended e))) r (ap (λ (z : Embedding H). bounded z deeper) n)
+          machine.called takes (runs-deeper old.setup.depth deeper no_frame old.state state (Invoking (reverse arguments) address) ending more run
+          (λ e. enough (r ∙ ap Ended e))) r (ap (λ (z : Embedding H). bounded z deeper) n)
       go (Ok address) (machine.bad_arguments misfit (r, n)) = machine.bad_arguments misfit (r, ap (λ (z : Embedding H). bounded z deeper) n)
       go (Err why) (r, n) = (r, ap (λ (z : Embedding H). bounded z deeper) n)

@@ -105,9 +105,14 @@ module _ (first second : Region) where
 
   pub closed-both : (store : Store) → IsClosed first store → IsClosed second store → IsClosed (both first second) store
   closed-both store closed closed' = record {
-    functions = either-leads store.functions first.functions second.functions _ _ _ (function-larger first (both first second) first-part) (function-larger second (both first second) second-part) closed.functions closed'.functions;
-    instances = either-leads store.instances first.instances second.instances _ _ _ (instance-larger first (both first second) first-part) (instance-larger second (both first second) second-part) closed.instances closed'.instances;
-    tables = either-leads store.tables first.tables second.tables _ _ _ (λ t. values-larger first (both first second) first-part t.entries) (λ t. values-larger second (both first second) second-part t.entries) closed.tables closed'.tables;
-    globals = either-leads store.globals first.globals second.globals _ _ _ (λ g. value-larger first (both first second) first-part g.value) (λ g. value-larger second (both first second) second-part g.value) closed.globals closed'.globals;
-    elements = either-leads store.elements first.elements second.elements _ _ _ (λ e. values-larger first (both first second) first-part e.references) (λ e. values-larger second (both first second) second-part e.references) closed.elements closed'.elements;
+    functions = either-leads store.functions first.functions second.functions _ _ _ (function-larger first (both first second) first-part)
+        (function-larger second (both first second) second-part) closed.functions closed'.functions;
+    instances = either-leads store.instances first.instances second.instances _ _ _ (instance-larger first (both first second) first-part)
+        (instance-larger second (both first second) second-part) closed.instances closed'.instances;
+    tables = either-leads store.tables first.tables second.tables _ _ _ (λ t. values-larger first (both first second) first-part t.entries)
+        (λ t. values-larger second (both first second) second-part t.entries) closed.tables closed'.tables;
+    globals = either-leads store.globals first.globals second.globals _ _ _ (λ g. value-larger first (both first second) first-part g.value)
+        (λ g. value-larger second (both first second) second-part g.value) closed.globals closed'.globals;
+    elements = either-leads store.elements first.elements second.elements _ _ _ (λ e. values-larger first (both first second) first-part e.references)
+        (λ e. values-larger second (both first second) second-part e.references) closed.elements closed'.elements;
   }

@@ -15,7 +15,10 @@ use Rattle.meaning.specs.structure.Bodies.{Empty, Then}
 use Rattle.meaning.specs.execution.Configurations.{Invoking, Running, no_frame}
 use Rattle.meaning.specs.execution.Hosts.{IsHostStep}
 use Rattle.meaning.specs.execution.Memories.{new_memory}
-use Rattle.meaning.specs.execution.Modules.{Activity, Copies, Drops, Starts, Instantiation, RunTasks, Task, activity, all_done, before, consecutive, constant_value, done, ended, function_address, given_addresses, global_address, in_instance, map_all, memory_address, new_data, new_elements, new_function, new_global, new_instance, new_objects, objects_with, table_address, tasks_of, with_module}
+use Rattle.meaning.specs.execution.Modules.{Activity, Copies, Drops, Starts, Instantiation, RunTasks, Task, activity, all_done, before, consecutive}
+use Rattle.meaning.specs.execution.Modules.{constant_value, done, ended, function_address, given_addresses, global_address, in_instance, map_all}
+use Rattle.meaning.specs.execution.Modules.{memory_address, new_data, new_elements, new_function, new_global, new_instance, new_objects, objects_with}
+use Rattle.meaning.specs.execution.Modules.{table_address, tasks_of, with_module}
 use Rattle.meaning.specs.execution.Runs.{Answer, Ending, State}
 use Rattle.meaning.specs.execution.Store.{FunctionInstance, GlobalInstance, ModuleInstance, ObjectLists, Store}
 use Rattle.meaning.specs.execution.Tables.{ElementInstance, TableInstance, new_table}
@@ -24,7 +27,9 @@ use Rattle.soundness.proofs.Objects.{All-first, All-none, objects-made}
 use Rattle.soundness.proofs.Values.{All-at}
 use Rattle.soundness.specs.Hosts.{GivesNoFuncref}
 use Rattle.isolation.specs.Isolation.{KeepsTo, LinkKeepsTo, LinksCannotTell, LinksKeepTo, LookAlike}
-use Rattle.isolation.specs.Regions.{AgreeWithin, ConfigurationIsWithin, ElementIsWithin, ExternIsWithin, ExternsAreWithin, FrameIsWithin, FunctionIsWithin, GlobalIsWithin, Has, HaveSameCounts, InstanceIsWithin, IsClosed, LeavesOutside, Region, TableIsWithin, ValueIsWithin, and_from, with_new}
+use Rattle.isolation.specs.Regions.{AgreeWithin, ConfigurationIsWithin, ElementIsWithin, ExternIsWithin, ExternsAreWithin, FrameIsWithin, FunctionIsWithin}
+use Rattle.isolation.specs.Regions.{GlobalIsWithin, Has, HaveSameCounts, InstanceIsWithin, IsClosed, LeavesOutside, Region, TableIsWithin, ValueIsWithin}
+use Rattle.isolation.specs.Regions.{and_from, with_new}
 use Rattle.isolation.proofs.Constants.{OfEach, OfSome, all-elements-agree, all-globals-agree, each-at, values-agree}
 use Rattle.isolation.proofs.Larger.{function-larger, instance-larger, value-larger, values-larger}
 use Rattle.isolation.proofs.Moves.{AllocatesNothing-same, LeavesOutside-same, LeavesOutside-through}
@@ -83,13 +88,17 @@ module _ (region : Region) where
     has-new : InstanceIsWithin more (new_instance a m given)
     has-new = record {
       functions = All-append (Has more.functions) (given_addresses function_address given) (consecutive (length a.functions) (length m.funcs))
-          (all-had region.functions (length a.functions) _ (given-within region function_address region.functions of-functions given within)) (consecutive-within region.functions (length a.functions) _ (length m.funcs) (omega arith));
+          (all-had region.functions (length a.functions) _ (given-within region function_address region.functions of-functions given within))
+          (consecutive-within region.functions (length a.functions) _ (length m.funcs) (omega arith));
       tables = All-append (Has more.tables) (given_addresses table_address given) (consecutive (length a.tables) (length m.tables))
-          (all-had region.tables (length a.tables) _ (given-within region table_address region.tables of-tables given within)) (consecutive-within region.tables (length a.tables) _ (length m.tables) (omega arith));
+          (all-had region.tables (length a.tables) _ (given-within region table_address region.tables of-tables given within))
+          (consecutive-within region.tables (length a.tables) _ (length m.tables) (omega arith));
       memories = All-append (Has more.memories) (given_addresses memory_address given) (consecutive (length a.memories) (length m.memories))
-          (all-had region.memories (length a.memories) _ (given-within region memory_address region.memories of-memories given within)) (consecutive-within region.memories (length a.memories) _ (length m.memories) (omega arith));
+          (all-had region.memories (length a.memories) _ (given-within region memory_address region.memories of-memories given within))
+          (consecutive-within region.memories (length a.memories) _ (length m.memories) (omega arith));
       globals = All-append (Has more.globals) (given_addresses global_address given) (consecutive (length a.globals) (length m.globals))
-          (all-had region.globals (length a.globals) _ (given-within region global_address region.globals of-globals given within)) (consecutive-within region.globals (length a.globals) _ (length m.globals) (omega arith));
+          (all-had region.globals (length a.globals) _ (given-within region global_address region.globals of-globals given within))
+          (consecutive-within region.globals (length a.globals) _ (length m.globals) (omega arith));
       elements = consecutive-within region.elements (length a.elements) _ (length m.elements) (omega arith);
       datas = consecutive-within region.datas (length a.datas) _ (length m.datas) (omega arith);
     }
@@ -120,11 +129,16 @@ module _ (region : Region) where
 
       closed-new : IsClosed more (with_module a (new_instance a m given) m made)
       closed-new = record {
-        functions = append-leads region region.functions a.functions (map (new_function (length a.instances) m) m.funcs) (FunctionIsWithin region) (FunctionIsWithin more) (function-larger region more (part-of-more region a)) closed.functions (functions-new m.funcs);
-        instances = append-leads region region.instances a.instances (new_instance a m given ∷ []) (InstanceIsWithin region) (InstanceIsWithin more) (instance-larger region more (part-of-more region a)) closed.instances only-one;
-        tables = append-leads region region.tables a.tables (map new_table m.tables) (TableIsWithin region) (TableIsWithin more) (λ t. values-larger region more (part-of-more region a) t.entries) closed.tables (tables-new m.tables);
-        globals = append-leads region region.globals a.globals gs (GlobalIsWithin region) (GlobalIsWithin more) (λ g. value-larger region more (part-of-more region a) g.value) closed.globals (each-at (GlobalIsWithin more) gs gs_within);
-        elements = append-leads region region.elements a.elements es (ElementIsWithin region) (ElementIsWithin more) (λ e. values-larger region more (part-of-more region a) e.references) closed.elements (each-at (ElementIsWithin more) es es_within);
+        functions = append-leads region region.functions a.functions (map (new_function (length a.instances) m) m.funcs) (FunctionIsWithin region)
+            (FunctionIsWithin more) (function-larger region more (part-of-more region a)) closed.functions (functions-new m.funcs);
+        instances = append-leads region region.instances a.instances (new_instance a m given ∷ []) (InstanceIsWithin region) (InstanceIsWithin more)
+            (instance-larger region more (part-of-more region a)) closed.instances only-one;
+        tables = append-leads region region.tables a.tables (map new_table m.tables) (TableIsWithin region) (TableIsWithin more)
+            (λ t. values-larger region more (part-of-more region a) t.entries) closed.tables (tables-new m.tables);
+        globals = append-leads region region.globals a.globals gs (GlobalIsWithin region) (GlobalIsWithin more)
+            (λ g. value-larger region more (part-of-more region a) g.value) closed.globals (each-at (GlobalIsWithin more) gs gs_within);
+        elements = append-leads region region.elements a.elements es (ElementIsWithin region) (ElementIsWithin more)
+            (λ e. values-larger region more (part-of-more region a) e.references) closed.elements (each-at (ElementIsWithin more) es es_within);
       }
 
       outside-new : LeavesOutside more a (with_module a (new_instance a m given) m made)
@@ -148,7 +162,8 @@ module _ (region : Region) where
 
       agree-new : (i : ModuleInstance) (objects : ObjectLists) → AgreeWithin more (with_module a i m objects) (with_module b i m objects)
       agree-new i objects = record {
-        functions = subst (λ (n : ℕ). (k : ℕ) → Has more.functions k → slice_get (b.functions ++ map (new_function n m) m.funcs) k ≡ slice_get (a.functions ++ map (new_function (length a.instances) m) m.funcs) k) (sym counts.instances)
+        functions = subst (λ (n : ℕ). (k : ℕ) → Has more.functions k → slice_get (b.functions ++ map (new_function n m) m.funcs) k
+            ≡ slice_get (a.functions ++ map (new_function (length a.instances) m) m.funcs) k) (sym counts.instances)
             (append-agrees region region.functions a.functions b.functions _ counts.functions agree.functions);
         instances = append-agrees region region.instances a.instances b.instances _ counts.instances agree.instances;
         tables = append-agrees region region.tables a.tables b.tables _ counts.tables agree.tables;
@@ -196,7 +211,9 @@ module _ {H : Type 0} (host_type : H → FuncType) (Answers : H → List Val →
         let (same, fits) = values-agree region a b closed agree i has offset in
         (ap (option_map (λ (v : Val). in_instance n (Running (I32 (count % 2 ^ 32) ∷ (I32 0 ∷ (v ∷ []))) (Then init (Then drop Empty))))) same, go (constant_value a i offset) fits)
       where
-        go : (o : Option Val) → OfSome (ValueIsWithin region) o → OfSome ActivityIsWithin (option_map (λ (v : Val). in_instance n (Running (I32 (count % 2 ^ 32) ∷ (I32 0 ∷ (v ∷ []))) (Then init (Then drop Empty)))) o)
+        go : (o : Option Val) → OfSome (ValueIsWithin region) o
+            → OfSome ActivityIsWithin (option_map
+            (λ (v : Val). in_instance n (Running (I32 (count % 2 ^ 32) ∷ (I32 0 ∷ (v ∷ []))) (Then init (Then drop Empty)))) o)
         go None fits = tt
         go (Some v) fits = (record { instance = there; locals = tt }, (tt, (tt, (fits, tt))))
     activities-agree (Drops drop) = (refl, (record { instance = there; locals = tt }, tt))
@@ -212,7 +229,8 @@ module _ {H : Type 0} (host_type : H → FuncType) (Answers : H → List Val →
     look : LookAlike region last last'
     keeps : KeepsTo host_type region a last
 
-  tasks-alike : {a last : State H} {tasks : List Task} {ending : Ending} → RunTasks HostStep bound n i a tasks ending last → (b : State H) → IsClosed region a.store → All (GivesNoFuncref host_type) a.hosts → LookAlike region a b
+  tasks-alike : {a last : State H} {tasks : List Task} {ending : Ending} → RunTasks HostStep bound n i a tasks ending last → (b : State H)
+      → IsClosed region a.store → All (GivesNoFuncref host_type) a.hosts → LookAlike region a b
       → TasksAlike a b tasks ending last
   tasks-alike {a} all_done b closed free look = record {
     last' = b;
@@ -252,7 +270,8 @@ module _ {H : Type 0} (host_type : H → FuncType) (Answers : H → List Val →
     keeps : LinkKeepsTo host_type Answers region a last
 
   module _ (region : Region) (bound : ℕ) (m : Module) (given : List Extern) (a b last : State H) (ending : Ending) (closed : IsClosed region a.store) (free : All (GivesNoFuncref host_type) a.hosts)
-      (within : ExternsAreWithin region given) (look : LookAlike region a b) (counts : HaveSameCounts a.store b.store) (link : Instantiation (IsHostStep host_type Answers) bound m given a ending last) where
+      (within : ExternsAreWithin region given) (look : LookAlike region a b) (counts : HaveSameCounts a.store b.store)
+      (link : Instantiation (IsHostStep host_type Answers) bound m given a ending last) where
     abbrev i : ModuleInstance
     i = new_instance a.store m given
 
@@ -269,9 +288,11 @@ module _ {H : Type 0} (host_type : H → FuncType) (Answers : H → List Val →
       fuel = look.fuel;
     }
 
-    tasks : TasksAlike host_type Answers (with_new region a.store) bound (length a.store.instances) i (came region.instances (length a.store.instances) (length a.store.instances) (omega arith)) (has-new region a.store m given within)
+    tasks : TasksAlike host_type Answers (with_new region a.store) bound (length a.store.instances) i
+        (came region.instances (length a.store.instances) (length a.store.instances) (omega arith)) (has-new region a.store m given within)
         (linked a) (linked b) (tasks_of m) ending last
-    tasks = tasks-alike host_type Answers (with_new region a.store) bound (length a.store.instances) i (came region.instances (length a.store.instances) (length a.store.instances) (omega arith)) (has-new region a.store m given within)
+    tasks = tasks-alike host_type Answers (with_new region a.store) bound (length a.store.instances) i
+        (came region.instances (length a.store.instances) (length a.store.instances) (omega arith)) (has-new region a.store m given within)
         link.ran (linked b) allocated.0 free looks
 
     same-instance : i ≡ new_instance b.store m given
@@ -282,8 +303,11 @@ module _ {H : Type 0} (host_type : H → FuncType) (Answers : H → List Val →
       last' = tasks.last';
       links = record {
         objects = link.objects;
-        allocated = subst (λ (j : ModuleInstance). new_objects b.store j m ≡ Some link.objects) same-instance (objects-alike region a.store m given within b.store closed look.stores counts ∙ link.allocated);
-        ran = subst (λ (j : ModuleInstance). RunTasks (IsHostStep host_type Answers) bound (length b.store.instances) j (record b { store = with_module b.store j m link.objects }) (tasks_of m) ending tasks.last') same-instance
+        allocated = subst (λ (j : ModuleInstance). new_objects b.store j m ≡ Some link.objects) same-instance
+            (objects-alike region a.store m given within b.store closed look.stores counts ∙ link.allocated);
+        ran = subst (λ (j : ModuleInstance).
+            RunTasks (IsHostStep host_type Answers) bound (length b.store.instances) j (record b { store = with_module b.store j m link.objects })
+            (tasks_of m) ending tasks.last') same-instance
             (subst (λ (k : ℕ). RunTasks (IsHostStep host_type Answers) bound k i (linked b) (tasks_of m) ending tasks.last') (sym counts.instances) tasks.runs);
       };
       look = tasks.look;

@@ -5,7 +5,8 @@ use Rattle.std.proofs.lemmas.Option.{slice_get_past, slice_get_within}
 use Rattle.meaning.specs.execution.Store.{Store}
 use Rattle.soundness.proofs.Appends.{same-below}
 use Rattle.isolation.proofs.Larger.{IsPartOf, function-larger, instance-larger, value-larger, values-larger}
-use Rattle.isolation.specs.Regions.{AgreeWithin, EachLeads, ElementIsWithin, FunctionIsWithin, GlobalIsWithin, Has, HasNot, HaveSameCounts, InstanceIsWithin, IsClosed, IsSameWithin, Region, StaysOutside, TableIsWithin, and_from, with_new}
+use Rattle.isolation.specs.Regions.{AgreeWithin, EachLeads, ElementIsWithin, FunctionIsWithin, GlobalIsWithin, Has, HasNot, HaveSameCounts, InstanceIsWithin}
+use Rattle.isolation.specs.Regions.{IsClosed, IsSameWithin, Region, StaysOutside, TableIsWithin, and_from, with_new}
 
 module _ (addresses : ℕ → Type 0) (first address : ℕ) where
   pub had : Has addresses address → Has (and_from addresses first) address
@@ -41,7 +42,8 @@ module _ {X : Type 0} where
       | inr past ↦ let inside = slice_get_within xs k x is in absurd (let wrong : ⊥ = omega (arith, inside, past) in wrong)
     ]
 
-    pub append-leads : (xs ys : List X) (P Q : X → Type 0) → ((x : X) → P x → Q x) → EachLeads region addresses xs P → ((k : ℕ) (y : X) → slice_get ys k ≡ Some y → Q y) → EachLeads region (and_from addresses (length xs)) (xs ++ ys) Q
+    pub append-leads : (xs ys : List X) (P Q : X → Type 0) → ((x : X) → P x → Q x) → EachLeads region addresses xs P
+        → ((k : ℕ) (y : X) → slice_get ys k ≡ Some y → Q y) → EachLeads region (and_from addresses (length xs)) (xs ++ ys) Q
     append-leads xs ys P Q more leads others k x has is = elim (append-which xs ys k x is) [
       | inl before ↦ still-leads xs P Q more leads k x has before
       | inr behind ↦ others behind.0 x behind.1

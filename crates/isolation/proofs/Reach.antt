@@ -15,7 +15,8 @@ use Rattle.meaning.specs.validation.Types.{reference_type}
 use Rattle.soundness.specs.Stores.{ElementIsValid, FunctionIsValid, GlobalIsValid, ImplementationIsValid, InstanceIsValid, StoreIsValid, TableIsValid}
 use Rattle.soundness.proofs.Values.{All-at, All-from}
 use Rattle.isolation.specs.Commands.{AsksWithin, Asks, ReachesNoFurther}
-use Rattle.isolation.specs.Reach.{WhatIsReachedIsThere, IsPlaceIn, ReachIsLeast, IsIn, Function, Instance, Table, Memory, Global, Element, Data, Host, IsAmong, IsReached, Leads, Place, onward, reach, reach_when_asked, reach_of, start}
+use Rattle.isolation.specs.Reach.{WhatIsReachedIsThere, IsPlaceIn, ReachIsLeast, IsIn, Function, Instance, Table, Memory, Global, Element, Data, Host, IsAmong}
+use Rattle.isolation.specs.Reach.{IsReached, Leads, Place, onward, reach, reach_when_asked, reach_of, start}
 use Rattle.isolation.specs.Regions.{IsThere, ExternIsWithin, ExternsAreWithin, ImplementationIsWithin, InstanceIsWithin, IsClosed, Region, ValueIsWithin, ValuesAreWithin, marked}
 use Rattle.isolation.proofs.Within.{at-within}
 
@@ -34,7 +35,8 @@ module _ (store : Store) (Starts : Place → Type 0) where
   abbrev all : Region
   all = reach store Starts
 
-  code-reached : (a : ℕ) (f : FunctionInstance) → IsReached store Starts (Function a) → slice_get store.functions a ≡ Some f → (i : Implementation) → f.implementation ≡ i → ImplementationIsWithin all i
+  code-reached : (a : ℕ) (f : FunctionInstance) → IsReached store Starts (Function a) → slice_get store.functions a ≡ Some f → (i : Implementation)
+      → f.implementation ≡ i → ImplementationIsWithin all i
   code-reached a f reached is (InCode instance code) in_code = onward reached (f, code, is, in_code)
   code-reached a f reached is (InHost number) in_host = onward reached (f, is, in_host)
 
@@ -109,11 +111,14 @@ module _ (store : Store) (valid : StoreIsValid store) where
   leads-there : (from to : Place) → Leads store from to → IsPlaceIn store to
   leads-there (Function a) (Instance b) (f, code, is, in_code) = (subst (ImplementationIsValid store f.ty) in_code (All-at (FunctionIsValid store) store.functions a f is valid.functions)).0
   leads-there (Function a) (Host b) leads = tt
-  leads-there (Instance a) (Function b) (i, is, (k, at)) = All-at (λ (n : ℕ). n < length store.functions) i.functions k b at (All-at (InstanceIsValid store) store.instances a i is valid.instances).functions
+  leads-there (Instance a) (Function b) (i, is, (k, at)) = All-at (λ (n : ℕ). n < length store.functions) i.functions k b at
+      (All-at (InstanceIsValid store) store.instances a i is valid.instances).functions
   leads-there (Instance a) (Table b) (i, is, (k, at)) = All-at (λ (n : ℕ). n < length store.tables) i.tables k b at (All-at (InstanceIsValid store) store.instances a i is valid.instances).tables
-  leads-there (Instance a) (Memory b) (i, is, (k, at)) = All-at (λ (n : ℕ). n < length store.memories) i.memories k b at (All-at (InstanceIsValid store) store.instances a i is valid.instances).memories
+  leads-there (Instance a) (Memory b) (i, is, (k, at)) = All-at (λ (n : ℕ). n < length store.memories) i.memories k b at
+      (All-at (InstanceIsValid store) store.instances a i is valid.instances).memories
   leads-there (Instance a) (Global b) (i, is, (k, at)) = All-at (λ (n : ℕ). n < length store.globals) i.globals k b at (All-at (InstanceIsValid store) store.instances a i is valid.instances).globals
-  leads-there (Instance a) (Element b) (i, is, (k, at)) = All-at (λ (n : ℕ). n < length store.elements) i.elements k b at (All-at (InstanceIsValid store) store.instances a i is valid.instances).elements
+  leads-there (Instance a) (Element b) (i, is, (k, at)) = All-at (λ (n : ℕ). n < length store.elements) i.elements k b at
+      (All-at (InstanceIsValid store) store.instances a i is valid.instances).elements
   leads-there (Instance a) (Data b) (i, is, (k, at)) = All-at (λ (n : ℕ). n < length store.datas) i.datas k b at (All-at (InstanceIsValid store) store.instances a i is valid.instances).datas
   leads-there (Table a) (Function b) (t, is, (k, at)) =
       (All-at (λ (v : Val). ValueHasType store v (reference_type t.ty.element)) t.entries k (FuncRef (Some b)) at (All-at (TableIsValid store) store.tables a t is valid.tables).entries).1
@@ -147,7 +152,8 @@ externs-within region [] each = tt
 externs-within region (e ∷ given) each = (each e (0, refl), externs-within region given (λ x among. each x (suc among.0, among.1)))
 
 module _ {H : Type 0} (at : Embedding H) where
-  import-within : (number : ℕ) (m : Module) (given : List Extern) → slice_get at.modules number ≡ Some m → resolve_imports at.state.store at.names m.imports ≡ Some given → (e : Extern) → IsAmong given e
+  import-within : (number : ℕ) (m : Module) (given : List Extern) → slice_get at.modules number ≡ Some m
+      → resolve_imports at.state.store at.names m.imports ≡ Some given → (e : Extern) → IsAmong given e
       → ExternIsWithin (reach_of at (Link number)) e
   import-within number m given is named (value.Func x) among = start (m, given, value.Func x, is, named, among, refl)
   import-within number m given is named (value.Table x) among = start (m, given, value.Table x, is, named, among, refl)
@@ -177,4 +183,5 @@ module _ {H : Type 0} (at : Embedding H) where
   said-within number commands (SetFuel fuel) among to = tt
 
   pub all-said-within : (number : ℕ) (commands : List Command) → All (Asks number) commands → All (AsksWithin (reach_when_asked at number commands) number) commands
-  all-said-within number commands to = All-from (AsksWithin (reach_when_asked at number commands) number) commands (λ k c is. said-within number commands c (k, is) (All-at (Asks number) commands k c is to))
+  all-said-within number commands to = All-from (AsksWithin (reach_when_asked at number commands) number) commands
+      (λ k c is. said-within number commands c (k, is) (All-at (Asks number) commands k c is to))

@@ -10,7 +10,9 @@ use Rattle.meaning.specs.execution.Configurations.{Configuration, Frame, depth}
 use Rattle.meaning.specs.execution.Hosts.{AnswersWith, IsHostCall, IsHostStep, bytes_in, lent_bytes, with_bytes, with_lent_bytes}
 use Rattle.meaning.specs.execution.Instructions.{Next, Goes, Grows, Opens, CallsHost, Traps, Branches, Returns, TailCalls, Over, NotReady, next}
 use Rattle.meaning.specs.execution.Memories.{MemoryInstance}
-use Rattle.meaning.specs.execution.Runs.{Answer, AsksForMemory, Ending, HostTrap, IsEnd, IsStep, IsWithinBound, Results, WithValues, Run, State, Steps, goes, grows, opens, calls, values_left, trapped, host_trapped, no_fuel, no_depth, no_memory, end, step, none, one_more, price}
+use Rattle.meaning.specs.execution.Runs.{Answer, AsksForMemory, Ending, HostTrap, IsEnd, IsStep, IsWithinBound, Results, WithValues, Run, State, Steps, goes}
+use Rattle.meaning.specs.execution.Runs.{grows, opens, calls, values_left, trapped, host_trapped, no_fuel, no_depth, no_memory, end, step, none, one_more}
+use Rattle.meaning.specs.execution.Runs.{price}
 use Rattle.meaning.specs.execution.Store.{Store}
 use Rattle.meaning.specs.execution.Values.{type_of}
 use Rattle.soundness.proofs.Values.{All-at}
@@ -76,7 +78,9 @@ module _ (region : Region) where
     lent-moves : (lent : Option ℕ) → IsLentWithin region lent → (bytes : List ℕ) → Moves region a b (with_lent_bytes a lent bytes) (with_lent_bytes b lent bytes)
     lent-moves None has bytes = Moves-same region a b closed agree
     lent-moves (Some address) has bytes =
-        subst (λ (o : Option MemoryInstance). Moves region a b (with_bytes a address (slice_get a.memories address) bytes) (with_bytes b address o bytes)) (sym (agree.memories address has)) (go (slice_get a.memories address))
+        subst (λ (o : Option MemoryInstance).
+        Moves region a b (with_bytes a address (slice_get a.memories address) bytes) (with_bytes b address o bytes))
+        (sym (agree.memories address has)) (go (slice_get a.memories address))
       where
         go : (o : Option MemoryInstance) → Moves region a b (with_bytes a address o bytes) (with_bytes b address o bytes)
         go None = Moves-same region a b closed agree
@@ -100,7 +104,8 @@ module _ {H : Type 0} (host_type : H → FuncType) (Answers : H → List Val →
     outside : StaysOutside region region.hosts hosts_a hosts_a'
     within : AnswerIsWithin region answer
 
-  told-alike : (hosts_a hosts_b hosts_a' : List H) (number : ℕ) → Has region.hosts number → IsSameWithin region region.hosts hosts_a hosts_b → (lent : Option ℕ) → IsLentWithin region lent → (arguments : List Val) (a b a' : Store)
+  told-alike : (hosts_a hosts_b hosts_a' : List H) (number : ℕ) → Has region.hosts number → IsSameWithin region region.hosts hosts_a hosts_b
+      → (lent : Option ℕ) → IsLentWithin region lent → (arguments : List Val) (a b a' : Store)
       → IsClosed region a → AgreeWithin region a b → (answer : Answer) → NoFuncrefs hosts_a
       → HostStep hosts_a number lent arguments a answer a' hosts_a' → ToldAlike hosts_a hosts_b hosts_a' number lent arguments a b a' answer
   told-alike hosts_a hosts_b hosts_a' number of alike lent has arguments a b a' closed agree answer free (bytes, call, is) =
@@ -110,22 +115,25 @@ module _ {H : Type 0} (host_type : H → FuncType) (Answers : H → List Val →
         hosts_b' = slice_set hosts_b number call.host';
         told = (
           bytes,
-          subst (λ (bs : List ℕ). IsHostCall host_type Answers hosts_b number arguments bs answer bytes (slice_set hosts_b number call.host')) (sym (lent-same region a b closed agree lent has)) (record {
-            host = call.host;
-            host' = call.host';
-            is = alike number of ∙ call.is;
-            answers = call.answers;
-            typed = call.typed;
-            same_type = call.same_type;
-            same_length = call.same_length;
-            are_bytes = call.are_bytes;
-            hosts_are = refl;
-          }),
+          subst (λ (bs : List ℕ). IsHostCall host_type Answers hosts_b number arguments bs answer bytes (slice_set hosts_b number call.host'))
+              (sym (lent-same region a b closed agree lent has)) (record {
+                host = call.host;
+                host' = call.host';
+                is = alike number of ∙ call.is;
+                answers = call.answers;
+                typed = call.typed;
+                same_type = call.same_type;
+                same_length = call.same_length;
+                are_bytes = call.are_bytes;
+                hosts_are = refl;
+              }),
           refl,
         );
         moves = subst (λ (s : Store). Moves region a b s (with_lent_bytes b lent bytes)) (sym is) (lent-moves region a b closed agree lent has bytes);
-        no_funcrefs = subst NoFuncrefs (sym call.hosts_are) (All-set (GivesNoFuncref host_type) hosts_a number call.host' free (ap (λ (t : FuncType). has_funcref t.results) call.same_type ∙ own_free));
-        agree = subst (λ (hs : List H). IsSameWithin region region.hosts hs (slice_set hosts_b number call.host')) (sym call.hosts_are) (set-agrees region region.hosts number of call.host' hosts_a hosts_b alike);
+        no_funcrefs = subst NoFuncrefs (sym call.hosts_are)
+            (All-set (GivesNoFuncref host_type) hosts_a number call.host' free (ap (λ (t : FuncType). has_funcref t.results) call.same_type ∙ own_free));
+        agree = subst (λ (hs : List H). IsSameWithin region region.hosts hs (slice_set hosts_b number call.host')) (sym call.hosts_are)
+            (set-agrees region region.hosts number of call.host' hosts_a hosts_b alike);
         outside = subst (StaysOutside region region.hosts hosts_a) (sym call.hosts_are) (set-outside region region.hosts number of call.host' hosts_a);
         within = answer-within region answer (host_type call.host).results call.typed own_free;
       }
@@ -319,7 +327,8 @@ module _ {H : Type 0} (host_type : H → FuncType) (Answers : H → List Val →
     still-confined : (a a' : State H) (c c' : Configuration) → Confined a outside c → Keeps a a' → ConfigurationIsWithin region c' → Confined a' outside c'
     still-confined a a' c c' confined keeps within = record { closed = keeps.closed; no_funcrefs = keeps.no_funcrefs; frame = confined.frame; within = within }
 
-    pub run-alike : {a last : State H} {c : Configuration} {ending : Ending} → Run HostStep bound outside a c ending last → (b : State H) → Confined a outside c → LookAlike region a b → RunsAlike a b c ending last
+    pub run-alike : {a last : State H} {c : Configuration} {ending : Ending} → Run HostStep bound outside a c ending last → (b : State H)
+        → Confined a outside c → LookAlike region a b → RunsAlike a b c ending last
     run-alike {a} {last} {c} {ending} (end is) b confined look =
         let alike = end-alike a b c confined look is in
         record { last' = alike.last'; runs = end alike.ends; look = alike.look; keeps = alike.keeps; within = alike.within }

@@ -14,7 +14,8 @@ use Rattle.meaning.specs.structure.Bodies.{Body, Empty, Then, Nested, IfElse}
 use Rattle.meaning.specs.execution.Configurations.{Configuration, Frame, InFrame, InLabel, Invoking, Running}
 use Rattle.meaning.specs.execution.Effects.{Effect, Done, Grown, Fails, Lacks, effect}
 use Rattle.meaning.specs.execution.Instructions.{Next, Goes, Grows, Opens, CallsHost, Traps, Branches, Returns, TailCalls, Over, NotReady, continue_after, next}
-use Rattle.meaning.specs.execution.Modules.{Activity, Copies, Drops, Starts, RunTasks, Task, activity, all_done, constant_value, data_task, data_tasks, done, element_task, element_tasks, ended, in_instance, start_task, tasks_by, tasks_of}
+use Rattle.meaning.specs.execution.Modules.{Activity, Copies, Drops, Starts, RunTasks, Task, activity, all_done, constant_value, data_task, data_tasks, done}
+use Rattle.meaning.specs.execution.Modules.{element_task, element_tasks, ended, in_instance, start_task, tasks_by, tasks_of}
 use Rattle.meaning.specs.execution.Runs.{Answer, Ending, IsEnd, IsStep, Run, State, goes, grows, opens, calls, values_left, trapped, host_trapped, no_fuel, no_depth, no_memory, end, step}
 use Rattle.meaning.specs.execution.Store.{ModuleInstance, Store}
 use Rattle.isolation.specs.Isolation.{LinksWithoutStart}
@@ -114,7 +115,8 @@ module _ {H : Type 0} (HostStep : List H → ℕ → Option ℕ → List Val →
       subst (λ (x : Activity). RunsPlain x.configuration) one (plain, tt)
   activity-plain store n i (Starts x) a is plain = absurd plain
 
-  tasks-plain : (bound n : ℕ) (i : ModuleInstance) {old last : State H} {tasks : List Task} {ending : Ending} → RunTasks HostStep bound n i old tasks ending last → OfEach StartsNothing tasks → last.hosts ≡ old.hosts
+  tasks-plain : (bound n : ℕ) (i : ModuleInstance) {old last : State H} {tasks : List Task} {ending : Ending}
+      → RunTasks HostStep bound n i old tasks ending last → OfEach StartsNothing tasks → last.hosts ≡ old.hosts
   tasks-plain bound n i all_done each = refl
   tasks-plain bound n i {old} (done {task = task} {a = a} is run rest) each =
       tasks-plain bound n i rest each.1 ∙ run-plain bound a.frame run (activity-plain old.store n i task a is each.0)

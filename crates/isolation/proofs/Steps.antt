@@ -14,13 +14,18 @@ use Rattle.meaning.specs.structure.Bodies.{Kind, BlockKind, LoopKind, IfKind, Bo
 use Rattle.meaning.specs.execution.Configurations.{Activation, Configuration, Frame, InFrame, InLabel, Invoking, Label, Running, continue_with}
 use Rattle.meaning.specs.execution.Costs.{instruction_cost}
 use Rattle.meaning.specs.execution.Effects.{Effect, Done, Grown, Fails, Lacks, effect, table_at}
-use Rattle.meaning.specs.execution.Instructions.{Next, Goes, Grows, Opens, CallsHost, Traps, Branches, Returns, TailCalls, Over, NotReady, branch_by_table, branch_if, branch_to_label, call_entry, call_function, call_host, call_implementation, call_in_place, call_of_type, call_through, choose_body, continue_after, enter_label, function_at, in_place, label_of, lent_memory, next, return_from_frame, step_in_frame, step_in_label, step_instruction, step_sequence, tail_call, topmost, type_of_block}
+use Rattle.meaning.specs.execution.Instructions.{Next, Goes, Grows, Opens, CallsHost, Traps, Branches, Returns, TailCalls, Over, NotReady, branch_by_table}
+use Rattle.meaning.specs.execution.Instructions.{branch_if, branch_to_label, call_entry, call_function, call_host, call_implementation, call_in_place}
+use Rattle.meaning.specs.execution.Instructions.{call_of_type, call_through, choose_body, continue_after, enter_label, function_at, in_place, label_of}
+use Rattle.meaning.specs.execution.Instructions.{lent_memory, next, return_from_frame, step_in_frame, step_in_label, step_instruction, step_sequence, tail_call}
+use Rattle.meaning.specs.execution.Instructions.{topmost, type_of_block}
 use Rattle.meaning.specs.execution.Store.{FunctionInstance, Implementation, InCode, InHost, ModuleInstance, Store, instance_of, item_of}
 use Rattle.meaning.specs.execution.Tables.{TableInstance}
 use Rattle.meaning.specs.execution.Values.{default_of, type_of}
 use Rattle.meaning.specs.validation.Types.{are_same_types, block_type, is_same_function_type}
 use Rattle.soundness.proofs.Values.{All-at}
-use Rattle.isolation.specs.Regions.{AgreeWithin, ConfigurationIsWithin, FrameIsWithin, FunctionIsWithin, Has, ImplementationIsWithin, InstanceIsWithin, IsClosed, Region, ValueIsWithin, ValuesAreWithin}
+use Rattle.isolation.specs.Regions.{AgreeWithin, ConfigurationIsWithin, FrameIsWithin, FunctionIsWithin, Has, ImplementationIsWithin, InstanceIsWithin}
+use Rattle.isolation.specs.Regions.{IsClosed, Region, ValueIsWithin, ValuesAreWithin}
 use Rattle.isolation.proofs.Effects.{EffectsAgree, Found, effects, instance-same, instance-within, table-found}
 use Rattle.isolation.proofs.Moves.{Moves, Moves-same}
 use Rattle.isolation.proofs.Within.{append-within, at-within, defaults-within, drop-within, reverse-within, take-within}
@@ -37,7 +42,8 @@ NextsAgree region a b (Goes cost a' frame c) other =
 NextsAgree region a b (Grows cost a' frame c) other =
     (b' : Store) × (other ≡ Grows cost b' frame c) × Moves region a b a' b' × FrameIsWithin region frame × ConfigurationIsWithin region c
 NextsAgree region a b (Opens cost a' c) other = (b' : Store) × (other ≡ Opens cost b' c) × Moves region a b a' b' × ConfigurationIsWithin region c
-NextsAgree region a b (CallsHost cost number lent arguments c) other = (other ≡ CallsHost cost number lent arguments c) × IsLentWithin region lent × Has region.hosts number × ConfigurationIsWithin region c
+NextsAgree region a b (CallsHost cost number lent arguments c) other = (other ≡ CallsHost cost number lent arguments c) × IsLentWithin region lent
+    × Has region.hosts number × ConfigurationIsWithin region c
 NextsAgree region a b (Traps cost trap) other = other ≡ Traps cost trap
 NextsAgree region a b (Branches label values) other = (other ≡ Branches label values) × ValuesAreWithin region values
 NextsAgree region a b (Returns values) other = (other ≡ Returns values) × ValuesAreWithin region values
@@ -74,7 +80,8 @@ module _ (region : Region) (a b : Store) (closed : IsClosed region a) (agree : A
       go true = (refl, lends, of, drop-within region (length t.params) values within)
       go false = refl
 
-  implementation-called : (cost : ℕ) (lent : Option ℕ) → IsLentWithin region lent → (t : FuncType) (i : Implementation) → ImplementationIsWithin region i → (values : List Val) → ValuesAreWithin region values → (rest : Body)
+  implementation-called : (cost : ℕ) (lent : Option ℕ) → IsLentWithin region lent → (t : FuncType) (i : Implementation)
+      → ImplementationIsWithin region i → (values : List Val) → ValuesAreWithin region values → (rest : Body)
       → Agree (call_implementation cost a lent t i values rest) (call_implementation cost b lent t i values rest)
   implementation-called cost lent lends t (InCode instance code) fits values within rest = (
     b,
@@ -84,7 +91,8 @@ module _ (region : Region) (a b : Store) (closed : IsClosed region a) (agree : A
       drop-within region (length t.params) values within,
       record {
         instance = fits;
-        locals = append-within region (topmost t.params values) (map default_of code.locals) (reverse-within region _ (take-within region (length t.params) values within)) (defaults-within region code.locals);
+        locals = append-within region (topmost t.params values) (map default_of code.locals)
+            (reverse-within region _ (take-within region (length t.params) values within)) (defaults-within region code.locals);
       },
       (tt, tt),
     ),
@@ -96,7 +104,8 @@ module _ (region : Region) (a b : Store) (closed : IsClosed region a) (agree : A
   called cost lent lends None found values within rest = refl
   called cost lent lends (Some f) found values within rest = go (nat_le (length f.ty.params) (length values))
     where
-      go : (yes : Bool) → Agree (if yes then call_implementation cost a lent f.ty f.implementation values rest else NotReady) (if yes then call_implementation cost b lent f.ty f.implementation values rest else NotReady)
+      go : (yes : Bool) → Agree (if yes then call_implementation cost a lent f.ty f.implementation values rest else NotReady)
+          (if yes then call_implementation cost b lent f.ty f.implementation values rest else NotReady)
       go true = implementation-called cost lent lends f.ty f.implementation found values within rest
       go false = refl
 
@@ -104,11 +113,15 @@ module _ (region : Region) (a b : Store) (closed : IsClosed region a) (agree : A
   called-at : (cost : ℕ) (lent : Option ℕ) → IsLentWithin region lent → (address : ℕ) → Has region.functions address → (values : List Val) → ValuesAreWithin region values → (rest : Body)
       → Agree (call_function cost a lent (slice_get a.functions address) values rest) (call_function cost b lent (slice_get b.functions address) values rest)
   called-at cost lent lends address has values within rest =
-      subst (λ (o : Option FunctionInstance). Agree (call_function cost a lent (slice_get a.functions address) values rest) (call_function cost b lent o values rest)) (sym (agree.functions address has))
+      subst (λ (o : Option FunctionInstance).
+      Agree (call_function cost a lent (slice_get a.functions address) values rest) (call_function cost b lent o values rest))
+      (sym (agree.functions address has))
       (called cost lent lends (slice_get a.functions address) (function-there address has) values within rest)
 
   -- Two calls that agree, through an entry of a table.
-  module _ (ca cb : List Val → FunctionInstance → Next) (each : (values : List Val) → ValuesAreWithin region values → (f : FunctionInstance) → FunctionIsWithin region f → Agree (ca values f) (cb values f)) where
+  module _ (ca cb : List Val → FunctionInstance → Next)
+      (each : (values : List Val) → ValuesAreWithin region values → (f : FunctionInstance) → FunctionIsWithin region f
+      → Agree (ca values f) (cb values f)) where
     of-type : (t : FuncType) (values : List Val) → ValuesAreWithin region values → (o : Option FunctionInstance) → FunctionFound o → Agree (call_of_type (ca values) t o) (call_of_type (cb values) t o)
     of-type t values within None found = refl
     of-type t values within (Some f) found = go (is_same_function_type f.ty t)
@@ -117,7 +130,8 @@ module _ (region : Region) (a b : Store) (closed : IsClosed region a) (agree : A
         go true = each values within f found
         go false = refl
 
-    of-entry : (t : FuncType) (values : List Val) → ValuesAreWithin region values → (o : Option Val) → ((v : Val) → o ≡ Some v → ValueIsWithin region v) → Agree (call_entry a (ca values) t o) (call_entry b (cb values) t o)
+    of-entry : (t : FuncType) (values : List Val) → ValuesAreWithin region values → (o : Option Val)
+        → ((v : Val) → o ≡ Some v → ValueIsWithin region v) → Agree (call_entry a (ca values) t o) (call_entry b (cb values) t o)
     of-entry t values within None fits = refl
     of-entry t values within (Some (FuncRef None)) fits = refl
     of-entry t values within (Some (FuncRef (Some address))) fits =
@@ -126,7 +140,8 @@ module _ (region : Region) (a b : Store) (closed : IsClosed region a) (agree : A
         (of-type t values within (slice_get a.functions address) (function-there address has))
     of-entry t values within (Some v) fits = refl
 
-    through : (o : Option FuncType) (found : Option (ℕ × TableInstance)) → Found region.tables a.tables found → (values : List Val) → ValuesAreWithin region values → Agree (call_through a ca o found values) (call_through b cb o found values)
+    through : (o : Option FuncType) (found : Option (ℕ × TableInstance)) → Found region.tables a.tables found → (values : List Val)
+        → ValuesAreWithin region values → Agree (call_through a ca o found values) (call_through b cb o found values)
     through (Some t) (Some (address, table)) found (I32 i ∷ values) within =
         of-entry t values within.1 (slice_get table.entries i) (λ v is. at-within region table.entries i v (closed.tables address table found.0 found.1) is)
     through o other found values within = refl
@@ -140,7 +155,8 @@ module _ (region : Region) (a b : Store) (closed : IsClosed region a) (agree : A
 
     function-found : (x : ℕ) → (function_at b frame x ≡ function_at a frame x) × FunctionFound (function_at a frame x)
     function-found x =
-        let (there, found) = go (slice_get (instance_of a frame.instance).functions x) (λ address is. All-at (Has region.functions) (instance_of a frame.instance).functions x address is has.functions) in
+        let (there, found) = go (slice_get (instance_of a frame.instance).functions x)
+        (λ address is. All-at (Has region.functions) (instance_of a frame.instance).functions x address is has.functions) in
         (ap (λ (i : ModuleInstance). item_of b.functions (slice_get i.functions x)) same-instance ∙ there, found)
       where
         go : (o : Option ℕ) → ((address : ℕ) → o ≡ Some address → Has region.functions address) → (item_of b.functions o ≡ item_of a.functions o) × FunctionFound (item_of a.functions o)
@@ -163,8 +179,10 @@ module _ (region : Region) (a b : Store) (closed : IsClosed region a) (agree : A
     -- ---- one instruction
 
     continues : (e e' : Effect) → EffectsAgree region a b e e' → (rest : Body) → Agree (continue_after frame e rest) (continue_after frame e' rest)
-    continues (Done cost a' locals values) e' (b', is, moves, locals_within, within) rest = (b', ap (λ (z : Effect). continue_after frame z rest) is, moves, record { instance = own.instance; locals = locals_within }, within)
-    continues (Grown cost a' locals values) e' (b', is, moves, locals_within, within) rest = (b', ap (λ (z : Effect). continue_after frame z rest) is, moves, record { instance = own.instance; locals = locals_within }, within)
+    continues (Done cost a' locals values) e' (b', is, moves, locals_within, within) rest =
+        (b', ap (λ (z : Effect). continue_after frame z rest) is, moves, record { instance = own.instance; locals = locals_within }, within)
+    continues (Grown cost a' locals values) e' (b', is, moves, locals_within, within) rest =
+        (b', ap (λ (z : Effect). continue_after frame z rest) is, moves, record { instance = own.instance; locals = locals_within }, within)
     continues (Fails trap) e' is rest = ap (λ (z : Effect). continue_after frame z rest) is
     continues Lacks e' is rest = ap (λ (z : Effect). continue_after frame z rest) is
 
@@ -177,7 +195,8 @@ module _ (region : Region) (a b : Store) (closed : IsClosed region a) (agree : A
     branches-by table (I32 n ∷ values) within = (refl, within.1)
     branches-by table values within = refl
 
-    tail-called : (o : Option FunctionInstance) → FunctionFound o → (values : List Val) → ValuesAreWithin region values → Agree (tail_call (lent_memory a frame) o values) (tail_call (lent_memory a frame) o values)
+    tail-called : (o : Option FunctionInstance) → FunctionFound o → (values : List Val) → ValuesAreWithin region values
+        → Agree (tail_call (lent_memory a frame) o values) (tail_call (lent_memory a frame) o values)
     tail-called None found values within = refl
     tail-called (Some f) found values within = (refl, lends, found, within)
 
@@ -194,14 +213,23 @@ module _ (region : Region) (a b : Store) (closed : IsClosed region a) (agree : A
     instructions (Control Return) values within rest = (refl, within)
     instructions (Control (Call x)) values within rest =
         let (there, found) = function-found x in
-        subst (λ (o : Option FunctionInstance). Agree (call_function instruction_cost a (lent_memory a frame) (function_at a frame x) values rest) (call_function instruction_cost b (lent_memory b frame) o values rest)) (sym there)
-        (subst (λ (l : Option ℕ). Agree (call_function instruction_cost a (lent_memory a frame) (function_at a frame x) values rest) (call_function instruction_cost b l (function_at a frame x) values rest)) (sym lent-same)
+        subst (λ (o : Option FunctionInstance).
+        Agree (call_function instruction_cost a (lent_memory a frame) (function_at a frame x) values rest)
+        (call_function instruction_cost b (lent_memory b frame) o values rest)) (sym there)
+        (subst (λ (l : Option ℕ). Agree (call_function instruction_cost a (lent_memory a frame) (function_at a frame x) values rest)
+        (call_function instruction_cost b l (function_at a frame x) values rest)) (sym lent-same)
         (called instruction_cost (lent_memory a frame) lends (function_at a frame x) found values within rest))
     instructions (Control (CallIndirect type x)) values within rest =
         let (there, found) = table-found region a b closed agree frame own x in
-        subst (λ (o : Option (ℕ × TableInstance)). Agree (step_instruction a frame (Control (CallIndirect type x)) values rest) (call_through b (λ under f. call_function instruction_cost b (lent_memory b frame) (Some f) under rest) (type_in b type) o values)) (sym there)
-        (subst (λ (o : Option FuncType). Agree (step_instruction a frame (Control (CallIndirect type x)) values rest) (call_through b (λ under f. call_function instruction_cost b (lent_memory b frame) (Some f) under rest) o (table_at a frame x) values)) (sym (type-same type))
-        (subst (λ (l : Option ℕ). Agree (step_instruction a frame (Control (CallIndirect type x)) values rest) (call_through b (λ under f. call_function instruction_cost b l (Some f) under rest) (type_in a type) (table_at a frame x) values)) (sym lent-same)
+        subst (λ (o : Option (ℕ × TableInstance)).
+        Agree (step_instruction a frame (Control (CallIndirect type x)) values rest)
+        (call_through b (λ under f. call_function instruction_cost b (lent_memory b frame) (Some f) under rest) (type_in b type) o values)) (sym there)
+        (subst (λ (o : Option FuncType).
+        Agree (step_instruction a frame (Control (CallIndirect type x)) values rest)
+        (call_through b (λ under f. call_function instruction_cost b (lent_memory b frame) (Some f) under rest) o (table_at a frame x) values))
+        (sym (type-same type))
+        (subst (λ (l : Option ℕ). Agree (step_instruction a frame (Control (CallIndirect type x)) values rest)
+        (call_through b (λ under f. call_function instruction_cost b l (Some f) under rest) (type_in a type) (table_at a frame x) values)) (sym lent-same)
         (through (λ under f. call_function instruction_cost a (lent_memory a frame) (Some f) under rest) (λ under f. call_function instruction_cost b (lent_memory a frame) (Some f) under rest)
         (λ under under_within f fits. called instruction_cost (lent_memory a frame) lends (Some f) fits under under_within rest) (type_in a type) (table_at a frame x) found values within)))
     instructions (Control (ReturnCall x)) values within rest =
@@ -211,10 +239,16 @@ module _ (region : Region) (a b : Store) (closed : IsClosed region a) (agree : A
         (tail-called (function_at a frame x) found values within))
     instructions (Control (ReturnCallIndirect type x)) values within rest =
         let (there, found) = table-found region a b closed agree frame own x in
-        subst (λ (o : Option (ℕ × TableInstance)). Agree (step_instruction a frame (Control (ReturnCallIndirect type x)) values rest) (call_through b (λ under f. TailCalls (lent_memory b frame) f under) (type_in b type) o values)) (sym there)
-        (subst (λ (o : Option FuncType). Agree (step_instruction a frame (Control (ReturnCallIndirect type x)) values rest) (call_through b (λ under f. TailCalls (lent_memory b frame) f under) o (table_at a frame x) values)) (sym (type-same type))
-        (subst (λ (l : Option ℕ). Agree (step_instruction a frame (Control (ReturnCallIndirect type x)) values rest) (call_through b (λ under f. TailCalls l f under) (type_in a type) (table_at a frame x) values)) (sym lent-same)
-        (through (λ under f. TailCalls (lent_memory a frame) f under) (λ under f. TailCalls (lent_memory a frame) f under) (λ under under_within f fits. (refl, lends, fits, under_within)) (type_in a type) (table_at a frame x) found values within)))
+        subst (λ (o : Option (ℕ × TableInstance)).
+        Agree (step_instruction a frame (Control (ReturnCallIndirect type x)) values rest)
+        (call_through b (λ under f. TailCalls (lent_memory b frame) f under) (type_in b type) o values)) (sym there)
+        (subst (λ (o : Option FuncType).
+        Agree (step_instruction a frame (Control (ReturnCallIndirect type x)) values rest)
+        (call_through b (λ under f. TailCalls (lent_memory b frame) f under) o (table_at a frame x) values)) (sym (type-same type))
+        (subst (λ (l : Option ℕ). Agree (step_instruction a frame (Control (ReturnCallIndirect type x)) values rest)
+        (call_through b (λ under f. TailCalls l f under) (type_in a type) (table_at a frame x) values)) (sym lent-same)
+        (through (λ under f. TailCalls (lent_memory a frame) f under) (λ under f. TailCalls (lent_memory a frame) f under)
+        (λ under under_within f fits. (refl, lends, fits, under_within)) (type_in a type) (table_at a frame x) found values within)))
     instructions op values within rest = continues (effect a frame op values) (effect b frame op values) (effects region a b closed agree frame own op values within) rest
 
     -- ---- sequences
@@ -239,10 +273,13 @@ module _ (region : Region) (a b : Store) (closed : IsClosed region a) (agree : A
     enters-block : (kind : Kind) (type : BlockType) (inside : Body) (values : List Val) → ValuesAreWithin region values → (rest : Body)
         → Agree (enter_label a frame kind type (type_of_block a frame type) inside values rest) (enter_label b frame kind type (type_of_block b frame type) inside values rest)
     enters-block kind type inside values within rest =
-        subst (λ (o : Option FuncType). Agree (enter_label a frame kind type (type_of_block a frame type) inside values rest) (enter_label b frame kind type o inside values rest)) (sym (block-same type))
+        subst (λ (o : Option FuncType).
+        Agree (enter_label a frame kind type (type_of_block a frame type) inside values rest)
+        (enter_label b frame kind type o inside values rest)) (sym (block-same type))
         (enters kind type (type_of_block a frame type) inside values within rest)
 
-    chooses : (type : BlockType) (inside other : Body) (values : List Val) → ValuesAreWithin region values → (rest : Body) → Agree (choose_body a frame type inside other values rest) (choose_body b frame type inside other values rest)
+    chooses : (type : BlockType) (inside other : Body) (values : List Val) → ValuesAreWithin region values → (rest : Body)
+        → Agree (choose_body a frame type inside other values rest) (choose_body b frame type inside other values rest)
     chooses type inside other (I32 zero ∷ values) within rest = enters-block IfKind type other values within.1 rest
     chooses type inside other (I32 (suc n) ∷ values) within rest = enters-block IfKind type inside values within.1 rest
     chooses type inside other values within rest = refl
@@ -312,8 +349,11 @@ module _ (region : Region) (a b : Store) (closed : IsClosed region a) (agree : A
               → Agree (if yes then in_place frame (call_function instruction_cost a lent (Some f) (take (length f.ty.params) kept ++ activation.values) activation.rest) else NotReady)
               (if yes then in_place frame (call_function instruction_cost b lent (Some f) (take (length f.ty.params) kept ++ activation.values) activation.rest) else NotReady)
           go true =
-              placed (call_function instruction_cost a lent (Some f) (take (length f.ty.params) kept ++ activation.values) activation.rest) (call_function instruction_cost b lent (Some f) (take (length f.ty.params) kept ++ activation.values) activation.rest)
-              (called instruction_cost lent lends' (Some f) fits (take (length f.ty.params) kept ++ activation.values) (append-within region (take (length f.ty.params) kept) activation.values (take-within region (length f.ty.params) kept within) under) activation.rest)
+              placed (call_function instruction_cost a lent (Some f) (take (length f.ty.params) kept ++ activation.values) activation.rest)
+              (call_function instruction_cost b lent (Some f) (take (length f.ty.params) kept ++ activation.values) activation.rest)
+              (called instruction_cost lent lends' (Some f) fits (take (length f.ty.params) kept ++ activation.values)
+              (append-within region (take (length f.ty.params) kept) activation.values (take-within region (length f.ty.params) kept within)
+              under) activation.rest)
           go false = refl
 
       framed : (n n' : Next) → Agree n n' → Agree (step_in_frame a frame activation inner n) (step_in_frame b frame activation inner n')

@@ -27,7 +27,8 @@ module _ {H : Type 0} (host_type : H → FuncType) (Answers : H → List Val →
   abbrev HostStep : List H → ℕ → Option ℕ → List Val → Store → Answer → Store → List H → Type 0
   HostStep = IsHostStep host_type Answers
 
-  told-still : (hosts hosts' : List H) (number : ℕ) (lent : Option ℕ) (arguments : List Val) (store store' : Store) (answer : Answer) → All KeepsStill hosts → HostStep hosts number lent arguments store answer store' hosts' → hosts' ≡ hosts
+  told-still : (hosts hosts' : List H) (number : ℕ) (lent : Option ℕ) (arguments : List Val) (store store' : Store) (answer : Answer)
+      → All KeepsStill hosts → HostStep hosts number lent arguments store answer store' hosts' → hosts' ≡ hosts
   told-still hosts hosts' number lent arguments store store' answer kept (bytes', call, is) =
       let same = still call.host call.host' arguments _ bytes' answer (All-at KeepsStill hosts number call.host call.is kept) call.answers call.same_type in
       call.hosts_are ∙ ap (slice_set hosts number) same ∙ set-back hosts number call.host call.is
@@ -37,12 +38,14 @@ module _ {H : Type 0} (host_type : H → FuncType) (Answers : H → List Val →
     step-still kept (goes is enough left same) = same
     step-still kept (grows is enough left same) = same
     step-still kept (opens is enough left same within) = same
-    step-still {old} {new} kept (calls {number = number} {lent = lent} {arguments = arguments} {results = results} is enough left told answered) = told-still old.hosts new.hosts number lent arguments old.store new.store _ kept told
+    step-still {old} {new} kept (calls {number = number} {lent = lent} {arguments = arguments} {results = results} is enough left told answered) =
+        told-still old.hosts new.hosts number lent arguments old.store new.store _ kept told
 
     end-still : {at last : State H} {c : Configuration} {ending : Ending} → All KeepsStill at.hosts → IsEnd HostStep bound outside at c ending last → last.hosts ≡ at.hosts
     end-still kept (values_left is e l) = ap (λ (s : State H). s.hosts) l
     end-still kept (trapped is enough e l) = ap (λ (s : State H). s.hosts) l
-    end-still {at} {last} kept (host_trapped {number = number} {lent = lent} {arguments = arguments} is enough left told e) = told-still at.hosts last.hosts number lent arguments at.store last.store _ kept told
+    end-still {at} {last} kept (host_trapped {number = number} {lent = lent} {arguments = arguments} is enough left told e) = told-still at.hosts
+        last.hosts number lent arguments at.store last.store _ kept told
     end-still kept (no_fuel little e l) = ap (λ (s : State H). s.hosts) l
     end-still kept (no_depth is enough deep e l) = ap (λ (s : State H). s.hosts) l
     end-still kept (no_memory asks within enough e l) = ap (λ (s : State H). s.hosts) l
@@ -51,12 +54,14 @@ module _ {H : Type 0} (host_type : H → FuncType) (Answers : H → List Val →
     run-still kept (end is) = end-still kept is
     run-still kept (step first rest) = let same = step-still kept first in run-still (subst (All KeepsStill) (sym same) kept) rest ∙ same
 
-  tasks-still : (bound n : ℕ) (i : ModuleInstance) {old last : State H} {tasks : List Task} {ending : Ending} → All KeepsStill old.hosts → RunTasks HostStep bound n i old tasks ending last → last.hosts ≡ old.hosts
+  tasks-still : (bound n : ℕ) (i : ModuleInstance) {old last : State H} {tasks : List Task} {ending : Ending} → All KeepsStill old.hosts
+      → RunTasks HostStep bound n i old tasks ending last → last.hosts ≡ old.hosts
   tasks-still bound n i kept all_done = refl
   tasks-still bound n i kept (done {a = a} is run rest) = let same = run-still bound a.frame kept run in tasks-still bound n i (subst (All KeepsStill) (sym same) kept) rest ∙ same
   tasks-still bound n i kept (ended {a = a} is run empty) = run-still bound a.frame kept run
 
-  link-still : (bound : ℕ) (m : Module) (given : List Extern) {old new : State H} {ending : Ending} → All KeepsStill old.hosts → Instantiation HostStep bound m given old ending new → new.hosts ≡ old.hosts
+  link-still : (bound : ℕ) (m : Module) (given : List Extern) {old new : State H} {ending : Ending} → All KeepsStill old.hosts
+      → Instantiation HostStep bound m given old ending new → new.hosts ≡ old.hosts
   link-still bound m given kept link = tasks-still bound _ _ kept link.ran
 
   change-still : {old new : Embedding H} {command : Command} {reply : Reply} → All KeepsStill old.state.hosts → Change HostStep old command reply new → new.state.hosts ≡ old.state.hosts
@@ -71,7 +76,8 @@ module _ {H : Type 0} (host_type : H → FuncType) (Answers : H → List Val →
   pub command-still : (old new : Embedding H) (command : Command) (reply : Reply) → All KeepsStill old.state.hosts → Applies HostStep old command reply new → new.state.hosts ≡ old.state.hosts
   command-still old new command reply kept applies = change-still kept (command-change HostStep old new reply command applies)
 
-  pub list-still : {old last : Embedding H} {commands : List Command} {replies : List Reply} → All KeepsStill old.state.hosts → AppliesAll HostStep old commands replies last → last.state.hosts ≡ old.state.hosts
+  pub list-still : {old last : Embedding H} {commands : List Command} {replies : List Reply} → All KeepsStill old.state.hosts
+      → AppliesAll HostStep old commands replies last → last.state.hosts ≡ old.state.hosts
   list-still kept machine.none = refl
   list-still {old} kept (machine.then_on {between = between} {command = command} {reply = reply} first rest) =
       let same = command-still old between command reply kept first in

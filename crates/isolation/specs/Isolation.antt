@@ -12,7 +12,8 @@ use Rattle.meaning.specs.execution.Runs.{Answer, Ending, WithValues, WithTrap, O
 use Rattle.meaning.specs.execution.Store.{Store}
 use Rattle.soundness.specs.Hosts.{GivesNoFuncref}
 use Rattle.isolation.specs.Hosts.{AnswersBy, Behaviour, HostStepBy}
-use Rattle.isolation.specs.Regions.{AgreeWithin, AllocatesNothing, ConfigurationIsWithin, ExternsAreWithin, FrameIsWithin, HaveSameCounts, IsClosed, IsSameWithin, StaysOutside, KeepsCode, LeavesOutside, Marks, Region, ValuesAreWithin, marked, with_new}
+use Rattle.isolation.specs.Regions.{AgreeWithin, AllocatesNothing, ConfigurationIsWithin, ExternsAreWithin, FrameIsWithin, HaveSameCounts, IsClosed}
+use Rattle.isolation.specs.Regions.{IsSameWithin, StaysOutside, KeepsCode, LeavesOutside, Marks, Region, ValuesAreWithin, marked, with_new}
 
 -- The values of an ending refer to no function outside of the region.
 abbrev pub EndingIsWithin : Region → Ending → Type 0

@@ -18,17 +18,20 @@ IsInRange-fits bits z narrow range = omega (arith, ints, half_at_most bits narro
 pub last_reads : (bits byte : ℕ) (z : ℤ) (after : List ℕ) → EndsSigned bits byte z → Reads (SpellsSigned bits) (byte ∷ after) z after
 last_reads bits byte z after ends = record { text = byte ∷ []; spelt = ends; parts = refl }
 
-more_spelt : (bits byte : ℕ) (high z : ℤ) (text : List ℕ) → 2 ^ 7 ≤ byte → 7 < bits → SpellsSigned (bits - 7) text high → z +ℤ pos (2 ^ 7) ≡ (pos (2 ^ 7) *ℤ high) +ℤ pos byte → SpellsSigned bits (byte ∷ text) z
+more_spelt : (bits byte : ℕ) (high z : ℤ) (text : List ℕ) → 2 ^ 7 ≤ byte → 7 < bits → SpellsSigned (bits - 7) text high → z +ℤ pos (2 ^ 7)
+    ≡ (pos (2 ^ 7) *ℤ high) +ℤ pos byte → SpellsSigned bits (byte ∷ text) z
 more_spelt bits byte high z [] more wide spelt value = absurd spelt
 more_spelt bits byte high z (next ∷ text) more wide spelt value = (more, wide, (high, spelt, value))
 
 -- A byte that is not the last, followed by the encoding of the rest.
-pub more_reads : (bits byte : ℕ) (high z : ℤ) (bytes after : List ℕ) → 2 ^ 7 ≤ byte → 7 < bits → Reads (SpellsSigned (bits - 7)) bytes high after → z +ℤ pos (2 ^ 7) ≡ (pos (2 ^ 7) *ℤ high) +ℤ pos byte → Reads (SpellsSigned bits) (byte ∷ bytes) z after
+pub more_reads : (bits byte : ℕ) (high z : ℤ) (bytes after : List ℕ) → 2 ^ 7 ≤ byte → 7 < bits → Reads (SpellsSigned (bits - 7)) bytes high after
+    → z +ℤ pos (2 ^ 7) ≡ (pos (2 ^ 7) *ℤ high) +ℤ pos byte → Reads (SpellsSigned bits) (byte ∷ bytes) z after
 more_reads bits byte high z bytes after more wide rest value =
     record { text = byte ∷ rest.text; spelt = more_spelt bits byte high z rest.text more wide rest.spelt value; parts = ap (λ (x : List ℕ). byte ∷ x) rest.parts }
 
 -- No encoding begins with a last byte that represents nothing, nor with another byte if the rest encodes nothing.
-pub none_reads : (bits byte : ℕ) (bytes : List ℕ) → (byte < 2 ^ 7 → (z : ℤ) → EndsSigned bits byte z → ⊥) → (2 ^ 7 ≤ byte → 7 < bits → NoFront (SpellsSigned (bits - 7)) bytes) → NoFront (SpellsSigned bits) (byte ∷ bytes)
+pub none_reads : (bits byte : ℕ) (bytes : List ℕ) → (byte < 2 ^ 7 → (z : ℤ) → EndsSigned bits byte z → ⊥)
+    → (2 ^ 7 ≤ byte → 7 < bits → NoFront (SpellsSigned (bits - 7)) bytes) → NoFront (SpellsSigned bits) (byte ∷ bytes)
 none_reads bits byte bytes last more [] rest z parts spelt = absurd spelt
 none_reads bits byte bytes last more (first ∷ []) rest z parts spelt =
     let same : first ≡ byte = cc in

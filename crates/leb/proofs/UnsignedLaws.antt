@@ -12,12 +12,14 @@ more_spelt bits byte high n [] more wide spelt value = absurd spelt
 more_spelt bits byte high n (next ∷ text) more wide spelt value = (more, wide, (high, spelt, value))
 
 -- A byte that is not the last, followed by the encoding of the rest.
-pub more_reads : (bits byte high n : ℕ) (bytes after : List ℕ) → 2 ^ 7 ≤ byte → 7 < bits → Reads (SpellsUnsigned (bits - 7)) bytes high after → n + 2 ^ 7 ≡ 2 ^ 7 * high + byte → Reads (SpellsUnsigned bits) (byte ∷ bytes) n after
+pub more_reads : (bits byte high n : ℕ) (bytes after : List ℕ) → 2 ^ 7 ≤ byte → 7 < bits → Reads (SpellsUnsigned (bits - 7)) bytes high after
+    → n + 2 ^ 7 ≡ 2 ^ 7 * high + byte → Reads (SpellsUnsigned bits) (byte ∷ bytes) n after
 more_reads bits byte high n bytes after more wide rest value =
     record { text = byte ∷ rest.text; spelt = more_spelt bits byte high n rest.text more wide rest.spelt value; parts = ap (λ (x : List ℕ). byte ∷ x) rest.parts }
 
 -- No encoding begins with a last byte that the bits do not hold, nor with another byte if the rest encodes nothing.
-pub none_reads : (bits byte : ℕ) (bytes : List ℕ) → (byte < 2 ^ 7 → byte < 2 ^ bits → ⊥) → (2 ^ 7 ≤ byte → 7 < bits → NoFront (SpellsUnsigned (bits - 7)) bytes) → NoFront (SpellsUnsigned bits) (byte ∷ bytes)
+pub none_reads : (bits byte : ℕ) (bytes : List ℕ) → (byte < 2 ^ 7 → byte < 2 ^ bits → ⊥)
+    → (2 ^ 7 ≤ byte → 7 < bits → NoFront (SpellsUnsigned (bits - 7)) bytes) → NoFront (SpellsUnsigned bits) (byte ∷ bytes)
 none_reads bits byte bytes last more [] rest value parts spelt = absurd spelt
 none_reads bits byte bytes last more (first ∷ []) rest value parts spelt =
     let same : byte ≡ first = cc in

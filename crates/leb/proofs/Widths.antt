@@ -12,12 +12,6 @@ pow_at_most bits narrow = pow_mono narrow
 pub half_at_most : (bits : ℕ) → bits ≤ 64 → 2 ^ (bits - 1) ≤ 2 ^ 63
 half_at_most bits narrow = let less : bits - 1 ≤ 63 = omega arith in pow_mono less
 
--- A byte takes seven of the bits.
-pub pow-seven_less : (bits : ℕ) → 7 < bits → 2 ^ bits ≡ 2 ^ (bits - 7) * 2 ^ 7
-pow-seven_less bits wide =
-    let parts : bits ≡ bits - 7 + 7 = omega arith in
-    ap (λ (k : ℕ). 2 ^ k) parts ∙ pow-add 2 (bits - 7) 7
-
 pub half-seven_less : (bits : ℕ) → 7 < bits → 2 ^ (bits - 1) ≡ 2 ^ (bits - 7 - 1) * 2 ^ 7
 half-seven_less bits wide =
     let parts : bits - 1 ≡ bits - 7 - 1 + 7 = omega arith in

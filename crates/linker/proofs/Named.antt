@@ -15,7 +15,8 @@ module _ {Z V W : Type 0} (f : V → W) where
   pub named-insert_entry : (entries : List (String Z × V)) (key : String Z) (item : V) → named f (insert_entry string_eq entries key item) ≡ put_under (named f entries) (string_bytes key) (f item)
   named-insert_entry [] key item = refl
   named-insert_entry (e ∷ es) key item =
-      elim (string_eq key e.0) as (λ (b : Bool). named f (if b then (e.0, item) ∷ es else e ∷ insert_entry string_eq es key item) ≡ (if b then (string_bytes e.0, f item) ∷ named f es else (string_bytes e.0, f e.1) ∷ put_under (named f es) (string_bytes key) (f item)))
+      elim (string_eq key e.0) as (λ (b : Bool). named f (if b then (e.0, item) ∷ es else e ∷ insert_entry string_eq es key item)
+      ≡ (if b then (string_bytes e.0, f item) ∷ named f es else (string_bytes e.0, f e.1) ∷ put_under (named f es) (string_bytes key) (f item)))
       [ true ↦ refl | false ↦ ap (λ (rest : List (List ℕ × W)). (string_bytes e.0, f e.1) ∷ rest) (named-insert_entry es key item) ]
 
   module _ (name : List ℕ) where
@@ -27,18 +28,21 @@ module _ {Z V W : Type 0} (f : V → W) where
         [ true ↦ refl | false ↦ under-named es ]
 
     -- Another item in place of one that exists.
-    pub named-set_value : (entries : List (String Z × V)) (old item : V) → lookup (is_named name) entries ≡ Some old → named f (set_value (is_named name) entries item) ≡ put_under (named f entries) name (f item)
+    pub named-set_value : (entries : List (String Z × V)) (old item : V) → lookup (is_named name) entries ≡ Some old
+        → named f (set_value (is_named name) entries item) ≡ put_under (named f entries) name (f item)
     named-set_value [] old item there = absurd cc
     named-set_value (e ∷ es) old item there = by (is_named name e.0) there (named-set_value es old item)
       where
         by : (b : Bool) → cond b (Some e.1) (lookup (is_named name) es) ≡ Some old
             → (lookup (is_named name) es ≡ Some old → named f (set_value (is_named name) es item) ≡ put_under (named f es) name (f item))
-            → named f (cond b ((e.0, item) ∷ es) (e ∷ set_value (is_named name) es item)) ≡ (if b then (string_bytes e.0, f item) ∷ named f es else (string_bytes e.0, f e.1) ∷ put_under (named f es) name (f item))
+            → named f (cond b ((e.0, item) ∷ es) (e ∷ set_value (is_named name) es item))
+            ≡ (if b then (string_bytes e.0, f item) ∷ named f es else (string_bytes e.0, f e.1) ∷ put_under (named f es) name (f item))
         by true h rest = refl
         by false h rest = ap (λ (others : List (List ℕ × W)). (string_bytes e.0, f e.1) ∷ others) (rest h)
 
     -- Another item that means the same.
-    pub named-set_same : (entries : List (String Z × V)) (old item : V) → lookup (is_named name) entries ≡ Some old → f item ≡ f old → named f (set_value (is_named name) entries item) ≡ named f entries
+    pub named-set_same : (entries : List (String Z × V)) (old item : V) → lookup (is_named name) entries ≡ Some old → f item ≡ f old
+        → named f (set_value (is_named name) entries item) ≡ named f entries
     named-set_same [] old item there same = refl
     named-set_same (e ∷ es) old item there same = by (is_named name e.0) there (λ h. named-set_same es old item h same)
       where
@@ -67,11 +71,13 @@ number-under numbers name = by (lookup (is_named name) numbers.entries) ∙ sym 
 
 module _ {Z S : Type 0} (maps : IndexMap (String Z) (IndexMap (String Z) ℕ S) S) (first : List ℕ) where
   pub no_numbers : None ≡ lookup (is_named first) maps.entries → [] ≡ unwrap_or (under (maps_in maps) first) []
-  no_numbers none = ap (λ (o : Option (IndexMap (String Z) ℕ S)). unwrap_or (option_map numbers_in o) []) none ∙ sym (ap (λ (o : Option (List (List ℕ × ℕ))). unwrap_or o []) (under-named numbers_in first maps.entries))
+  no_numbers none = ap (λ (o : Option (IndexMap (String Z) ℕ S)). unwrap_or (option_map numbers_in o) []) none ∙ sym
+      (ap (λ (o : Option (List (List ℕ × ℕ))). unwrap_or o []) (under-named numbers_in first maps.entries))
 
   module _ (numbers : IndexMap (String Z) ℕ S) (there : Some numbers ≡ lookup (is_named first) maps.entries) where
     pub numbers-there : numbers_in numbers ≡ unwrap_or (under (maps_in maps) first) []
-    numbers-there = ap (λ (o : Option (IndexMap (String Z) ℕ S)). unwrap_or (option_map numbers_in o) []) there ∙ sym (ap (λ (o : Option (List (List ℕ × ℕ))). unwrap_or o []) (under-named numbers_in first maps.entries))
+    numbers-there = ap (λ (o : Option (IndexMap (String Z) ℕ S)). unwrap_or (option_map numbers_in o) []) there ∙ sym
+        (ap (λ (o : Option (List (List ℕ × ℕ))). unwrap_or o []) (under-named numbers_in first maps.entries))
 
     -- The number under both names.
     pub number-there : (second : List ℕ) → lookup (is_named second) numbers.entries ≡ under (unwrap_or (under (maps_in maps) first) []) second

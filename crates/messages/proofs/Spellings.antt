@@ -44,7 +44,8 @@ same_text m us text rest bytes h k e f =
 
 module _ {X : Type 0} (P : X → Type 0) (spelling : X → List ℕ) (k : ℕ) (width : (x : X) → length (spelling x) ≡ suc k) where
   -- If that many items are not all items, another one is next.
-  pub next_item : (xs ys : List X) (us vs : List ℕ) → All P ys → length xs < length ys → flat_map spelling xs ++ us ≡ flat_map spelling ys ++ vs → (y : X) × (rest : List ℕ) × P y × (spelling y ++ rest ≡ us)
+  pub next_item : (xs ys : List X) (us vs : List ℕ) → All P ys → length xs < length ys → flat_map spelling xs ++ us ≡ flat_map spelling ys ++ vs
+      → (y : X) × (rest : List ℕ) × P y × (spelling y ++ rest ≡ us)
   next_item xs [] us vs all shorter e = absurd (omega (arith, shorter))
   next_item [] (y ∷ ys) us vs all shorter e =
       (y, flat_map spelling ys ++ vs, all 0 y (omega arith), sym (append_assoc (spelling y) (flat_map spelling ys) vs) ∙ sym e)

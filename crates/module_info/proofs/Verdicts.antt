@@ -16,7 +16,9 @@ found-of bytes m Valid one decoded valid = (m, decoded, valid)
 found-of bytes m Refused one decoded invalid = λ other spelt valid. invalid (rw (one m other decoded.spelt spelt.spelt) valid)
 found-of bytes m OutOfMemory one decoded found = tt
 
-pub all-found-of : {E : Type 0} (bytes : List ℕ) (m : Module) (r : Result Verdict E) → ((a b : Module) → SpellsModule bytes a → SpellsModule bytes b → a ≡ b) → IsDecoded bytes m → IfOk r (λ verdict. IsFoundOf m verdict) → IfOk r (λ verdict. IsFound bytes verdict)
+pub all-found-of : {E : Type 0} (bytes : List ℕ) (m : Module) (r : Result Verdict E)
+    → ((a b : Module) → SpellsModule bytes a → SpellsModule bytes b → a ≡ b) → IsDecoded bytes m → IfOk r (λ verdict. IsFoundOf m verdict)
+    → IfOk r (λ verdict. IsFound bytes verdict)
 all-found-of bytes m (Ok verdict) one decoded found = found-of bytes m verdict one decoded found
 all-found-of bytes m (Err error) one decoded found = tt
 
@@ -27,6 +29,7 @@ none-found bytes (decode.Unsupported offset) none = λ m decoded valid. none m d
 none-found bytes decode.Limit none = λ m decoded valid. none m decoded.spelt decoded.small
 none-found bytes decode.OutOfMemory none = tt
 
-pub all-none-found : {E : Type 0} (bytes : List ℕ) (error : DecodeError) (r : Result Verdict E) → OnRefused error (IsNoModule bytes) → IfOk r (λ verdict. verdict ≡ decode_verdict error) → IfOk r (λ verdict. IsFound bytes verdict)
+pub all-none-found : {E : Type 0} (bytes : List ℕ) (error : DecodeError) (r : Result Verdict E) → OnRefused error (IsNoModule bytes)
+    → IfOk r (λ verdict. verdict ≡ decode_verdict error) → IfOk r (λ verdict. IsFound bytes verdict)
 all-none-found bytes error (Ok verdict) none is = rw is (none-found bytes error none)
 all-none-found bytes error (Err fault) none is = tt

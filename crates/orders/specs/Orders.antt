@@ -22,6 +22,11 @@ pub data Order : Type 0 where
   Begin : (setup : Setup) → Order
   -- to return the type of one export
   NamedExport : (instance : ℕ) (name : List ℕ) → Order
+  -- to give the embedding that is created next a quota of that many bytes
+  Quota : (bytes : ℕ) → Order
+  QuotaLeft : Order
+  ModuleImports : (number : ℕ) → Order
+  ModuleExports : (number : ℕ) → Order
 
 -- The kind of an order's message.
 abbrev pub kind_of : Order → ℕ
@@ -39,6 +44,10 @@ kind_of (RunScript text) = 10
 kind_of (Define first second signature) = 11
 kind_of (Begin setup) = 12
 kind_of (NamedExport instance name) = 13
+kind_of (Quota bytes) = 14
+kind_of QuotaLeft = 15
+kind_of (ModuleImports number) = 16
+kind_of (ModuleExports number) = 17
 
 -- The fields of an order's message.
 abbrev pub fields_of : Order → List ℕ
@@ -61,6 +70,10 @@ fields_of (Begin setup) =
     number_bytes setup.fuel ++ (number_bytes setup.depth
     ++ (number_bytes setup.pages ++ number_bytes setup.entries))
 fields_of (NamedExport instance name) = number_bytes instance ++ name
+fields_of (Quota bytes) = number_bytes bytes
+fields_of QuotaLeft = []
+fields_of (ModuleImports number) = number_bytes number
+fields_of (ModuleExports number) = number_bytes number
 
 -- A call has values, and a definition has types. All other orders are read in place.
 abbrev pub HasLists : (kind : ℕ) → Type 0
@@ -92,3 +105,7 @@ Fits (Define first second signature) = IsName first × IsName second
 Fits (Begin setup) = (setup.fuel < 2 ^ 64) × (setup.depth < 2 ^ 64) × (setup.pages < 2 ^ 64)
     × (setup.entries < 2 ^ 64)
 Fits (NamedExport instance name) = (instance < 2 ^ 64) × IsUtf8 name
+Fits (Quota bytes) = bytes < 2 ^ 64
+Fits QuotaLeft = Unit {0}
+Fits (ModuleImports number) = number < 2 ^ 64
+Fits (ModuleExports number) = number < 2 ^ 64

@@ -2,7 +2,7 @@
 use Rattle.meaning.specs.embedding.Commands as command
 use Rattle.orders.specs.Orders as order
 use Rattle.orders.specs.declared.order.Order.{Order}
-use Rattle.orders.specs.declared.order.Order.TheVariants.{End, Load, Link, Register, Call, GetGlobal, SetFuel, FuelLeft, Exports, Keep, RunScript, Define, Begin, NamedExport}
+use Rattle.orders.specs.declared.order.Order.TheVariants.{End, Load, Link, Register, Call, GetGlobal, SetFuel, FuelLeft, Exports, Keep, RunScript, Define, Begin, NamedExport, Quota, QuotaLeft, ModuleImports, ModuleExports}
 
 abbrev pub order_of : Order → order.Order
 order_of End = order.End
@@ -25,3 +25,7 @@ order_of (Begin fuel depth pages entries) = order.Begin (record {
   entries = entries;
 })
 order_of (NamedExport instance name) = order.NamedExport instance name.now
+order_of (Quota bytes) = order.Quota bytes
+order_of QuotaLeft = order.QuotaLeft
+order_of (ModuleImports number) = order.ModuleImports number
+order_of (ModuleExports number) = order.ModuleExports number

@@ -32,4 +32,12 @@ pub enum Order<'a> {
     Begin(u64, u64, u64, u64),
     /// Return the type of what an instance exports under a name.
     NamedExport(u64, &'a str),
+    /// Give the embedding that is created next a quota of that many bytes.
+    Quota(u64),
+    /// Return how many bytes of the quota are left.
+    QuotaLeft,
+    /// List what a module imports.
+    ModuleImports(u64),
+    /// List what a module exports.
+    ModuleExports(u64),
 }

@@ -65,6 +65,19 @@ pub fn read_order(alloc: Global, kind: u64, fields: &[u8]) -> Result<Order<'_>, 
             Some((number, name)) => Ok(Order::NamedExport(number, name)),
             None => Err(ReadFault::NotSpelt),
         },
+        14 => match read_number(fields) {
+            Some(bytes) => Ok(Order::Quota(bytes)),
+            None => Err(ReadFault::NotSpelt),
+        },
+        15 if fields.is_empty() => Ok(Order::QuotaLeft),
+        16 => match read_number(fields) {
+            Some(number) => Ok(Order::ModuleImports(number)),
+            None => Err(ReadFault::NotSpelt),
+        },
+        17 => match read_number(fields) {
+            Some(number) => Ok(Order::ModuleExports(number)),
+            None => Err(ReadFault::NotSpelt),
+        },
         _ => Err(ReadFault::NotSpelt),
     }
 }

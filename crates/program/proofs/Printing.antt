@@ -1,5 +1,6 @@
 -- Texts that are printed in a row.
-use Rattle.std.proofs.Common.{Bool, true, false, true≢false, Result, Ok, Err, IfSome, OnOk, is_err, ◌≡◌, ◌∙◌, ◌++◌, ◌+◌, ◌<◌, ℕ, List, [], Option, Some, None, refl, ap, sym, subst, append-nil, append_assoc, flat_map, get_or, length, take}
+use Rattle.std.proofs.Common.{Bool, true, false, true≢false, Result, Ok, Err, IfSome, OnOk, is_err, ◌≡◌, ◌∙◌, ◌++◌, ◌+◌, ◌<◌, ℕ, List, [], Option, Some, None}
+use Rattle.std.proofs.Common.{refl, ap, sym, subst, append-nil, append_assoc, flat_map, get_or, length, take}
 use Rattle.std.specs.Io.KnownBytes.{Appends, Keeps}
 use Rattle.std.proofs.lemmas.List.{flat_map_more, take_more}
 use Rattle.program.specs.Outputs.{Prints}

@@ -1,5 +1,6 @@
 -- A script as a function of a JSON value.
-use Rattle.std.specs.Prelude.{ℕ, ◌+◌, ◌-◌, ◌*◌, ◌^◌, ◌&&◌, ◌==◌, not, ◌||◌, List, [], ◌∷◌, Bool, false, Option, Some, None, option_map, option_and_then, Result, Ok, Err, bytes_eq, codes, length, nat_lt, if◌then◌else◌}
+use Rattle.std.specs.Prelude.{ℕ, ◌+◌, ◌-◌, ◌*◌, ◌^◌, ◌&&◌, ◌==◌, not, ◌||◌, List, [], ◌∷◌, Bool, false, Option, Some, None, option_map, option_and_then, Result}
+use Rattle.std.specs.Prelude.{Ok, Err, bytes_eq, codes, length, nat_lt, if◌then◌else◌}
 use Rattle.std.specs.Char.{is_ascii_digit}
 use Rattle.std.specs.List.{list_all, list_any}
 use Rattle.core_types.specs.declared.outcome.Val.{Val}

@@ -8,7 +8,8 @@ use Rattle.scripts.specs.declared.script.Action.TheVariants.{Invoke, Get}
 use Rattle.scripts.specs.declared.script.ScriptCommand.{ScriptCommand}
 use Rattle.scripts.specs.declared.script.ScriptCommand.TheVariants.{Skipped, Tried}
 use Rattle.scripts.specs.declared.script.Task.{Task}
-use Rattle.scripts.specs.declared.script.Task.TheVariants.{Module, Register, Perform, AssertReturn, AssertTrap, AssertExhaustion, AssertInvalid, AssertMalformed, AssertUnlinkable, AssertUninstantiable}
+use Rattle.scripts.specs.declared.script.Task.TheVariants.{Module, Register, Perform, AssertReturn, AssertTrap, AssertExhaustion, AssertInvalid}
+use Rattle.scripts.specs.declared.script.Task.TheVariants.{AssertMalformed, AssertUnlinkable, AssertUninstantiable}
 
 -- The bytes of a text that may be missing.
 abbrev pub optional_bytes : Option (String Global) → Option (List ℕ)

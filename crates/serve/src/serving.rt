@@ -26,6 +26,8 @@ enum Preparation {
     Define(Definition),
     // Create the embedding.
     Begin(Config),
+    // Give the embedding a quota of that many bytes.
+    Quota(u64),
     // End.
     End,
     // Send only this answer.
@@ -74,6 +76,7 @@ fn prepare(alloc: Global, order: Order<'_>) -> Preparation {
                 None => Preparation::Answered(Answer::Refused(Cause::Setup)),
             }
         }
+        Order::Quota(bytes) => Preparation::Quota(bytes),
         _ => Preparation::Answered(Answer::NotNow),
     }
 }
@@ -152,10 +155,11 @@ fn serve_host_functions(
     client: &mut Client,
     config: Config,
     hosts: Vec<HostDef>,
+    quota: u64,
 ) -> Result<Ending, NewFault>
     requires { length hosts.items < 2 ^ 32 }
 {
-    let mut embedding = Embedding::new(alloc, config, hosts)?;
+    let mut embedding = Embedding::with_quota(alloc, config, hosts, quota)?;
     Ok(ending_of(serve_new_embedding(alloc, client, &mut embedding)))
 }
 
@@ -190,8 +194,14 @@ fn answer_definition(is_defined: bool) -> Answer {
 }
 
 // Answers messages until there is an embedding, and serves it to its end.
-fn serve_client(alloc: Global, descriptors: (i32, i32), client: &mut Client) -> Ending {
+fn serve_client(
+    alloc: Global,
+    descriptors: (i32, i32),
+    client: &mut Client,
+    first_quota: u64,
+) -> Ending {
     let mut hosts = Vec::new(alloc);
+    let mut quota = first_quota;
     for _ in 0..u64::MAX {
         let answer = match next_preparation(alloc, client) {
             Err(ending) => return ending,
@@ -205,12 +215,16 @@ fn serve_client(alloc: Global, descriptors: (i32, i32), client: &mut Client) -> 
                     Err(_) => answer_definition(false),
                 }
             }
+            Ok(Preparation::Quota(bytes)) => {
+                quota = u64::min(bytes, first_quota);
+                Answer::Done
+            }
             Ok(Preparation::Begin(config)) => {
                 if hosts.len() > 0xFFFF_FFFF {
                     return Ending::OutOfMemory;
                 }
                 let defined = mem::replace(&mut hosts, Vec::new(alloc));
-                match serve_host_functions(alloc, client, config, defined) {
+                match serve_host_functions(alloc, client, config, defined, quota) {
                     Ok(ending) => return ending,
                     Err(fault) => Answer::Refused(Cause::Creation(fault)),
                 }
@@ -224,10 +238,11 @@ fn serve_client(alloc: Global, descriptors: (i32, i32), client: &mut Client) -> 
 }
 
 /// Serves a client until it sends the end. Messages are written to the descriptor `ask` and read from `hear`. First host
-/// functions are defined, then an embedding is created with them, and then orders are obeyed. Each order gets one reply.
-pub fn serve(alloc: Global, ask: i32, hear: i32) -> Ending {
+/// functions are defined, then an embedding is created with them, and then orders are obeyed. Each order gets one reply. The
+/// embedding has a quota of `quota` bytes, or of fewer if the client orders that.
+pub fn serve(alloc: Global, ask: i32, hear: i32, quota: u64) -> Ending {
     match Client::new(alloc, ask, hear) {
-        Ok(mut client) => serve_client(alloc, (ask, hear), &mut client),
+        Ok(mut client) => serve_client(alloc, (ask, hear), &mut client, quota),
         Err(_) => Ending::OutOfMemory,
     }
 }

@@ -13,7 +13,8 @@ use Rattle.meaning.specs.execution.Memories.{MemoryInstance}
 use Rattle.meaning.specs.execution.Store.{Store}
 use Rattle.sidetable.specs.Flat.{without_alignment, without_annotations}
 
-in-its-memory : (store : Store) (frame : Frame) (address : ℕ) (m : MemoryInstance) (op : MemoryOp) (values : List Val) → memory_effect store frame address m (without_alignment op) values ≡ memory_effect store frame address m op values
+in-its-memory : (store : Store) (frame : Frame) (address : ℕ) (m : MemoryInstance) (op : MemoryOp) (values : List Val)
+    → memory_effect store frame address m (without_alignment op) values ≡ memory_effect store frame address m op values
 in-its-memory store frame address m (memory.Load op argument) [] = refl
 in-its-memory store frame address m (memory.Load op argument) (I32 i ∷ values) = refl
 in-its-memory store frame address m (memory.Load op argument) (I64 i ∷ values) = refl
@@ -32,7 +33,8 @@ in-its-memory store frame address m memory.Copy values = refl
 in-its-memory store frame address m (memory.Init segment) values = refl
 in-its-memory store frame address m (memory.DataDrop segment) values = refl
 
-in-some-memory : (store : Store) (frame : Frame) (found : Option (ℕ × MemoryInstance)) (op : MemoryOp) (values : List Val) → in_memory store frame found (without_alignment op) values ≡ in_memory store frame found op values
+in-some-memory : (store : Store) (frame : Frame) (found : Option (ℕ × MemoryInstance)) (op : MemoryOp) (values : List Val)
+    → in_memory store frame found (without_alignment op) values ≡ in_memory store frame found op values
 in-some-memory store frame None op values = refl
 in-some-memory store frame (Some (address, m)) op values = in-its-memory store frame address m op values
 

@@ -3,7 +3,8 @@ use Rattle.std.proofs.Common.{◌≡◌, ℕ, ◌+◌, ◌-◌, ◌<◌, ◌≤�
 use Rattle.std.proofs.lemmas.List.{drop-append-le, drop_at, length-set, set-append_right, take-append-drop, take-append-le, take-set-le, take_at, drop-set-add, drop-set-lt}
 use Rattle.std.proofs.lemmas.List.Elements.{All-append, All-head, All-tail, All-weaker}
 use Rattle.std.specs.List.{All}
-use Rattle.sidetable.specs.Completion.{Adds, AreCopies, ChangesEntries, Completes, EndsBehind, IsCopying, IsLabel, IsLabelSince, IsOutside, HasAdded, aimed_at, all_copied, entry_in, ranges_since, with_target, with_targets}
+use Rattle.sidetable.specs.Completion.{Adds, AreCopies, ChangesEntries, Completes, EndsBehind, IsCopying, IsLabel, IsLabelSince, IsOutside, HasAdded, aimed_at}
+use Rattle.sidetable.specs.Completion.{all_copied, entry_in, ranges_since, with_target, with_targets}
 use Rattle.sidetable.specs.SideTables.{Continues, Grows, SideTables}
 use Rattle.sidetable.specs.declared.operations.Entry.{Entry}
 use Rattle.sidetable.specs.declared.side_tables.BranchRange.{BranchRange}

@@ -1,6 +1,8 @@
 -- Entries with copies in the ranges of branches.
-use Rattle.std.proofs.Common.{◌≡◌, ℕ, ◌+◌, ◌-◌, ◌<◌, ◌≤◌, List, [], ◌∷◌, ◌++◌, length, map, take, drop, set, get_or, refl, ap, ap₂, sym, ◌∙◌, subst, add-zero, arith, append_assoc, length-append, length-drop}
-use Rattle.std.proofs.lemmas.List.{drop-append-le, drop-drop, drop_at, drop_more, get_or-drop, get_or-take, get_or_at, get_or_read, length-map, length-take-le, map_more, set_at, take-append-drop, take-append-le, take-take}
+use Rattle.std.proofs.Common.{◌≡◌, ℕ, ◌+◌, ◌-◌, ◌<◌, ◌≤◌, List, [], ◌∷◌, ◌++◌, length, map, take, drop, set, get_or, refl, ap, ap₂, sym, ◌∙◌, subst, add-zero}
+use Rattle.std.proofs.Common.{arith, append_assoc, length-append, length-drop}
+use Rattle.std.proofs.lemmas.List.{drop-append-le, drop-drop, drop_at, drop_more, get_or-drop, get_or-take, get_or_at, get_or_read, length-map, length-take-le}
+use Rattle.std.proofs.lemmas.List.{map_more, set_at, take-append-drop, take-append-le, take-take}
 use Rattle.std.proofs.lemmas.List.Elements.{All-cons, All-head, All-nil, All-tail, All-weaker}
 use Rattle.std.specs.List.{All}
 use Rattle.sidetable.specs.Completion.{AreInOrder, IsCopying, all_copied, copied, entry_in}

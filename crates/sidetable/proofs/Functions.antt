@@ -52,7 +52,8 @@ module _ (s : Signatures) (old new : List FlatOp) (continues : Continues old new
     flat = λ body e.
         let b = is.flat body e in record {
           more = b.more ++ continues.0;
-          placed = ap (drop p.place) continues.1 ∙ drop-append-le p.place old continues.0 (inside p.place old _ b.more _ b.placed) ∙ ap (λ (os : List FlatOp). os ++ continues.0) b.placed ∙ append_assoc _ b.more continues.0;
+          placed = ap (drop p.place) continues.1 ∙ drop-append-le p.place old continues.0 (inside p.place old _ b.more _ b.placed) ∙ ap
+              (λ (os : List FlatOp). os ++ continues.0) b.placed ∙ append_assoc _ b.more continues.0;
           greatest = b.greatest;
         };
     params = is.params;
@@ -67,7 +68,8 @@ module _ (s : Signatures) (old new : List FlatOp) (continues : Continues old new
   all-continued (f ∷ fs) (p ∷ ps) are = (flat-continued f p are.0, all-continued fs ps are.1)
 
 -- One more function.
-pub flat-more : (s : Signatures) (ops : List FlatOp) (fs : List Func) (ps : List PackedFunction) (f : Func) (p : PackedFunction) → AreFlat s ops fs ps → IsFlat s ops f p → AreFlat s ops (fs ++ (f ∷ [])) (ps ++ (p ∷ []))
+pub flat-more : (s : Signatures) (ops : List FlatOp) (fs : List Func) (ps : List PackedFunction) (f : Func) (p : PackedFunction) → AreFlat s ops fs ps
+    → IsFlat s ops f p → AreFlat s ops (fs ++ (f ∷ [])) (ps ++ (p ∷ []))
 flat-more s ops [] [] f p are is = (is, tt {0})
 flat-more s ops [] (q ∷ ps) f p are is = absurd are
 flat-more s ops (g ∷ fs) [] f p are is = absurd are
@@ -84,7 +86,8 @@ all-more s fs old new f all one = record {
 -- ---- a function that was flattened
 
 -- Its operations begin where those before end.
-pub placed-behind : (s : Signatures) (before : List PackedOp) (tables : SideTables) (p : PackedFunction) (body : Body) (b : Flattening) (m : FlatModule) → IsMade s before tables p.locals p.results body b p.greatest → p.place ≡ length before
+pub placed-behind : (s : Signatures) (before : List PackedOp) (tables : SideTables) (p : PackedFunction) (body : Body) (b : Flattening)
+    (m : FlatModule) → IsMade s before tables p.locals p.results body b p.greatest → p.place ≡ length before
     → m.operations.items ≡ b.operations.items ++ (packed.Leave p.results ∷ []) → m.tables ≡ b.tables
     → (operations_of m ≡ made tables before ++ function_operations s p.locals p.results p.place body) × IsFlatBody s (operations_of m) p body
 placed-behind s before tables p body b m made_so place_is ops_are tables_are = (whole, record { more = []; placed = there; greatest = made_so.height })
@@ -96,19 +99,24 @@ placed-behind s before tables p body b m made_so place_is ops_are tables_are = (
     made_is = rw place_is made_so.operations
 
     whole : operations_of m ≡ made tables before ++ function_operations s p.locals p.results p.place body
-    whole = rw (ops_are, tables_are) (map-append (unpacked b.tables) b.operations.items (packed.Leave p.results ∷ []) ∙ ap (λ (os : List FlatOp). os ++ (Leave p.results ∷ [])) made_is ∙ append_assoc (made tables before) code (Leave p.results ∷ []))
+    whole = rw (ops_are, tables_are)
+        (map-append (unpacked b.tables) b.operations.items (packed.Leave p.results ∷ []) ∙ ap (λ (os : List FlatOp). os ++ (Leave p.results ∷ []))
+        made_is ∙ append_assoc (made tables before) code (Leave p.results ∷ []))
 
     at : p.place ≡ length (made tables before)
     at = place_is ∙ sym (length-map before (unpacked tables))
 
     there : drop p.place (operations_of m) ≡ function_operations s p.locals p.results p.place body ++ []
-    there = ap (drop p.place) whole ∙ ap (λ (n : ℕ). drop n (made tables before ++ function_operations s p.locals p.results p.place body)) at ∙ drop-append_seam (made tables before) (function_operations s p.locals p.results p.place body)
+    there = ap (drop p.place) whole ∙ ap (λ (n : ℕ). drop n (made tables before ++ function_operations s p.locals p.results p.place body)) at ∙
+        drop-append_seam (made tables before) (function_operations s p.locals p.results p.place body)
         ∙ sym (append-nil (function_operations s p.locals p.results p.place body))
 
 -- What it names by number exists.
-pub within-behind : (m : FlatModule) (b : Flattening) (results : ℕ) → All (IsWithin b.tables) b.operations.items → m.operations.items ≡ b.operations.items ++ (packed.Leave results ∷ []) → m.tables ≡ b.tables → AreWithin m
+pub within-behind : (m : FlatModule) (b : Flattening) (results : ℕ) → All (IsWithin b.tables) b.operations.items → m.operations.items
+    ≡ b.operations.items ++ (packed.Leave results ∷ []) → m.tables ≡ b.tables → AreWithin m
 within-behind m b results within ops_are tables_are =
-    rw (ops_are, tables_are) (All-append (IsWithin b.tables) b.operations.items (packed.Leave results ∷ []) within (All-cons (IsWithin b.tables) (packed.Leave results) [] (tt {0}) (All-nil (IsWithin b.tables))))
+    rw (ops_are, tables_are) (All-append (IsWithin b.tables) b.operations.items (packed.Leave results ∷ []) within
+    (All-cons (IsWithin b.tables) (packed.Leave results) [] (tt {0}) (All-nil (IsWithin b.tables))))
 
 -- ---- types
 

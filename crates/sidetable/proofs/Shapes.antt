@@ -9,7 +9,8 @@ use Rattle.sidetable.specs.Shapes.{Closes}
 
 -- ---- the writing of a body
 
-ended-writing : (inner rest : Body) (ops : List Op) (open_body : Bool) (others : List Bool) → ((open_bodies : List Bool) (more : List Op) → Closes more open_bodies → Closes (writing inner ++ more) open_bodies)
+ended-writing : (inner rest : Body) (ops : List Op) (open_body : Bool) (others : List Bool)
+    → ((open_bodies : List Bool) (more : List Op) → Closes more open_bodies → Closes (writing inner ++ more) open_bodies)
     → Closes (writing rest ++ ops) others → Closes ((writing inner ++ (End ∷ writing rest)) ++ ops) (open_body ∷ others)
 ended-writing inner rest ops open_body others closes behind =
     subst (λ (os : List Op). Closes os (open_body ∷ others)) (sym (append_assoc (writing inner) (End ∷ writing rest) ops)) (closes (open_body ∷ others) (End ∷ (writing rest ++ ops)) behind)

@@ -23,7 +23,8 @@ use Rattle.simulation.proofs.Plain.{AtPlain, CostsOne, advance, at-plain, dear-h
 
 module _ (op : PlainOp) (g : Ghost) (cells : List ℕ) (at top : ℕ) (p : AtPlain op g cells at top) where
   -- If the step continues, it costs one unit of fuel.
-  pub dear-goes : (store' : Store) (locals values : List Val) → step_instruction g.store (frame_of g) op p.values p.rest ≡ Goes 1 store' (record { instance = Some g.instance; locals = locals }) (Running values p.rest) → IsDear g cells at top
+  pub dear-goes : (store' : Store) (locals values : List Val) → step_instruction g.store (frame_of g) op p.values p.rest
+      ≡ Goes 1 store' (record { instance = Some g.instance; locals = locals }) (Running values p.rest) → IsDear g cells at top
   dear-goes store' locals values goes = dear-here op g cells at top p (subst CostsOne (sym goes) refl)
 
   module _ (n low : ℕ) (w : Popped op g cells at top p n low) where
@@ -35,7 +36,8 @@ module _ (op : PlainOp) (g : Ghost) (cells : List ℕ) (at top : ℕ) (p : AtPla
         let count = w.count in
         let low_is = w.low_is in
         let put' : take (suc low) cells' ≡ take low cells ++ (cell_of v ∷ []) = subst (λ (k : ℕ). take (suc low) cells' ≡ take low cells ++ (k ∷ [])) (sym is) put in
-        advance op g cells at top p 1 g.store g.locals (v ∷ w.others) (inl goes) refl (counts n 1) counted (omega (arith, count)) refl cells' at' top' fuel left size at_is (omega (arith, top_new, top_is, count, low_is))
+        advance op g cells at top p 1 g.store g.locals (v ∷ w.others) (inl goes) refl (counts n 1) counted (omega (arith, count)) refl cells' at' top'
+        fuel left size at_is (omega (arith, top_new, top_is, count, low_is))
         (rw top_new (pile-push cells (map cell_of g.locals) low v (w.others ++ values_under p.labels) w.held cells' (suc low) put')) enough left_is
 
     -- No value in their place.
@@ -45,12 +47,14 @@ module _ (op : PlainOp) (g : Ghost) (cells : List ℕ) (at top : ℕ) (p : AtPla
         let top_is = p.runs.holds.top_is in
         let count = w.count in
         let low_is = w.low_is in
-        advance op g cells at top p 1 store' g.locals w.others (inl goes) instances (counts n 0) counted (omega (arith, count)) refl cells' at' top' fuel left size at_is (omega (arith, top_new, top_is, count, low_is))
+        advance op g cells at top p 1 store' g.locals w.others (inl goes) instances (counts n 0) counted (omega (arith, count)) refl cells' at' top'
+        fuel left size at_is (omega (arith, top_new, top_is, count, low_is))
         (rw top_new (kept ∙ w.held)) enough left_is
 
     -- A result in their place, or its trap.
     pub answers : (r : ValType) → counts_of g.code.signatures op ≡ Some (counts n 1) → (result : Result ℕ Trap)
-        → step_instruction g.store (frame_of g) op p.values p.rest ≡ continue_after (frame_of g) (push_result g.store (frame_of g) (value_of r) result w.others) p.rest → IsAnswered g cells at top low result
+        → step_instruction g.store (frame_of g) op p.values p.rest
+        ≡ continue_after (frame_of g) (push_result g.store (frame_of g) (value_of r) result w.others) p.rest → IsAnswered g cells at top low result
     answers r counted (Ok k) step = puts k (value_of r k) (cell-of-value r k) counted step
     answers r counted (Err trap) step = fails-here op g cells at top p trap step
 

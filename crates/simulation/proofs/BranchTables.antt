@@ -33,7 +33,8 @@ fits-same : (given : List OperandType) (types others : List ValType) → given �
 fits-same given types others is fits = known-same others types (known-fits types (known others) (rw is at fits))
 
 -- The selected label fits.
-chosen-fits : (context : Context) (given : List OperandType) (t : BranchTable) (n : ℕ) → All (FitsLabel context given) t.labels → FitsLabel context given t.default → FitsLabel context given (get_or t.labels n t.default)
+chosen-fits : (context : Context) (given : List OperandType) (t : BranchTable) (n : ℕ) → All (FitsLabel context given) t.labels
+    → FitsLabel context given t.default → FitsLabel context given (get_or t.labels n t.default)
 chosen-fits context given t n all last = elim (slice_get_cases t.labels n).1 [
   | inl w ↦ all n t.default w.1
   | inr w ↦ rw (get_or_past t.labels n t.default w.0) last
@@ -47,14 +48,19 @@ module _ (g : Ghost) (cells : List ℕ) (at top : ℕ) where
       let (t, rest, is, entries, last) = begins g.code at (BrTable es e) b.more b.there s.values s.labels s.rest s.runs.stands s.settled in
       by s t rest is entries last (at-body-in g cells at top s (Then (plain.BrTable t) rest) is)
     where
-      by : (s : Settled g cells at top) (t : BranchTable) (rest : Body) → s.rest ≡ Then (plain.BrTable t) rest → es ≡ map (entry_at g.code.outermost s.runs.stands.entries) t.labels → e ≡ entry_at g.code.outermost s.runs.stands.entries t.default
-          → (r : Runs (on g g.locals s.values s.labels (Then (plain.BrTable t) rest)) cells at top) × LeavesTo g.store (frame_of g) (config_of g) (in_frame s.values s.labels (Then (plain.BrTable t) rest)) × (r.stands.entries ≡ s.runs.stands.entries)
+      by : (s : Settled g cells at top) (t : BranchTable) (rest : Body) → s.rest ≡ Then (plain.BrTable t) rest → es
+          ≡ map (entry_at g.code.outermost s.runs.stands.entries) t.labels → e ≡ entry_at g.code.outermost s.runs.stands.entries t.default
+          → (r : Runs (on g g.locals s.values s.labels (Then (plain.BrTable t) rest)) cells at top)
+          × LeavesTo g.store (frame_of g) (config_of g) (in_frame s.values s.labels (Then (plain.BrTable t) rest))
+          × (r.stands.entries ≡ s.runs.stands.entries)
           → (1 ≤ top) × (top ≤ length cells) × LandsBy g cells at top (top - 1) (get_or es (get_or cells (top - 1) 0) e)
       by s t rest is entries last (r, leaves, same_entries) =
           let f : Inner (on g g.locals s.values s.labels (Then (plain.BrTable t) rest)) = inner _ r.typed in
           let (operands, results, between, (below, given, operands_are, all, default_fits), frames, runs) = f.runs in
           let (types, given_are) = carried-known f.stack operands results between frames below given operands_are in
-          let operands_now : operands ≡ below ++ known (types ++ ty.I32 ∷ []) = operands_are ∙ ap (λ (z : List OperandType). below ++ (z ++ Known ty.I32 ∷ [])) given_are ∙ ap (λ (z : List OperandType). below ++ z) (sym (map-append Known types (ty.I32 ∷ []))) in
+          let operands_now : operands ≡ below ++ known (types ++ ty.I32 ∷ []) = operands_are ∙ ap
+          (λ (z : List OperandType). below ++ (z ++ Known ty.I32 ∷ [])) given_are ∙ ap (λ (z : List OperandType). below ++ z)
+          (sym (map-append Known types (ty.I32 ∷ []))) in
           let (others, stack_is) = types-on-top f.stack operands results between frames below (types ++ ty.I32 ∷ []) operands_now in
           let stack_now : f.stack ≡ ty.I32 ∷ (reverse types ++ others) = stack_is ∙ ap (λ (ts : List ValType). ts ++ others) (reverse-append types (ty.I32 ∷ [])) in
           let c : Conditioned g cells at top s.values s.labels = conditioned g cells at top s.values s.labels _ r (reverse types ++ others) (rw stack_now at f.values) in
@@ -73,5 +79,6 @@ module _ (g : Ghost) (cells : List ℕ) (at top : ℕ) where
             c.some,
             le,
             subst (λ (x : Entry). LandsBy g cells at top (top - 1) x) entry_is
-                (lands g cells at top s.values s.labels _ r leaves c.values (top - 1) c.held c.top_is (omega (arith, le)) (get_or t.labels c.n t.default) chosen f.carried f.arities carried_types label few),
+                (lands g cells at top s.values s.labels _ r leaves c.values (top - 1) c.held c.top_is (omega (arith, le))
+                (get_or t.labels c.n t.default) chosen f.carried f.arities carried_types label few),
           )

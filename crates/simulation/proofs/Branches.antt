@@ -37,7 +37,9 @@ use Rattle.simulation.proofs.Typed.{Arities, Inner, Settled, all-length, inner, 
 -- ---- labels
 
 -- The label of a number carries as many values as its arity.
-arity-at : (labels : List Label) (carried : List (List ValType)) → Arities labels carried → (l : ℕ) (types : List ValType) → slice_get carried l ≡ Some types → (suc l ≤ length labels) × ((inner : List Label) (label : Label) (outer : List Label) → labels ≡ inner ++ (label ∷ outer) → length inner ≡ l → label.arity ≡ length types)
+arity-at : (labels : List Label) (carried : List (List ValType)) → Arities labels carried → (l : ℕ) (types : List ValType) → slice_get carried l
+    ≡ Some types → (suc l ≤ length labels)
+    × ((inner : List Label) (label : Label) (outer : List Label) → labels ≡ inner ++ (label ∷ outer) → length inner ≡ l → label.arity ≡ length types)
 arity-at [] [] arities l types is = absurd cc
 arity-at [] (c ∷ cs) arities l types is = absurd arities
 arity-at (label ∷ labels) [] arities l types is = absurd arities
@@ -76,8 +78,10 @@ module _ (g : Ghost) (cells : List ℕ) (at top : ℕ) where
   abbrev pub LandsBy : (above : ℕ) → Entry → Type 0
   LandsBy = IsLanded g cells at top
 
-  pub lands : (values₀ : List Val) (labels : List Label) (rest₀ : Body) (r : Runs (on g g.locals values₀ labels rest₀) cells at top) (leaves : LeavesTo g.store (frame_of g) (config_of g) (in_frame values₀ labels rest₀))
-      → (values : List Val) (above : ℕ) → take above cells ≡ map cell_of g.locals ++ cells_of (values ++ values_under labels) → above ≡ length g.locals + (length values + under labels) → above ≤ length cells
+  pub lands : (values₀ : List Val) (labels : List Label) (rest₀ : Body) (r : Runs (on g g.locals values₀ labels rest₀) cells at top)
+      (leaves : LeavesTo g.store (frame_of g) (config_of g) (in_frame values₀ labels rest₀))
+      → (values : List Val) (above : ℕ) → take above cells ≡ map cell_of g.locals ++ cells_of (values ++ values_under labels) → above
+      ≡ length g.locals + (length values + under labels) → above ≤ length cells
       → (l : ℕ) → next g.store (frame_of g) (Running values₀ rest₀) ≡ Branches l values
       → (carried : List (List ValType)) → Arities labels carried → (types : List ValType) → slice_get carried l ≡ Some types → length types ≤ length values
       → LandsBy above (entry_at g.code.outermost r.stands.entries l)
@@ -90,9 +94,13 @@ module _ (g : Ghost) (cells : List ℕ) (at top : ℕ) where
       let count = r.holds.count in
       let few : to.entry.kept ≤ length values = omega arith in
       let entry_is : entry_at g.code.outermost r.stands.entries l ≡ to.entry = ap (λ (o : Option Entry). unwrap_or o g.code.outermost) to.entry_is in
-      let through : next g.store (frame_of g) (in_frame values₀ (to.inner ++ (to.label ∷ to.outer)) rest₀) ≡ Goes 1 g.store (frame_of g) (in_frame (take to.label.arity values ++ to.label.values) to.outer (continue_with to.label.continuation to.label.rest)) =
+      let through : next g.store (frame_of g) (in_frame values₀ (to.inner ++ (to.label ∷ to.outer)) rest₀)
+      ≡ Goes 1 g.store (frame_of g) (in_frame (take to.label.arity values ++ to.label.values) to.outer
+      (continue_with to.label.continuation to.label.rest)) =
       branch-through g.store (frame_of g) values to.label to.outer (omega arith) to.inner (Running values₀ rest₀) (branches ∙ ap (λ (n : ℕ). Branches n values) (sym to.count)) in
-      let goes : next g.store (frame_of g) (in_frame values₀ labels rest₀) ≡ Goes 1 g.store (frame_of g) (in_frame (take to.label.arity values ++ to.label.values) to.outer (continue_with to.label.continuation to.label.rest)) =
+      let goes : next g.store (frame_of g) (in_frame values₀ labels rest₀)
+      ≡ Goes 1 g.store (frame_of g) (in_frame (take to.label.arity values ++ to.label.values) to.outer
+      (continue_with to.label.continuation to.label.rest)) =
       ap (λ (ls : List Label). next g.store (frame_of g) (in_frame values₀ ls rest₀)) to.labels_are ∙ through in
       let size : length (map cell_of g.locals) ≡ length g.locals = length-map g.locals cell_of in
       let lower : List Val = to.label.values ++ values_under to.outer in
@@ -110,7 +118,8 @@ module _ (g : Ghost) (cells : List ℕ) (at top : ℕ) where
             moved g cells at top values₀ labels rest₀ r leaves 1 (take to.label.arity values ++ to.label.values) to.outer (continue_with to.label.continuation to.label.rest) goes
             cells' to.entry.target (to.entry.height + to.entry.kept) fuel left (landed g.code l labels r.stands.entries to values few) same_size
             (pile-land cells (map cell_of g.locals) above to.entry.kept values (values_under to.inner) lower pile few (omega arith) le to.entry.height (omega arith) cells' put
-            ∙ ap (λ (vs : List Val). map cell_of g.locals ++ cells_of vs) (ap (λ (n : ℕ). take n values ++ lower) kept ∙ sym (append_assoc (take to.label.arity values) to.label.values (values_under to.outer))))
+            ∙ ap (λ (vs : List Val). map cell_of g.locals ++ cells_of vs)
+            (ap (λ (n : ℕ). take n values ++ lower) kept ∙ sym (append_assoc (take to.label.arity values) to.label.values (values_under to.outer))))
             (omega arith) enough_fuel left_is,
         λ fuel few_fuel. dear g cells at top values₀ labels rest₀ r leaves 1 _ _ goes fuel few_fuel,
         omega (arith, height),
@@ -128,7 +137,8 @@ module _ (g : Ghost) (cells : List ℕ) (at top : ℕ) where
       let many = values-length g.store s.values f.stack f.values in
       let parts : length f.stack ≡ length types + length others = ap length stack_is ∙ simp (length-append, length-reverse) in
       subst (λ (x : Entry). LandsBy top x) (ap (λ (es : List Entry). entry_at g.code.outermost es l) same_entries ∙ sym entry)
-      (lands s.values s.labels (Then (plain.Control (control.Br l)) rest) r leaves s.values top r.holds.held r.holds.top_is (top-within _ cells at top r) l refl f.carried f.arities types label (omega arith))
+      (lands s.values s.labels (Then (plain.Control (control.Br l)) rest) r leaves s.values top r.holds.held r.holds.top_is
+      (top-within _ cells at top r) l refl f.carried f.arities types label (omega arith))
 
   -- br_if: the cell exists, and what zero and another number lead to.
   pub branches-if : (e : Entry) → IsBefore (BrIf e) g cells at top
@@ -139,7 +149,9 @@ module _ (g : Ghost) (cells : List ℕ) (at top : ℕ) where
       by s l rest is entry (at-body-in g cells at top s (Then (plain.Control (control.BrIf l)) rest) is)
     where
       by : (s : Settled g cells at top) (l : ℕ) (rest : Body) → s.rest ≡ Then (plain.Control (control.BrIf l)) rest → e ≡ entry_at g.code.outermost s.runs.stands.entries l
-          → (r : Runs (on g g.locals s.values s.labels (Then (plain.Control (control.BrIf l)) rest)) cells at top) × LeavesTo g.store (frame_of g) (config_of g) (in_frame s.values s.labels (Then (plain.Control (control.BrIf l)) rest)) × (r.stands.entries ≡ s.runs.stands.entries)
+          → (r : Runs (on g g.locals s.values s.labels (Then (plain.Control (control.BrIf l)) rest)) cells at top)
+          × LeavesTo g.store (frame_of g) (config_of g) (in_frame s.values s.labels (Then (plain.Control (control.BrIf l)) rest))
+          × (r.stands.entries ≡ s.runs.stands.entries)
           → (1 ≤ top) × (top ≤ length cells) × (get_or cells (top - 1) 0 ≡ 0 → Charged g cells at top (suc at) (top - 1)) × ((get_or cells (top - 1) 0 ≡ 0 → ⊥) → LandsBy (top - 1) e)
       by s l rest is entry (r, leaves, same_entries) =
           let op = plain.Control (control.BrIf l) in
@@ -156,7 +168,8 @@ module _ (g : Ghost) (cells : List ℕ) (at top : ℕ) where
             c.some,
             top-within _ cells at top r,
             λ is_zero.
-                let goes = labels-go g.store (frame_of g) s.labels 1 g.store (frame_of g) (Running s.values (Then (plain.Control (control.BrIf l)) rest)) (Running c.values rest) (chosen 0 (sym is_zero ∙ c.read)) in
+                let goes = labels-go g.store (frame_of g) s.labels 1 g.store (frame_of g)
+                (Running s.values (Then (plain.Control (control.BrIf l)) rest)) (Running c.values rest) (chosen 0 (sym is_zero ∙ c.read)) in
                 let next_height : g.code.locals + (length s.values + under s.labels) - 1 + 0 ≡ g.code.locals + (length c.values + under s.labels) = omega arith in
                 let stands : StandsIn g.code (suc at) c.values s.labels rest = record {
                   entries = r.stands.entries;
@@ -165,7 +178,9 @@ module _ (g : Ghost) (cells : List ℕ) (at top : ℕ) where
                   here = rw next_height at (advanced g.code r.stands.entries _ at op rest r.stands.end r.stands.last (counts 1 0) refl r.stands.here);
                   around = r.stands.around;
                 } in (
-                  λ fuel left enough_fuel left_is. moved g cells at top s.values s.labels _ r leaves 1 c.values s.labels rest goes cells (suc at) (top - 1) fuel left stands refl c.held c.top_is enough_fuel left_is,
+                  λ fuel left enough_fuel left_is.
+                      moved g cells at top s.values s.labels _ r leaves 1 c.values s.labels rest goes cells (suc at) (top - 1) fuel left stands refl
+                      c.held c.top_is enough_fuel left_is,
                   λ fuel few. dear g cells at top s.values s.labels _ r leaves 1 _ _ goes fuel few,
                 ),
             λ not_zero.

@@ -35,7 +35,8 @@ module _ (store : Store) (frame : Frame) (count address : ℕ) (m : MemoryInstan
   write-outcome (Ok bytes) = (refl, refl)
   write-outcome (Err trap) = tt
 
-  pub write-effect : (result : Result (List ℕ) Trap) (values : List Val) → write_memory store frame (bulk_cost count) address m result values ≡ effect_of (written_memory store count address m result) frame.locals values
+  pub write-effect : (result : Result (List ℕ) Trap) (values : List Val) → write_memory store frame (bulk_cost count) address m result values
+      ≡ effect_of (written_memory store count address m result) frame.locals values
   write-effect (Ok bytes) values = refl
   write-effect (Err trap) values = refl
 
@@ -44,7 +45,8 @@ module _ (store : Store) (frame : Frame) (count address : ℕ) (m : MemoryInstan
   grow-outcome false = (refl, refl)
 
   grow-effect : (may : Bool) (values : List Val)
-      → (if may then Grown (growth_cost count) (with_memory store address (grow_by m count)) frame.locals (value.I32 m.limits.min ∷ values) else Done 1 store frame.locals (value.I32 4294967295 ∷ values))
+      → (if may then Grown (growth_cost count) (with_memory store address (grow_by m count)) frame.locals (value.I32 m.limits.min ∷ values) else Done
+      1 store frame.locals (value.I32 4294967295 ∷ values))
       ≡ effect_of (grown_memory store address m count may) frame.locals values
   grow-effect true values = refl
   grow-effect false values = refl
@@ -52,7 +54,8 @@ module _ (store : Store) (frame : Frame) (count address : ℕ) (m : MemoryInstan
 -- ---- what exists
 
 -- The data segment of the context exists.
-data-there : (g : Ghost) → StoreIsValid g.store → (carried : List (List ValType)) (x : ℕ) → x < (context_at g.store (with_labels (place_of g) carried)).datas → (address : ℕ) × (d : DataInstance) × HasData g x address d
+data-there : (g : Ghost) → StoreIsValid g.store → (carried : List (List ValType)) (x : ℕ)
+    → x < (context_at g.store (with_labels (place_of g) carried)).datas → (address : ℕ) × (d : DataInstance) × HasData g x address d
 data-there g valid carried x inside =
     let addresses = (instance_of g.store (Some g.instance)).datas in
     let named = slice_get-get_or addresses x 0 inside in
@@ -74,14 +77,16 @@ grows-memory g cells at top b =
           (can_grow g.store.pages most_pages m.limits (get_or cells (top - 1) 0)) (grown_memory g.store address m (get_or cells (top - 1) 0))
           (grow-outcome g.store (frame_of g) count address m)
           (λ may values is. ap (λ (o : Option (ℕ × MemoryInstance)). in_memory g.store (frame_of g) o Grow (value.I32 count ∷ values)) located
-          ∙ ap (λ (b : Bool). if b then Grown (growth_cost count) (with_memory g.store address (grow_by m count)) g.locals (value.I32 m.limits.min ∷ values) else Done 1 g.store g.locals (value.I32 4294967295 ∷ values)) is
+          ∙ ap (λ (b : Bool). if b then Grown (growth_cost count) (with_memory g.store address (grow_by m count)) g.locals
+          (value.I32 m.limits.min ∷ values) else Done 1 g.store g.locals (value.I32 4294967295 ∷ values)) is
           ∙ grow-effect g.store (frame_of g) count address m may values),
     )
 
 -- ---- bulk instructions
 
 -- Bytes are written.
-writes : (op : MemoryOp) (is : IsOnStore (Memory op)) (g : Ghost) (cells : List ℕ) (at top : ℕ) (b : IsBefore (Plain (Memory op)) g cells at top) → instruction_type g (Memory op) ≡ function_type (I32 ∷ I32 ∷ I32 ∷ []) []
+writes : (op : MemoryOp) (is : IsOnStore (Memory op)) (g : Ghost) (cells : List ℕ) (at top : ℕ) (b : IsBefore (Plain (Memory op)) g cells at top)
+    → instruction_type g (Memory op) ≡ function_type (I32 ∷ I32 ∷ I32 ∷ []) []
     → (address : ℕ) (m : MemoryInstance) (result : Result (List ℕ) Trap)
     → ((values : List Val) → effect g.store (frame_of g) (Memory op) (triple cells top values) ≡ write_memory g.store (frame_of g) (bulk_cost (get_or cells (top - 1) 0)) address m result values)
     → Answers g cells at top (I32 ∷ I32 ∷ I32 ∷ []) result (written_memory g.store (get_or cells (top - 1) 0) address m)

@@ -10,7 +10,8 @@ use Rattle.core_types.specs.declared.types.FuncType.{FuncType}
 use Rattle.core_types.specs.declared.types.ValType.{ValType}
 use Rattle.meaning.specs.structure.Bodies.{Body, Then}
 use Rattle.meaning.specs.execution.Configurations.{Activation, Frame, InFrame, Running}
-use Rattle.meaning.specs.execution.Instructions.{CallsHost, Goes, Grows, Next, NotReady, Opens, TailCalls, Traps, call_function, call_implementation, in_place, lent_memory, next, step_in_frame, step_instruction, tail_call, topmost}
+use Rattle.meaning.specs.execution.Instructions.{CallsHost, Goes, Grows, Next, NotReady, Opens, TailCalls, Traps, call_function, call_implementation, in_place}
+use Rattle.meaning.specs.execution.Instructions.{lent_memory, next, step_in_frame, step_instruction, tail_call, topmost}
 use Rattle.meaning.specs.execution.Runs.{price}
 use Rattle.meaning.specs.execution.Store.{FunctionInstance, Implementation, InCode, InHost, Store, instance_of, item_of}
 use Rattle.meaning.specs.execution.Values.{type_of}
@@ -40,10 +41,13 @@ use Rattle.simulation.proofs.Plain.{AtPlain, CostsOne, at-plain, found, here, la
 use Rattle.simulation.proofs.Typed.{Inner, all-length, leaves-steps, with_labels}
 
 -- Arguments of the parameters' types are those of a call, which costs one unit of fuel.
-implementation-costs : (store : Store) (lent : Option ℕ) (t : FuncType) (values : List Val) (rest : Body) → ValuesHaveTypes store (topmost t.params values) t.params → (i : Implementation) → CostsOne (call_implementation 1 store lent t i values rest)
+implementation-costs : (store : Store) (lent : Option ℕ) (t : FuncType) (values : List Val) (rest : Body)
+    → ValuesHaveTypes store (topmost t.params values) t.params → (i : Implementation) → CostsOne (call_implementation 1 store lent t i values rest)
 implementation-costs store lent t values rest typed (InCode instance code) = refl
 implementation-costs store lent t values rest typed (InHost number) =
-    let same : are_same_types (map type_of (topmost t.params values)) t.params ≡ true = types_decided true (map type_of (topmost t.params values)) t.params (λ yes. types-of-values store (topmost t.params values) t.params typed, λ e. refl) in
+    let same : are_same_types (map type_of (topmost t.params values)) t.params
+    ≡ true = types_decided true (map type_of (topmost t.params values)) t.params
+    (λ yes. types-of-values store (topmost t.params values) t.params typed, λ e. refl) in
     rw same refl
 
 -- A call in place costs the same.
@@ -103,7 +107,8 @@ module _ (op : PlainOp) (g : Ghost) (cells : List ℕ) (at top : ℕ) (p : AtPla
         let high : height ≡ length (map cell_of g.locals) + length (values ++ values_under p.labels) = omega (arith, size, all, height_is) in
         let inside : height ≤ length cells = omega (arith, within, top_is) in
         let r : Reads g.store p.runs.typed.valid.few.functions cells (map cell_of g.locals) height inside (values_under p.labels) below 0 (reverse function.ty.params) values =
-        reads g.store p.runs.typed.valid.few.functions cells (map cell_of g.locals) height inside (values_under p.labels) below 0 (reverse function.ty.params) values typed (rw zero_off holds.held) (rw zero_off high) in
+        reads g.store p.runs.typed.valid.few.functions cells (map cell_of g.locals) height inside (values_under p.labels) below 0
+        (reverse function.ty.params) values typed (rw zero_off holds.held) (rw zero_off high) in
         operands-fit (here op g cells at top p) cells height function.ty.params (omega (arith, few, height_is)) inside r.fits
 
     abbrev pub reaching : ReachesCall op address function g cells at top height
@@ -140,8 +145,12 @@ module _ (op : PlainOp) (g : Ghost) (cells : List ℕ) (at top : ℕ) (p : AtPla
           → ConfigurationHasType g.store (place_of g) (in_frame (reverse results ++ drop (length function.ty.params) values) p.labels p.rest) g.results
       goes-behind results fit =
           let parts = rw (length-reverse function.ty.params) at (values-parts g.store values (reverse function.ty.params) below typed) in
-          f.filled (Running (reverse results ++ drop (length function.ty.params) values) p.rest)
-          (reverse function.ty.results ++ below, values-joined g.store (reverse results) (drop (length function.ty.params) values) (reverse function.ty.results) below (values-reversed g.store results function.ty.results fit) parts.1, runs)
+          f.filled (Running (reverse results ++ drop (length function.ty.params) values) p.rest) (
+            reverse function.ty.results ++ below,
+            values-joined g.store (reverse results) (drop (length function.ty.params) values) (reverse function.ty.results) below
+                (values-reversed g.store results function.ty.results fit) parts.1,
+            runs,
+          )
 
       abbrev pub calling : IsCalling op address function g cells at top height
       calling = record { reached = reaching; counted = counted; goes_on = goes-behind; step = step }
@@ -150,7 +159,9 @@ module _ (op : PlainOp) (g : Ghost) (cells : List ℕ) (at top : ℕ) (p : AtPla
       pub call-costs : CostsOne (step_instruction g.store (frame_of g) op p.values p.rest)
       call-costs =
           subst CostsOne
-          (sym (step ∙ if-at-most (length function.ty.params) (length values) (call_implementation 1 g.store lent function.ty function.implementation values p.rest) NotReady (enough g.store p.runs.typed.valid outermost function.ty values below typed)))
+          (sym (step ∙ if-at-most (length function.ty.params) (length values)
+          (call_implementation 1 g.store lent function.ty function.implementation values p.rest) NotReady
+          (enough g.store p.runs.typed.valid outermost function.ty values below typed)))
           (implementation-costs g.store lent function.ty values p.rest arguments-of function.implementation)
 
     -- ---- a tail call
@@ -190,7 +201,8 @@ module _ (g : Ghost) (cells : List ℕ) (at top x : ℕ) (p : AtPlain (plain.Con
       let f : Inner (here (plain.Control (control.Call x)) g cells at top p) = found (plain.Control (control.Call x)) g cells at top p in
       let (operands, results, between, (t, is, type), frames, runs) = f.runs in
       let (below, stack_is, between_is) = operands-on-top f.stack t operands results between type frames in
-      let (address, h, named, there, same) = types-found _ _ g.store.functions (instance_of g.store (Some g.instance)).functions x t (instance-valid g.store p.runs.typed.valid (Some g.instance)).functions is in
+      let (address, h, named, there, same) = types-found _ _ g.store.functions (instance_of g.store (Some g.instance)).functions x t
+      (instance-valid g.store p.runs.typed.valid (Some g.instance)).functions is in
       let found_is : item_of g.store.functions (slice_get (instance_of g.store (Some g.instance)).functions x) ≡ Some h = ap (λ (o : Option ℕ). item_of g.store.functions o) named ∙ there in
       let many : length t.params ≡ 0 + length h.ty.params = omega (arith, ap (λ (u : FuncType). length u.params) same) in record {
         inside = f;
@@ -240,7 +252,8 @@ module _ (g : Ghost) (cells : List ℕ) (at top x : ℕ) (p : AtPlain (plain.Con
       let f : Inner (here (plain.Control (control.ReturnCall x)) g cells at top p) = found (plain.Control (control.ReturnCall x)) g cells at top p in
       let (operands, results, between, (t, under, is, results_are, taken), frames, runs) = f.runs in
       let (below, stack_is) = types-on-top f.stack operands results between frames under t.params taken in
-      let (address, h, named, there, same) = types-found _ _ g.store.functions (instance_of g.store (Some g.instance)).functions x t (instance-valid g.store p.runs.typed.valid (Some g.instance)).functions is in
+      let (address, h, named, there, same) = types-found _ _ g.store.functions (instance_of g.store (Some g.instance)).functions x t
+      (instance-valid g.store p.runs.typed.valid (Some g.instance)).functions is in
       let found_is : item_of g.store.functions (slice_get (instance_of g.store (Some g.instance)).functions x) ≡ Some h = ap (λ (o : Option ℕ). item_of g.store.functions o) named ∙ there in
       let given : g.results ≡ t.results = same_Some g.results t.results results_are in record {
         address = address;

@@ -1,5 +1,6 @@
 -- Cells of values.
-use Rattle.std.proofs.Common.{◌≡◌, ℕ, zero, suc, ◌+◌, ◌-◌, ◌<◌, ◌≤◌, List, [], ◌∷◌, ◌++◌, length, map, reverse, take, drop, get_or, refl, ap, sym, ◌∙◌, arith, append_assoc, length-append, take-append-drop}
+use Rattle.std.proofs.Common.{◌≡◌, ℕ, zero, suc, ◌+◌, ◌-◌, ◌<◌, ◌≤◌, List, [], ◌∷◌, ◌++◌, length, map, reverse, take, drop, get_or, refl, ap, sym, ◌∙◌, arith}
+use Rattle.std.proofs.Common.{append_assoc, length-append, take-append-drop}
 use Rattle.std.specs.Prelude.{Some}
 use Rattle.std.proofs.lemmas.List.{get_or-take, get_or_append_left, length-drop, length-map, length-reverse, length-take-le, map-append, reverse-append, take-take}
 use Rattle.std.proofs.Math.Seq.{drop-append_seam, get_or-append_seam, take-append_seam}
@@ -100,7 +101,8 @@ module _ (cells base : List ℕ) (top : ℕ) where
           ∙ take-append_seam (base ++ cells_of lower) ((cells_of gone ++ cells_of (drop kept own)) ++ cells_of (take kept own))
 
       split : cells ≡ ((base ++ cells_of lower) ++ (cells_of gone ++ cells_of (drop kept own))) ++ (cells_of (take kept own) ++ drop top cells)
-      split = sym (take-append-drop top cells) ∙ ap (λ (z : List ℕ). z ++ drop top cells) parts ∙ append_assoc ((base ++ cells_of lower) ++ (cells_of gone ++ cells_of (drop kept own))) (cells_of (take kept own)) (drop top cells)
+      split = sym (take-append-drop top cells) ∙ ap (λ (z : List ℕ). z ++ drop top cells) parts ∙ append_assoc
+          ((base ++ cells_of lower) ++ (cells_of gone ++ cells_of (drop kept own))) (cells_of (take kept own)) (drop top cells)
 
       over_is : take kept (drop (top - kept) cells) ≡ cells_of (take kept own)
       over_is =
@@ -144,7 +146,8 @@ first-cells (t ∷ ts) = rw (first-cell t, first-cells ts) refl
 
 pub map-reversed : (vs : List Val) → map cell_of (reverse vs) ≡ reverse (map cell_of vs)
 map-reversed [] = refl
-map-reversed (v ∷ vs) = ap (map cell_of) (reverse-append (v ∷ []) vs) ∙ map-append cell_of (reverse vs) (v ∷ []) ∙ ap (λ (z : List ℕ). z ++ (cell_of v ∷ [])) (map-reversed vs) ∙ sym (reverse-append (cell_of v ∷ []) (map cell_of vs))
+map-reversed (v ∷ vs) = ap (map cell_of) (reverse-append (v ∷ []) vs) ∙ map-append cell_of (reverse vs) (v ∷ []) ∙ ap
+    (λ (z : List ℕ). z ++ (cell_of v ∷ [])) (map-reversed vs) ∙ sym (reverse-append (cell_of v ∷ []) (map cell_of vs))
 
 pub argument-cells : (cells below : List ℕ) (top : ℕ) (params : List ValType) (values : List Val) → take top cells ≡ below ++ cells_of values → length params ≤ length values
     → top ≡ length below + length values → top ≤ length cells
@@ -162,7 +165,8 @@ argument-cells cells below top params values held few high within =
 
     split : cells ≡ (below ++ cells_of (drop n values)) ++ (cells_of (take n values) ++ drop top cells)
     split =
-        sym (take-append-drop top cells) ∙ ap (λ (z : List ℕ). z ++ drop top cells) (held ∙ ap (λ (z : List ℕ). below ++ z) (ap cells_of (sym (take-append-drop n values)) ∙ cells-joined (take n values) (drop n values)))
+        sym (take-append-drop top cells) ∙ ap (λ (z : List ℕ). z ++ drop top cells)
+        (held ∙ ap (λ (z : List ℕ). below ++ z) (ap cells_of (sym (take-append-drop n values)) ∙ cells-joined (take n values) (drop n values)))
         ∙ simp append_assoc
 
     low_size : length (below ++ cells_of (drop n values)) ≡ top - n

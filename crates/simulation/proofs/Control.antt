@@ -34,8 +34,10 @@ use Rattle.simulation.proofs.Typed.{Inner, Settled, inner, leads-then, leaves-st
 
 module _ (g : Ghost) (cells : List ℕ) (at top : ℕ) (values : List Val) (labels : List Label) (rest : Body) (r : Runs (on g g.locals values labels rest) cells at top)
     (leaves : LeavesTo g.store (frame_of g) (config_of g) (in_frame values labels rest)) where
-  pub moved : (cost : ℕ) (values' : List Val) (labels' : List Label) (rest' : Body) → next g.store (frame_of g) (in_frame values labels rest) ≡ Goes cost g.store (frame_of g) (in_frame values' labels' rest')
-      → (cells' : List ℕ) (at' top' fuel left : ℕ) → StandsIn g.code at' values' labels' rest' → length cells' ≡ length cells → take top' cells' ≡ map cell_of g.locals ++ cells_of (values' ++ values_under labels')
+  pub moved : (cost : ℕ) (values' : List Val) (labels' : List Label) (rest' : Body) → next g.store (frame_of g) (in_frame values labels rest)
+      ≡ Goes cost g.store (frame_of g) (in_frame values' labels' rest')
+      → (cells' : List ℕ) (at' top' fuel left : ℕ) → StandsIn g.code at' values' labels' rest' → length cells' ≡ length cells → take top' cells'
+      ≡ map cell_of g.locals ++ cells_of (values' ++ values_under labels')
       → top' ≡ length g.locals + (length values' + under labels') → cost ≤ fuel → left ≡ fuel - cost → Leads g fuel g.store cells' at' top' left
   moved cost values' labels' rest' goes cells' at' top' fuel left stands size held top_is enough left_is =
       leads-then g g.store g.locals values' labels' rest' (in_frame values labels rest) (in_frame values' labels' rest') cost fuel left cells' at' top' leaves (inl goes) refl enough left_is
@@ -46,7 +48,8 @@ module _ (g : Ghost) (cells : List ℕ) (at top : ℕ) (values : List Val) (labe
       })
 
   -- Without fuel for the step.
-  pub dear : (cost : ℕ) (c : Configuration) (frame : Frame) → next g.store (frame_of g) (in_frame values labels rest) ≡ Goes cost g.store frame c → (fuel : ℕ) → fuel < cost → Lacks g fuel cells at top fuel
+  pub dear : (cost : ℕ) (c : Configuration) (frame : Frame) → next g.store (frame_of g) (in_frame values labels rest) ≡ Goes cost g.store frame c
+      → (fuel : ℕ) → fuel < cost → Lacks g fuel cells at top fuel
   dear cost c frame goes fuel few = record {
     leads = record {
       new = on g g.locals values labels rest;
@@ -61,7 +64,8 @@ module _ (g : Ghost) (cells : List ℕ) (at top : ℕ) (values : List Val) (labe
 -- ---- blocks
 
 -- The height at the end of a body of a block.
-pub block-lasts : (context : Context) (s : Signatures) → context.types ≡ s.types → context.functions ≡ s.functions → (t : FuncType) (body : Body) → HasType context body (known t.params) (known t.results)
+pub block-lasts : (context : Context) (s : Signatures) → context.types ≡ s.types → context.functions ≡ s.functions → (t : FuncType) (body : Body)
+    → HasType context body (known t.params) (known t.results)
     → (h : ℕ) → length t.params ≤ h → EndsAt (last_height s (Some h) body) (h - length t.params + length t.results)
 block-lasts context s types functions t body typed h le =
     let params : length (known t.params) ≡ length t.params = simp length-map in
@@ -78,11 +82,13 @@ enter-goes store frame kind type t inside rest values le = if-at-most (length t.
 
 module _ (g : Ghost) (cells : List ℕ) (at top : ℕ) where
   -- Within a new label, which takes its parameters.
-  pub label-entered : (values₀ : List Val) (rest₀ : Body) (labels : List Label) (r : Runs (on g g.locals values₀ labels rest₀) cells at top) (leaves : LeavesTo g.store (frame_of g) (config_of g) (in_frame values₀ labels rest₀))
+  pub label-entered : (values₀ : List Val) (rest₀ : Body) (labels : List Label) (r : Runs (on g g.locals values₀ labels rest₀) cells at top)
+      (leaves : LeavesTo g.store (frame_of g) (config_of g) (in_frame values₀ labels rest₀))
       → (kind : Kind) (type : BlockType) (t : FuncType) (inside rest : Body) (values : List Val) → length t.params ≤ length values
       → next g.store (frame_of g) (Running values₀ rest₀) ≡ enter_label g.store (frame_of g) kind type (Some t) inside values rest
       → (at' top' fuel left : ℕ) → StandsIn g.code at' (take (length t.params) values) (label_of kind type t inside values rest ∷ labels) inside
-      → take top' cells ≡ map cell_of g.locals ++ cells_of (values ++ values_under labels) → top' ≡ length g.locals + (length values + under labels) → 1 ≤ fuel → left ≡ fuel - 1 → Leads g fuel g.store cells at' top' left
+      → take top' cells ≡ map cell_of g.locals ++ cells_of (values ++ values_under labels) → top' ≡ length g.locals + (length values + under labels)
+      → 1 ≤ fuel → left ≡ fuel - 1 → Leads g fuel g.store cells at' top' left
   label-entered values₀ rest₀ labels r leaves kind type t inside rest values le is at' top' fuel left stands held top_is enough left_is =
       let goes = labels-go g.store (frame_of g) labels 1 g.store (frame_of g) (Running values₀ rest₀) _ (is ∙ enter-goes g.store (frame_of g) kind type t inside rest values le) in
       let first = length-take-le (length t.params) values le in
@@ -91,12 +97,15 @@ module _ (g : Ghost) (cells : List ℕ) (at top : ℕ) where
       (held ∙ ap (λ (vs : List Val). map cell_of g.locals ++ cells_of vs) (sym (same-pile (length t.params) values (values_under labels))))
       (omega arith) enough left_is
 
-  pub label-dear : (values₀ : List Val) (rest₀ : Body) (labels : List Label) (r : Runs (on g g.locals values₀ labels rest₀) cells at top) (leaves : LeavesTo g.store (frame_of g) (config_of g) (in_frame values₀ labels rest₀))
+  pub label-dear : (values₀ : List Val) (rest₀ : Body) (labels : List Label) (r : Runs (on g g.locals values₀ labels rest₀) cells at top)
+      (leaves : LeavesTo g.store (frame_of g) (config_of g) (in_frame values₀ labels rest₀))
       → (kind : Kind) (type : BlockType) (t : FuncType) (inside rest : Body) (values : List Val) → length t.params ≤ length values
       → next g.store (frame_of g) (Running values₀ rest₀) ≡ enter_label g.store (frame_of g) kind type (Some t) inside values rest
       → (fuel : ℕ) → fuel < 1 → Lacks g fuel cells at top fuel
   label-dear values₀ rest₀ labels r leaves kind type t inside rest values le is fuel few =
-      dear g cells at top values₀ labels rest₀ r leaves 1 _ _ (labels-go g.store (frame_of g) labels 1 g.store (frame_of g) (Running values₀ rest₀) _ (is ∙ enter-goes g.store (frame_of g) kind type t inside rest values le)) fuel few
+      dear g cells at top values₀ labels rest₀ r leaves 1 _ _
+      (labels-go g.store (frame_of g) labels 1 g.store (frame_of g) (Running values₀ rest₀) _
+      (is ∙ enter-goes g.store (frame_of g) kind type t inside rest values le)) fuel few
 
   -- The step of an operation that costs 1.
   abbrev pub Charged : (at' top' : ℕ) → Type 0
@@ -121,7 +130,9 @@ module _ (g : Ghost) (cells : List ℕ) (at top : ℕ) where
           let lasts = block-lasts _ g.code.signatures r.typed.types r.typed.functions t inside typed (g.code.locals + (length s.values + under s.labels)) (omega arith) in
           let stands = block-entered g.code at s.values s.labels type t flat_type enough inside rest lasts r.stands in
           let is_next = ap (λ (o : Option FuncType). enter_label g.store (frame_of g) BlockKind type o inside s.values rest) found in (
-            λ fuel left enough_fuel left_is. label-entered s.values (Nested BlockKind type inside rest) s.labels r leaves BlockKind type t inside rest s.values enough is_next (suc at) top fuel left stands r.holds.held r.holds.top_is enough_fuel left_is,
+            λ fuel left enough_fuel left_is.
+                label-entered s.values (Nested BlockKind type inside rest) s.labels r leaves BlockKind type t inside rest s.values enough is_next
+                (suc at) top fuel left stands r.holds.held r.holds.top_is enough_fuel left_is,
             λ fuel few. label-dear s.values (Nested BlockKind type inside rest) s.labels r leaves BlockKind type t inside rest s.values enough is_next fuel few,
           )
       by-kind s LoopKind type inside rest is which =
@@ -136,12 +147,15 @@ module _ (g : Ghost) (cells : List ℕ) (at top : ℕ) where
           let lasts = block-lasts _ g.code.signatures r.typed.types r.typed.functions t inside typed (g.code.locals + (length s.values + under s.labels)) (omega arith) in
           let stands = loop-entered g.code at s.values s.labels type t flat_type enough inside rest lasts r.stands in
           let is_next = ap (λ (o : Option FuncType). enter_label g.store (frame_of g) LoopKind type o inside s.values rest) found in (
-            λ fuel left enough_fuel left_is. label-entered s.values (Nested LoopKind type inside rest) s.labels r leaves LoopKind type t inside rest s.values enough is_next (suc at) top fuel left stands r.holds.held r.holds.top_is enough_fuel left_is,
+            λ fuel left enough_fuel left_is.
+                label-entered s.values (Nested LoopKind type inside rest) s.labels r leaves LoopKind type t inside rest s.values enough is_next
+                (suc at) top fuel left stands r.holds.held r.holds.top_is enough_fuel left_is,
             λ fuel few. label-dear s.values (Nested LoopKind type inside rest) s.labels r leaves LoopKind type t inside rest s.values enough is_next fuel few,
           )
       by-kind s IfKind type inside rest is (inl e) = absurd cc
       by-kind s IfKind type inside rest is (inr e) = absurd cc
 
-      by : (s : Settled g cells at top) → (type : BlockType) × (inside rest : Body) × ((s.rest ≡ Nested BlockKind type inside rest) ⊎ (s.rest ≡ Nested LoopKind type inside rest)) → Charged (suc at) top
+      by : (s : Settled g cells at top) → (type : BlockType) × (inside rest : Body)
+          × ((s.rest ≡ Nested BlockKind type inside rest) ⊎ (s.rest ≡ Nested LoopKind type inside rest)) → Charged (suc at) top
       by s (type, inside, rest, inl is) = by-kind s BlockKind type inside rest is (inl refl)
       by s (type, inside, rest, inr is) = by-kind s LoopKind type inside rest is (inr refl)

@@ -24,8 +24,10 @@ use Rattle.simulation.proofs.Cells.{argument-cells, first-cells}
 use Rattle.simulation.proofs.Frames.{functions-entered}
 use Rattle.simulation.proofs.Typed.{all-length}
 
-module _ (g : Ghost) (cells : List ℕ) (top : ℕ) (valid : StoreIsValid g.store) (h : Holds g cells top) (inside : top ≤ length cells) (s : Signatures) (ops : List FlatOp) (at : ℕ) (t : FuncType) (instance : ℕ) (code : Code)
-    (good : ImplementationIsValid g.store t (InCode instance code)) (below : List ValType) (typed : ValuesHaveTypes g.store g.values (reverse t.params ++ below)) (enough : length t.params ≤ length g.values)
+module _ (g : Ghost) (cells : List ℕ) (top : ℕ) (valid : StoreIsValid g.store) (h : Holds g cells top) (inside : top ≤ length cells) (s : Signatures)
+    (ops : List FlatOp) (at : ℕ) (t : FuncType) (instance : ℕ) (code : Code)
+    (good : ImplementationIsValid g.store t (InCode instance code)) (below : List ValType)
+    (typed : ValuesHaveTypes g.store g.values (reverse t.params ++ below)) (enough : length t.params ≤ length g.values)
     (types : (context_at g.store (body_place t instance code)).types ≡ s.types) (functions : (context_at g.store (body_place t instance code)).functions ≡ s.functions)
     (begins : BeginsAt s ops (length t.params + length code.locals) (length t.results) at code.body) where
   abbrev new : Ghost
@@ -77,5 +79,7 @@ module _ (g : Ghost) (cells : List ℕ) (top : ℕ) (valid : StoreIsValid g.stor
 
       lies : take (length t.params) (drop (top - length t.params) cells) ≡ map cell_of (topmost t.params g.values)
       lies =
-          argument-cells cells (map cell_of g.locals) top t.params (g.values ++ values_under g.labels) h.held (omega (arith, enough, length-append g.values (values_under g.labels))) (omega (arith, h.top_is, length-map g.locals cell_of, all-length g.values g.labels)) inside
+          argument-cells cells (map cell_of g.locals) top t.params (g.values ++ values_under g.labels) h.held
+          (omega (arith, enough, length-append g.values (values_under g.labels)))
+          (omega (arith, h.top_is, length-map g.locals cell_of, all-length g.values g.labels)) inside
           ∙ ap (λ (vs : List Val). map cell_of (reverse vs)) (take-append-le (length t.params) g.values (values_under g.labels) enough)

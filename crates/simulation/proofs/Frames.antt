@@ -64,7 +64,8 @@ functions-entered context s types functions t body typed ops locals at (more, pl
     here = record { more = Leave n ∷ more; placed = behind; ends = refl; lasts = lasts; room = omega arith }
 
 -- With any host functions.
-module _ {H : Type 0} (HostStep : List H → ℕ → Option ℕ → List Val → Store → Answer → Store → List H → Type 0) (hosts : List H) (bound : ℕ) (layers : List Layer) (outside : (f : Frame) → outermost layers f ≡ no_frame) where
+module _ {H : Type 0} (HostStep : List H → ℕ → Option ℕ → List Val → Store → Answer → Store → List H → Type 0) (hosts : List H) (bound : ℕ)
+    (layers : List Layer) (outside : (f : Frame) → outermost layers f ≡ no_frame) where
   abbrev state : Store → (fuel : ℕ) → State H
   state store fuel = record { store = store; hosts = hosts; fuel = fuel }
 
@@ -76,13 +77,18 @@ module _ {H : Type 0} (HostStep : List H → ℕ → Option ℕ → List Val →
     where
       by : GoesOn (next store frame c) cost between middle e → IsStep HostStep bound no_frame (state store fuel) (plug layers frame c) (state between (fuel - cost)) (plug layers middle e)
       by (inl is) =
-          let whole : next store no_frame (plug layers frame c) ≡ Goes cost between no_frame (plug layers middle e) = rw (outside frame, outside middle) at (plugged-goes store layers frame middle between cost c e is) in
+          let whole : next store no_frame (plug layers frame c)
+          ≡ Goes cost between no_frame (plug layers middle e) = rw (outside frame, outside middle) at
+          (plugged-goes store layers frame middle between cost c e is) in
           goes whole enough refl refl
       by (inr is) =
-          let whole : next store no_frame (plug layers frame c) ≡ Grows cost between no_frame (plug layers middle e) = rw (outside frame, outside middle) at (plugged-grows store layers frame middle between cost c e is) in
+          let whole : next store no_frame (plug layers frame c)
+          ≡ Grows cost between no_frame (plug layers middle e) = rw (outside frame, outside middle) at
+          (plugged-grows store layers frame middle between cost c e is) in
           grows whole enough refl refl
 
-pub steps-lifted : (store store' : Store) (bound : ℕ) (layers : List Layer) (outside : (f : Frame) → outermost layers f ≡ no_frame) (frame frame' : Frame) (c d : Configuration) (fuel left : ℕ) → StepsIn store frame c fuel store' frame' d left
+pub steps-lifted : (store store' : Store) (bound : ℕ) (layers : List Layer) (outside : (f : Frame) → outermost layers f ≡ no_frame)
+    (frame frame' : Frame) (c d : Configuration) (fuel left : ℕ) → StepsIn store frame c fuel store' frame' d left
     → Steps NoHosts bound no_frame (record { store = store; hosts = []; fuel = fuel }) (plug layers frame c) (record { store = store'; hosts = []; fuel = left }) (plug layers frame' d)
 steps-lifted store store' bound layers outside = steps-lifted-over NoHosts [] bound layers outside store store'
 
@@ -90,7 +96,8 @@ pub callers-on : (f : FrameCode) (at : ℕ) (values rest_values results : List V
     → counts_of f.signatures op ≡ Some (counts takes gives) → takes ≤ length values → length rest_values ≡ length values - takes → length results ≡ gives
     → StandsIn f at values labels (Then op rest) → StandsIn f (suc at) (results ++ rest_values) labels rest
 callers-on f at values rest_values results labels op rest takes gives is enough few many s =
-    let same : f.locals + (length values + under labels) - takes + gives ≡ f.locals + (length (results ++ rest_values) + under labels) = omega (arith, length-append results rest_values, enough, few, many) in
+    let same : f.locals + (length values + under labels) - takes + gives
+    ≡ f.locals + (length (results ++ rest_values) + under labels) = omega (arith, length-append results rest_values, enough, few, many) in
     record {
       entries = s.entries;
       end = s.end;

@@ -23,9 +23,11 @@ use Rattle.core_types.specs.declared.types.FuncType.{FuncType}
 use Rattle.core_types.specs.declared.types.OperandType.{OperandType}
 use Rattle.meaning.specs.structure.Bodies.{Body, Kind, BlockKind, LoopKind, IfKind, Empty, Then, Nested, IfElse}
 use Rattle.meaning.specs.validation.Context.{Context}
-use Rattle.meaning.specs.validation.Instructions.{AllFit, TakesAndGives, HasFuncType, HasType, Rule, condition_of, control_rule, known, memory_rule, numeric_instruction_type, parametric_rule, reference_rule, table_rule, variable_rule}
+use Rattle.meaning.specs.validation.Instructions.{AllFit, TakesAndGives, HasFuncType, HasType, Rule, condition_of, control_rule, known, memory_rule}
+use Rattle.meaning.specs.validation.Instructions.{numeric_instruction_type, parametric_rule, reference_rule, table_rule, variable_rule}
 use Rattle.meaning.specs.validation.Types.{block_type}
-use Rattle.sidetable.specs.Counts.{Signatures, behind, block_counts, changed, control_counts, counts_of, memory_counts, numeric_counts, parametric_counts, reference_counts, table_counts, variable_counts}
+use Rattle.sidetable.specs.Counts.{Signatures, behind, block_counts, changed, control_counts, counts_of, memory_counts, numeric_counts, parametric_counts}
+use Rattle.sidetable.specs.Counts.{reference_counts, table_counts, variable_counts}
 use Rattle.sidetable.specs.declared.counts.Counts.{Counts}
 use Rattle.sidetable.specs.Flat.{behind_height, inside_height}
 use Rattle.simulation.specs.Standing.{EndsAt, conditions, last_height}
@@ -155,7 +157,8 @@ conditions-count LoopKind = refl
 conditions-count IfKind = refl
 
 module _ (context : Context) (s : Signatures) (types : context.types ≡ s.types) (functions : context.functions ≡ s.functions) where
-  framed-length : (operands results before after : List OperandType) → TakesAndGives operands results before after → (n : ℕ) × (length before ≡ n + length operands) × (length after ≡ n + length results)
+  framed-length : (operands results before after : List OperandType) → TakesAndGives operands results before after → (n : ℕ)
+      × (length before ≡ n + length operands) × (length after ≡ n + length results)
   framed-length operands results before after frame = (
     length frame.below,
     ap length frame.before_is ∙ length-append frame.below frame.given ∙ ap (λ (n : ℕ). length frame.below + n) (fits-length frame.given operands frame.fits),
@@ -174,12 +177,14 @@ module _ (context : Context) (s : Signatures) (types : context.types ≡ s.types
       → (h : ℕ) → h ≡ u + length before → (conditions kind + length t.params ≤ h) × (h - conditions kind - length t.params + length t.results ≡ u + length between)
   behind-block u kind t before between frame h is =
       let (n, first, second) = framed-length _ _ before between frame in
-      let operands : length (known (t.params ++ condition_of kind)) ≡ length t.params + conditions kind = rw (length-map, length-append) (ap (λ (m : ℕ). length t.params + m) (conditions-count kind)) in
+      let operands : length (known (t.params ++ condition_of kind))
+      ≡ length t.params + conditions kind = rw (length-map, length-append) (ap (λ (m : ℕ). length t.params + m) (conditions-count kind)) in
       let results : length (known t.results) ≡ length t.results = rw length-map refl in
       (omega (arith, operands, results, first, second, is), omega (arith, operands, results, first, second, is))
 
 -- At the end of a typed body the height is that of its results.
-pub last-typed : (context : Context) (s : Signatures) (types : context.types ≡ s.types) (functions : context.functions ≡ s.functions) (u : ℕ) (body : Body) (before after : List OperandType) → HasType context body before after
+pub last-typed : (context : Context) (s : Signatures) (types : context.types ≡ s.types) (functions : context.functions ≡ s.functions) (u : ℕ)
+    (body : Body) (before after : List OperandType) → HasType context body before after
     → (h : ℕ) → h ≡ u + length before → EndsAt (last_height s (Some h) body) (u + length after)
 last-typed context s types functions u Empty before after fits h is = is ∙ ap (λ (n : ℕ). u + n) (fits-length before after fits)
 last-typed context s types functions u (Then op rest) before after (operands, results, between, rule, frame, last) h is =

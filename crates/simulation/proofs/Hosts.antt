@@ -55,7 +55,8 @@ values-read store (v ∷ values) [] typed = absurd typed
 values-read store (v ∷ values) (t ∷ types) typed = rw (value-read store v t typed.0, values-read store values types typed.1) refl
 
 -- Without the topmost cells.
-pile-low : (cells base : List ℕ) (top many : ℕ) (values lower : List Val) → take top cells ≡ base ++ cells_of (values ++ lower) → many ≤ length values → top ≡ length base + length (values ++ lower) → top ≤ length cells
+pile-low : (cells base : List ℕ) (top many : ℕ) (values lower : List Val) → take top cells ≡ base ++ cells_of (values ++ lower) → many ≤ length values
+    → top ≡ length base + length (values ++ lower) → top ≤ length cells
     → take (top - many) cells ≡ base ++ cells_of (drop many values ++ lower)
 pile-low cells base top many values lower held few high inside =
     sym (take-take (top - many) top cells (omega arith)) ∙ ap (take (top - many)) parts
@@ -93,7 +94,8 @@ module _ (op : PlainOp) (address : ℕ) (function : FunctionInstance) (g : Ghost
   arguments-read =
       sym (values-read c.new.store (topmost function.ty.params c.values) function.ty.params arguments-there)
       ∙ ap (values_of function.ty.params) (ap (λ (vs : List Val). map cell_of (reverse vs)) (sym (take-append-le (length function.ty.params) c.values (values_under c.new.labels) c.enough))
-      ∙ sym (argument-cells cells (map cell_of c.new.locals) height function.ty.params (c.values ++ values_under c.new.labels) c.holds.held (omega (arith, c.enough, length-append c.values (values_under c.new.labels))) pile-is c.operands.inside))
+      ∙ sym (argument-cells cells (map cell_of c.new.locals) height function.ty.params (c.values ++ values_under c.new.labels) c.holds.held
+      (omega (arith, c.enough, length-append c.values (values_under c.new.labels))) pile-is c.operands.inside))
 
 -- Arguments of the parameters' types are those of the host function.
 host-called : (store : Store) (lent : Option ℕ) (number : ℕ) (t : FuncType) (values : List Val) (rest : Body) → ValuesHaveTypes store (topmost t.params values) t.params
@@ -103,7 +105,8 @@ host-called store lent number t values rest typed =
     types_decided true (map type_of (topmost t.params values)) t.params (λ yes. types-of-values store (topmost t.params values) t.params typed, λ e. refl) in
     rw same refl
 
-module _ (op : PlainOp) (address : ℕ) (function : FunctionInstance) (g : Ghost) (cells : List ℕ) (at top height number : ℕ) (c : IsCalling op address function g cells at top height) (is : function.implementation ≡ InHost number) where
+module _ (op : PlainOp) (address : ℕ) (function : FunctionInstance) (g : Ghost) (cells : List ℕ) (at top height number : ℕ)
+    (c : IsCalling op address function g cells at top height) (is : function.implementation ≡ InHost number) where
   abbrev params : List ValType
   params = function.ty.params
 
@@ -115,22 +118,31 @@ module _ (op : PlainOp) (address : ℕ) (function : FunctionInstance) (g : Ghost
       (in_frame (drop (length function.ty.params) c.reached.values) c.reached.new.labels c.reached.rest)
   host-calls =
       ap (λ (body : Body). next c.reached.new.store (frame_of c.reached.new) (in_frame c.reached.new.values c.reached.new.labels body)) c.reached.rest_is
-      ∙ labels-call c.reached.new.store (frame_of c.reached.new) c.reached.new.labels 1 number lent (topmost params c.reached.values) (Running c.reached.new.values (Then op c.reached.rest)) (Running (drop (length params) c.reached.values) c.reached.rest)
-      (c.step ∙ if-at-most (length params) (length c.reached.values) (call_implementation 1 c.reached.new.store lent function.ty function.implementation c.reached.values c.reached.rest) NotReady c.reached.enough
+      ∙ labels-call c.reached.new.store (frame_of c.reached.new) c.reached.new.labels 1 number lent (topmost params c.reached.values)
+      (Running c.reached.new.values (Then op c.reached.rest)) (Running (drop (length params) c.reached.values) c.reached.rest)
+      (c.step ∙ if-at-most (length params) (length c.reached.values)
+      (call_implementation 1 c.reached.new.store lent function.ty function.implementation c.reached.values c.reached.rest) NotReady c.reached.enough
       ∙ ap (λ (i : Implementation). call_implementation 1 c.reached.new.store lent function.ty i c.reached.values c.reached.rest) is
       ∙ host-called c.reached.new.store lent number function.ty c.reached.values c.reached.rest (arguments-there op address function g cells at top height c.reached))
-      ∙ ap (λ (vs : List Val). CallsHost 1 number lent vs (in_frame (drop (length params) c.reached.values) c.reached.new.labels c.reached.rest)) (arguments-read op address function g cells at top height c.reached)
+      ∙ ap (λ (vs : List Val). CallsHost 1 number lent vs (in_frame (drop (length params) c.reached.values) c.reached.new.labels c.reached.rest))
+      (arguments-read op address function g cells at top height c.reached)
 
-  module _ (store' : Store) (results : List Val) (valid : StoreIsValid store') (more : Follows c.reached.new.store store') (instances : store'.instances ≡ c.reached.new.store.instances) (fit : ValuesHaveTypes c.reached.new.store results function.ty.results) where
+  module _ (store' : Store) (results : List Val) (valid : StoreIsValid store') (more : Follows c.reached.new.store store')
+      (instances : store'.instances ≡ c.reached.new.store.instances) (fit : ValuesHaveTypes c.reached.new.store results function.ty.results) where
     abbrev then : Ghost
     then = behind_call c store' results
 
     then-typed : IsTyped then
     then-typed =
-        let same : instance_of store' (Some c.reached.new.instance) ≡ instance_of c.reached.new.store (Some c.reached.new.instance) = ap (λ (is : List ModuleInstance). unwrap_or (slice_get is c.reached.new.instance) no_instance) instances in record {
+        let same : instance_of store' (Some c.reached.new.instance)
+        ≡ instance_of c.reached.new.store (Some c.reached.new.instance) = ap
+        (λ (is : List ModuleInstance). unwrap_or (slice_get is c.reached.new.instance) no_instance) instances in record {
           valid = valid;
-          own = values-extended c.reached.new.store store' (functions-more c.reached.new.store store' c.reached.runs.typed.valid more.extends) c.reached.new.locals c.reached.new.types c.reached.runs.typed.own;
-          typed = configuration-extended c.reached.new.store store' c.reached.runs.typed.valid more.extends (place_of c.reached.new) (in_frame (reverse results ++ drop (length params) c.reached.values) c.reached.new.labels c.reached.rest) c.reached.new.results (c.goes_on results fit);
+          own = values-extended c.reached.new.store store' (functions-more c.reached.new.store store' c.reached.runs.typed.valid more.extends)
+              c.reached.new.locals c.reached.new.types c.reached.runs.typed.own;
+          typed = configuration-extended c.reached.new.store store' c.reached.runs.typed.valid more.extends (place_of c.reached.new)
+              (in_frame (reverse results ++ drop (length params) c.reached.values) c.reached.new.labels c.reached.rest) c.reached.new.results
+              (c.goes_on results fit);
           types = ap (λ (i : ModuleInstance). i.types) same ∙ c.reached.runs.typed.types;
           functions = rw (same, more.functions) c.reached.runs.typed.functions;
         }
@@ -146,7 +158,8 @@ module _ (op : PlainOp) (address : ℕ) (function : FunctionInstance) (g : Ghost
         let second = c.reached.holds.top_is in
         let enough = c.reached.enough in
         let back = length-reverse results in
-        callers-on c.reached.new.code at c.reached.new.values (drop (length params) c.reached.values) (reverse results) c.reached.new.labels op c.reached.rest (c.reached.over + length params) (length function.ty.results) c.counted
+        callers-on c.reached.new.code at c.reached.new.values (drop (length params) c.reached.values) (reverse results) c.reached.new.labels op
+        c.reached.rest (c.reached.over + length params) (length function.ty.results) c.counted
         (omega (arith, over_is, first, second, enough)) (omega (arith, size, over_is, first, second, enough)) (omega (arith, back, many))
         (subst (λ (body : Body). StandsIn c.reached.new.code at c.reached.new.values c.reached.new.labels body) c.reached.rest_is c.reached.runs.stands)
 
@@ -156,11 +169,14 @@ module _ (op : PlainOp) (address : ℕ) (function : FunctionInstance) (g : Ghost
       stands = rw at_is then-stands;
       holds = record {
         held = put
-            ∙ ap (λ (z : List ℕ). z ++ map cell_of results) (pile-low cells (map cell_of c.reached.new.locals) height (length params) c.reached.values (values_under c.reached.new.labels) c.reached.holds.held c.reached.enough (pile-is op address function g cells at top height c.reached) c.reached.operands.inside)
+            ∙ ap (λ (z : List ℕ). z ++ map cell_of results)
+            (pile-low cells (map cell_of c.reached.new.locals) height (length params) c.reached.values (values_under c.reached.new.labels)
+            c.reached.holds.held c.reached.enough (pile-is op address function g cells at top height c.reached) c.reached.operands.inside)
             ∙ append_assoc (map cell_of c.reached.new.locals) (cells_of (drop (length params) c.reached.values ++ values_under c.reached.new.labels)) (map cell_of results)
             ∙ ap (λ (z : List ℕ). map cell_of c.reached.new.locals ++ (cells_of (drop (length params) c.reached.values ++ values_under c.reached.new.labels) ++ z)) results-back
             ∙ ap (λ (z : List ℕ). map cell_of c.reached.new.locals ++ z) (sym (cells-joined (reverse results) (drop (length params) c.reached.values ++ values_under c.reached.new.labels)))
-            ∙ ap (λ (vs : List Val). map cell_of c.reached.new.locals ++ cells_of vs) (sym (append_assoc (reverse results) (drop (length params) c.reached.values) (values_under c.reached.new.labels)));
+            ∙ ap (λ (vs : List Val). map cell_of c.reached.new.locals ++ cells_of vs)
+            (sym (append_assoc (reverse results) (drop (length params) c.reached.values) (values_under c.reached.new.labels)));
         top_is =
             let one = c.reached.holds.top_is in
             let two = length-append (reverse results) (drop (length params) c.reached.values) in
@@ -191,9 +207,11 @@ tail-calls-reach-hosts op address function g cells at top height number c is out
     ap (λ (body : Body). next h.store outer (InFrame activation (frame_of h) (in_frame h.values h.labels body))) c.reached.rest_is
     ∙ placed h.store outer (frame_of h) activation op lent function h.values c.reached.values h.labels c.reached.rest c.step c.reached.enough
     ∙ ap (λ (i : Implementation). in_place outer (call_implementation 1 h.store lent t i on activation.rest)) is
-    ∙ ap (in_place outer) (host-called h.store lent number t on activation.rest (subst (λ (vs : List Val). ValuesHaveTypes h.store vs t.params) (sym same) (arguments-there op address function g cells at top height c.reached)))
+    ∙ ap (in_place outer) (host-called h.store lent number t on activation.rest
+    (subst (λ (vs : List Val). ValuesHaveTypes h.store vs t.params) (sym same) (arguments-there op address function g cells at top height c.reached)))
     ∙ ap (λ (vs : List Val). CallsHost 1 number lent vs (Running (drop (length t.params) on) activation.rest)) (same ∙ arguments-read op address function g cells at top height c.reached)
-    ∙ ap (λ (vs : List Val). CallsHost 1 number lent (values_of t.params (operand_cells cells height (length t.params))) (Running vs activation.rest)) (under-same t c.reached.values activation.values c.reached.enough)
+    ∙ ap (λ (vs : List Val). CallsHost 1 number lent (values_of t.params (operand_cells cells height (length t.params))) (Running vs activation.rest))
+    (under-same t c.reached.values activation.values c.reached.enough)
   where
     h : Ghost
     h = c.reached.new

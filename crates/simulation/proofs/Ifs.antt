@@ -1,5 +1,6 @@
 -- Ifs and jumps, on values and on their cells.
-use Rattle.std.proofs.Common.{◌≡◌, ◌⊎◌, ℕ, zero, suc, ◌+◌, ◌-◌, ◌^◌, ◌<◌, ◌≤◌, List, [], ◌∷◌, ◌++◌, length, map, reverse, take, get_or, refl, ap, sym, subst, ◌∙◌, arith, append_assoc, length-append, inl, inr}
+use Rattle.std.proofs.Common.{◌≡◌, ◌⊎◌, ℕ, zero, suc, ◌+◌, ◌-◌, ◌^◌, ◌<◌, ◌≤◌, List, [], ◌∷◌, ◌++◌, length, map, reverse, take, get_or, refl, ap, sym, subst}
+use Rattle.std.proofs.Common.{◌∙◌, arith, append_assoc, length-append, inl, inr}
 use Rattle.std.proofs.lemmas.List.{length-reverse, reverse-append}
 use Rattle.std.specs.Prelude.{Option, Some}
 use Rattle.core_types.specs.declared.op.BlockType.{BlockType}
@@ -47,7 +48,8 @@ module _ (g : Ghost) (cells : List ℕ) (at top : ℕ) where
     pub held : take (top - 1) cells ≡ map cell_of g.locals ++ cells_of (values ++ values_under labels)
     pub top_is : top - 1 ≡ length g.locals + (length values + under labels)
 
-  pub conditioned : (values₀ : List Val) (labels : List Label) (rest₀ : Body) (r : Runs (on g g.locals values₀ labels rest₀) cells at top) (below : List ValType) → ValuesHaveTypes g.store values₀ (ty.I32 ∷ below) → Conditioned values₀ labels
+  pub conditioned : (values₀ : List Val) (labels : List Label) (rest₀ : Body) (r : Runs (on g g.locals values₀ labels rest₀) cells at top)
+      (below : List ValType) → ValuesHaveTypes g.store values₀ (ty.I32 ∷ below) → Conditioned values₀ labels
   conditioned values₀ labels rest₀ r below typed =
       let (n, values, is, fits, left) = i32-on-top g.store values₀ below typed in
       let held : take top cells ≡ map cell_of g.locals ++ cells_of (I32 n ∷ (values ++ values_under labels)) = rw is at r.holds.held in
@@ -90,10 +92,13 @@ module _ (g : Ghost) (cells : List ℕ) (at top : ℕ) where
           let enough : length t.params ≤ length c.values = omega arith in
           let flat_type : block_type g.code.signatures.types type ≡ Some t = rw (r.typed.types) at found in
           let lasts = block-lasts _ g.code.signatures r.typed.types r.typed.functions t inside typed (g.code.locals + (length c.values + under s.labels)) (omega arith) in
-          let stands₀ : StandsIn g.code at (I32 c.n ∷ c.values) s.labels (Nested IfKind type inside rest) = subst (λ (vs : List Val). StandsIn g.code at vs s.labels (Nested IfKind type inside rest)) c.values_are r.stands in
+          let stands₀ : StandsIn g.code at (I32 c.n ∷ c.values) s.labels (Nested IfKind type inside rest) = subst
+          (λ (vs : List Val). StandsIn g.code at vs s.labels (Nested IfKind type inside rest)) c.values_are r.stands in
           let chosen : (n : ℕ) → n ≡ c.n → next g.store (frame_of g) (Running s.values (Nested IfKind type inside rest)) ≡ choose_body g.store (frame_of g) type inside Empty (I32 n ∷ c.values) rest =
           λ n same. ap (λ (vs : List Val). choose_body g.store (frame_of g) type inside Empty vs rest) (c.values_are ∙ ap (λ (m : ℕ). I32 m ∷ c.values) (sym same)) in
-          let typed_block : (body : Body) → enter_label g.store (frame_of g) IfKind type (block_type (instance_of g.store (Some g.instance)).types type) body c.values rest ≡ enter_label g.store (frame_of g) IfKind type (Some t) body c.values rest =
+          let typed_block : (body : Body)
+          → enter_label g.store (frame_of g) IfKind type (block_type (instance_of g.store (Some g.instance)).types type) body c.values rest
+          ≡ enter_label g.store (frame_of g) IfKind type (Some t) body c.values rest =
           λ body. ap (λ (o : Option FuncType). enter_label g.store (frame_of g) IfKind type o body c.values rest) found in (
             c.some,
             top-within _ cells at top r,
@@ -101,14 +106,18 @@ module _ (g : Ghost) (cells : List ℕ) (at top : ℕ) where
                 let is_next = chosen 0 (sym is_zero ∙ c.read) ∙ typed_block Empty in
                 let stands = subst (λ (p : ℕ). StandsIn g.code p (take (length t.params) c.values) (label_of IfKind type t Empty c.values rest ∷ s.labels) Empty) (sym target)
                 (if-passed g.code at c.values s.labels type t flat_type enough inside rest (I32 c.n) (ap length fits) stands₀) in (
-                  λ fuel left enough_fuel left_is. label-entered g cells at top s.values _ s.labels r leaves IfKind type t Empty rest c.values enough is_next e.target (top - 1) fuel left stands c.held c.top_is enough_fuel left_is,
+                  λ fuel left enough_fuel left_is.
+                      label-entered g cells at top s.values _ s.labels r leaves IfKind type t Empty rest c.values enough is_next e.target (top - 1)
+                      fuel left stands c.held c.top_is enough_fuel left_is,
                   λ fuel few. label-dear g cells at top s.values _ s.labels r leaves IfKind type t Empty rest c.values enough is_next fuel few,
                 ),
             λ not_zero.
                 let (m, more) = positive c.n (λ z. not_zero (c.read ∙ z)) in
                 let is_next = chosen (suc m) (sym more) ∙ typed_block inside in
                 let stands = if-entered g.code at c.values s.labels type t flat_type enough inside rest (I32 c.n) lasts stands₀ in (
-                  λ fuel left enough_fuel left_is. label-entered g cells at top s.values _ s.labels r leaves IfKind type t inside rest c.values enough is_next (suc at) (top - 1) fuel left stands c.held c.top_is enough_fuel left_is,
+                  λ fuel left enough_fuel left_is.
+                      label-entered g cells at top s.values _ s.labels r leaves IfKind type t inside rest c.values enough is_next (suc at) (top - 1)
+                      fuel left stands c.held c.top_is enough_fuel left_is,
                   λ fuel few. label-dear g cells at top s.values _ s.labels r leaves IfKind type t inside rest c.values enough is_next fuel few,
                 ),
           )
@@ -128,10 +137,13 @@ module _ (g : Ghost) (cells : List ℕ) (at top : ℕ) where
           let flat_type : block_type g.code.signatures.types type ≡ Some t = rw (r.typed.types) at found in
           let lasts = block-lasts _ g.code.signatures r.typed.types r.typed.functions t inside typed (g.code.locals + (length c.values + under s.labels)) (omega arith) in
           let other_lasts = block-lasts _ g.code.signatures r.typed.types r.typed.functions t other other_typed (g.code.locals + (length c.values + under s.labels)) (omega arith) in
-          let stands₀ : StandsIn g.code at (I32 c.n ∷ c.values) s.labels (IfElse type inside other rest) = subst (λ (vs : List Val). StandsIn g.code at vs s.labels (IfElse type inside other rest)) c.values_are r.stands in
+          let stands₀ : StandsIn g.code at (I32 c.n ∷ c.values) s.labels (IfElse type inside other rest) = subst
+          (λ (vs : List Val). StandsIn g.code at vs s.labels (IfElse type inside other rest)) c.values_are r.stands in
           let chosen : (n : ℕ) → n ≡ c.n → next g.store (frame_of g) (Running s.values (IfElse type inside other rest)) ≡ choose_body g.store (frame_of g) type inside other (I32 n ∷ c.values) rest =
           λ n same. ap (λ (vs : List Val). choose_body g.store (frame_of g) type inside other vs rest) (c.values_are ∙ ap (λ (m : ℕ). I32 m ∷ c.values) (sym same)) in
-          let typed_block : (body : Body) → enter_label g.store (frame_of g) IfKind type (block_type (instance_of g.store (Some g.instance)).types type) body c.values rest ≡ enter_label g.store (frame_of g) IfKind type (Some t) body c.values rest =
+          let typed_block : (body : Body)
+          → enter_label g.store (frame_of g) IfKind type (block_type (instance_of g.store (Some g.instance)).types type) body c.values rest
+          ≡ enter_label g.store (frame_of g) IfKind type (Some t) body c.values rest =
           λ body. ap (λ (o : Option FuncType). enter_label g.store (frame_of g) IfKind type o body c.values rest) found in (
             c.some,
             top-within _ cells at top r,
@@ -139,19 +151,25 @@ module _ (g : Ghost) (cells : List ℕ) (at top : ℕ) where
                 let is_next = chosen 0 (sym is_zero ∙ c.read) ∙ typed_block other in
                 let stands = subst (λ (p : ℕ). StandsIn g.code p (take (length t.params) c.values) (label_of IfKind type t other c.values rest ∷ s.labels) other) (sym target)
                 (second-entered g.code at c.values s.labels type t flat_type enough inside rest (I32 c.n) other stands₀ other_lasts) in (
-                  λ fuel left enough_fuel left_is. label-entered g cells at top s.values _ s.labels r leaves IfKind type t other rest c.values enough is_next e.target (top - 1) fuel left stands c.held c.top_is enough_fuel left_is,
+                  λ fuel left enough_fuel left_is.
+                      label-entered g cells at top s.values _ s.labels r leaves IfKind type t other rest c.values enough is_next e.target (top - 1)
+                      fuel left stands c.held c.top_is enough_fuel left_is,
                   λ fuel few. label-dear g cells at top s.values _ s.labels r leaves IfKind type t other rest c.values enough is_next fuel few,
                 ),
             λ not_zero.
                 let (m, more) = positive c.n (λ z. not_zero (c.read ∙ z)) in
                 let is_next = chosen (suc m) (sym more) ∙ typed_block inside in
                 let stands = first-entered g.code at c.values s.labels type t flat_type enough inside rest (I32 c.n) other stands₀ lasts in (
-                  λ fuel left enough_fuel left_is. label-entered g cells at top s.values _ s.labels r leaves IfKind type t inside rest c.values enough is_next (suc at) (top - 1) fuel left stands c.held c.top_is enough_fuel left_is,
+                  λ fuel left enough_fuel left_is.
+                      label-entered g cells at top s.values _ s.labels r leaves IfKind type t inside rest c.values enough is_next (suc at) (top - 1)
+                      fuel left stands c.held c.top_is enough_fuel left_is,
                   λ fuel few. label-dear g cells at top s.values _ s.labels r leaves IfKind type t inside rest c.values enough is_next fuel few,
                 ),
           )
 
-      by : (s : Settled g cells at top) → (type : BlockType) × (inside rest : Body) × (((s.rest ≡ Nested IfKind type inside rest) × (e.target ≡ suc at + size inside)) ⊎ ((other : Body) × (s.rest ≡ IfElse type inside other rest) × (e.target ≡ suc (suc at + size inside)))) → Chooses e
+      by : (s : Settled g cells at top) → (type : BlockType) × (inside rest : Body)
+          × (((s.rest ≡ Nested IfKind type inside rest) × (e.target ≡ suc at + size inside))
+          ⊎ ((other : Body) × (s.rest ≡ IfElse type inside other rest) × (e.target ≡ suc (suc at + size inside)))) → Chooses e
       by s (type, inside, rest, inl (is, target)) = without s type inside rest is target
       by s (type, inside, rest, inr (other, is, target)) = both s type inside other rest is target
 
@@ -164,7 +182,8 @@ module _ (g : Ghost) (cells : List ℕ) (at top : ℕ) where
       let (label, outer, labels_are, empty, stands, later) = jumps g.code at (Jump e) b.more b.there e.kept e.target e.height refl s.values s.labels s.rest s.runs.stands s.settled in
       by s label outer labels_are empty stands
     where
-      by : (s : Settled g cells at top) (label : Label) (outer : List Label) → s.labels ≡ label ∷ outer → s.rest ≡ Empty → StandsIn g.code e.target (s.values ++ label.values) outer label.rest → Leads g fuel g.store cells e.target top fuel
+      by : (s : Settled g cells at top) (label : Label) (outer : List Label) → s.labels ≡ label ∷ outer → s.rest ≡ Empty
+          → StandsIn g.code e.target (s.values ++ label.values) outer label.rest → Leads g fuel g.store cells e.target top fuel
       by s label outer labels_are empty stands =
           let runs₀ : Runs (on g g.locals s.values (label ∷ outer) Empty) cells at top = rw (labels_are, empty) at s.runs in
           let leaves₀ : LeavesTo g.store (frame_of g) (config_of g) (in_frame s.values (label ∷ outer) Empty) = rw (labels_are, empty) at s.leaves in

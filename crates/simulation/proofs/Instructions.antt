@@ -57,7 +57,8 @@ always-fails g cells at top b =
 -- ---- parametric instructions
 
 -- The type of an operand that is popped from known types is known.
-first-known : (stack : List ValType) (operands results between : List OperandType) → TakesAndGives operands results (known stack) between → (t : OperandType) (others : List OperandType) → operands ≡ t ∷ others → (u : ValType) × (t ≡ Known u)
+first-known : (stack : List ValType) (operands results between : List OperandType) → TakesAndGives operands results (known stack) between
+    → (t : OperandType) (others : List OperandType) → operands ≡ t ∷ others → (u : ValType) × (t ≡ Known u)
 first-known stack operands results between frames t others is =
     let (below, given, parts, known_are, after) = taken operands results stack between frames in by given (sym is ∙ known_are)
   where
@@ -72,7 +73,8 @@ drops g cells at top b =
     let f : Inner (here op g cells at top p) = found op g cells at top p in
     let (operands, results, between, (t, takes, gives), frames, runs) = f.runs in
     let (u, t_is) = first-known _ operands results between frames t [] takes in
-    let w : Operands op g cells at top p (u ∷ []) = operands-here op g cells at top p (function_type (u ∷ []) []) (u ∷ []) refl operands results between (takes ∙ ap (λ (o : OperandType). o ∷ []) t_is, gives) f frames in
+    let w : Operands op g cells at top p (u ∷ []) = operands-here op g cells at top p (function_type (u ∷ []) []) (u ∷ []) refl operands results
+    between (takes ∙ ap (λ (o : OperandType). o ∷ []) t_is, gives) f frames in
     let goes = ap (λ (vs : List Val). step_instruction g.store (frame_of g) op vs p.rest) w.are in
     (w.enough, w.inside, goes-on op g cells at top p 1 (top - 1) w.popped g.store refl refl goes, dear-goes op g cells at top p g.store g.locals w.popped.others goes)
 
@@ -83,7 +85,8 @@ written-select (plain.SelectTyped types) is = inr (types, refl)
 written-select other is = absurd cc
 
 -- A step for any topmost cell.
-select-costs : (store : Store) (frame : Frame) (n : ℕ) (second first : Val) (values : List Val) (rest : Body) → CostsOne (continue_after frame (select_operand store frame (I32 n ∷ (second ∷ (first ∷ values)))) rest)
+select-costs : (store : Store) (frame : Frame) (n : ℕ) (second first : Val) (values : List Val) (rest : Body)
+    → CostsOne (continue_after frame (select_operand store frame (I32 n ∷ (second ∷ (first ∷ values)))) rest)
 select-costs store frame zero second first values rest = refl
 select-costs store frame (suc n) second first values rest = refl
 
@@ -91,8 +94,11 @@ module _ (g : Ghost) (cells : List ℕ) (at top : ℕ) where
   abbrev Chosen : Type 0
   Chosen = IsChosen cells top (IsPut g cells at (get_or cells (top - 2) 0) (top - 3)) (IsPut g cells at (get_or cells (top - 3) 0) (top - 3))
 
-  selected : (op : PlainOp) (p : AtPlain op g cells at top) → ((values : List Val) → step_instruction g.store (frame_of g) op values p.rest ≡ continue_after (frame_of g) (select_operand g.store (frame_of g) values) p.rest)
-      → counts_of g.code.signatures op ≡ Some (counts 3 1) → (t : ValType) → Operands op g cells at top p (ty.I32 ∷ t ∷ t ∷ []) → (3 ≤ top) × IsCellOf ty.I32 (get_or cells (top - 1) 0) × Chosen × IsDear g cells at top
+  selected : (op : PlainOp) (p : AtPlain op g cells at top)
+      → ((values : List Val) → step_instruction g.store (frame_of g) op values p.rest
+      ≡ continue_after (frame_of g) (select_operand g.store (frame_of g) values) p.rest)
+      → counts_of g.code.signatures op ≡ Some (counts 3 1) → (t : ValType) → Operands op g cells at top p (ty.I32 ∷ t ∷ t ∷ []) → (3 ≤ top)
+      × IsCellOf ty.I32 (get_or cells (top - 1) 0) × Chosen × IsDear g cells at top
   selected op p step counted t w =
       let second : ℕ = get_or cells (top - 2) 0 in
       let first : ℕ = get_or cells (top - 3) 0 in
@@ -110,7 +116,8 @@ module _ (g : Ghost) (cells : List ℕ) (at top : ℕ) where
               let (m, more) = positive (get_or cells (top - 1) 0) not_zero in
               puts op g cells at top p 3 (top - 3) w.popped first (value_of t first) (cell-of-value t first) counted (steps (suc m) more),
         ),
-        dear-here op g cells at top p (subst CostsOne (sym (steps (get_or cells (top - 1) 0) refl)) (select-costs g.store (frame_of g) (get_or cells (top - 1) 0) (value_of t second) (value_of t first) w.popped.others p.rest)),
+        dear-here op g cells at top p (subst CostsOne (sym (steps (get_or cells (top - 1) 0) refl))
+            (select-costs g.store (frame_of g) (get_or cells (top - 1) 0) (value_of t second) (value_of t first) w.popped.others p.rest)),
       )
 
   untyped : (p : AtPlain (plain.Parametric Select) g cells at top) → (3 ≤ top) × IsCellOf ty.I32 (get_or cells (top - 1) 0) × Chosen × IsDear g cells at top
@@ -120,7 +127,8 @@ module _ (g : Ghost) (cells : List ℕ) (at top : ℕ) where
       let (operands, results, between, (t, numeric, takes, gives), frames, runs) = f.runs in
       let (u, t_is) = first-known _ operands results between frames t (t ∷ Known ty.I32 ∷ []) takes in
       selected op p (λ values. refl) refl u
-      (operands-here op g cells at top p (function_type (u ∷ u ∷ ty.I32 ∷ []) (u ∷ [])) (ty.I32 ∷ u ∷ u ∷ []) refl operands results between (takes ∙ ap (λ (o : OperandType). o ∷ o ∷ Known ty.I32 ∷ []) t_is, gives ∙ ap (λ (o : OperandType). o ∷ []) t_is) f frames)
+      (operands-here op g cells at top p (function_type (u ∷ u ∷ ty.I32 ∷ []) (u ∷ [])) (ty.I32 ∷ u ∷ u ∷ []) refl operands results between
+      (takes ∙ ap (λ (o : OperandType). o ∷ o ∷ Known ty.I32 ∷ []) t_is, gives ∙ ap (λ (o : OperandType). o ∷ []) t_is) f frames)
 
   typed : (types : List ValType) (p : AtPlain (plain.SelectTyped types) g cells at top) → (3 ≤ top) × IsCellOf ty.I32 (get_or cells (top - 1) 0) × Chosen × IsDear g cells at top
   typed types p =
@@ -149,15 +157,19 @@ pub puts-null : PutsNull
 puts-null t = puts-one (plain.Reference (Null t)) (tt {0}) 0 (null_of t) (null-cell t) (λ s. refl) (λ store frame values rest. refl)
 
 -- A null's cell is zero.
-null-goes : (store : Store) (frame : Frame) (t : RefType) (values : List Val) (rest : Body) → step_instruction store frame (plain.Reference IsNull) (value_of (reference_type t) 0 ∷ values) rest ≡ Goes 1 store frame (Running (I32 1 ∷ values) rest)
+null-goes : (store : Store) (frame : Frame) (t : RefType) (values : List Val) (rest : Body)
+    → step_instruction store frame (plain.Reference IsNull) (value_of (reference_type t) 0 ∷ values) rest ≡ Goes 1 store frame (Running (I32 1 ∷ values) rest)
 null-goes store frame ref.FuncRef values rest = refl
 null-goes store frame ref.ExternRef values rest = refl
 
-other-goes : (store : Store) (frame : Frame) (t : RefType) (n : ℕ) (values : List Val) (rest : Body) → step_instruction store frame (plain.Reference IsNull) (value_of (reference_type t) (suc n) ∷ values) rest ≡ Goes 1 store frame (Running (I32 0 ∷ values) rest)
+other-goes : (store : Store) (frame : Frame) (t : RefType) (n : ℕ) (values : List Val) (rest : Body)
+    → step_instruction store frame (plain.Reference IsNull) (value_of (reference_type t) (suc n) ∷ values) rest
+    ≡ Goes 1 store frame (Running (I32 0 ∷ values) rest)
 other-goes store frame ref.FuncRef n values rest = refl
 other-goes store frame ref.ExternRef n values rest = refl
 
-null-costs : (store : Store) (frame : Frame) (t : RefType) (n : ℕ) (values : List Val) (rest : Body) → CostsOne (step_instruction store frame (plain.Reference IsNull) (value_of (reference_type t) n ∷ values) rest)
+null-costs : (store : Store) (frame : Frame) (t : RefType) (n : ℕ) (values : List Val) (rest : Body)
+    → CostsOne (step_instruction store frame (plain.Reference IsNull) (value_of (reference_type t) n ∷ values) rest)
 null-costs store frame t zero values rest = subst CostsOne (sym (null-goes store frame t values rest)) refl
 null-costs store frame t (suc n) values rest = subst CostsOne (sym (other-goes store frame t n values rest)) refl
 
@@ -167,8 +179,10 @@ tests-null g cells at top b =
     let p : AtPlain op g cells at top = at-plain op (tt {0}) g cells at top b in
     let f : Inner (here op g cells at top p) = found op g cells at top p in
     let (operands, results, between, (t, type), frames, runs) = f.runs in
-    let w : Operands op g cells at top p (reference_type t ∷ []) = operands-here op g cells at top p (function_type (reference_type t ∷ []) (ty.I32 ∷ [])) (reference_type t ∷ []) refl operands results between type f frames in
-    let steps : (n : ℕ) → get_or cells (top - 1) 0 ≡ n → step_instruction g.store (frame_of g) op p.values p.rest ≡ step_instruction g.store (frame_of g) op (value_of (reference_type t) n ∷ w.popped.others) p.rest =
+    let w : Operands op g cells at top p (reference_type t ∷ []) = operands-here op g cells at top p
+    (function_type (reference_type t ∷ []) (ty.I32 ∷ [])) (reference_type t ∷ []) refl operands results between type f frames in
+    let steps : (n : ℕ) → get_or cells (top - 1) 0 ≡ n → step_instruction g.store (frame_of g) op p.values p.rest
+    ≡ step_instruction g.store (frame_of g) op (value_of (reference_type t) n ∷ w.popped.others) p.rest =
     λ n is. ap (λ (vs : List Val). step_instruction g.store (frame_of g) op vs p.rest) (w.are ∙ ap (λ (k : ℕ). value_of (reference_type t) k ∷ w.popped.others) is) in (
       (
         w.enough,
@@ -187,7 +201,8 @@ refers-to-function g cells at top x b =
     let p : AtPlain op g cells at top = at-plain op (tt {0}) g cells at top b in
     let f : Inner (here op g cells at top p) = found op g cells at top p in
     let (operands, results, between, (t, there, named, type), frames, runs) = f.runs in
-    let (address, h, is, held, same) = types-found _ _ g.store.functions (instance_of g.store (Some g.instance)).functions x t (instance-valid g.store p.runs.typed.valid (Some g.instance)).functions there in
+    let (address, h, is, held, same) = types-found _ _ g.store.functions (instance_of g.store (Some g.instance)).functions x t
+    (instance-valid g.store p.runs.typed.valid (Some g.instance)).functions there in
     let one_more : suc address ≡ address + 1 = omega arith in
     let (room, put, dear) = pushes op g cells at top p (address + 1) (FuncRef (Some address)) one_more refl (rw is refl) in
     (address, is, room, put, dear)

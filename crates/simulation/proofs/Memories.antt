@@ -65,7 +65,8 @@ module _ (offset : ℕ) where
 -- ---- the memory
 
 -- The memory of the context exists.
-pub memory-there : (g : Ghost) → StoreIsValid g.store → (carried : List (List ValType)) → HasMemoryType (context_at g.store (with_labels (place_of g) carried)) → (address : ℕ) × (m : MemoryInstance) × HasMemory g address m
+pub memory-there : (g : Ghost) → StoreIsValid g.store → (carried : List (List ValType))
+    → HasMemoryType (context_at g.store (with_labels (place_of g) carried)) → (address : ℕ) × (m : MemoryInstance) × HasMemory g address m
 memory-there g valid carried (limits, has) =
     let (address, m, is, there, same) = types-found _ _ g.store.memories (instance_of g.store (Some g.instance)).memories 0 limits (instance-valid g.store valid (Some g.instance)).memories has in
     (address, m, rw (is, there) refl)
@@ -95,9 +96,11 @@ loads-number g cells at top op offset b =
     let f : Inner (here (plain.Memory (memory.Load op argument)) g cells at top p) = found o g cells at top p in
     let (operands, results, between, (has, aligned, type), frames, runs) = f.runs in
     let (address, m, located) = memory-there g p.runs.typed.valid f.carried has in
-    let w : Operands (plain.Memory (memory.Load op argument)) g cells at top p (ty.I32 ∷ []) = operands-here o g cells at top p (function_type (ty.I32 ∷ []) (load_type op ∷ [])) (ty.I32 ∷ []) refl operands results between type f frames in
+    let w : Operands (plain.Memory (memory.Load op argument)) g cells at top p (ty.I32 ∷ []) = operands-here o g cells at top p
+    (function_type (ty.I32 ∷ []) (load_type op ∷ [])) (ty.I32 ∷ []) refl operands results between type f frames in
     let i : ℕ = get_or cells (top - 1) 0 in
-    let step : step_instruction g.store (frame_of g) (plain.Memory (memory.Load op argument)) p.values p.rest ≡ continue_after (frame_of g) (push_read g.store (frame_of g) (load_from op m.bytes (get_or cells (top - 1) 0 + offset)) w.popped.others) p.rest =
+    let step : step_instruction g.store (frame_of g) (plain.Memory (memory.Load op argument)) p.values p.rest
+    ≡ continue_after (frame_of g) (push_read g.store (frame_of g) (load_from op m.bytes (get_or cells (top - 1) 0 + offset)) w.popped.others) p.rest =
     ap (λ (vs : List Val). step_instruction g.store (frame_of g) o vs p.rest) w.are
     ∙ ap (λ (found : Option (ℕ × MemoryInstance)). continue_after (frame_of g) (in_memory g.store (frame_of g) found (memory.Load op argument) (I32 i ∷ w.popped.others)) p.rest) located
     ∙ ap (λ (n : ℕ). continue_after (frame_of g) (push_read g.store (frame_of g) (load_from op m.bytes (i + n)) w.popped.others) p.rest) offset_is in (
@@ -125,8 +128,10 @@ number-stored (store.Bits16 W32) n = refl
 number-stored (store.Bits16 W64) n = refl
 number-stored store.Bits32 n = refl
 
-module _ (op : PlainOp) (g : Ghost) (cells : List ℕ) (at top : ℕ) (p : AtPlain op g cells at top) (counted : counts_of g.code.signatures op ≡ Some (counts 2 0)) (w : Popped op g cells at top p 2 (top - 2)) (address : ℕ) (m : MemoryInstance) where
-  writes : (result : Result (List ℕ) Trap) → step_instruction g.store (frame_of g) op p.values p.rest ≡ continue_after (frame_of g) (write_memory g.store (frame_of g) 1 address m result w.others) p.rest → IsStored g address m cells at top result
+module _ (op : PlainOp) (g : Ghost) (cells : List ℕ) (at top : ℕ) (p : AtPlain op g cells at top)
+    (counted : counts_of g.code.signatures op ≡ Some (counts 2 0)) (w : Popped op g cells at top p 2 (top - 2)) (address : ℕ) (m : MemoryInstance) where
+  writes : (result : Result (List ℕ) Trap) → step_instruction g.store (frame_of g) op p.values p.rest
+      ≡ continue_after (frame_of g) (write_memory g.store (frame_of g) 1 address m result w.others) p.rest → IsStored g address m cells at top result
   writes (Ok bytes) step = goes-on op g cells at top p 2 (top - 2) w (with_memory g.store address (record { limits = m.limits; bytes = bytes })) refl counted step
   writes (Err trap) step = fails-here op g cells at top p trap step
 
@@ -139,13 +144,17 @@ stores-number g cells at top op offset b =
     let f : Inner (here (plain.Memory (memory.Store op argument)) g cells at top p) = found o g cells at top p in
     let (operands, results, between, (has, aligned, type), frames, runs) = f.runs in
     let (address, m, located) = memory-there g p.runs.typed.valid f.carried has in
-    let w : Operands (plain.Memory (memory.Store op argument)) g cells at top p (store_type op ∷ ty.I32 ∷ []) = operands-here o g cells at top p (function_type (ty.I32 ∷ store_type op ∷ []) []) (store_type op ∷ ty.I32 ∷ []) refl operands results between type f frames in
+    let w : Operands (plain.Memory (memory.Store op argument)) g cells at top p (store_type op ∷ ty.I32 ∷ []) = operands-here o g cells at top p
+    (function_type (ty.I32 ∷ store_type op ∷ []) []) (store_type op ∷ ty.I32 ∷ []) refl operands results between type f frames in
     let i : ℕ = get_or cells (top - 2) 0 in
     let n : ℕ = get_or cells (top - 1) 0 in
     let step : step_instruction g.store (frame_of g) (plain.Memory (memory.Store op argument)) p.values p.rest
-    ≡ continue_after (frame_of g) (write_memory g.store (frame_of g) 1 address m (store_into m.bytes (get_or cells (top - 2) 0 + offset) (store_width op) (get_or cells (top - 1) 0)) w.popped.others) p.rest =
+    ≡ continue_after (frame_of g) (write_memory g.store (frame_of g) 1 address m
+    (store_into m.bytes (get_or cells (top - 2) 0 + offset) (store_width op) (get_or cells (top - 1) 0)) w.popped.others) p.rest =
     ap (λ (vs : List Val). step_instruction g.store (frame_of g) o vs p.rest) w.are
-    ∙ ap (λ (found : Option (ℕ × MemoryInstance)). continue_after (frame_of g) (in_memory g.store (frame_of g) found (memory.Store op argument) (value_of (store_type op) n ∷ (I32 i ∷ w.popped.others))) p.rest) located
+    ∙ ap (λ (found : Option (ℕ × MemoryInstance)).
+    continue_after (frame_of g) (in_memory g.store (frame_of g) found (memory.Store op argument)
+    (value_of (store_type op) n ∷ (I32 i ∷ w.popped.others))) p.rest) located
     ∙ ap (λ (k : Option ℕ). continue_after (frame_of g) (store_number g.store (frame_of g) address m op (i + argument.offset) k w.popped.others) p.rest) (number-stored op n)
     ∙ ap (λ (k : ℕ). continue_after (frame_of g) (write_memory g.store (frame_of g) 1 address m (store_into m.bytes (i + k) (store_width op) n) w.popped.others) p.rest) offset_is in (
       address,

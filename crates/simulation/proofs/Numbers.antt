@@ -70,7 +70,8 @@ module _ (store : Store) (frame : Frame) (rest : Body) where
   numeric-costs (Convert I64ExtendI32U) cells top others = refl
   numeric-costs (Convert I64Extend32S) cells top others = refl
 
-module _ (g : Ghost) (cells : List ℕ) (at top : ℕ) (op : NumericOp) (ts : List ValType) (r : ValType) (params : reverse (numeric_instruction_type op).params ≡ ts) (many : length (numeric_instruction_type op).params ≡ length ts)
+module _ (g : Ghost) (cells : List ℕ) (at top : ℕ) (op : NumericOp) (ts : List ValType) (r : ValType)
+    (params : reverse (numeric_instruction_type op).params ≡ ts) (many : length (numeric_instruction_type op).params ≡ length ts)
     (results_are : (numeric_instruction_type op).results ≡ r ∷ []) (b : IsBefore (Plain (Numeric op)) g cells at top) where
   -- The result of an operator on operands of these types, the top first, whatever is below them.
   computes : (length ts ≤ top) × (top ≤ length cells) × AreOperands cells top 0 ts
@@ -83,8 +84,10 @@ module _ (g : Ghost) (cells : List ℕ) (at top : ℕ) (op : NumericOp) (ts : Li
       let (operands, results, between, type, frames, runs) = f.runs in
       let w : Operands (Numeric op) g cells at top p ts = operands-here (Numeric op) g cells at top p (numeric_instruction_type op) ts params operands results between type f frames in
       let counted : counts_of g.code.signatures (Numeric op) ≡ Some (counts (length ts) 1) =
-      ap (λ (c : Counts). Some c) (numeric-counted op ∙ ap (λ (n : ℕ). counts n (length (numeric_instruction_type op).results)) many ∙ ap (λ (us : List ValType). counts (length ts) (length us)) results_are) in
-      let step : step_instruction g.store (frame_of g) (Numeric op) p.values p.rest ≡ continue_after (frame_of g) (numeric_effect g.store (frame_of g) op (operands_of cells top 0 ts ++ w.popped.others)) p.rest =
+      ap (λ (c : Counts). Some c) (numeric-counted op ∙ ap (λ (n : ℕ). counts n (length (numeric_instruction_type op).results)) many ∙ ap
+      (λ (us : List ValType). counts (length ts) (length us)) results_are) in
+      let step : step_instruction g.store (frame_of g) (Numeric op) p.values p.rest
+      ≡ continue_after (frame_of g) (numeric_effect g.store (frame_of g) op (operands_of cells top 0 ts ++ w.popped.others)) p.rest =
       ap (λ (vs : List Val). continue_after (frame_of g) (numeric_effect g.store (frame_of g) op vs) p.rest) w.are in
       let costs : CostsOne (continue_after (frame_of g) (numeric_effect g.store (frame_of g) op (operands_of cells top 0 ts ++ w.popped.others)) p.rest) =
       subst (λ (us : List ValType). CostsOne (continue_after (frame_of g) (numeric_effect g.store (frame_of g) op (operands_of cells top 0 us ++ w.popped.others)) p.rest)) params
@@ -92,7 +95,8 @@ module _ (g : Ghost) (cells : List ℕ) (at top : ℕ) (op : NumericOp) (ts : Li
         w.enough,
         w.inside,
         w.fits,
-        λ result same. answers (Numeric op) g cells at top p (length ts) (top - length ts) w.popped r counted result (step ∙ ap (λ (e : Effect). continue_after (frame_of g) e p.rest) (same w.popped.others)),
+        λ result same. answers (Numeric op) g cells at top p (length ts) (top - length ts) w.popped r counted result
+            (step ∙ ap (λ (e : Effect). continue_after (frame_of g) e p.rest) (same w.popped.others)),
         dear-here (Numeric op) g cells at top p (subst CostsOne (sym step) costs),
       )
 

@@ -17,7 +17,8 @@ module _ (cells : List ℕ) (top : ℕ) where
   operands-joined read [] us = let same : read ≡ read + 0 = omega arith in ap (λ (n : ℕ). operands_of cells top n us) same
   operands-joined read (t ∷ ts) us =
       let same : suc read + length ts ≡ read + suc (length ts) = omega arith in
-      ap (λ (vs : List Val). value_of t (get_or cells (top - suc read) 0) ∷ vs) (operands-joined (suc read) ts us ∙ ap (λ (n : ℕ). operands_of cells top (suc read) ts ++ operands_of cells top n us) same)
+      ap (λ (vs : List Val). value_of t (get_or cells (top - suc read) 0) ∷ vs)
+      (operands-joined (suc read) ts us ∙ ap (λ (n : ℕ). operands_of cells top (suc read) ts ++ operands_of cells top n us) same)
 
   fits-parted : (read : ℕ) (ts us : List ValType) → AreOperands cells top read (ts ++ us) → AreOperands cells top read ts × AreOperands cells top (read + length ts) us
   fits-parted read [] us fits = let same : read ≡ read + 0 = omega arith in (tt, subst (λ (n : ℕ). AreOperands cells top n us) same fits)
@@ -61,7 +62,8 @@ module _ (cells : List ℕ) (top : ℕ) where
         subst (λ (ns : List ℕ). AreCellsOf (t ∷ types) ns) (sym (cells-down (length types) le))
         (rw (last-read t types) at first, cells-fit types (omega (arith, le)) others)
 
-pub operands-fit : (g : Ghost) (cells : List ℕ) (top : ℕ) (types : List ValType) → length g.locals + length types ≤ top → top ≤ length cells → AreOperands cells top 0 (reverse types) → HasOperands g cells top types
+pub operands-fit : (g : Ghost) (cells : List ℕ) (top : ℕ) (types : List ValType) → length g.locals + length types ≤ top → top ≤ length cells
+    → AreOperands cells top 0 (reverse types) → HasOperands g cells top types
 operands-fit g cells top types above inside fits =
     let size = length-reverse types in record {
       above = above;

@@ -104,7 +104,12 @@ module _ (op : PlainOp) (g : Ghost) (cells : List ℕ) (at top : ℕ) (p : AtPla
       let top_is = p.runs.holds.top_is in
       let count = r.count in
       let enough : length ts ≤ top = omega (arith, top_is, count) in record {
-        popped = record { others = r.others; count = count; low_is = omega (arith, enough); held = subst (λ (n : ℕ). take (top - n) cells ≡ map cell_of g.locals ++ cells_of (r.others ++ values_under p.labels)) all r.held };
+        popped = record {
+          others = r.others;
+          count = count;
+          low_is = omega (arith, enough);
+          held = subst (λ (n : ℕ). take (top - n) cells ≡ map cell_of g.locals ++ cells_of (r.others ++ values_under p.labels)) all r.held;
+        };
         are = r.are;
         fits = r.fits;
         enough = enough;

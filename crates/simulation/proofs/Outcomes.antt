@@ -30,7 +30,8 @@ use Rattle.soundness.proofs.Extension.{instance-valid, types-found}
 use Rattle.sidetable.specs.Counts.{Signatures, counts, counts_of}
 use Rattle.sidetable.specs.Flat.{Plain}
 use Rattle.cells.specs.Cells.{cell_of}
-use Rattle.simulation.specs.Outcomes.{ActsOnStore, Answers, HasOperands, HasOutcome, IsMade, IsOnStore, IsOutcome, Outcome, effect_of, entry_type, failed, grown, made, memory_instruction_type, instruction_type, table_instruction_type}
+use Rattle.simulation.specs.Outcomes.{ActsOnStore, Answers, HasOperands, HasOutcome, IsMade, IsOnStore, IsOutcome, Outcome, effect_of, entry_type, failed}
+use Rattle.simulation.specs.Outcomes.{grown, made, memory_instruction_type, instruction_type, table_instruction_type}
 use Rattle.simulation.specs.Piles.{cells_of}
 use Rattle.simulation.specs.Runs.{Ghost, GoesOn, IsBefore, frame_of, place_of}
 use Rattle.simulation.specs.Settling.{HasNoAnnotations}
@@ -41,7 +42,8 @@ use Rattle.simulation.proofs.Operands.{Operands, Popped, operands-here, operands
 use Rattle.simulation.proofs.Plain.{AtPlain, advance, asks-here, at-plain, dear-here, fails-here, found, here, high-then, lacks-here}
 use Rattle.simulation.proofs.Typed.{Inner, with_labels}
 
-module _ (op : PlainOp) (g : Ghost) (cells : List ℕ) (at top : ℕ) (p : AtPlain op g cells at top) (n low many : ℕ) (w : Popped op g cells at top p n low) (counted : counts_of g.code.signatures op ≡ Some (counts n many)) where
+module _ (op : PlainOp) (g : Ghost) (cells : List ℕ) (at top : ℕ) (p : AtPlain op g cells at top) (n low many : ℕ)
+    (w : Popped op g cells at top p n low) (counted : counts_of g.code.signatures op ≡ Some (counts n many)) where
   -- Results in place of the operands.
   makes : (cost : ℕ) (store' : Store) (results : List Val) → IsOutcome g.store many (made cost store' results)
       → GoesOn (step_instruction g.store (frame_of g) op p.values p.rest) cost store' (frame_of g) (Running (results ++ w.others) p.rest) → IsMade g cost store' cells at low results
@@ -56,7 +58,8 @@ module _ (op : PlainOp) (g : Ghost) (cells : List ℕ) (at top : ℕ) (p : AtPla
       ∙ ap (λ (z : List ℕ). map cell_of g.locals ++ z) (sym (cells-joined results (w.others ++ values_under p.labels)) ∙ ap cells_of (sym (append_assoc results w.others (values_under p.labels)))))
       enough left_is
 
-  pub has-outcome : (outcome : Outcome) → IsOutcome g.store many outcome → step_instruction g.store (frame_of g) op p.values p.rest ≡ continue_after (frame_of g) (effect_of outcome g.locals w.others) p.rest → HasOutcome g cells at top low outcome
+  pub has-outcome : (outcome : Outcome) → IsOutcome g.store many outcome → step_instruction g.store (frame_of g) op p.values p.rest
+      ≡ continue_after (frame_of g) (effect_of outcome g.locals w.others) p.rest → HasOutcome g cells at top low outcome
   has-outcome (made cost store' results) is step = (makes cost store' results is (inl step), lacks-here op g cells at top p cost (rw step refl))
   has-outcome (grown cost store' results) is step =
       (makes cost store' results is (inr step), lacks-here op g cells at top p cost (rw step refl), asks-here op g cells at top p cost store' (frame_of g) (Running (results ++ w.others) p.rest) step)
@@ -73,7 +76,8 @@ bare-on (Table op) is = tt
 bare-on (Memory op) is = is
 bare-on op is = absurd is
 
-step-on : (store : Store) (frame : Frame) (op : PlainOp) (values : List Val) (rest : Body) → IsOnStore op → step_instruction store frame op values rest ≡ continue_after frame (effect store frame op values) rest
+step-on : (store : Store) (frame : Frame) (op : PlainOp) (values : List Val) (rest : Body) → IsOnStore op
+    → step_instruction store frame op values rest ≡ continue_after frame (effect store frame op values) rest
 step-on store frame (Table op) values rest is = refl
 step-on store frame (Memory op) values rest is = refl
 step-on store frame op values rest is = absurd is
@@ -114,7 +118,8 @@ module _ (g : Ghost) (valid : StoreIsValid g.store) (carried : List (List ValTyp
       let (address, held, is, element, kept) = table-there g valid carried x t there in
       ap reference_type (sym element) ∙ ap entry_type (sym is)
 
-  table-typed : (op : TableOp) → table_rule (context_at g.store (with_labels (place_of g) carried)) op operands results → HasFuncType (table_instruction_type (λ (x : ℕ). entry_type (table_at g.store (frame_of g) x)) op) operands results
+  table-typed : (op : TableOp) → table_rule (context_at g.store (with_labels (place_of g) carried)) op operands results
+      → HasFuncType (table_instruction_type (λ (x : ℕ). entry_type (table_at g.store (frame_of g) x)) op) operands results
   table-typed (table.Get x) (t, there, type) = subst (λ (u : ValType). HasFuncType (function_type (I32 ∷ []) (u ∷ [])) operands results) (entries-typed x t there) type
   table-typed (table.Set x) (t, there, type) = subst (λ (u : ValType). HasFuncType (function_type (I32 ∷ u ∷ []) []) operands results) (entries-typed x t there) type
   table-typed (table.Size x) (t, there, type) = type

@@ -24,5 +24,6 @@ flat-size s outermost (Nested kind type inner rest) labels h at = ap suc (simp (
 flat-size s outermost (IfElse type inner other rest) labels h at = ap suc (simp (length-append, flat-size s outermost inner, flat-size s outermost other, flat-size s outermost rest))
 
 -- After a body.
-pub past-flat : (s : Signatures) (outermost : Entry) (body : Body) (labels : List Entry) (h : Option ℕ) (at : ℕ) (ops more : List FlatOp) → drop at ops ≡ flat s outermost labels h at body ++ more → drop (at + size body) ops ≡ more
+pub past-flat : (s : Signatures) (outermost : Entry) (body : Body) (labels : List Entry) (h : Option ℕ) (at : ℕ) (ops more : List FlatOp)
+    → drop at ops ≡ flat s outermost labels h at body ++ more → drop (at + size body) ops ≡ more
 past-flat s outermost body labels h at ops more e = ap (λ (n : ℕ). drop (at + n) ops) (sym (flat-size s outermost body labels h at)) ∙ drop-past at ops (flat s outermost labels h at body) more e

@@ -78,16 +78,21 @@ pub record AtPlain (op : PlainOp) (g : Ghost) (cells : List ℕ) (at top : ℕ) 
 -- The body, which is this one.
 pub at-body : (g : Ghost) (cells : List ℕ) (at top : ℕ) (s : Settled g cells at top) (body : Body) → s.rest ≡ body
     → (Runs (on g g.locals s.values s.labels body) cells at top) × LeavesTo g.store (frame_of g) (config_of g) (in_frame s.values s.labels body)
-at-body g cells at top s body is = (subst (λ (b : Body). Runs (on g g.locals s.values s.labels b) cells at top) is s.runs, subst (λ (b : Body). LeavesTo g.store (frame_of g) (config_of g) (in_frame s.values s.labels b)) is s.leaves)
+at-body g cells at top s body is = (
+  subst (λ (b : Body). Runs (on g g.locals s.values s.labels b) cells at top) is s.runs,
+  subst (λ (b : Body). LeavesTo g.store (frame_of g) (config_of g) (in_frame s.values s.labels b)) is s.leaves,
+)
 
 -- The same, with the entries of the labels around.
 pub at-body-in : (g : Ghost) (cells : List ℕ) (at top : ℕ) (s : Settled g cells at top) (body : Body) → s.rest ≡ body
     → (r : Runs (on g g.locals s.values s.labels body) cells at top) × LeavesTo g.store (frame_of g) (config_of g) (in_frame s.values s.labels body) × (r.stands.entries ≡ s.runs.stands.entries)
 at-body-in g cells at top s body is =
-    subst (λ (b : Body). (r : Runs (on g g.locals s.values s.labels b) cells at top) × LeavesTo g.store (frame_of g) (config_of g) (in_frame s.values s.labels b) × (r.stands.entries ≡ s.runs.stands.entries)) is (s.runs, s.leaves, refl)
+    subst (λ (b : Body). (r : Runs (on g g.locals s.values s.labels b) cells at top)
+    × LeavesTo g.store (frame_of g) (config_of g) (in_frame s.values s.labels b) × (r.stands.entries ≡ s.runs.stands.entries)) is (s.runs, s.leaves, refl)
 
 -- The instruction that was written where this one is.
-pub at-written : (op : PlainOp) (g : Ghost) (cells : List ℕ) (at top : ℕ) → IsBefore (Plain op) g cells at top → (written : PlainOp) × (op ≡ without_annotations written) × AtPlain written g cells at top
+pub at-written : (op : PlainOp) (g : Ghost) (cells : List ℕ) (at top : ℕ) → IsBefore (Plain op) g cells at top → (written : PlainOp)
+    × (op ≡ without_annotations written) × AtPlain written g cells at top
 at-written op g cells at top b =
     let s : Settled g cells at top = settled g cells at top b.runs in
     let (written, rest, is, op_is) = begins g.code at (Plain op) b.more b.there s.values s.labels s.rest s.runs.stands s.settled in
@@ -124,15 +129,21 @@ module _ (op : PlainOp) (g : Ghost) (cells : List ℕ) (at top : ℕ) (p : AtPla
   pub found : Inner here
   found = inner here p.runs.typed
 
-  module _ (cost : ℕ) (store' : Store) (locals values : List Val) (goes : GoesOn (step_instruction g.store (frame_of g) op p.values p.rest) cost store' (record { instance = Some g.instance; locals = locals }) (Running values p.rest)) where
+  module _ (cost : ℕ) (store' : Store) (locals values : List Val)
+      (goes : GoesOn (step_instruction g.store (frame_of g) op p.values p.rest) cost store' (record { instance = Some g.instance; locals = locals })
+      (Running values p.rest)) where
     goes_here : GoesOn (next g.store (frame_of g) (in_frame p.values p.labels (Then op p.rest))) cost store' (record { instance = Some g.instance; locals = locals }) (in_frame values p.labels p.rest)
     goes_here = labels-go-on g.store (frame_of g) p.labels cost store' (record { instance = Some g.instance; locals = locals }) (Running p.values (Then op p.rest)) (Running values p.rest) goes
 
-    pub advance : store'.instances ≡ g.store.instances → (c : Counts) → counts_of g.code.signatures op ≡ Some c → g.code.locals + (length values + under p.labels) ≡ g.code.locals + (length p.values + under p.labels) - c.takes + c.gives → length locals ≡ length g.locals
-        → (cells' : List ℕ) (at' top' fuel left : ℕ) → length cells' ≡ length cells → at' ≡ suc at → top' ≡ length locals + (length values + under p.labels) → take top' cells' ≡ map cell_of locals ++ cells_of (values ++ values_under p.labels)
+    pub advance : store'.instances ≡ g.store.instances → (c : Counts) → counts_of g.code.signatures op ≡ Some c
+        → g.code.locals + (length values + under p.labels) ≡ g.code.locals + (length p.values + under p.labels) - c.takes + c.gives → length locals
+        ≡ length g.locals
+        → (cells' : List ℕ) (at' top' fuel left : ℕ) → length cells' ≡ length cells → at' ≡ suc at → top'
+        ≡ length locals + (length values + under p.labels) → take top' cells' ≡ map cell_of locals ++ cells_of (values ++ values_under p.labels)
         → cost ≤ fuel → left ≡ fuel - cost → Leads g fuel store' cells' at' top' left
     advance instances c is many same cells' at' top' fuel left size at_is top_is held enough left_is =
-        leads-then g store' locals values p.labels p.rest (in_frame p.values p.labels (Then op p.rest)) (in_frame values p.labels p.rest) cost fuel left cells' at' top' p.leaves goes_here refl enough left_is
+        leads-then g store' locals values p.labels p.rest (in_frame p.values p.labels (Then op p.rest)) (in_frame values p.labels p.rest) cost fuel
+        left cells' at' top' p.leaves goes_here refl enough left_is
         (record {
           stands = rw at_is (record {
             entries = p.runs.stands.entries;
@@ -147,7 +158,8 @@ module _ (op : PlainOp) (g : Ghost) (cells : List ℕ) (at top : ℕ) (p : AtPla
 
   -- The height after it is within the room.
   pub high-then : (c : Counts) → counts_of g.code.signatures op ≡ Some c → g.code.locals + (length p.values + under p.labels) - c.takes + c.gives ≤ g.code.greatest
-  high-then c is = within g.code p.runs.stands.entries _ (suc at) p.rest p.runs.stands.end p.runs.stands.last (advanced g.code p.runs.stands.entries _ at op p.rest p.runs.stands.end p.runs.stands.last c is p.runs.stands.here)
+  high-then c is = within g.code p.runs.stands.entries _ (suc at) p.rest p.runs.stands.end p.runs.stands.last
+      (advanced g.code p.runs.stands.entries _ at op p.rest p.runs.stands.end p.runs.stands.last c is p.runs.stands.here)
 
   -- The machine arrives there at no cost.
   abbrev leads-here : (fuel : ℕ) → Leads g fuel g.store cells at top fuel
@@ -170,7 +182,8 @@ module _ (op : PlainOp) (g : Ghost) (cells : List ℕ) (at top : ℕ) (p : AtPla
   dear-here = lacks-here 1
 
   -- If a table or a memory grows.
-  pub asks-here : (cost : ℕ) (store' : Store) (frame' : Frame) (y : Configuration) → step_instruction g.store (frame_of g) op p.values p.rest ≡ Grows cost store' frame' y → (fuel : ℕ) → AsksToGrow g fuel cells at top cost
+  pub asks-here : (cost : ℕ) (store' : Store) (frame' : Frame) (y : Configuration) → step_instruction g.store (frame_of g) op p.values p.rest
+      ≡ Grows cost store' frame' y → (fuel : ℕ) → AsksToGrow g fuel cells at top cost
   asks-here cost store' frame' y grows fuel = record {
     leads = leads-here fuel;
     grown = store';
@@ -187,7 +200,8 @@ module _ (op : PlainOp) (g : Ghost) (cells : List ℕ) (at top : ℕ) (p : AtPla
           new = here;
           same = record { code = refl; instance = refl; types = refl; results = refl };
           store = refl;
-          steps = subst (λ (n : ℕ). StepsIn g.store (frame_of g) (config_of g) fuel g.store (frame_of g) (config_of here) n) same (leaves-steps g.store (frame_of g) (config_of g) (config_of here) fuel p.leaves);
+          steps = subst (λ (n : ℕ). StepsIn g.store (frame_of g) (config_of g) fuel g.store (frame_of g) (config_of here) n) same
+              (leaves-steps g.store (frame_of g) (config_of g) (config_of here) fuel p.leaves);
           runs = p.runs;
         };
         traps = labels-trap g.store (frame_of g) trap p.labels (Running p.values (Then op p.rest)) traps;

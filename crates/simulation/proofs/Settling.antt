@@ -18,26 +18,31 @@ use Rattle.simulation.specs.Settling.{BeginsWith, HasNoAnnotations, IsSettled, l
 use Rattle.simulation.proofs.Steps.{left}
 
 module _ (store : Store) (frame : Frame) where
-  pub labels-go : (labels : List Label) (cost : ℕ) (store' : Store) (frame' : Frame) (x y : Configuration) → next store frame x ≡ Goes cost store' frame' y → next store frame (inside_labels labels x) ≡ Goes cost store' frame' (inside_labels labels y)
+  pub labels-go : (labels : List Label) (cost : ℕ) (store' : Store) (frame' : Frame) (x y : Configuration) → next store frame x
+      ≡ Goes cost store' frame' y → next store frame (inside_labels labels x) ≡ Goes cost store' frame' (inside_labels labels y)
   labels-go [] cost store' frame' x y e = e
   labels-go (label ∷ labels) cost store' frame' x y e = labels-go labels cost store' frame' (InLabel label x) (InLabel label y) (ap (step_in_label store frame label) e)
 
-  pub labels-grow : (labels : List Label) (cost : ℕ) (store' : Store) (frame' : Frame) (x y : Configuration) → next store frame x ≡ Grows cost store' frame' y → next store frame (inside_labels labels x) ≡ Grows cost store' frame' (inside_labels labels y)
+  pub labels-grow : (labels : List Label) (cost : ℕ) (store' : Store) (frame' : Frame) (x y : Configuration) → next store frame x
+      ≡ Grows cost store' frame' y → next store frame (inside_labels labels x) ≡ Grows cost store' frame' (inside_labels labels y)
   labels-grow [] cost store' frame' x y e = e
   labels-grow (label ∷ labels) cost store' frame' x y e = labels-grow labels cost store' frame' (InLabel label x) (InLabel label y) (ap (step_in_label store frame label) e)
 
-  pub labels-go-on : (labels : List Label) (cost : ℕ) (store' : Store) (frame' : Frame) (x y : Configuration) → GoesOn (next store frame x) cost store' frame' y → GoesOn (next store frame (inside_labels labels x)) cost store' frame' (inside_labels labels y)
+  pub labels-go-on : (labels : List Label) (cost : ℕ) (store' : Store) (frame' : Frame) (x y : Configuration)
+      → GoesOn (next store frame x) cost store' frame' y → GoesOn (next store frame (inside_labels labels x)) cost store' frame' (inside_labels labels y)
   labels-go-on labels cost store' frame' x y (inl e) = inl (labels-go labels cost store' frame' x y e)
   labels-go-on labels cost store' frame' x y (inr e) = inr (labels-grow labels cost store' frame' x y e)
 
   -- The inside is over.
-  left-goes : (values : List Val) (label : Label) (labels : List Label) → next store frame (in_frame values (label ∷ labels) Empty) ≡ Goes 0 store frame (in_frame (values ++ label.values) labels label.rest)
+  left-goes : (values : List Val) (label : Label) (labels : List Label) → next store frame (in_frame values (label ∷ labels) Empty)
+      ≡ Goes 0 store frame (in_frame (values ++ label.values) labels label.rest)
   left-goes values label labels = labels-go labels 0 store frame (InLabel label (Running values Empty)) (Running (values ++ label.values) label.rest) refl
 
   pub settles : (f : FrameCode) (at : ℕ) (labels : List Label) (values : List Val) (rest : Body) → StandsIn f at values labels rest → Settles store frame f at values labels rest
   settles f at labels values (Then op rest) s = record { values' = values; labels' = labels; rest' = Then op rest; leaves = stay; stands = s; same = refl; settled = tt }
   settles f at labels values (Nested kind type inner rest) s = record { values' = values; labels' = labels; rest' = Nested kind type inner rest; leaves = stay; stands = s; same = refl; settled = tt }
-  settles f at labels values (IfElse type inner other rest) s = record { values' = values; labels' = labels; rest' = IfElse type inner other rest; leaves = stay; stands = s; same = refl; settled = tt }
+  settles f at labels values (IfElse type inner other rest) s =
+      record { values' = values; labels' = labels; rest' = IfElse type inner other rest; leaves = stay; stands = s; same = refl; settled = tt }
   settles f at [] values Empty s = record { values' = values; labels' = []; rest' = Empty; leaves = stay; stands = s; same = refl; settled = tt }
   settles f at (label ∷ labels) values Empty s =
       let (onward, goes_on, stands) = left f at values label labels s in
@@ -139,14 +144,23 @@ module _ (f : FrameCode) (at : ℕ) (o : FlatOp) (os : List FlatOp) (there : dro
   begins values (label ∷ labels) Empty s settled = same-head s.entries Empty _ _ settled.placed refl
 
   -- At a jump.
-  pub jumps : (kept onward height : ℕ) → o ≡ Jump (entry_of onward kept height) → (values : List Val) (labels : List Label) (rest : Body) (s : StandsIn f at values labels rest) → IsSettled f at values labels rest
+  pub jumps : (kept onward height : ℕ) → o ≡ Jump (entry_of onward kept height)
+      → (values : List Val) (labels : List Label) (rest : Body) (s : StandsIn f at values labels rest) → IsSettled f at values labels rest
       → (label : Label) × (outer : List Label) × (labels ≡ label ∷ outer) × (rest ≡ Empty) × StandsIn f onward (values ++ label.values) outer label.rest × (at < onward)
-  jumps kept onward height is values labels (Then op rest) s settled = absurd (no-jump s.entries op rest (subst (λ (q : FlatOp). BeginsWith f.outermost s.entries at q (Then op rest)) is (begins values labels (Then op rest) s settled)))
+  jumps kept onward height is values labels (Then op rest) s settled = absurd
+      (no-jump s.entries op rest (subst (λ (q : FlatOp). BeginsWith f.outermost s.entries at q (Then op rest)) is
+      (begins values labels (Then op rest) s settled)))
     where
       no-jump : (entries : List Entry) (op : PlainOp) (rest : Body) → Then op rest ≡ Empty → ⊥
       no-jump entries op rest e = cc
-  jumps kept onward height is values labels (Nested kind type inner rest) s settled = absurd (let wrong : Nested kind type inner rest ≡ Empty = subst (λ (q : FlatOp). BeginsWith f.outermost s.entries at q (Nested kind type inner rest)) is (begins values labels (Nested kind type inner rest) s settled) in cc)
-  jumps kept onward height is values labels (IfElse type inner other rest) s settled = absurd (let wrong : IfElse type inner other rest ≡ Empty = subst (λ (q : FlatOp). BeginsWith f.outermost s.entries at q (IfElse type inner other rest)) is (begins values labels (IfElse type inner other rest) s settled) in cc)
+  jumps kept onward height is values labels (Nested kind type inner rest) s settled = absurd
+      (let wrong : Nested kind type inner rest
+      ≡ Empty = subst (λ (q : FlatOp). BeginsWith f.outermost s.entries at q (Nested kind type inner rest)) is
+      (begins values labels (Nested kind type inner rest) s settled) in cc)
+  jumps kept onward height is values labels (IfElse type inner other rest) s settled = absurd
+      (let wrong : IfElse type inner other rest
+      ≡ Empty = subst (λ (q : FlatOp). BeginsWith f.outermost s.entries at q (IfElse type inner other rest)) is
+      (begins values labels (IfElse type inner other rest) s settled) in cc)
   jumps kept onward height is values [] Empty s settled =
       let (more, placed) = at-leave f at values s in
       absurd (let wrong : Leave f.outermost.kept ≡ Jump (entry_of onward kept height) = firsts _ _ more os (sym placed ∙ there) ∙ is in cc)
@@ -161,8 +175,10 @@ module _ (f : FrameCode) (at results : ℕ) (more : List FlatOp) (there : drop a
   pub at-end : (values : List Val) (labels : List Label) (rest : Body) → StandsIn f at values labels rest → IsSettled f at values labels rest
       → (labels ≡ []) × (rest ≡ Empty) × (length values ≡ f.outermost.kept) × (results ≡ f.outermost.kept)
   at-end values labels (Then op rest) s settled = absurd (let wrong : Then op rest ≡ Empty = begins f at (Leave results) more there values labels (Then op rest) s settled in cc)
-  at-end values labels (Nested kind type inner rest) s settled = absurd (let wrong : Nested kind type inner rest ≡ Empty = begins f at (Leave results) more there values labels (Nested kind type inner rest) s settled in cc)
-  at-end values labels (IfElse type inner other rest) s settled = absurd (let wrong : IfElse type inner other rest ≡ Empty = begins f at (Leave results) more there values labels (IfElse type inner other rest) s settled in cc)
+  at-end values labels (Nested kind type inner rest) s settled = absurd
+      (let wrong : Nested kind type inner rest ≡ Empty = begins f at (Leave results) more there values labels (Nested kind type inner rest) s settled in cc)
+  at-end values labels (IfElse type inner other rest) s settled = absurd
+      (let wrong : IfElse type inner other rest ≡ Empty = begins f at (Leave results) more there values labels (IfElse type inner other rest) s settled in cc)
   at-end values [] Empty s settled =
       let reached = s.here.lasts in
       let (others, placed) = at-leave f at values s in

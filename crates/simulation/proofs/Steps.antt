@@ -1,5 +1,6 @@
 -- The effect of a step of a configuration on the place of the code.
-use Rattle.std.proofs.Common.{◌≡◌, ℕ, zero, suc, ◌+◌, ◌-◌, ◌≤◌, max, List, [], ◌∷◌, ◌++◌, length, take, drop, refl, ap, subst, ◌∙◌, arith, append_assoc, length-append, length-take, length-drop, inl, inr}
+use Rattle.std.proofs.Common.{◌≡◌, ℕ, zero, suc, ◌+◌, ◌-◌, ◌≤◌, max, List, [], ◌∷◌, ◌++◌, length, take, drop, refl, ap, subst, ◌∙◌, arith, append_assoc}
+use Rattle.std.proofs.Common.{length-append, length-take, length-drop, inl, inr}
 use Rattle.std.specs.Prelude.{Option, Some, slice_get}
 use Rattle.core_types.specs.declared.op.BlockType.{BlockType}
 use Rattle.core_types.specs.declared.op.PlainOp.{PlainOp}
@@ -56,9 +57,13 @@ module _ (f : FrameCode) where
     abbrev after : ℕ
     after = suc at + size inner
 
-    placed_inside : drop (suc at) f.operations ≡ flat f.signatures f.outermost (entry_for kind type h at after ∷ entries) (Some (h - conditions kind)) (suc at) inner ++ (flat f.signatures f.outermost entries (behind_height kind c (Some h)) after rest ++ s.more)
+    placed_inside : drop (suc at) f.operations
+        ≡ flat f.signatures f.outermost (entry_for kind type h at after ∷ entries) (Some (h - conditions kind)) (suc at) inner ++
+        (flat f.signatures f.outermost entries (behind_height kind c (Some h)) after rest ++ s.more)
     placed_inside =
-        subst (λ (x : Option ℕ). drop (suc at) f.operations ≡ flat f.signatures f.outermost (entry_for kind type h at after ∷ entries) x (suc at) inner ++ (flat f.signatures f.outermost entries (behind_height kind c (Some h)) after rest ++ s.more)) (inside-known kind h)
+        subst (λ (x : Option ℕ). drop (suc at) f.operations
+        ≡ flat f.signatures f.outermost (entry_for kind type h at after ∷ entries) x (suc at) inner ++
+        (flat f.signatures f.outermost entries (behind_height kind c (Some h)) after rest ++ s.more)) (inside-known kind h)
         (drop-next at f.operations _ _ s.placed ∙ append_assoc _ _ s.more)
 
     -- After it.
@@ -69,7 +74,8 @@ module _ (f : FrameCode) where
           (past-flat f.signatures f.outermost inner (entry_for kind type h at after ∷ entries) (Some (h - conditions kind)) (suc at) f.operations _ placed_inside);
       ends = let e = s.ends in omega arith;
       lasts = subst (λ (x : Option ℕ). EndsAt (last_height f.signatures x rest) last) (behind-known kind c h) s.lasts;
-      room = subst (λ (x : Option ℕ). greatest f.signatures x rest ≤ f.greatest) (behind-known kind c h) (max-second (greatest f.signatures (inside_height kind (Some h)) inner) _ f.greatest (max-second h _ f.greatest s.room));
+      room = subst (λ (x : Option ℕ). greatest f.signatures x rest ≤ f.greatest) (behind-known kind c h)
+          (max-second (greatest f.signatures (inside_height kind (Some h)) inner) _ f.greatest (max-second h _ f.greatest s.room));
     }
 
     -- Within it.
@@ -80,7 +86,8 @@ module _ (f : FrameCode) where
       placed = placed_inside;
       ends = refl;
       lasts = lasts;
-      room = subst (λ (x : Option ℕ). greatest f.signatures x inner ≤ f.greatest) (inside-known kind h) (max-first (greatest f.signatures (inside_height kind (Some h)) inner) _ f.greatest (max-second h _ f.greatest s.room));
+      room = subst (λ (x : Option ℕ). greatest f.signatures x inner ≤ f.greatest) (inside-known kind h)
+          (max-first (greatest f.signatures (inside_height kind (Some h)) inner) _ f.greatest (max-second h _ f.greatest s.room));
     }
 
   -- ---- ifs with a second body
@@ -106,7 +113,9 @@ module _ (f : FrameCode) where
     jump_placed : drop (suc at + size inner) f.operations ≡ first_more ++ s.more
     jump_placed = past-flat f.signatures f.outermost inner (entry_for IfKind type h at past ∷ entries) (Some (h - 1)) (suc at) f.operations _ first_placed
 
-    second_placed : drop second f.operations ≡ flat f.signatures f.outermost (entry_for IfKind type h at past ∷ entries) (Some (h - 1)) second other ++ (flat f.signatures f.outermost entries (behind_height IfKind d (Some h)) past rest ++ s.more)
+    second_placed : drop second f.operations
+        ≡ flat f.signatures f.outermost (entry_for IfKind type h at past ∷ entries) (Some (h - 1)) second other ++
+        (flat f.signatures f.outermost entries (behind_height IfKind d (Some h)) past rest ++ s.more)
     second_placed = drop-next (suc at + size inner) f.operations _ _ jump_placed ∙ append_assoc _ _ s.more
 
     pub if-jumps : GoesOnAt f (suc at + size inner) past
@@ -199,9 +208,11 @@ module _ (f : FrameCode) where
           let (top, low) = split-length (length t.params) values enough in
           let from : StandsAt f s.entries (high - 0 - length t.params + length t.results) (suc at + size inner) rest s.end s.last =
           rw counted at (block-rest s.entries high at BlockKind type inner rest s.end s.last s.here) in
-          let inside : StandsAt f (entry_of (suc at + size inner) (length t.results) (high - length t.params) ∷ s.entries) (high - 0) (suc at) inner (suc at + size inner) (high - length t.params + length t.results) =
+          let inside : StandsAt f (entry_of (suc at + size inner) (length t.results) (high - length t.params) ∷ s.entries) (high - 0) (suc at) inner
+          (suc at + size inner) (high - length t.params + length t.results) =
           rw counted at (block-inside s.entries high at BlockKind type inner rest s.end s.last s.here (high - length t.params + length t.results) (rw zero_off typed)) in
-          entered (entry_of (suc at + size inner) (length t.results) (high - length t.params)) (label_of BlockKind type t inner values rest) labels s.entries (suc at) (suc at + size inner) (suc at + size inner)
+          entered (entry_of (suc at + size inner) (length t.results) (high - length t.params)) (label_of BlockKind type t inner values rest) labels
+          s.entries (suc at) (suc at + size inner) (suc at + size inner)
           (high - length t.params + length t.results) s.end s.last (take (length t.params) values) inner refl (omega arith) (inl refl)
           (at-height s.entries _ _ _ rest s.end s.last (omega arith) from)
           (at-height s.entries _ _ _ rest s.end s.last (omega arith) from)
@@ -236,9 +247,13 @@ module _ (f : FrameCode) where
             let (top, low) = split-length (length t.params) values enough in
             let from : StandsAt f s.entries (f.locals + (suc (length values) + under labels) - 1 - length t.params + length t.results) (suc at + size inner) rest s.end s.last =
             rw counted at (block-rest s.entries (f.locals + (suc (length values) + under labels)) at IfKind type inner rest s.end s.last s.here) in
-            let inside : StandsAt f (entry_of (suc at + size inner) (length t.results) (f.locals + (suc (length values) + under labels) - 1 - length t.params) ∷ s.entries) (f.locals + (suc (length values) + under labels) - 1) (suc at) inner (suc at + size inner) (high - length t.params + length t.results) =
-            rw counted at (block-inside s.entries (f.locals + (suc (length values) + under labels)) at IfKind type inner rest s.end s.last s.here (high - length t.params + length t.results) (rw one_off typed)) in
-            entered (entry_of (suc at + size inner) (length t.results) (f.locals + (suc (length values) + under labels) - 1 - length t.params)) (label_of IfKind type t inner values rest) labels s.entries (suc at) (suc at + size inner) (suc at + size inner)
+            let inside : StandsAt f (entry_of (suc at + size inner) (length t.results)
+            (f.locals + (suc (length values) + under labels) - 1 - length t.params) ∷ s.entries)
+            (f.locals + (suc (length values) + under labels) - 1) (suc at) inner (suc at + size inner) (high - length t.params + length t.results) =
+            rw counted at (block-inside s.entries (f.locals + (suc (length values) + under labels)) at IfKind type inner rest s.end s.last s.here
+            (high - length t.params + length t.results) (rw one_off typed)) in
+            entered (entry_of (suc at + size inner) (length t.results) (f.locals + (suc (length values) + under labels) - 1 - length t.params))
+            (label_of IfKind type t inner values rest) labels s.entries (suc at) (suc at + size inner) (suc at + size inner)
             (high - length t.params + length t.results) s.end s.last (take (length t.params) values) inner refl (omega arith) (inl refl)
             (at-height s.entries _ _ _ rest s.end s.last (omega arith) from)
             (at-height s.entries _ _ _ rest s.end s.last (omega arith) from)
@@ -254,7 +269,8 @@ module _ (f : FrameCode) where
             let from : StandsAt f s.entries (f.locals + (suc (length values) + under labels) - 1 - length t.params + length t.results) (suc at + size inner) rest s.end s.last =
             rw counted at (block-rest s.entries (f.locals + (suc (length values) + under labels)) at IfKind type inner rest s.end s.last s.here) in
             let room = within s.entries (f.locals + (suc (length values) + under labels)) at _ s.end s.last s.here in
-            entered (entry_of (suc at + size inner) (length t.results) (f.locals + (suc (length values) + under labels) - 1 - length t.params)) (label_of IfKind type t Empty values rest) labels s.entries (suc at + size inner) (suc at + size inner) (suc at + size inner)
+            entered (entry_of (suc at + size inner) (length t.results) (f.locals + (suc (length values) + under labels) - 1 - length t.params))
+            (label_of IfKind type t Empty values rest) labels s.entries (suc at + size inner) (suc at + size inner) (suc at + size inner)
             (high - length t.params + length t.results) s.end s.last (take (length t.params) values) Empty refl (omega arith) (inl refl)
             (at-height s.entries _ _ _ rest s.end s.last (omega arith) from)
             (at-height s.entries _ _ _ rest s.end s.last (omega arith) from)
@@ -277,8 +293,10 @@ module _ (f : FrameCode) where
           first-entered typed =
               let one_off : f.locals + (suc (length values) + under labels) - 1 ≡ high = omega arith in
               let (top, low) = split-length (length t.params) values enough in
-              let inside : StandsAt f (entry_of past' (length t.results) base' ∷ s.entries) (f.locals + (suc (length values) + under labels) - 1) (suc at) inner (suc at + size inner) (high - length t.params + length t.results) =
-              rw counted at (if-first s.entries (f.locals + (suc (length values) + under labels)) at type inner other rest s.end s.last s.here (high - length t.params + length t.results) (rw one_off typed)) in
+              let inside : StandsAt f (entry_of past' (length t.results) base' ∷ s.entries) (f.locals + (suc (length values) + under labels) - 1)
+              (suc at) inner (suc at + size inner) (high - length t.params + length t.results) =
+              rw counted at (if-first s.entries (f.locals + (suc (length values) + under labels)) at type inner other rest s.end s.last s.here
+              (high - length t.params + length t.results) (rw one_off typed)) in
               entered (entry_of past' (length t.results) base') (label_of IfKind type t inner values rest) labels s.entries (suc at) (suc at + size inner) past'
               (high - length t.params + length t.results) s.end s.last (take (length t.params) values) inner refl (omega arith)
               (if-jumps s.entries (f.locals + (suc (length values) + under labels)) at type inner other rest s.end s.last s.here)
@@ -292,8 +310,10 @@ module _ (f : FrameCode) where
           second-entered typed =
               let one_off : f.locals + (suc (length values) + under labels) - 1 ≡ high = omega arith in
               let (top, low) = split-length (length t.params) values enough in
-              let inside : StandsAt f (entry_of past' (length t.results) base' ∷ s.entries) (f.locals + (suc (length values) + under labels) - 1) (suc (suc at + size inner)) other past' (high - length t.params + length t.results) =
-              rw counted at (if-second s.entries (f.locals + (suc (length values) + under labels)) at type inner other rest s.end s.last s.here (high - length t.params + length t.results) (rw one_off typed)) in
+              let inside : StandsAt f (entry_of past' (length t.results) base' ∷ s.entries) (f.locals + (suc (length values) + under labels) - 1)
+              (suc (suc at + size inner)) other past' (high - length t.params + length t.results) =
+              rw counted at (if-second s.entries (f.locals + (suc (length values) + under labels)) at type inner other rest s.end s.last s.here
+              (high - length t.params + length t.results) (rw one_off typed)) in
               entered (entry_of past' (length t.results) base') (label_of IfKind type t other values rest) labels s.entries (suc (suc at + size inner)) past' past'
               (high - length t.params + length t.results) s.end s.last (take (length t.params) values) other refl (omega arith) (inl refl)
               (at-height s.entries _ _ _ rest s.end s.last (omega arith) from')

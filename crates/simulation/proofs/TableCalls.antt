@@ -53,7 +53,8 @@ abbrev Calling : Type 0
 Calling = Store → Frame → Body → List Val → FunctionInstance → Next
 
 module _ (op : PlainOp) (type x : ℕ) (call : Calling)
-    (through : (store : Store) (frame : Frame) (values : List Val) (rest : Body) → step_instruction store frame op values rest ≡ call_through store (call store frame rest) (slice_get (instance_of store frame.instance).types type) (table_at store frame x) values)
+    (through : (store : Store) (frame : Frame) (values : List Val) (rest : Body) → step_instruction store frame op values rest
+    ≡ call_through store (call store frame rest) (slice_get (instance_of store frame.instance).types type) (table_at store frame x) values)
     (g : Ghost) (cells : List ℕ) (at top : ℕ) (p : AtPlain op g cells at top) where
   abbrev step_here : Next
   step_here = step_instruction g.store (frame_of g) op p.values p.rest
@@ -100,7 +101,8 @@ module _ (op : PlainOp) (type x : ℕ) (call : Calling)
     entered : step_here ≡ call_entry g.store (call g.store (frame_of g) p.rest t.values) wanted (slice_get t.table.entries (get_or cells (top - 1) 0))
     entered =
         through g.store (frame_of g) p.values p.rest
-        ∙ ap (λ (vs : List Val). call_through g.store (call g.store (frame_of g) p.rest) (slice_get (instance_of g.store (Some g.instance)).types type) (table_at g.store (frame_of g) x) vs) t.values_are
+        ∙ ap (λ (vs : List Val). call_through g.store (call g.store (frame_of g) p.rest)
+        (slice_get (instance_of g.store (Some g.instance)).types type) (table_at g.store (frame_of g) x) vs) t.values_are
         ∙ ap (λ (o : Option FuncType). call_through g.store (call g.store (frame_of g) p.rest) o (table_at g.store (frame_of g) x) (I32 (get_or cells (top - 1) 0) ∷ t.values)) t.named
         ∙ ap (λ (o : Option (ℕ × TableInstance)). call_through g.store (call g.store (frame_of g) p.rest) (Some wanted) o (I32 (get_or cells (top - 1) 0) ∷ t.values)) t.located
 
@@ -126,7 +128,8 @@ module _ (op : PlainOp) (type x : ℕ) (call : Calling)
     Around = (outer : Frame) (activation : Activation) → price (next g.store outer (InFrame activation (frame_of g) (in_frame p.values p.labels (Then op p.rest)))) ≡ 1
 
     module _ (Called : (address : ℕ) → FunctionInstance → Type 0)
-        (calls : (address : ℕ) (function : FunctionInstance) → slice_get g.store.functions address ≡ Some function → function.ty ≡ wanted → step_here ≡ call g.store (frame_of g) p.rest t.values function → Called address function × Around) where
+        (calls : (address : ℕ) (function : FunctionInstance) → slice_get g.store.functions address ≡ Some function → function.ty ≡ wanted → step_here
+        ≡ call g.store (frame_of g) p.rest t.values function → Called address function × Around) where
       abbrev Answer : Option Val → Type 0
       Answer entry = CallsEntry g cells at top Called wanted entry × Around
 
@@ -157,7 +160,8 @@ module _ (op : PlainOp) (type x : ℕ) (call : Calling)
             by true is = (called is).1
             by false is = (traps IndirectType (stepped false is)).1
 
-      of-entry : (entry : Option Val) → ((v : Val) → entry ≡ Some v → ValueHasType g.store v ty.FuncRef) → step_here ≡ call_entry g.store (call g.store (frame_of g) p.rest t.values) wanted entry → Answer entry
+      of-entry : (entry : Option Val) → ((v : Val) → entry ≡ Some v → ValueHasType g.store v ty.FuncRef) → step_here
+          ≡ call_entry g.store (call g.store (frame_of g) p.rest t.values) wanted entry → Answer entry
       of-entry None fits step = traps UndefinedElement step
       of-entry (Some (FuncRef None)) fits step = traps UninitializedElement step
       of-entry (Some (FuncRef (Some address))) fits step = by (slice_get g.store.functions address) refl
@@ -203,12 +207,14 @@ module _ (g : Ghost) (cells : List ℕ) (at top type x : ℕ) (p : AtPlain (Cont
       let (takes, gives, between, (wanted, is, table, typed), frames, runs) = f.runs in
       let (below, stack_is, between_is) = operands-on-top f.stack (function_type (wanted.params ++ ty.I32 ∷ []) wanted.results) takes gives between typed frames in
       let t : Through its type x calls_so (λ store frame values rest. refl) g cells at top p wanted below =
-      find-through its type x calls_so (λ store frame values rest. refl) g cells at top p f.carried wanted below is table (subst (λ (ts : List ValType). ValuesHaveTypes g.store p.values ts) stack_is f.values) in
+      find-through its type x calls_so (λ store frame values rest. refl) g cells at top p f.carried wanted below is table
+      (subst (λ (ts : List ValType). ValuesHaveTypes g.store p.values ts) stack_is f.values) in
       let less : 1 ≤ top = one-more its type x calls_so (λ store frame values rest. refl) g cells at top p wanted below t in
       let counted : counts_of g.code.signatures its ≡ Some (counts (1 + length wanted.params) (length wanted.results)) =
       ap (λ (ts : List FuncType). Some (with_i32_counts (counts_of_type (slice_get ts type)))) (sym p.runs.typed.types)
       ∙ ap (λ (o : Option FuncType). Some (with_i32_counts (counts_of_type o))) t.named ∙ ap (λ (n : ℕ). Some (counts n (length wanted.results))) (omega arith) in
-      finds its type x calls_so (λ store frame values rest. refl) g cells at top p wanted below t (λ address function. IsCalling (Control (CallIndirect type x)) address function g cells at top (top - 1))
+      finds its type x calls_so (λ store frame values rest. refl) g cells at top p wanted below t
+      (λ address function. IsCalling (Control (CallIndirect type x)) address function g cells at top (top - 1))
       (λ address function there same step.
       let typed : ValuesHaveTypes g.store t.values (reverse function.ty.params ++ below) = subst (λ (u : FuncType). ValuesHaveTypes g.store t.values (reverse u.params ++ below)) (sym same) t.typed in
       let counts_are : counts_of g.code.signatures its ≡ Some (counts (1 + length function.ty.params) (length function.ty.results)) =
@@ -238,10 +244,12 @@ module _ (g : Ghost) (cells : List ℕ) (at top type x : ℕ) (p : AtPlain (Cont
       let (takes, gives, between, (wanted, under, is, table, results_are, taken), frames, runs) = f.runs in
       let (below, stack_is) = types-on-top f.stack takes gives between frames under (wanted.params ++ ty.I32 ∷ []) taken in
       let t : Through its_last type x calls_last (λ store frame values rest. refl) g cells at top p wanted below =
-      find-through its_last type x calls_last (λ store frame values rest. refl) g cells at top p f.carried wanted below is table (subst (λ (ts : List ValType). ValuesHaveTypes g.store p.values ts) stack_is f.values) in
+      find-through its_last type x calls_last (λ store frame values rest. refl) g cells at top p f.carried wanted below is table
+      (subst (λ (ts : List ValType). ValuesHaveTypes g.store p.values ts) stack_is f.values) in
       let less : 1 ≤ top = one-more its_last type x calls_last (λ store frame values rest. refl) g cells at top p wanted below t in
       let given : g.results ≡ wanted.results = same_Some g.results wanted.results results_are in
-      finds its_last type x calls_last (λ store frame values rest. refl) g cells at top p wanted below t (λ address function. IsTailCalling (Control (ReturnCallIndirect type x)) address function g cells at top (top - 1))
+      finds its_last type x calls_last (λ store frame values rest. refl) g cells at top p wanted below t
+      (λ address function. IsTailCalling (Control (ReturnCallIndirect type x)) address function g cells at top (top - 1))
       (λ address function there same step.
       let typed : ValuesHaveTypes g.store t.values (reverse function.ty.params ++ below) = subst (λ (u : FuncType). ValuesHaveTypes g.store t.values (reverse u.params ++ below)) (sym same) t.typed in
       let results : function.ty.results ≡ g.results = ap (λ (u : FuncType). u.results) same ∙ sym given in

@@ -25,7 +25,8 @@ use Rattle.sidetable.specs.Flat.{Plain}
 use Rattle.cells.specs.Cells.{value_of}
 use Rattle.simulation.specs.Outcomes.{Answers, IsOutcome, effect_of, entry_type, made, instruction_type}
 use Rattle.simulation.specs.Runs.{Ghost, IsBefore, frame_of, place_of}
-use Rattle.simulation.specs.Tables.{CopiesEntries, CopiesTable, DropsElements, FillsTable, GetsEntry, GrowsTable, HasElements, InitializesTable, MeasuresTable, SetsEntry, entry_of, grown_table, read_outcome, written_table}
+use Rattle.simulation.specs.Tables.{CopiesEntries, CopiesTable, DropsElements, FillsTable, GetsEntry, GrowsTable, HasElements, InitializesTable, MeasuresTable}
+use Rattle.simulation.specs.Tables.{SetsEntry, entry_of, grown_table, read_outcome, written_table}
 use Rattle.simulation.proofs.Operands.{operands_of}
 use Rattle.simulation.proofs.Outcomes.{acts-alone, answers-by, rule-on, table-there, triple}
 use Rattle.simulation.proofs.Typed.{with_labels}
@@ -46,7 +47,8 @@ module _ (store : Store) (frame : Frame) where
     write-outcome (Ok entries) = (refl, refl)
     write-outcome (Err trap) = tt
 
-    pub write-effect : (result : Result (List Val) Trap) (values : List Val) → write_table store frame cost address t result values ≡ effect_of (written_table store cost address t result) frame.locals values
+    pub write-effect : (result : Result (List Val) Trap) (values : List Val) → write_table store frame cost address t result values
+        ≡ effect_of (written_table store cost address t result) frame.locals values
     write-effect (Ok entries) values = refl
     write-effect (Err trap) values = refl
 
@@ -56,7 +58,8 @@ module _ (store : Store) (frame : Frame) where
     grow-outcome false = (refl, refl)
 
     grow-effect : (may : Bool) (values : List Val)
-        → (if may then Grown (entries_cost count) (with_table store address (grow_entries t v count)) frame.locals (value.I32 t.ty.limits.min ∷ values) else Done 1 store frame.locals (value.I32 4294967295 ∷ values))
+        → (if may then Grown (entries_cost count) (with_table store address (grow_entries t v count)) frame.locals
+        (value.I32 t.ty.limits.min ∷ values) else Done 1 store frame.locals (value.I32 4294967295 ∷ values))
         ≡ effect_of (grown_table store address t v count may) frame.locals values
     grow-effect true values = refl
     grow-effect false values = refl
@@ -64,7 +67,8 @@ module _ (store : Store) (frame : Frame) where
 -- ---- what exists
 
 -- The element segment of the context exists.
-elements-there : (g : Ghost) → StoreIsValid g.store → (carried : List (List ValType)) (x : ℕ) (t : RefType) → IsElement (context_at g.store (with_labels (place_of g) carried)) x t → (address : ℕ) × (e : ElementInstance) × HasElements g x address e
+elements-there : (g : Ghost) → StoreIsValid g.store → (carried : List (List ValType)) (x : ℕ) (t : RefType)
+    → IsElement (context_at g.store (with_labels (place_of g) carried)) x t → (address : ℕ) × (e : ElementInstance) × HasElements g x address e
 elements-there g valid carried x t is =
     let (address, e, at_address, there, same) = types-found _ _ g.store.elements (instance_of g.store (Some g.instance)).elements x t (instance-valid g.store valid (Some g.instance)).elements is in
     (address, e, rw (at_address, there) refl)
@@ -92,7 +96,8 @@ writes : (op : TableOp) (g : Ghost) (cells : List ℕ) (at top : ℕ) (b : IsBef
     → Answers g cells at top types result (written_table g.store cost address t)
 writes op g cells at top b types type_is cost address t result effect_is =
     answers-by (Table op) (tt {0}) g cells at top b (function_type types []) type_is result (written_table g.store cost address t) (write-outcome g.store (frame_of g) cost address t)
-    (λ found values is. effect_is values ∙ ap (λ (r : Result (List Val) Trap). write_table g.store (frame_of g) cost address t r values) is ∙ write-effect g.store (frame_of g) cost address t found values)
+    (λ found values is. effect_is values ∙ ap (λ (r : Result (List Val) Trap). write_table g.store (frame_of g) cost address t r values) is ∙
+    write-effect g.store (frame_of g) cost address t found values)
 
 pub sets-entry : SetsEntry
 sets-entry g cells at top x b =
@@ -103,7 +108,9 @@ sets-entry g cells at top x b =
       located,
       writes (Set x) g cells at top b (I32 ∷ entry_of t ∷ []) (ap (λ (o : Option (ℕ × TableInstance)). function_type (I32 ∷ entry_type o ∷ []) []) located) 1 address t
           (write_entry t.entries (get_or cells (top - 2) 0) (value_of (entry_of t) (get_or cells (top - 1) 0)))
-          (λ values. ap (λ (o : Option (ℕ × TableInstance)). on_table g.store (frame_of g) o (Set x) (value_of (entry_of t) (get_or cells (top - 1) 0) ∷ (value.I32 (get_or cells (top - 2) 0) ∷ values))) located),
+          (λ values. ap (λ (o : Option (ℕ × TableInstance)).
+          on_table g.store (frame_of g) o (Set x)
+          (value_of (entry_of t) (get_or cells (top - 1) 0) ∷ (value.I32 (get_or cells (top - 2) 0) ∷ values))) located),
     )
 
 pub measures-table : MeasuresTable
@@ -123,11 +130,13 @@ grows-table g cells at top x b =
       address,
       t,
       located,
-      answers-by (Table (Grow x)) (tt {0}) g cells at top b (function_type (entry_of t ∷ I32 ∷ []) (I32 ∷ [])) (ap (λ (o : Option (ℕ × TableInstance)). function_type (entry_type o ∷ I32 ∷ []) (I32 ∷ [])) located)
+      answers-by (Table (Grow x)) (tt {0}) g cells at top b (function_type (entry_of t ∷ I32 ∷ []) (I32 ∷ []))
+          (ap (λ (o : Option (ℕ × TableInstance)). function_type (entry_type o ∷ I32 ∷ []) (I32 ∷ [])) located)
           (can_grow g.store.entries most_entries t.ty.limits (get_or cells (top - 1) 0)) (grown_table g.store address t (value_of (entry_of t) (get_or cells (top - 2) 0)) (get_or cells (top - 1) 0))
           (grow-outcome g.store (frame_of g) address t v count)
           (λ may values is. ap (λ (o : Option (ℕ × TableInstance)). on_table g.store (frame_of g) o (Grow x) (value.I32 count ∷ (v ∷ values))) located
-          ∙ ap (λ (b : Bool). if b then Grown (entries_cost count) (with_table g.store address (grow_entries t v count)) g.locals (value.I32 t.ty.limits.min ∷ values) else Done 1 g.store g.locals (value.I32 4294967295 ∷ values)) is
+          ∙ ap (λ (b : Bool). if b then Grown (entries_cost count) (with_table g.store address (grow_entries t v count)) g.locals
+          (value.I32 t.ty.limits.min ∷ values) else Done 1 g.store g.locals (value.I32 4294967295 ∷ values)) is
           ∙ grow-effect g.store (frame_of g) address t v count may values),
     )
 
@@ -138,16 +147,23 @@ fills-table g cells at top x b =
       address,
       t,
       located,
-      writes (Fill x) g cells at top b (I32 ∷ entry_of t ∷ I32 ∷ []) (ap (λ (o : Option (ℕ × TableInstance)). function_type (I32 ∷ entry_type o ∷ I32 ∷ []) []) located) (entries_cost (get_or cells (top - 1) 0)) address t
+      writes (Fill x) g cells at top b (I32 ∷ entry_of t ∷ I32 ∷ [])
+          (ap (λ (o : Option (ℕ × TableInstance)). function_type (I32 ∷ entry_type o ∷ I32 ∷ []) []) located)
+          (entries_cost (get_or cells (top - 1) 0)) address t
           (fill_entries t.entries (get_or cells (top - 3) 0) (value_of (entry_of t) (get_or cells (top - 2) 0)) (get_or cells (top - 1) 0))
-          (λ values. ap (λ (o : Option (ℕ × TableInstance)). on_table g.store (frame_of g) o (Fill x) (value.I32 (get_or cells (top - 1) 0) ∷ (value_of (entry_of t) (get_or cells (top - 2) 0) ∷ (value.I32 (get_or cells (top - 3) 0) ∷ values)))) located),
+          (λ values. ap (λ (o : Option (ℕ × TableInstance)).
+          on_table g.store (frame_of g) o (Fill x)
+          (value.I32 (get_or cells (top - 1) 0) ∷
+          (value_of (entry_of t) (get_or cells (top - 2) 0) ∷ (value.I32 (get_or cells (top - 3) 0) ∷ values)))) located),
     )
 
 -- ---- from one object to another
 
-module _ (op : TableOp) (g : Ghost) (cells : List ℕ) (at top : ℕ) (b : IsBefore (Plain (Table op)) g cells at top) (type_is : instruction_type g (Table op) ≡ function_type (I32 ∷ I32 ∷ I32 ∷ []) []) (address : ℕ) (t : TableInstance) (source : List Val) where
+module _ (op : TableOp) (g : Ghost) (cells : List ℕ) (at top : ℕ) (b : IsBefore (Plain (Table op)) g cells at top)
+    (type_is : instruction_type g (Table op) ≡ function_type (I32 ∷ I32 ∷ I32 ∷ []) []) (address : ℕ) (t : TableInstance) (source : List Val) where
   copies : ((values : List Val) → effect g.store (frame_of g) (Table op) (triple cells top values)
-      ≡ write_table g.store (frame_of g) (entries_cost (get_or cells (top - 1) 0)) address t (copy_entries t.entries source (get_or cells (top - 3) 0) (get_or cells (top - 2) 0) (get_or cells (top - 1) 0)) values)
+      ≡ write_table g.store (frame_of g) (entries_cost (get_or cells (top - 1) 0)) address t
+      (copy_entries t.entries source (get_or cells (top - 3) 0) (get_or cells (top - 2) 0) (get_or cells (top - 1) 0)) values)
       → CopiesEntries g cells at top address t source
   copies effect_is =
       writes op g cells at top b (I32 ∷ I32 ∷ I32 ∷ []) type_is (entries_cost (get_or cells (top - 1) 0)) address t
@@ -189,6 +205,7 @@ pub drops-elements : DropsElements
 drops-elements g cells at top segment b =
     let (carried, takes, gives, (u, there, type)) = rule-on (Table (ElemDrop segment)) (tt {0}) g cells at top b in
     let (address, e, located) = elements-there g b.runs.typed.valid carried segment u there in
-    let (room, has) = acts-alone (Table (ElemDrop segment)) (tt {0}) g cells at top b (function_type [] []) refl refl (made 1 (with_elements g.store address (record { ty = e.ty; references = [] })) []) (refl, refl)
+    let (room, has) = acts-alone (Table (ElemDrop segment)) (tt {0}) g cells at top b (function_type [] []) refl refl
+    (made 1 (with_elements g.store address (record { ty = e.ty; references = [] })) []) (refl, refl)
     (λ values. ap (λ (o : Option (ℕ × ElementInstance)). drop_elements g.store (frame_of g) o values) located) in
     (address, e, located, has)

@@ -42,7 +42,8 @@ module _ (g : Ghost) (t : IsTyped g) where
   pub is-good : (n : Next) → next g.store (frame_of g) (config_of g) ≡ n → IsGood g.store (place_of g) g.results n
   is-good n e = rw e at good
 
-  good-then : (cost : ℕ) (store' : Store) (frame' : Frame) (c : Configuration) → GoesOn (next g.store (frame_of g) (config_of g)) cost store' frame' c → IsGood g.store (place_of g) g.results (Goes cost store' frame' c)
+  good-then : (cost : ℕ) (store' : Store) (frame' : Frame) (c : Configuration) → GoesOn (next g.store (frame_of g) (config_of g)) cost store' frame' c
+      → IsGood g.store (place_of g) g.results (Goes cost store' frame' c)
   good-then cost store' frame' c (inl e) = is-good _ e
   good-then cost store' frame' c (inr e) = is-good _ e
 
@@ -86,7 +87,8 @@ Arities (label ∷ labels) (c ∷ cs) = (label.arity ≡ length c) × Arities la
 abbrev pub with_labels : Place → List (List ValType) → Place
 with_labels place carried = record { instance = place.instance; locals = place.locals; labels = carried; results = place.results }
 
-pub labels-typed : (store : Store) (place : Place) (empty : place.labels ≡ []) (labels : List Label) (x : Configuration) (results : List ValType) → ConfigurationHasType store place (inside_labels labels x) results
+pub labels-typed : (store : Store) (place : Place) (empty : place.labels ≡ []) (labels : List Label) (x : Configuration) (results : List ValType)
+    → ConfigurationHasType store place (inside_labels labels x) results
     → (carried : List (List ValType)) × (given : List ValType) × Arities labels carried × ConfigurationHasType store (with_labels place carried) x given
     × ((y : Configuration) → ConfigurationHasType store (with_labels place carried) y given → ConfigurationHasType store place (inside_labels labels y) results)
 labels-typed store place empty [] x results typed = (

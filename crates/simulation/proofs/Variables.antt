@@ -67,15 +67,18 @@ written-cells cells locals all x low c v held inside lower is =
 module _ (op : PlainOp) (g : Ghost) (cells : List ℕ) (at top : ℕ) (p : AtPlain op g cells at top) (x low : ℕ) (v : Val) (values : List Val) (inside : x < length g.locals)
     (goes : step_instruction g.store (frame_of g) op p.values p.rest ≡ Goes 1 g.store (record { instance = Some g.instance; locals = set g.locals x v }) (Running values p.rest)) where
   -- A local is written, and these values are left.
-  local-written : (c gives : ℕ) → cell_of v ≡ c → counts_of g.code.signatures op ≡ Some (counts 1 gives) → length p.values + gives ≡ suc (length values) → low ≡ length g.locals + (length values + under p.labels)
+  local-written : (c gives : ℕ) → cell_of v ≡ c → counts_of g.code.signatures op ≡ Some (counts 1 gives) → length p.values + gives
+      ≡ suc (length values) → low ≡ length g.locals + (length values + under p.labels)
       → take low cells ≡ map cell_of g.locals ++ cells_of (values ++ values_under p.labels) → 1 ≤ length p.values → IsKept g g.store (set cells x c) at low
   local-written c gives is counted many low_is held some cells' at' top' fuel left kept size at_is top_new enough left_is =
       let same = length-set g.locals x v in
       let size' = length-set cells x c in
-      advance op g cells at top p 1 g.store (set g.locals x v) values (inl goes) refl (counts 1 gives) counted (omega (arith, many, some)) same cells' at' top' fuel left (omega (arith, size, size')) at_is (omega (arith, top_new, low_is, same))
+      advance op g cells at top p 1 g.store (set g.locals x v) values (inl goes) refl (counts 1 gives) counted (omega (arith, many, some)) same cells'
+      at' top' fuel left (omega (arith, size, size')) at_is (omega (arith, top_new, low_is, same))
       (rw top_new (kept ∙ written-cells cells g.locals (values ++ values_under p.labels) x low c v held inside (omega (arith, inside, low_is)) is)) enough left_is
 
-module _ (op : PlainOp) (g : Ghost) (cells : List ℕ) (at top : ℕ) (p : AtPlain op g cells at top) (x : ℕ) (t : ValType) (local : slice_get g.types x ≡ Some t) (w : Operands op g cells at top p (t ∷ [])) where
+module _ (op : PlainOp) (g : Ghost) (cells : List ℕ) (at top : ℕ) (p : AtPlain op g cells at top) (x : ℕ) (t : ValType)
+    (local : slice_get g.types x ≡ Some t) (w : Operands op g cells at top p (t ∷ [])) where
   -- The local exists, below the operand.
   local-there : (x < length g.locals) × (x < top - 1)
   local-there =
@@ -94,7 +97,9 @@ sets-local x g cells at top b =
     let w : Operands op g cells at top p (t ∷ []) = operands-here op g cells at top p (function_type (t ∷ []) []) (t ∷ []) refl operands results between type f frames in
     let (inside, lower) = local-there op g cells at top p x t is w in
     let c : ℕ = get_or cells (top - 1) 0 in
-    let goes : step_instruction g.store (frame_of g) op p.values p.rest ≡ Goes 1 g.store (record { instance = Some g.instance; locals = set g.locals x (value_of t (get_or cells (top - 1) 0)) }) (Running w.popped.others p.rest) =
+    let goes : step_instruction g.store (frame_of g) op p.values p.rest
+    ≡ Goes 1 g.store (record { instance = Some g.instance; locals = set g.locals x (value_of t (get_or cells (top - 1) 0)) })
+    (Running w.popped.others p.rest) =
     ap (λ (vs : List Val). step_instruction g.store (frame_of g) op vs p.rest) w.are
     ∙ ap (λ (e : Effect). continue_after (frame_of g) e p.rest) (if-below x (length g.locals) (Done instruction_cost g.store (slice_set g.locals x (value_of t c)) w.popped.others) Lacks inside) in
     let top_is = p.runs.holds.top_is in
@@ -103,7 +108,8 @@ sets-local x g cells at top b =
       w.inside,
       inside,
       lower,
-      local-written op g cells at top p x (top - 1) (value_of t c) w.popped.others inside goes c 0 (cell-of-value t c) refl (omega (arith, count)) (omega (arith, top_is, count)) w.popped.held (omega (arith, count)),
+      local-written op g cells at top p x (top - 1) (value_of t c) w.popped.others inside goes c 0 (cell-of-value t c) refl (omega (arith, count))
+          (omega (arith, top_is, count)) w.popped.held (omega (arith, count)),
       dear-goes op g cells at top p g.store (set g.locals x (value_of t c)) w.popped.others goes,
     )
 
@@ -116,9 +122,11 @@ tees-local x g cells at top b =
     let w : Operands op g cells at top p (t ∷ []) = operands-here op g cells at top p (function_type (t ∷ []) (t ∷ [])) (t ∷ []) refl operands results between type f frames in
     let (inside, lower) = local-there op g cells at top p x t is w in
     let c : ℕ = get_or cells (top - 1) 0 in
-    let goes : step_instruction g.store (frame_of g) op p.values p.rest ≡ Goes 1 g.store (record { instance = Some g.instance; locals = set g.locals x (value_of t (get_or cells (top - 1) 0)) }) (Running p.values p.rest) =
+    let goes : step_instruction g.store (frame_of g) op p.values p.rest
+    ≡ Goes 1 g.store (record { instance = Some g.instance; locals = set g.locals x (value_of t (get_or cells (top - 1) 0)) }) (Running p.values p.rest) =
     ap (λ (vs : List Val). step_instruction g.store (frame_of g) op vs p.rest) w.are
-    ∙ ap (λ (e : Effect). continue_after (frame_of g) e p.rest) (if-below x (length g.locals) (Done instruction_cost g.store (slice_set g.locals x (value_of t c)) (value_of t c ∷ w.popped.others)) Lacks inside)
+    ∙ ap (λ (e : Effect). continue_after (frame_of g) e p.rest)
+    (if-below x (length g.locals) (Done instruction_cost g.store (slice_set g.locals x (value_of t c)) (value_of t c ∷ w.popped.others)) Lacks inside)
     ∙ ap (λ (vs : List Val). Goes 1 g.store (record { instance = Some g.instance; locals = set g.locals x (value_of t c) }) (Running vs p.rest)) (sym w.are) in
     let top_is = p.runs.holds.top_is in
     let count = w.popped.count in (
@@ -138,9 +146,11 @@ gets-global g cells at top x b =
     let p : AtPlain op g cells at top = at-plain op (tt {0}) g cells at top b in
     let f : Inner (here op g cells at top p) = found op g cells at top p in
     let (operands, results, between, (t, is, type), frames, runs) = f.runs in
-    let (address, global, at_address, there, same) = types-found _ _ g.store.globals (instance_of g.store (Some g.instance)).globals x t (instance-valid g.store p.runs.typed.valid (Some g.instance)).globals is in
+    let (address, global, at_address, there, same) = types-found _ _ g.store.globals (instance_of g.store (Some g.instance)).globals x t
+    (instance-valid g.store p.runs.typed.valid (Some g.instance)).globals is in
     let located : HasGlobal g x address global = rw (at_address, there) refl in
-    let (more, put, dear) = pushes op g cells at top p (cell_of global.value) global.value refl refl (ap (λ (o : Option (ℕ × GlobalInstance)). continue_after (frame_of g) (get_global g.store (frame_of g) o p.values) p.rest) located) in
+    let (more, put, dear) = pushes op g cells at top p (cell_of global.value) global.value refl refl
+    (ap (λ (o : Option (ℕ × GlobalInstance)). continue_after (frame_of g) (get_global g.store (frame_of g) o p.values) p.rest) located) in
     (address, global, located, more, put, dear)
 
 pub sets-global : SetsGlobal
@@ -149,12 +159,16 @@ sets-global g cells at top x b =
     let p : AtPlain op g cells at top = at-plain op (tt {0}) g cells at top b in
     let f : Inner (here op g cells at top p) = found op g cells at top p in
     let (operands, results, between, (t, is, variable, type), frames, runs) = f.runs in
-    let (address, global, at_address, there, same) = types-found _ _ g.store.globals (instance_of g.store (Some g.instance)).globals x t (instance-valid g.store p.runs.typed.valid (Some g.instance)).globals is in
+    let (address, global, at_address, there, same) = types-found _ _ g.store.globals (instance_of g.store (Some g.instance)).globals x t
+    (instance-valid g.store p.runs.typed.valid (Some g.instance)).globals is in
     let located : HasGlobal g x address global = rw (at_address, there) refl in
     let value_is : t.value ∷ [] ≡ global.ty.value ∷ [] = ap (λ (u : GlobalType). u.value ∷ []) (sym same) in
-    let w : Operands op g cells at top p (global.ty.value ∷ []) = operands-here op g cells at top p (function_type (t.value ∷ []) []) (global.ty.value ∷ []) value_is operands results between type f frames in
+    let w : Operands op g cells at top p (global.ty.value ∷ []) = operands-here op g cells at top p (function_type (t.value ∷ []) [])
+    (global.ty.value ∷ []) value_is operands results between type f frames in
     let v : Val = value_of global.ty.value (get_or cells (top - 1) 0) in
-    let goes : step_instruction g.store (frame_of g) op p.values p.rest ≡ Goes 1 (with_global g.store address (record { ty = global.ty; value = value_of global.ty.value (get_or cells (top - 1) 0) })) (frame_of g) (Running w.popped.others p.rest) =
+    let goes : step_instruction g.store (frame_of g) op p.values p.rest
+    ≡ Goes 1 (with_global g.store address (record { ty = global.ty; value = value_of global.ty.value (get_or cells (top - 1) 0) })) (frame_of g)
+    (Running w.popped.others p.rest) =
     ap (λ (vs : List Val). step_instruction g.store (frame_of g) op vs p.rest) w.are
     ∙ ap (λ (o : Option (ℕ × GlobalInstance)). continue_after (frame_of g) (set_global g.store (frame_of g) o v w.popped.others) p.rest) located in (
       address,

@@ -1,5 +1,6 @@
 -- A valid module whose imports are given is allocated in a valid store. The new store is valid, and extends the one before.
-use Rattle.std.proofs.Common.{◌≡◌, ℕ, zero, suc, ◌*◌, ◌<◌, ◌≤◌, ◌^◌, List, [], ◌∷◌, ◌++◌, length, map, Option, Some, refl, ap, ap₂, subst, sym, ◌∙◌, arith, slice_get, get_or, option_map, unwrap_or, inl, inr, Bool, true, false}
+use Rattle.std.proofs.Common.{◌≡◌, ℕ, zero, suc, ◌*◌, ◌<◌, ◌≤◌, ◌^◌, List, [], ◌∷◌, ◌++◌, length, map, Option, Some, refl, ap, ap₂, subst, sym, ◌∙◌, arith}
+use Rattle.std.proofs.Common.{slice_get, get_or, option_map, unwrap_or, inl, inr, Bool, true, false}
 use Rattle.std.proofs.Math.Seq.{drop-append_seam}
 use Rattle.std.proofs.lemmas.List.{length-append, length-map, length-replicate, map-append}
 use Rattle.std.proofs.lemmas.List.Elements.{All-append, All-drop, All-replicate}
@@ -33,12 +34,16 @@ use Rattle.core_types.specs.declared.types.Mutability.TheVariants.{Const}
 use Rattle.core_types.specs.declared.types.ValType.TheVariants as ty
 use Rattle.meaning.specs.structure.Bodies.{Body, body_of, writing}
 use Rattle.meaning.specs.execution.Memories.{new_memory, page_size}
-use Rattle.meaning.specs.execution.Modules.{code_of, consecutive, constant, constant_value, map_all, function_address, given_addresses, global_address, memory_address, new_data, new_elements, new_function, new_global, new_instance, references, table_address, with_module}
+use Rattle.meaning.specs.execution.Modules.{code_of, consecutive, constant, constant_value, map_all, function_address, given_addresses, global_address}
+use Rattle.meaning.specs.execution.Modules.{memory_address, new_data, new_elements, new_function, new_global, new_instance, references, table_address}
+use Rattle.meaning.specs.execution.Modules.{with_module}
 use Rattle.meaning.specs.execution.Storage.{AreBytes}
 use Rattle.meaning.specs.execution.Store.{FunctionInstance, GlobalInstance, ModuleInstance, ObjectLists, Store, instance_of, item_at, item_of, no_instance}
 use Rattle.meaning.specs.execution.Tables.{ElementInstance, TableInstance, most_entries, new_table}
 use Rattle.meaning.specs.execution.Values.{null_of}
-use Rattle.meaning.specs.validation.Modules.{Exists, HasItemsOfType, IsConstantExpression, IsValidElement, IsValidFunction, body_context, constant_context, function_indices, module_context, functions_of, globals_of, imported_functions, imported_globals, imported_memories, imported_tables, memories_of, tables_of, type_at}
+use Rattle.meaning.specs.validation.Modules.{Exists, HasItemsOfType, IsConstantExpression, IsValidElement, IsValidFunction, body_context, constant_context}
+use Rattle.meaning.specs.validation.Modules.{function_indices, module_context, functions_of, globals_of, imported_functions, imported_globals}
+use Rattle.meaning.specs.validation.Modules.{imported_memories, imported_tables, memories_of, tables_of, type_at}
 use Rattle.meaning.specs.validation.ContextExtension.{Carries}
 use Rattle.meaning.specs.validation.Instructions.{HasMemory, IsNamed, IsTable, known}
 use Rattle.meaning.specs.validation.Types.{AreFewPages, AreOrdered, function_type, reference_type}
@@ -47,7 +52,9 @@ use Rattle.meaning.proofs.lemmas.Contexts.{HasType-extension}
 use Rattle.meaning.proofs.lemmas.Lists.{map_all-length}
 use Rattle.soundness.specs.Links.{AllocationKeepsValid, ContextHasModuleTypes, IsLinkable}
 use Rattle.soundness.specs.Places.{Place, below, context_at, instance_context, no_limits, types_at}
-use Rattle.soundness.specs.Stores.{AreThere, DataIsValid, InstanceIsValid, DataStays, ElementIsValid, ElementStays, ExportIsThere, GlobalIsValid, body_place, Extends, FunctionIsValid, GlobalStays, HasFewObjects, MemoryIsValid, MemoryStays, SizeIsValid, StoreIsValid, TableIsValid, TableStays}
+use Rattle.soundness.specs.Stores.{AreThere, DataIsValid, InstanceIsValid, DataStays, ElementIsValid, ElementStays, ExportIsThere, GlobalIsValid, body_place}
+use Rattle.soundness.specs.Stores.{Extends, FunctionIsValid, GlobalStays, HasFewObjects, MemoryIsValid, MemoryStays, SizeIsValid, StoreIsValid, TableIsValid}
+use Rattle.soundness.specs.Stores.{TableStays}
 use Rattle.soundness.proofs.Appends.{Keeps-append, append-at, append-first, consecutive-length, there-append, types-appended}
 use Rattle.soundness.proofs.Imports.{AreAllThere, functions-given, given-there, globals-given, mapped, memories-given, tables-given}
 use Rattle.soundness.proofs.Objects.{All-map, All-none, made-all, made-same, objects-made}
@@ -95,7 +102,8 @@ module _ (old : Store) (m : Module) (given : List Extern) (linkable : IsLinkable
 
   pub functions-are : (instance_context new instance).functions ≡ functions_of m
   functions-are =
-      types-appended (λ (f : FunctionInstance). f.ty) (function_type [] []) old.functions (map (new_function (length old.instances) m) m.funcs) (given_addresses function_address given) (length m.funcs) there.functions
+      types-appended (λ (f : FunctionInstance). f.ty) (function_type [] []) old.functions (map (new_function (length old.instances) m) m.funcs)
+      (given_addresses function_address given) (length m.funcs) there.functions
       (length-map m.funcs _)
       ∙ ap₂ (λ (a b : List FuncType). a ++ b) (functions-given old m (function_type [] []) m.imports given linkable.fits linkable.count) (own-types m.funcs)
       ∙ sym (map-append (type_at m.types) (imported_functions m.imports) (map (λ (f : Function). f.ty) m.funcs))
@@ -109,7 +117,8 @@ module _ (old : Store) (m : Module) (given : List Extern) (linkable : IsLinkable
       let missing : TableType = record { element = ref.FuncRef; limits = no_limits } in
       let all = types-appended (λ (t : TableInstance). t.ty) missing old.tables (map new_table m.tables) (given_addresses table_address given) (length m.tables) there.tables (length-map m.tables _) in
       ap (λ (ts : List TableType). map (λ (t : TableType). t.element) ts) all
-      ∙ map-append (λ (t : TableType). t.element) (types_at (λ (t : TableInstance). t.ty) missing old.tables (given_addresses table_address given)) (map (λ (t : TableInstance). t.ty) (map new_table m.tables))
+      ∙ map-append (λ (t : TableType). t.element) (types_at (λ (t : TableInstance). t.ty) missing old.tables (given_addresses table_address given))
+      (map (λ (t : TableInstance). t.ty) (map new_table m.tables))
       ∙ ap₂ (λ (a b : List RefType). a ++ b) (tables-given old m missing m.imports given linkable.fits linkable.count) (own-types m.tables)
       ∙ sym (map-append (λ (t : TableType). t.element) (imported_tables m.imports) m.tables)
     where
@@ -120,14 +129,20 @@ module _ (old : Store) (m : Module) (given : List Extern) (linkable : IsLinkable
   pub memories-are-as-many : length (instance_context new instance).memories ≡ length (memories_of m)
   memories-are-as-many =
       length-map instance.memories _ ∙ length-append (given_addresses memory_address given) _
-      ∙ omega (arith, memories-given old m m.imports given linkable.fits linkable.count, consecutive-length (length old.memories) (length m.memories), length-append (imported_memories m.imports) m.memories)
+      ∙ omega (
+        arith,
+        memories-given old m m.imports given linkable.fits linkable.count,
+        consecutive-length (length old.memories) (length m.memories),
+        length-append (imported_memories m.imports) m.memories,
+      )
 
   pub global-given : (x : ℕ) (t : GlobalType) → slice_get (imported_globals m.imports) x ≡ Some t
       → (address : ℕ) × (g : GlobalInstance) × (slice_get instance.globals x ≡ Some address) × (slice_get old.globals address ≡ Some g) × (g.ty ≡ t)
   global-given x t is =
       let missing : GlobalType = record { value = ty.I32; mutability = Const } in
       let same = globals-given old m missing m.imports given linkable.fits linkable.count in
-      let (address, g, at, found, type) = types-found (λ (g : GlobalInstance). g.ty) missing old.globals (given_addresses global_address given) x t there.globals (ap (λ (ts : List GlobalType). slice_get ts x) same ∙ is) in
+      let (address, g, at, found, type) = types-found (λ (g : GlobalInstance). g.ty) missing old.globals (given_addresses global_address given) x t
+      there.globals (ap (λ (ts : List GlobalType). slice_get ts x) same ∙ is) in
       (address, g, append-at (given_addresses global_address given) (consecutive (length old.globals) (length m.globals)) x address at, found, type)
 
   pub function-given : (x : ℕ) (f : FuncType) → slice_get (functions_of m) x ≡ Some f → (a : ℕ) × (slice_get instance.functions x ≡ Some a)
@@ -145,10 +160,15 @@ module _ (old : Store) (m : Module) (given : List Extern) (linkable : IsLinkable
   instance-there = there-append old.functions (map (new_function (length old.instances) m) m.funcs) (given_addresses function_address given) (length m.funcs) there.functions (length-map m.funcs _)
 
   module _ (valid : StoreIsValid old) where
-    global-there : (x : ℕ) (t : GlobalType) → slice_get (imported_globals m.imports) x ≡ Some t → (g : GlobalInstance) × (item_at old.globals instance.globals x ≡ Some g) × ValueHasType new g.value t.value
+    global-there : (x : ℕ) (t : GlobalType) → slice_get (imported_globals m.imports) x ≡ Some t → (g : GlobalInstance)
+        × (item_at old.globals instance.globals x ≡ Some g) × ValueHasType new g.value t.value
     global-there x t is =
-        let (address, g, at, found, type) = global-given x t is in
-        (g, ap (item_of old.globals) at ∙ found, held g.value t.value (subst (λ (u : GlobalType). ValueHasType old g.value u.value) type (All-at (GlobalIsValid old) old.globals address g found valid.globals)))
+        let (address, g, at, found, type) = global-given x t is in (
+          g,
+          ap (item_of old.globals) at ∙ found,
+          held g.value t.value (subst (λ (u : GlobalType). ValueHasType old g.value u.value) type
+              (All-at (GlobalIsValid old) old.globals address g found valid.globals)),
+        )
 
     function-there : (x : ℕ) (f : FuncType) → slice_get (functions_of m) x ≡ Some f → (a : ℕ) × (slice_get instance.functions x ≡ Some a) × (a < length new.functions)
     function-there x f is =
@@ -165,7 +185,8 @@ module _ (old : Store) (m : Module) (given : List Extern) (linkable : IsLinkable
     pub globals-are : (instance_context new instance).globals ≡ globals_of m
     globals-are =
         let missing : GlobalType = record { value = ty.I32; mutability = Const } in
-        types-appended (λ (g : GlobalInstance). g.ty) missing old.globals gs (given_addresses global_address given) (length m.globals) there.globals (map_all-length (new_global old instance) m.globals gs globals_made)
+        types-appended (λ (g : GlobalInstance). g.ty) missing old.globals gs (given_addresses global_address given) (length m.globals) there.globals
+        (map_all-length (new_global old instance) m.globals gs globals_made)
         ∙ ap₂ (λ (a b : List GlobalType). a ++ b) (globals-given old m missing m.imports given linkable.fits linkable.count)
         (made-same (new_global old instance) (λ (g : GlobalInstance). g.ty) (λ (g : Global). g.ty) typed m.globals gs globals_made)
       where
@@ -176,7 +197,8 @@ module _ (old : Store) (m : Module) (given : List Extern) (linkable : IsLinkable
 
     pub elements-are : (instance_context new instance).elements ≡ map (λ (e : ElementSegment). e.ty) m.elements
     elements-are =
-        types-appended (λ (e : ElementInstance). e.ty) ref.FuncRef old.elements es [] (length m.elements) (All-none (λ (a : ℕ). a < length old.elements)) (map_all-length (new_elements old instance) m.elements es elements_made)
+        types-appended (λ (e : ElementInstance). e.ty) ref.FuncRef old.elements es [] (length m.elements)
+        (All-none (λ (a : ℕ). a < length old.elements)) (map_all-length (new_elements old instance) m.elements es elements_made)
         ∙ made-same (new_elements old instance) (λ (e : ElementInstance). e.ty) (λ (e : ElementSegment). e.ty) typed m.elements es elements_made
       where
         typed : (e : ElementSegment) (made : ElementInstance) → new_elements old instance e ≡ Some made → made.ty ≡ e.ty
@@ -245,7 +267,8 @@ module _ (old : Store) (m : Module) (given : List Extern) (linkable : IsLinkable
           let (a, at, value_is) = mapped (λ (a : ℕ). FuncRef (Some a)) (slice_get instance.functions x) v is in
           subst (λ (w : Val). ValueHasType new w ty.FuncRef) value_is (refl, All-at (λ (b : ℕ). b < length new.functions) instance.functions x a at instance-there)
 
-      references-held : (t : RefType) (items : ElementItems) (vs : List Val) → HasItemsOfType m t items → references old instance items ≡ Some vs → All (λ (v : Val). ValueHasType new v (reference_type t)) vs
+      references-held : (t : RefType) (items : ElementItems) (vs : List Val) → HasItemsOfType m t items → references old instance items ≡ Some vs
+          → All (λ (v : Val). ValueHasType new v (reference_type t)) vs
       references-held t (Functions indices) vs (functions, inside) is =
           made-all (λ (x : ℕ). constant old instance (Reference (reference.Func x))) (λ (v : Val). ValueHasType new v (reference_type t)) (λ (x : ℕ). x < length (function_indices m))
           (λ x v below made. subst (λ (r : RefType). ValueHasType new v (reference_type r)) (sym functions) (referred x v below made)) indices vs inside is
@@ -267,7 +290,8 @@ module _ (old : Store) (m : Module) (given : List Extern) (linkable : IsLinkable
             let body_is : body_of f.body ≡ valid_function.body = ap body_of valid_function.written ∙ read valid_function.body in
             let there_now : length old.instances < length new.instances = omega (arith, length-append old.instances (instance ∷ [])) in
             let place = body_place valid_function.ty (length old.instances) (code_of f) in
-            let typed = HasType-extension (body_context m valid_function.ty f.locals) (context_at new place) (module-carried place refl) valid_function.body [] (known valid_function.ty.results) valid_function.typed in
+            let typed = HasType-extension (body_context m valid_function.ty f.locals) (context_at new place) (module-carried place refl)
+            valid_function.body [] (known valid_function.ty.results) valid_function.typed in
             (there_now, rw (type_is, body_is) typed)
 
         table-made : (t : TableType) → SizeIsValid t.limits old.entries most_entries → TableIsValid new (new_table t)
@@ -332,7 +356,8 @@ module _ (old : Store) (m : Module) (given : List Extern) (linkable : IsLinkable
         store-valid = record {
           functions = All-append (FunctionIsValid new) old.functions (map (new_function (length old.instances) m) m.funcs) (functions-still old new valid extends old.functions valid.functions)
               (All-map (FunctionIsValid new) (IsValidFunction m) (new_function (length old.instances) m) function-made m.funcs linkable.sound.valid.bodies);
-          instances = All-append (InstanceIsValid new) old.instances (instance ∷ []) (instances-still old new valid extends old.instances valid.instances) (All-replicate (InstanceIsValid new) 1 instance instance-valid-now);
+          instances = All-append (InstanceIsValid new) old.instances (instance ∷ [])
+              (instances-still old new valid extends old.instances valid.instances) (All-replicate (InstanceIsValid new) 1 instance instance-valid-now);
           tables = All-append (TableIsValid new) old.tables (map new_table m.tables) (tables-still old new valid extends old.tables valid.tables)
               (All-map (TableIsValid new) (λ (t : TableType). SizeIsValid t.limits old.entries most_entries) new_table table-made m.tables (λ k d inside. record {
                 bounded = linkable.within.few_entries k d inside;
@@ -346,16 +371,19 @@ module _ (old : Store) (m : Module) (given : List Extern) (linkable : IsLinkable
                 linkable.within.few_pages k d inside,
               )));
           globals = All-append (GlobalIsValid new) old.globals gs (globals-still old new valid extends old.globals valid.globals)
-              (made-all (new_global old instance) (GlobalIsValid new) (λ (g : Global). IsConstantExpression (constant_context m) g.init g.ty.value) global-made m.globals gs linkable.sound.valid.globals globals_made);
+              (made-all (new_global old instance) (GlobalIsValid new) (λ (g : Global). IsConstantExpression (constant_context m) g.init g.ty.value)
+              global-made m.globals gs linkable.sound.valid.globals globals_made);
           elements = All-append (ElementIsValid new) old.elements es (elements-still old new valid extends old.elements valid.elements)
               (made-all (new_elements old instance) (ElementIsValid new) (IsValidElement m) elements-made-valid m.elements es linkable.sound.valid.elements elements_made);
-          datas = All-append DataIsValid old.datas (map new_data m.datas) valid.datas (All-map DataIsValid (λ (d : DataSegment). AreBytes d.bytes) new_data (λ d bytes. bytes) m.datas linkable.sound.bytes);
+          datas = All-append DataIsValid old.datas (map new_data m.datas) valid.datas
+              (All-map DataIsValid (λ (d : DataSegment). AreBytes d.bytes) new_data (λ d bytes. bytes) m.datas linkable.sound.bytes);
           few = few-now;
         }
 
 pub allocation-keeps-valid : ((b : Body) → body_of (writing b) ≡ b) → AllocationKeepsValid
 allocation-keeps-valid read old m given objects valid linkable made_is =
-    let (gs, es, globals_made, elements_made, same) = objects-made m (map_all (new_global old (new_instance old m given)) m.globals) (map_all (new_elements old (new_instance old m given)) m.elements) objects made_is in
+    let (gs, es, globals_made, elements_made, same) = objects-made m (map_all (new_global old (new_instance old m given)) m.globals)
+    (map_all (new_elements old (new_instance old m given)) m.elements) objects made_is in
     rw same (extends old m given linkable gs es, store-valid old m given linkable gs es globals_made elements_made valid read)
 
 pub context-has-module-types : ContextHasModuleTypes

@@ -34,7 +34,8 @@ consecutive-length first (suc count) = ap suc (consecutive-length (suc first) co
 pub consecutive-below : (first count bound : ℕ) → first + count ≤ bound → All (λ (a : ℕ). a < bound) (consecutive first count)
 consecutive-below first zero bound fits = λ k d inside. let wrong : ⊥ = omega (arith, inside) in absurd wrong
 consecutive-below first (suc count) bound fits =
-    All-append (λ (a : ℕ). a < bound) (first ∷ []) (consecutive (suc first) count) (All-replicate (λ (a : ℕ). a < bound) 1 first (omega (arith, fits))) (consecutive-below (suc first) count bound (omega (arith, fits)))
+    All-append (λ (a : ℕ). a < bound) (first ∷ []) (consecutive (suc first) count)
+    (All-replicate (λ (a : ℕ). a < bound) 1 first (omega (arith, fits))) (consecutive-below (suc first) count bound (omega (arith, fits)))
 
 pub there-append : {X : Type 0} (xs ys : List X) (given : List ℕ) (count : ℕ) → AreThere xs given → length ys ≡ count → AreThere (xs ++ ys) (given ++ consecutive (length xs) count)
 there-append xs ys given count there same =

@@ -79,7 +79,8 @@ module _ (old new : Store) (m : Module) (i : ModuleInstance)
   abbrev Leads : (after : Option (List Val)) (types : List OperandType) → Type 0
   Leads after types = (stack : List ValType) × (operands : List Val) × (after ≡ Some operands) × ValuesHaveTypes new operands stack × (types ≡ known (reverse stack))
 
-  module _ (stack : List ValType) (operands : List Val) (typed : ValuesHaveTypes new operands stack) (takes gives between : List OperandType) (frame : TakesAndGives takes gives (known (reverse stack)) between) where
+  module _ (stack : List ValType) (operands : List Val) (typed : ValuesHaveTypes new operands stack) (takes gives between : List OperandType)
+      (frame : TakesAndGives takes gives (known (reverse stack)) between) where
     -- A value is pushed.
     puts : (v : Val) (t : ValType) → ValueHasType new v t → HasFuncType (function_type [] (t ∷ [])) takes gives → Leads (Some (v ∷ operands)) between
     puts v t v_typed type =
@@ -137,12 +138,14 @@ module _ (old new : Store) (m : Module) (i : ModuleInstance)
     step (Memory op) holds rule = absurd holds
     step (Numeric op) holds rule = operator op holds rule
 
-  steps : (body : Body) (stack : List ValType) (operands : List Val) (after : List OperandType) → All (IsConstant (constant_context m)) (writing body) → HasType (constant_context m) body (known (reverse stack)) after
+  steps : (body : Body) (stack : List ValType) (operands : List Val) (after : List OperandType) → All (IsConstant (constant_context m)) (writing body)
+      → HasType (constant_context m) body (known (reverse stack)) after
       → ValuesHaveTypes new operands stack → Leads (constant_operands old i (writing body) operands) after
   steps Empty stack operands after all fits typed = (stack, operands, refl, typed, known-fits (reverse stack) after fits)
   steps (Then op rest) stack operands after all (takes, gives, between, rule, frame, behind) typed =
       let (stack', operands', is, typed', between_is) = step stack operands typed takes gives between frame op (all 0 (Plain op) (omega (arith))) rule in
-      rw is (steps rest stack' operands' after (λ k d inside. all (suc k) d (omega (arith, inside))) (subst (λ (z : List OperandType). HasType (constant_context m) rest z after) between_is behind) typed')
+      rw is (steps rest stack' operands' after (λ k d inside. all (suc k) d (omega (arith, inside)))
+      (subst (λ (z : List OperandType). HasType (constant_context m) rest z after) between_is behind) typed')
   steps (Nested BlockKind type inner rest) stack operands after all behind typed = absurd (all 0 (Block type) (omega (arith)))
   steps (Nested LoopKind type inner rest) stack operands after all behind typed = absurd (all 0 (Loop type) (omega (arith)))
   steps (Nested IfKind type inner rest) stack operands after all behind typed = absurd (all 0 (If type) (omega (arith)))

@@ -51,7 +51,8 @@ module _ {H : Type 0} (host_type : H → FuncType) where
   others-faultless None rest faultless = faultless
   others-faultless (Some fault) rest faultless = absurd cc
 
-  no-funcrefs : (names : NamesContents) (address : ℕ) (ds : List (HostDefinition H)) → first_fault host_type names address ds ≡ None → All (GivesNoFuncref host_type) (map (λ (d : HostDefinition H). d.host) ds)
+  no-funcrefs : (names : NamesContents) (address : ℕ) (ds : List (HostDefinition H)) → first_fault host_type names address ds ≡ None
+      → All (GivesNoFuncref host_type) (map (λ (d : HostDefinition H). d.host) ds)
   no-funcrefs names address [] faultless = none (GivesNoFuncref host_type)
   no-funcrefs names address (d ∷ ds) faultless =
       let names' = with_host names d.module_name d.name address in

@@ -15,7 +15,8 @@ use Rattle.core_types.specs.declared.types.FuncType.{FuncType}
 use Rattle.core_types.specs.declared.types.ValType.{ValType}
 use Rattle.meaning.proofs.lemmas.Lists.{map_all-length}
 use Rattle.meaning.specs.embedding.Commands.{Command, Load, Link, Register, Call, GetGlobal, SetFuel, Refusal, Reply, Done, Refused}
-use Rattle.meaning.specs.embedding.Machine.{Applies, AppliesAll, Calls, CallsAt, Embedding, Gets, GetsAt, Links, LinksAt, Loads, Registers, RegistersAt, as_function, as_global, export_at, export_from, export_in, resolve_imports}
+use Rattle.meaning.specs.embedding.Machine.{Applies, AppliesAll, Calls, CallsAt, Embedding, Gets, GetsAt, Links, LinksAt, Loads, Registers, RegistersAt}
+use Rattle.meaning.specs.embedding.Machine.{as_function, as_global, export_at, export_from, export_in, resolve_imports}
 use Rattle.meaning.specs.embedding.Machine as machine
 use Rattle.meaning.specs.embedding.Names.{NamesContents, export_of, extern_of, resolve_name}
 use Rattle.meaning.specs.execution.Configurations.{Invoking, no_frame}
@@ -67,7 +68,8 @@ module _ (store : Store) (i : ModuleInstance) (valid : InstanceIsValid store i) 
       go (Some e) same = of-kind e.desc address same
 
 -- An exported global exists.
-pub global-there : (store : Store) → StoreIsValid store → (name : List ℕ) (instance : Option ℕ) (address : ℕ) → as_global (export_from store name instance) ≡ Ok address → address < length store.globals
+pub global-there : (store : Store) → StoreIsValid store → (name : List ℕ) (instance : Option ℕ) (address : ℕ)
+    → as_global (export_from store name instance) ≡ Ok address → address < length store.globals
 global-there store valid name None address is = absurd cc
 global-there store valid name (Some instance) address is = go (export_of (instance_of store (Some instance)) name) refl is
   where
@@ -83,7 +85,8 @@ global-there store valid name (Some instance) address is = go (export_of (instan
 -- ---- commands
 
 -- A sound module that is allowed can be linked with what the names of its imports stand for.
-pub links-linkable : (store : Store) (names : NamesContents) (m : Module) → IsSoundModule m → (given : List Extern) → resolve_imports store names m.imports ≡ Some given → IsAllowed store m given → IsLinkable store m given
+pub links-linkable : (store : Store) (names : NamesContents) (m : Module) → IsSoundModule m → (given : List Extern)
+    → resolve_imports store names m.imports ≡ Some given → IsAllowed store m given → IsLinkable store m given
 links-linkable store names m sound given resolved allowed =
     record { sound = sound; within = allowed.within; count = map_all-length (λ (i : Import). resolve_name store names i.module_name i.name) m.imports given resolved; fits = allowed.given }
 
@@ -167,7 +170,8 @@ module _ {H : Type 0} (host_type : H → FuncType) (Answers : H → List Val →
     calls-well arguments (Err refusal) refuses = refused host_type old new sound [] reply refuses
     calls-well arguments (Ok address) (machine.bad_arguments none refuses) = refused host_type old new sound _ reply refuses
     calls-well arguments (Ok address) (machine.called {ending = ending} {state = state} (f, there, typed) run reply_is new_is) =
-        let ended = never-goes-wrong (IsHostStep host_type Answers) (AreReady host_type) (ready-still host_type) (hosts-answer-well host_type Answers) old.setup.depth no_frame outermost old.state state
+        let ended = never-goes-wrong (IsHostStep host_type Answers) (AreReady host_type) (ready-still host_type) (hosts-answer-well host_type Answers)
+        old.setup.depth no_frame outermost old.state state
         (Invoking (reverse arguments) address) f.ty.results ending out sound.valid sound.ready (f, there, values-reversed old.state.store arguments f.ty.params typed, refl) run in
         rw there (leaves f.ty.results ended (ap (λ (e : Embedding H). e.state) new_is) (subst (RepliesWell state.store f.ty.results) (sym reply_is) ended.ends))
 
@@ -177,7 +181,8 @@ module _ {H : Type 0} (host_type : H → FuncType) (Answers : H → List Val →
         → EndsTyped (IsHostStep host_type Answers) (AreReady host_type) [] old.state ending state
     link-ends read m sound_module externs ending state resolved allowed run =
         let linkable = links-linkable old.state.store old.names m sound_module externs resolved allowed in
-        (links-never-go-wrong read (IsHostStep host_type Answers) (AreReady host_type) (ready-still host_type) (ready-linked host_type) (hosts-answer-well host_type Answers) old.setup.depth m externs old.state state
+        (links-never-go-wrong read (IsHostStep host_type Answers) (AreReady host_type) (ready-still host_type) (ready-linked host_type)
+        (hosts-answer-well host_type Answers) old.setup.depth m externs old.state state
         ending sound.valid sound.ready linkable run).0
 
     links-well : ((b : Body) → body_of (writing b) ≡ b) → (m : Module) → IsSoundModule m → Links (IsHostStep host_type Answers) old m reply new → LeavesWell host_type old [] reply new
@@ -192,7 +197,8 @@ module _ {H : Type 0} (host_type : H → FuncType) (Answers : H → List Val →
     links-well read m sound_module (machine.too_large resolved given passes refuses) = refused host_type old new sound [] reply refuses
     links-well read m sound_module (machine.no_memory refuses) = refused host_type old new sound [] reply refuses
 
-    links-at-well : ((b : Body) → body_of (writing b) ≡ b) → (found : Option Module) → ((m : Module) → found ≡ Some m → IsSoundModule m) → LinksAt (IsHostStep host_type Answers) old found reply new → LeavesWell host_type old [] reply new
+    links-at-well : ((b : Body) → body_of (writing b) ≡ b) → (found : Option Module) → ((m : Module) → found ≡ Some m → IsSoundModule m)
+        → LinksAt (IsHostStep host_type Answers) old found reply new → LeavesWell host_type old [] reply new
     links-at-well read None linkable refuses = refused host_type old new sound [] reply refuses
     links-at-well read (Some m) linkable links = links-well read m (linkable m refl) links
 
@@ -239,13 +245,15 @@ module _ {H : Type 0} (HostStep : List H → ℕ → Option ℕ → List Val →
     one-more machine.none = machine.then_on step machine.none
     one-more (machine.then_on first rest) = machine.then_on first (one-more rest)
 
-    all-well : {old : Embedding H} {commands : List Command} {replies : List Reply} (run : AppliesAll HostStep old commands replies between) → GoesWell between command reply last → AllGoWell HostStep run
+    all-well : {old : Embedding H} {commands : List Command} {replies : List Reply} (run : AppliesAll HostStep old commands replies between)
+        → GoesWell between command reply last → AllGoWell HostStep run
         → AllGoWell HostStep (one-more run)
     unfolding one-more
     all-well machine.none well before = (well, tt)
     all-well (machine.then_on first rest) well before = (before.0, all-well rest well before.1)
 
-    all-said : {old : Embedding H} {commands : List Command} {replies : List Reply} (run : AppliesAll HostStep old commands replies between) → IsAsSaid HostStep between command reply last → AllAreAsSaid HostStep run
+    all-said : {old : Embedding H} {commands : List Command} {replies : List Reply} (run : AppliesAll HostStep old commands replies between)
+        → IsAsSaid HostStep between command reply last → AllAreAsSaid HostStep run
         → AllAreAsSaid HostStep (one-more run)
     unfolding one-more
     all-said machine.none said before = (said, tt)
@@ -283,13 +291,15 @@ module _ {H : Type 0} (HostStep : List H → ℕ → Option ℕ → List Val →
   links-after old new (Some m) reply (machine.too_large resolved given passes refuses) = refused-after old new refuses
   links-after old new (Some m) reply (machine.no_memory refuses) = refused-after old new refuses
 
-  registers-after : (old new : Embedding H) (name : List ℕ) (instance : Option ℕ) (reply : Reply) → RegistersAt old name instance reply new → All IsSoundModule old.modules → All IsSoundModule new.modules
+  registers-after : (old new : Embedding H) (name : List ℕ) (instance : Option ℕ) (reply : Reply) → RegistersAt old name instance reply new
+      → All IsSoundModule old.modules → All IsSoundModule new.modules
   registers-after old new name None reply refuses = refused-after old new refuses
   registers-after old new name (Some instance) reply (machine.registered free reply_is new_is) = as-before old new (ap (λ (e : Embedding H). e.modules) new_is)
   registers-after old new name (Some instance) reply (machine.taken has refuses) = refused-after old new refuses
   registers-after old new name (Some instance) reply (machine.no_memory free refuses) = refused-after old new refuses
 
-  calls-after : (old new : Embedding H) (found : Result ℕ Refusal) (arguments : List Val) (reply : Reply) → CallsAt HostStep old found arguments reply new → All IsSoundModule old.modules → All IsSoundModule new.modules
+  calls-after : (old new : Embedding H) (found : Result ℕ Refusal) (arguments : List Val) (reply : Reply)
+      → CallsAt HostStep old found arguments reply new → All IsSoundModule old.modules → All IsSoundModule new.modules
   calls-after old new (Err refusal) arguments reply refuses = refused-after old new refuses
   calls-after old new (Ok address) arguments reply (machine.called takes run reply_is new_is) = as-before old new (ap (λ (e : Embedding H). e.modules) new_is)
   calls-after old new (Ok address) arguments reply (machine.bad_arguments none refuses) = refused-after old new refuses
@@ -299,7 +309,8 @@ module _ {H : Type 0} (HostStep : List H → ℕ → Option ℕ → List Val →
   gets-after old new (Ok address) reply (machine.got there reply_is new_is) = as-before old new (ap (λ (e : Embedding H). e.modules) new_is)
   gets-after old new (Ok address) reply (machine.no_memory refuses) = refused-after old new refuses
 
-  pub modules-after : (old new : Embedding H) (command : Command) (reply : Reply) → LoadsBytes command → Applies HostStep old command reply new → All IsSoundModule old.modules → All IsSoundModule new.modules
+  pub modules-after : (old new : Embedding H) (command : Command) (reply : Reply) → LoadsBytes command → Applies HostStep old command reply new
+      → All IsSoundModule old.modules → All IsSoundModule new.modules
   modules-after old new (Load bytes) reply are applies = loads-after old new bytes reply are applies
   modules-after old new (Link number) reply are applies = links-after old new (slice_get old.modules number) reply applies
   modules-after old new (Register number name) reply are applies = registers-after old new name (slice_get old.instances number) reply applies
@@ -307,7 +318,8 @@ module _ {H : Type 0} (HostStep : List H → ℕ → Option ℕ → List Val →
   modules-after old new (GetGlobal number name) reply are applies = gets-after old new (as_global (export_at old number name)) reply applies
   modules-after old new (SetFuel fuel) reply are applies = as-before old new (ap (λ (e : Embedding H). e.modules) applies.1)
 
-pub commands-go-well : ((b : Body) → body_of (writing b) ≡ b) → {H : Type 0} (host_type : H → FuncType) (Answers : H → List Val → List ℕ → Answer → List ℕ → H → Type 0) → CommandsGoWell host_type Answers
+pub commands-go-well : ((b : Body) → body_of (writing b) ≡ b)
+    → {H : Type 0} (host_type : H → FuncType) (Answers : H → List Val → List ℕ → Answer → List ℕ → H → Type 0) → CommandsGoWell host_type Answers
 commands-go-well read host_type Answers old last commands replies machine.none sound linkable bytes = (tt, sound)
 commands-go-well read host_type Answers old last (command ∷ commands) (reply ∷ replies) (machine.then_on {between = between} first rest) sound linkable bytes =
     let (well, then) = goes-well host_type Answers old between sound reply read command (one-of old command linkable) first in

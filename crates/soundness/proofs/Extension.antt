@@ -86,7 +86,8 @@ module _ (old new : Store) (valid : StoreIsValid old) (more : Extends old new) w
         let (e', there', stays) = more.elements address e found in
         types-find _ _ new.elements i.elements x address e' at there' ∙ ap (λ (u : RefType). Some u) (sym stays.0 ∙ same)
 
-  carried : (place : Place) (i : ModuleInstance) (there : InstanceIsValid old i) → instance_of old place.instance ≡ i → instance_of new place.instance ≡ i → Carries (context_at old place) (context_at new place)
+  carried : (place : Place) (i : ModuleInstance) (there : InstanceIsValid old i) → instance_of old place.instance ≡ i → instance_of new place.instance
+      ≡ i → Carries (context_at old place) (context_at new place)
   carried place i there before now = rw (before, now) (record {
     types = λ x t is. is;
     functions = functions-carried i there;

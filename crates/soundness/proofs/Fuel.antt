@@ -47,7 +47,8 @@ module _ {H : Type 0} (HostStep : List H → ℕ → Option ℕ → List Val →
 
   -- ---- links
 
-  tasks-cost : (bound n : ℕ) (i : ModuleInstance) {old last : State H} {tasks : List Task} {ending : Ending} (run : RunTasks HostStep bound n i old tasks ending last) → cost_of_tasks HostStep bound run + last.fuel ≡ old.fuel
+  tasks-cost : (bound n : ℕ) (i : ModuleInstance) {old last : State H} {tasks : List Task} {ending : Ending}
+      (run : RunTasks HostStep bound n i old tasks ending last) → cost_of_tasks HostStep bound run + last.fuel ≡ old.fuel
   tasks-cost bound n i all_done = omega arith
   tasks-cost bound n i {old} {last} (done {between = between} {a = a} is run rest) =
       let one = run-costs bound a.frame run in
@@ -55,7 +56,8 @@ module _ {H : Type 0} (HostStep : List H → ℕ → Option ℕ → List Val →
       omega (arith, one, others)
   tasks-cost bound n i (ended {a = a} is run none) = run-costs bound a.frame run
 
-  pub link-costs : (bound : ℕ) (m : Module) (given : List Extern) {old new : State H} {ending : Ending} (link : Instantiation HostStep bound m given old ending new) → cost_of_link HostStep bound link + new.fuel ≡ old.fuel
+  pub link-costs : (bound : ℕ) (m : Module) (given : List Extern) {old new : State H} {ending : Ending}
+      (link : Instantiation HostStep bound m given old ending new) → cost_of_link HostStep bound link + new.fuel ≡ old.fuel
   link-costs bound m given link = tasks-cost bound _ _ link.ran
 
   pub link-spends : (bound : ℕ) (m : Module) (given : List Extern) {old new : State H} {ending : Ending} → Instantiation HostStep bound m given old ending new → new.fuel ≤ old.fuel

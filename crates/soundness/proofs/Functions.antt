@@ -13,27 +13,6 @@ use Rattle.soundness.proofs.Writes.{elements-still, functions-still, globals-sti
 nothing : {X : Type 0} (P : X → Type 0) → All P []
 nothing P k d inside = let wrong : ⊥ = omega (arith, inside) in absurd wrong
 
--- An empty store.
-pub empty-valid : (pages entries : ℕ) → StoreIsValid (record { functions = []; instances = []; tables = []; memories = []; globals = []; elements = []; datas = []; pages = pages; entries = entries })
-empty-valid pages entries = record {
-  functions = nothing _;
-  instances = nothing _;
-  tables = nothing _;
-  memories = nothing _;
-  globals = nothing _;
-  elements = nothing _;
-  datas = nothing _;
-  few = record {
-    functions = omega (arith);
-    instances = omega (arith);
-    tables = omega (arith);
-    memories = omega (arith);
-    globals = omega (arith);
-    elements = omega (arith);
-    datas = omega (arith);
-  };
-}
-
 module _ (old : Store) (t : FuncType) (number : ℕ) (room : length old.functions + 1 < 2 ^ 32) (valid : StoreIsValid old) where
   abbrev f : FunctionInstance
   f = record { ty = t; implementation = InHost number }
@@ -56,7 +35,8 @@ module _ (old : Store) (t : FuncType) (number : ℕ) (room : length old.function
 
   pub host-valid : StoreIsValid with_host
   host-valid = record {
-    functions = All-append (FunctionIsValid with_host) old.functions (f ∷ []) (functions-still old with_host valid host-extends old.functions valid.functions) (All-replicate (FunctionIsValid with_host) 1 f tt);
+    functions = All-append (FunctionIsValid with_host) old.functions (f ∷ [])
+        (functions-still old with_host valid host-extends old.functions valid.functions) (All-replicate (FunctionIsValid with_host) 1 f tt);
     instances = instances-still old with_host valid host-extends old.instances valid.instances;
     tables = tables-still old with_host valid host-extends old.tables valid.tables;
     memories = valid.memories;

@@ -17,13 +17,16 @@ use Rattle.meaning.specs.execution.Configurations.{Configuration, Frame, Invokin
 use Rattle.meaning.specs.execution.Hosts.{IsHostStep}
 use Rattle.meaning.specs.execution.Instructions.{Next, Opens, next}
 use Rattle.meaning.specs.execution.Modules.{AreGiven, HasNoValues, Instantiation, IsAllowed, RunTasks, Task, all_done, done, ended, new_instance}
-use Rattle.meaning.specs.execution.Runs.{Answer, Ending, WithValues, WithTrap, OutOfFuel, OutOfDepth, OutOfMemory, IsEnd, IsWithinBound, Run, State, Steps, none, one_more, values_left, trapped, host_trapped, no_fuel, no_depth, no_memory, end, step}
+use Rattle.meaning.specs.execution.Runs.{Answer, Ending, WithValues, WithTrap, OutOfFuel, OutOfDepth, OutOfMemory, IsEnd, IsWithinBound, Run, State, Steps}
+use Rattle.meaning.specs.execution.Runs.{none, one_more, values_left, trapped, host_trapped, no_fuel, no_depth, no_memory, end, step}
 use Rattle.meaning.specs.execution.Store.{ModuleInstance, Store}
 use Rattle.meaning.specs.soundness.Values.{TakesArguments}
 use Rattle.meaning.specs.structure.Bodies.{Body, body_of, writing}
 use Rattle.soundness.specs.Configurations.{ConfigurationHasType}
 use Rattle.soundness.specs.Embedding.{IsSound, LinksSoundModule, LoadsBytes}
-use Rattle.soundness.specs.Headline.{AllAreAsSaid, CallIsAsSaid, CallLeadsTo, EndsAsSaid, Headline, IsAsSaid, LinkIsAsSaid, TasksLeadTo, WouldAskForMemory, WouldPassDepth, WouldPassFuel, by_steps, later, with_values_of_its_result_types, with_a_named_trap, out_of_fuel, out_of_depth, out_of_memory, reply_to_link}
+use Rattle.soundness.specs.Headline.{AllAreAsSaid, CallIsAsSaid, CallLeadsTo, EndsAsSaid, Headline, IsAsSaid, LinkIsAsSaid, TasksLeadTo, WouldAskForMemory}
+use Rattle.soundness.specs.Headline.{WouldPassDepth, WouldPassFuel, by_steps, later, with_values_of_its_result_types, with_a_named_trap, out_of_fuel}
+use Rattle.soundness.specs.Headline.{out_of_depth, out_of_memory, reply_to_link}
 use Rattle.soundness.specs.Hosts.{AreReady}
 use Rattle.soundness.specs.Links.{IsSoundModule}
 use Rattle.soundness.specs.Places.{outermost}
@@ -68,18 +71,22 @@ module _ {H : Type 0} (HostStep : List H → ℕ → Option ℕ → List Val →
       end-is-said well (host_trapped is enough left told ending_is) = with_a_named_trap ending_is
       end-is-said well (no_fuel little ending_is last_is) = out_of_fuel ending_is (leads-to-last last_is) (subst (λ (s : State H). WouldPassFuel s outside reached) (sym last_is) little)
       end-is-said well (no_depth is enough deep ending_is last_is) =
-          out_of_depth ending_is (leads-to-last last_is) (subst (λ (s : State H). WouldPassDepth bound s outside reached) (sym last_is) (passes (next at.store outside reached) (depth reached) is deep))
-      end-is-said well (no_memory asks within enough ending_is last_is) = out_of_memory ending_is (leads-to-last last_is) (subst (λ (s : State H). WouldAskForMemory s outside reached) (sym last_is) asks)
+          out_of_depth ending_is (leads-to-last last_is)
+          (subst (λ (s : State H). WouldPassDepth bound s outside reached) (sym last_is) (passes (next at.store outside reached) (depth reached) is deep))
+      end-is-said well (no_memory asks within enough ending_is last_is) = out_of_memory ending_is (leads-to-last last_is)
+          (subst (λ (s : State H). WouldAskForMemory s outside reached) (sym last_is) asks)
 
     -- The same for a run whose steps lead there.
-    run-is-said : {old last : State H} {first : Configuration} {ending : Ending} → ((at : State H) (reached : Configuration) → Steps HostStep bound outside old first at reached → LeadsTo at outside reached)
+    run-is-said : {old last : State H} {first : Configuration} {ending : Ending}
+        → ((at : State H) (reached : Configuration) → Steps HostStep bound outside old first at reached → LeadsTo at outside reached)
         → EndsWell last.store results ending → Run HostStep bound outside old first ending last → EndsAsSaid bound results LeadsTo ending last
     run-is-said {last = last} leads well run =
         let then = reaches run in
         end-is-said then.at last then.reached (leads then.at then.reached then.steps) well then.ends
 
 -- An ending that is as stated for one relation is as stated for a wider one.
-further : {H : Type 0} (bound : ℕ) (results : List ValType) (LeadsTo LeadsFurther : State H → Frame → Configuration → Type 0) → ((at : State H) (frame : Frame) (reached : Configuration) → LeadsTo at frame reached → LeadsFurther at frame reached)
+further : {H : Type 0} (bound : ℕ) (results : List ValType) (LeadsTo LeadsFurther : State H → Frame → Configuration → Type 0)
+    → ((at : State H) (frame : Frame) (reached : Configuration) → LeadsTo at frame reached → LeadsFurther at frame reached)
     → {ending : Ending} {last : State H} → EndsAsSaid bound results LeadsTo ending last → EndsAsSaid bound results LeadsFurther ending last
 further bound results LeadsTo LeadsFurther on (with_values_of_its_result_types is typed) = with_values_of_its_result_types is typed
 further bound results LeadsTo LeadsFurther on (with_a_named_trap is) = with_a_named_trap is
@@ -133,8 +140,12 @@ module _ {H : Type 0} (host_type : H → FuncType) (Answers : H → List Val →
 
     calls-are-said : (reply : Reply) (new : Embedding H) → TakesArguments old.state.store address arguments → Calls HostStep old address arguments reply new
         → (ending : Ending) × (reply ≡ commands.Ended ending) × CallIsAsSaid HostStep old.setup.depth old.state address arguments ending new.state
-    calls-are-said reply new takes (machine.called {ending = ending} {state = state} fit run reply_is new_is) =
-        (ending, reply_is, subst (λ (s : State H). CallIsAsSaid HostStep old.setup.depth old.state address arguments ending s) (sym (ap (λ (e : Embedding H). e.state) new_is)) (call-is-said takes run))
+    calls-are-said reply new takes (machine.called {ending = ending} {state = state} fit run reply_is new_is) = (
+      ending,
+      reply_is,
+      subst (λ (s : State H). CallIsAsSaid HostStep old.setup.depth old.state address arguments ending s)
+          (sym (ap (λ (e : Embedding H). e.state) new_is)) (call-is-said takes run),
+    )
     calls-are-said reply new takes (machine.bad_arguments untyped refuses) = absurd (untyped takes)
 
   module _ (read : (b : Body) → body_of (writing b) ≡ b) (old : Embedding H) (sound : IsSound host_type old) (m : Module) (sound_module : IsSoundModule m) (given : List Extern)
@@ -147,13 +158,16 @@ module _ {H : Type 0} (host_type : H → FuncType) (Answers : H → List Val →
         record {
           by_the_reduction = link;
           spends_at_most_its_fuel = link-costs HostStep old.setup.depth m given link;
-          never_goes_wrong = links-never-stuck read HostStep (AreReady host_type) (ready-still host_type) (ready-linked host_type) (hosts-answer-well host_type Answers) old.setup.depth m given old.state link.objects
+          never_goes_wrong = links-never-stuck read HostStep (AreReady host_type) (ready-still host_type) (ready-linked host_type)
+              (hosts-answer-well host_type Answers) old.setup.depth m given old.state link.objects
               sound.valid sound.ready linkable link.allocated;
           ends = tasks-are-said HostStep old.setup.depth number i link.ran;
         }
 
     links-are-said : (reply : Reply) (new : Embedding H) → Links HostStep old m reply new
-        → Refuses old commands.OutOfMemory reply new ⊎ ((ending : Ending) × (reply ≡ reply_to_link (length old.instances) ending) × LinkIsAsSaid HostStep old.setup.depth old.state m given ending new.state)
+        → Refuses old commands.OutOfMemory reply new
+        ⊎ ((ending : Ending) × (reply ≡ reply_to_link (length old.instances) ending)
+        × LinkIsAsSaid HostStep old.setup.depth old.state m given ending new.state)
     links-are-said reply new (machine.linked {externs = externs} {state = state} resolved_too allowed_too link reply_is new_is) =
         let same : externs ≡ given = same_Some externs given (sym resolved_too ∙ resolved) in
         let said = link-is-said (subst (λ (es : List Extern). Instantiation HostStep old.setup.depth m es old.state (WithValues []) state) same link) in
@@ -161,7 +175,11 @@ module _ {H : Type 0} (host_type : H → FuncType) (Answers : H → List Val →
     links-are-said reply new (machine.ended {externs = externs} {ending = ending} {state = state} resolved_too allowed_too link no_values reply_is new_is) =
         let same : externs ≡ given = same_Some externs given (sym resolved_too ∙ resolved) in
         let said = link-is-said (subst (λ (es : List Extern). Instantiation HostStep old.setup.depth m es old.state ending state) same link) in
-        inr (ending, reply_is ∙ ended-so (length old.instances) ending no_values, subst (λ (s : State H). LinkIsAsSaid HostStep old.setup.depth old.state m given ending s) (sym (ap (λ (e : Embedding H). e.state) new_is)) said)
+        inr (
+          ending,
+          reply_is ∙ ended-so (length old.instances) ending no_values,
+          subst (λ (s : State H). LinkIsAsSaid HostStep old.setup.depth old.state m given ending s) (sym (ap (λ (e : Embedding H). e.state) new_is)) said,
+        )
     links-are-said reply new (machine.unknown nothing refuses) = absurd (let wrong = sym nothing ∙ resolved in cc)
     links-are-said reply new (machine.incompatible {externs = externs} resolved_too differs refuses) =
         absurd (differs (subst (λ (es : List Extern). AreGiven old.state.store m m.imports es) (same_Some given externs (sym resolved ∙ resolved_too)) allowed.given))
@@ -170,11 +188,14 @@ module _ {H : Type 0} (host_type : H → FuncType) (Answers : H → List Val →
 
   -- ---- commands
 
-  pub is-said : ((b : Body) → body_of (writing b) ≡ b) → (old new : Embedding H) → IsSound host_type old → (command : Command) → LinksSoundModule old command → (reply : Reply) → Applies HostStep old command reply new
+  pub is-said : ((b : Body) → body_of (writing b) ≡ b) → (old new : Embedding H) → IsSound host_type old → (command : Command)
+      → LinksSoundModule old command → (reply : Reply) → Applies HostStep old command reply new
       → IsAsSaid HostStep old command reply new
   is-said read old new sound (Load bytes) linkable reply applies = tt
   is-said read old new sound (Link number) linkable reply applies =
-      λ m given there resolved allowed. links-are-said read old sound m (linkable m there) given resolved allowed reply new (subst (λ (found : Option Module). LinksAt HostStep old found reply new) there applies)
+      λ m given there resolved allowed.
+      links-are-said read old sound m (linkable m there) given resolved allowed reply new
+      (subst (λ (found : Option Module). LinksAt HostStep old found reply new) there applies)
   is-said read old new sound (Register number name) linkable reply applies = tt
   is-said read old new sound (Call number name arguments) linkable reply applies =
       λ address is takes. calls-are-said old sound address arguments reply new takes (subst (λ (found : Result ℕ Refusal). CallsAt HostStep old found arguments reply new) is applies)
@@ -186,8 +207,10 @@ module _ {H : Type 0} (host_type : H → FuncType) (Answers : H → List Val →
   all-are-said read old last commands replies machine.none sound linkable bytes = tt
   all-are-said read old last (command ∷ commands) (reply ∷ replies) (machine.then_on {between = between} first rest) sound linkable bytes =
       let (well, then) = goes-well host_type Answers old between sound reply read command (one-of old command linkable) first in
-      let now = modules-after HostStep old between command reply (bytes 0 command (omega (arith))) first linkable in
-      (is-said read old between sound command (one-of old command linkable) reply first, all-are-said read between last commands replies rest then now (All-behind LoadsBytes (command ∷ []) commands bytes))
+      let now = modules-after HostStep old between command reply (bytes 0 command (omega (arith))) first linkable in (
+        is-said read old between sound command (one-of old command linkable) reply first,
+        all-are-said read between last commands replies rest then now (All-behind LoadsBytes (command ∷ []) commands bytes),
+      )
 
   pub headline : ((b : Body) → body_of (writing b) ≡ b) → Headline host_type Answers
   headline read setup definitions at last commands replies few created bytes run =

@@ -61,8 +61,10 @@ lent-leaves store valid (Some address) bytes same are_bytes = go (slice_get stor
     go None is long = (Extends-same store, valid)
     go (Some memory) is long =
         let before = All-at (MemoryIsValid store.pages) store.memories address memory is valid.memories in
-        let now : MemoryIsValid store.pages (record memory { bytes = bytes }) = record { size = before.size; bytes_are = long ∙ before.bytes_are; bytes = are_bytes } in
-        (memory-extends store valid address memory (record memory { bytes = bytes }) is (omega (arith), refl) now, memory-valid store valid address memory (record memory { bytes = bytes }) is (omega (arith), refl) now)
+        let now : MemoryIsValid store.pages (record memory { bytes = bytes }) = record { size = before.size; bytes_are = long ∙ before.bytes_are; bytes = are_bytes } in (
+          memory-extends store valid address memory (record memory { bytes = bytes }) is (omega (arith), refl) now,
+          memory-valid store valid address memory (record memory { bytes = bytes }) is (omega (arith), refl) now,
+        )
 
 -- ---- host functions that are ready
 
@@ -103,7 +105,8 @@ module _ {H : Type 0} (host_type : H → FuncType) (Answers : H → List Val →
       let none = All-at (GivesNoFuncref host_type) hosts number call.host call.is ready.no_funcrefs in
       record {
         typed = hosts-kept host_type Answers hosts hosts' number lent arguments old new answer (bytes, call, new_is) ready.typed;
-        no_funcrefs = subst (All (GivesNoFuncref host_type)) (sym call.hosts_are) (All-set (GivesNoFuncref host_type) hosts number call.host' ready.no_funcrefs (ap (λ (u : FuncType). has_funcref u.results) call.same_type ∙ none));
+        no_funcrefs = subst (All (GivesNoFuncref host_type)) (sym call.hosts_are)
+            (All-set (GivesNoFuncref host_type) hosts number call.host' ready.no_funcrefs (ap (λ (u : FuncType). has_funcref u.results) call.same_type ∙ none));
       }
 
   pub hosts-answer-well : HostsAnswerWell (IsHostStep host_type Answers) (AreReady host_type)

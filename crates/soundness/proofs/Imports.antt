@@ -46,7 +46,8 @@ module _ (store : Store) (m : Module) where
   table-at : (a : ℕ) (given : ExternType) → extern_type store (value.Table a) ≡ Some given → (table : TableInstance) × (slice_get store.tables a ≡ Some table) × (type.Table table.ty ≡ given)
   table-at a given is = mapped (λ (table : TableInstance). type.Table table.ty) (slice_get store.tables a) given is
 
-  memory-at : (a : ℕ) (given : ExternType) → extern_type store (value.Memory a) ≡ Some given → (memory : MemoryInstance) × (slice_get store.memories a ≡ Some memory) × (type.Memory memory.limits ≡ given)
+  memory-at : (a : ℕ) (given : ExternType) → extern_type store (value.Memory a) ≡ Some given → (memory : MemoryInstance)
+      × (slice_get store.memories a ≡ Some memory) × (type.Memory memory.limits ≡ given)
   memory-at a given is = mapped (λ (memory : MemoryInstance). type.Memory memory.limits) (slice_get store.memories a) given is
 
   global-at : (a : ℕ) (given : ExternType) → extern_type store (value.Global a) ≡ Some given → (g : GlobalInstance) × (slice_get store.globals a ≡ Some g) × (type.Global g.ty ≡ given)
@@ -131,26 +132,32 @@ module _ (store : Store) (m : Module) where
   functions-given missing [] [] fits same = refl
   functions-given missing [] (e ∷ es) fits same = absurd (let wrong : ⊥ = omega (arith, same) in wrong)
   functions-given missing (i ∷ is) [] fits same = absurd fits
-  functions-given missing (i ∷ is) (e ∷ es) fits same = by i.desc e (given-as i.desc e fits.0) (given_addresses function_address es) (imported_functions is) (functions-given missing is es fits.1 (omega (arith, same)))
+  functions-given missing (i ∷ is) (e ∷ es) fits same = by i.desc e (given-as i.desc e fits.0) (given_addresses function_address es)
+      (imported_functions is) (functions-given missing is es fits.1 (omega (arith, same)))
     where
       by : (d : ImportDesc) (e : Extern) → GivenAs d e → (addresses indices : List ℕ) → types_at (λ (f : FunctionInstance). f.ty) missing store.functions addresses ≡ map (type_at m.types) indices
           → types_at (λ (f : FunctionInstance). f.ty) missing store.functions (before (function_address e) addresses)
           ≡ map (type_at m.types) (elim d [ import.Func x ↦ x ∷ indices | import.Table t ↦ indices | import.Memory l ↦ indices | import.Global g ↦ indices ])
       by _ _ (as_function {x} {a} f there types_are) addresses indices rest =
           ap₂ (λ (t : FuncType) (ts : List FuncType). t ∷ ts)
-          (ap (λ (o : Option FunctionInstance). unwrap_or (option_map (λ (f : FunctionInstance). f.ty) o) missing) there ∙ ap (λ (o : Option FuncType). unwrap_or o (record { params = []; results = [] })) (sym types_are)) rest
+          (ap (λ (o : Option FunctionInstance). unwrap_or (option_map (λ (f : FunctionInstance). f.ty) o) missing) there ∙ ap
+          (λ (o : Option FuncType). unwrap_or o (record { params = []; results = [] })) (sym types_are)) rest
       by _ _ (as_table table there same) addresses indices rest = rest
       by _ _ (as_memory memory there) addresses indices rest = rest
       by _ _ (as_global g there same) addresses indices rest = rest
 
   pub tables-given : (missing : TableType) (imports : List Import) (given : List Extern) → AreGiven store m imports given → length given ≡ length imports
-      → map (λ (t : TableType). t.element) (types_at (λ (t : TableInstance). t.ty) missing store.tables (given_addresses table_address given)) ≡ map (λ (t : TableType). t.element) (imported_tables imports)
+      → map (λ (t : TableType). t.element) (types_at (λ (t : TableInstance). t.ty) missing store.tables (given_addresses table_address given))
+      ≡ map (λ (t : TableType). t.element) (imported_tables imports)
   tables-given missing [] [] fits same = refl
   tables-given missing [] (e ∷ es) fits same = absurd (let wrong : ⊥ = omega (arith, same) in wrong)
   tables-given missing (i ∷ is) [] fits same = absurd fits
-  tables-given missing (i ∷ is) (e ∷ es) fits same = by i.desc e (given-as i.desc e fits.0) (given_addresses table_address es) (imported_tables is) (tables-given missing is es fits.1 (omega (arith, same)))
+  tables-given missing (i ∷ is) (e ∷ es) fits same = by i.desc e (given-as i.desc e fits.0) (given_addresses table_address es) (imported_tables is)
+      (tables-given missing is es fits.1 (omega (arith, same)))
     where
-      by : (d : ImportDesc) (e : Extern) → GivenAs d e → (addresses : List ℕ) (types : List TableType) → map (λ (t : TableType). t.element) (types_at (λ (t : TableInstance). t.ty) missing store.tables addresses) ≡ map (λ (t : TableType). t.element) types
+      by : (d : ImportDesc) (e : Extern) → GivenAs d e → (addresses : List ℕ) (types : List TableType)
+          → map (λ (t : TableType). t.element) (types_at (λ (t : TableInstance). t.ty) missing store.tables addresses)
+          ≡ map (λ (t : TableType). t.element) types
           → map (λ (t : TableType). t.element) (types_at (λ (t : TableInstance). t.ty) missing store.tables (before (table_address e) addresses))
           ≡ map (λ (t : TableType). t.element) (elim d [ import.Func x ↦ types | import.Table t ↦ t ∷ types | import.Memory l ↦ types | import.Global g ↦ types ])
       by _ _ (as_function f there types_are) addresses types rest = rest
@@ -164,7 +171,8 @@ module _ (store : Store) (m : Module) where
   globals-given missing [] [] fits same = refl
   globals-given missing [] (e ∷ es) fits same = absurd (let wrong : ⊥ = omega (arith, same) in wrong)
   globals-given missing (i ∷ is) [] fits same = absurd fits
-  globals-given missing (i ∷ is) (e ∷ es) fits same = by i.desc e (given-as i.desc e fits.0) (given_addresses global_address es) (imported_globals is) (globals-given missing is es fits.1 (omega (arith, same)))
+  globals-given missing (i ∷ is) (e ∷ es) fits same = by i.desc e (given-as i.desc e fits.0) (given_addresses global_address es) (imported_globals is)
+      (globals-given missing is es fits.1 (omega (arith, same)))
     where
       by : (d : ImportDesc) (e : Extern) → GivenAs d e → (addresses : List ℕ) (types : List GlobalType) → types_at (λ (g : GlobalInstance). g.ty) missing store.globals addresses ≡ types
           → types_at (λ (g : GlobalInstance). g.ty) missing store.globals (before (global_address e) addresses)
@@ -210,7 +218,10 @@ module _ (store : Store) (m : Module) where
   given-there (i ∷ is) (e ∷ es) fits same = by i.desc e (given-as i.desc e fits.0) (given-there is es fits.1 (omega (arith, same)))
     where
       by : (d : ImportDesc) (e : Extern) → GivenAs d e → AreAllThere es → AreAllThere (e ∷ es)
-      by _ _ (as_function {x} {a} f there types_are) rest = record { functions = in-front store.functions a f _ there rest.functions; tables = rest.tables; memories = rest.memories; globals = rest.globals }
-      by _ _ (as_table {t} {a} table there same) rest = record { functions = rest.functions; tables = in-front store.tables a table _ there rest.tables; memories = rest.memories; globals = rest.globals }
-      by _ _ (as_memory {l} {a} memory there) rest = record { functions = rest.functions; tables = rest.tables; memories = in-front store.memories a memory _ there rest.memories; globals = rest.globals }
+      by _ _ (as_function {x} {a} f there types_are) rest =
+          record { functions = in-front store.functions a f _ there rest.functions; tables = rest.tables; memories = rest.memories; globals = rest.globals }
+      by _ _ (as_table {t} {a} table there same) rest =
+          record { functions = rest.functions; tables = in-front store.tables a table _ there rest.tables; memories = rest.memories; globals = rest.globals }
+      by _ _ (as_memory {l} {a} memory there) rest =
+          record { functions = rest.functions; tables = rest.tables; memories = in-front store.memories a memory _ there rest.memories; globals = rest.globals }
       by _ _ (as_global {t} {a} g there same) rest = record { functions = rest.functions; tables = rest.tables; memories = rest.memories; globals = in-front store.globals a g _ there rest.globals }

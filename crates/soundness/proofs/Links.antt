@@ -21,7 +21,9 @@ use Rattle.core_types.specs.declared.types.ValType.TheVariants as ty
 use Rattle.meaning.specs.structure.Bodies.{Body, Empty, Then, body_of, writing}
 use Rattle.meaning.specs.execution.Configurations.{Invoking, Running, no_frame}
 use Rattle.meaning.specs.execution.Memories.{new_memory}
-use Rattle.meaning.specs.execution.Modules.{Activity, Copies, Drops, HasNoValues, RunOf, RunTasks, Starts, Task, activity, constant, constant_value, done, ended, all_done, in_instance, map_all, new_data, new_elements, new_global, new_instance, new_objects, references, tasks_of, with_module}
+use Rattle.meaning.specs.execution.Modules.{Activity, Copies, Drops, HasNoValues, RunOf, RunTasks, Starts, Task, activity, constant, constant_value, done}
+use Rattle.meaning.specs.execution.Modules.{ended, all_done, in_instance, map_all, new_data, new_elements, new_global, new_instance, new_objects, references}
+use Rattle.meaning.specs.execution.Modules.{tasks_of, with_module}
 use Rattle.meaning.specs.execution.Runs.{Answer, Ending, NoHosts, WithValues, WithTrap, OutOfFuel, OutOfDepth, OutOfMemory, State}
 use Rattle.meaning.specs.execution.Store.{FunctionInstance, GlobalInstance, ModuleInstance, ObjectLists, Store, instance_of, item_at, item_of, no_instance}
 use Rattle.meaning.specs.execution.Tables.{ElementInstance, new_table}
@@ -64,7 +66,9 @@ module _ (old : Store) (m : Module) (given : List Extern) (linkable : IsLinkable
   references-found : (t : RefType) (items : ElementItems) → HasItemsOfType m t items → (vs : List Val) × (references old instance items ≡ Some vs)
   references-found t (Functions indices) (functions, inside) = all-found (λ (x : ℕ). constant old instance (Reference (reference.Func x))) indices (λ k d there.
       let x = get_or indices k d in
-      let (a, at) = function-given old m given linkable [] [] x (get_or (functions_of m) x (function_type [] [])) (slice_get-get_or (functions_of m) x (function_type [] []) (let below = inside k d there in omega (arith, below, length-map (function_indices m) (type_at m.types)))) in
+      let (a, at) = function-given old m given linkable [] [] x (get_or (functions_of m) x (function_type [] []))
+      (slice_get-get_or (functions_of m) x (function_type [] [])
+      (let below = inside k d there in omega (arith, below, length-map (function_indices m) (type_at m.types)))) in
       (FuncRef (Some a), ap (option_map (λ (a : ℕ). FuncRef (Some a))) at))
   references-found t (Expressions expressions) all = all-found (constant_value old instance) expressions (λ k d there. value-found (get_or expressions k d) (reference_type t) (all k d there))
 
@@ -98,7 +102,8 @@ module _ (old : Store) (m : Module) (given : List Extern) (linkable : IsLinkable
   globals-same : (instance_context new i).globals ≡ globals_of m
   globals-same = rw made_is (globals-are old m given linkable gs es globals_made elements_made)
 
-  carries : (place : Place) → place.instance ≡ Some (length old.instances) → Carries (record (module_context m) { locals = place.locals; labels = place.labels; results = place.results }) (context_at new place)
+  carries : (place : Place) → place.instance ≡ Some (length old.instances)
+      → Carries (record (module_context m) { locals = place.locals; labels = place.labels; results = place.results }) (context_at new place)
   carries place is = rw made_is (module-carried old m given linkable gs es globals_made elements_made place is)
 
   -- In a store that extends the one in which the module was allocated.
@@ -106,7 +111,8 @@ module _ (old : Store) (m : Module) (given : List Extern) (linkable : IsLinkable
     global-now : (x : ℕ) (t : GlobalType) → slice_get (imported_globals m.imports) x ≡ Some t → (g : GlobalInstance) × (item_at at.globals i.globals x ≡ Some g) × ValueHasType at g.value t.value
     global-now x t is =
         let in_all : slice_get (globals_of m) x ≡ Some t = append-at (imported_globals m.imports) (map (λ (g : Global). g.ty) m.globals) x t is in
-        let (address, g, here, found, type) = types-found (λ (g : GlobalInstance). g.ty) _ new.globals i.globals x t i-valid.globals (ap (λ (ts : List GlobalType). slice_get ts x) globals-same ∙ in_all) in
+        let (address, g, here, found, type) = types-found (λ (g : GlobalInstance). g.ty) _ new.globals i.globals x t i-valid.globals
+        (ap (λ (ts : List GlobalType). slice_get ts x) globals-same ∙ in_all) in
         let (h, there, stays) = more.globals address g found in
         (h, ap (item_of at.globals) here ∙ there, subst (λ (u : GlobalType). ValueHasType at h.value u.value) (sym stays.0 ∙ type) (All-at (GlobalIsValid at) at.globals address h there valid.globals))
 
@@ -151,7 +157,8 @@ module _ (old : Store) (m : Module) (given : List Extern) (linkable : IsLinkable
       },
     )
     task-now (Starts x) there =
-        let (address, f, here, found, type) = types-found (λ (f : FunctionInstance). f.ty) _ new.functions i.functions x (function_type [] []) i-valid.functions (ap (λ (ts : List FuncType). slice_get ts x) functions-same ∙ there) in
+        let (address, f, here, found, type) = types-found (λ (f : FunctionInstance). f.ty) _ new.functions i.functions x (function_type [] [])
+        i-valid.functions (ap (λ (ts : List FuncType). slice_get ts x) functions-same ∙ there) in
         let (g, there_now, stays) = more.functions address f found in
         let type_now : g.ty ≡ function_type [] [] = sym (ap (λ (h : FunctionInstance). h.ty) stays) ∙ type in (
           record { frame = no_frame; configuration = Invoking [] address },
@@ -180,9 +187,11 @@ ends-anyway store results OutOfMemory none = tt
 module _ {H : Type 0} (HostStep : List H → ℕ → Option ℕ → List Val → Store → Answer → Store → List H → Type 0) (HaveHosts : Store → List H → Type 0)
     (kept : (old new : Store) (hosts : List H) → new.functions ≡ old.functions → HaveHosts old hosts → HaveHosts new hosts)
     (well : HostsAnswerWell HostStep HaveHosts) (bound : ℕ) where
-  activity-typed : (a : Activity) (old last : State H) (ending : Ending) → StoreIsValid old.store → HaveHosts old.store old.hosts → (runs : RunsTyped old.store a) → RunOf HostStep bound old a ending last
+  activity-typed : (a : Activity) (old last : State H) (ending : Ending) → StoreIsValid old.store → HaveHosts old.store old.hosts
+      → (runs : RunsTyped old.store a) → RunOf HostStep bound old a ending last
       → EndsTyped HostStep HaveHosts runs.results old ending last
-  activity-typed a old last ending valid there runs run = never-goes-wrong HostStep HaveHosts kept well bound a.frame runs.place old last a.configuration runs.results ending runs.outside valid there runs.typed run
+  activity-typed a old last ending valid there runs run = never-goes-wrong HostStep HaveHosts kept well bound a.frame runs.place old last
+      a.configuration runs.results ending runs.outside valid there runs.typed run
 
   -- Tasks, each of which is found and typed in every store that extends this one.
   module _ (start : Store) (n : ℕ) (i : ModuleInstance) (P : Task → Type 0)
@@ -203,7 +212,8 @@ module _ {H : Type 0} (HostStep : List H → ℕ → Option ℕ → List Val →
         let ran = activity-typed a old last ending valid there typed run in
         record { extends = ran.extends; valid = ran.valid; there = ran.there; ends = ends-anyway last.store [] ending none }
 
-    tasks-go-on : (tasks : List Task) → All P tasks → {old : State H} → StoreIsValid old.store → HaveHosts old.store old.hosts → Extends start old.store → TasksGetStuck HostStep bound n i old tasks → ⊥
+    tasks-go-on : (tasks : List Task) → All P tasks → {old : State H} → StoreIsValid old.store → HaveHosts old.store old.hosts
+        → Extends start old.store → TasksGetStuck HostStep bound n i old tasks → ⊥
     tasks-go-on [] all valid there more getting = elim getting [ ]
     tasks-go-on (task ∷ tasks) all {old} valid there more (not_there is) =
         let (found, here, runs) = each old.store valid more task (all 0 task (omega (arith))) in absurd (let wrong : None ≡ Some found = sym is ∙ here in no-value wrong)
@@ -228,10 +238,12 @@ objects-there old m given valid linkable none =
     objects-found m _ _ gs es first second none
 
 -- What the link runs exists, and is typed, whatever runs before.
-pub tasks-good : ((b : Body) → body_of (writing b) ≡ b) → (old : Store) (m : Module) (given : List Extern) (made : ObjectLists) → StoreIsValid old → IsLinkable old m given → new_objects old (new_instance old m given) m ≡ Some made
+pub tasks-good : ((b : Body) → body_of (writing b) ≡ b) → (old : Store) (m : Module) (given : List Extern) (made : ObjectLists) → StoreIsValid old
+    → IsLinkable old m given → new_objects old (new_instance old m given) m ≡ Some made
     → TasksAreGood (with_module old (new_instance old m given) m made) (length old.instances) (new_instance old m given) (tasks_of m)
 tasks-good read old m given made valid linkable made_is =
-    let (gs, es, globals_made, elements_made, same) = objects-made m (map_all (new_global old (new_instance old m given)) m.globals) (map_all (new_elements old (new_instance old m given)) m.elements) made made_is in
+    let (gs, es, globals_made, elements_made, same) = objects-made m (map_all (new_global old (new_instance old m given)) m.globals)
+    (map_all (new_elements old (new_instance old m given)) m.elements) made made_is in
     let now_valid : StoreIsValid (with_module old (new_instance old m given) m made) = rw same (store-valid old m given linkable gs es globals_made elements_made valid read) in
     λ at at_valid more. λ k d inside. task-now old m given linkable gs es globals_made elements_made made same now_valid at at_valid more _ (tasks-typed m linkable.sound.valid k d inside)
 
@@ -239,31 +251,38 @@ module _ {H : Type 0} (HostStep : List H → ℕ → Option ℕ → List Val →
     (kept : (old new : Store) (hosts : List H) → new.functions ≡ old.functions → HaveHosts old hosts → HaveHosts new hosts)
     (well : HostsAnswerWell HostStep HaveHosts) (bound : ℕ) where
   -- Good tasks never go wrong.
-  pub tasks-end : (start : Store) (n : ℕ) (i : ModuleInstance) (tasks : List Task) → TasksAreGood start n i tasks → {old last : State H} {ending : Ending} → StoreIsValid old.store → HaveHosts old.store old.hosts → Extends start old.store
+  pub tasks-end : (start : Store) (n : ℕ) (i : ModuleInstance) (tasks : List Task) → TasksAreGood start n i tasks
+      → {old last : State H} {ending : Ending} → StoreIsValid old.store → HaveHosts old.store old.hosts → Extends start old.store
       → RunTasks HostStep bound n i old tasks ending last → EndsTyped HostStep HaveHosts [] old ending last
   tasks-end start n i tasks good valid there more run =
       tasks-run HostStep HaveHosts kept well bound start n i (λ (task : Task). (at : Store) → StoreIsValid at → Extends start at → TaskIsGood at n i task)
       (λ at at_valid onward task holds. holds at at_valid onward) tasks (λ k d inside. λ at at_valid onward. good at at_valid onward k d inside) valid there more run
 
   -- Nor do they get stuck.
-  pub tasks-never-stuck : (start : Store) (n : ℕ) (i : ModuleInstance) (tasks : List Task) → TasksAreGood start n i tasks → {old : State H} → StoreIsValid old.store → HaveHosts old.store old.hosts → Extends start old.store
+  pub tasks-never-stuck : (start : Store) (n : ℕ) (i : ModuleInstance) (tasks : List Task) → TasksAreGood start n i tasks → {old : State H}
+      → StoreIsValid old.store → HaveHosts old.store old.hosts → Extends start old.store
       → TasksGetStuck HostStep bound n i old tasks → ⊥
   tasks-never-stuck start n i tasks good valid there more getting =
       tasks-go-on HostStep HaveHosts kept well bound start n i (λ (task : Task). (at : Store) → StoreIsValid at → Extends start at → TaskIsGood at n i task)
       (λ at at_valid onward task holds. holds at at_valid onward) tasks (λ k d inside. λ at at_valid onward. good at at_valid onward k d inside) valid there more getting
 
 -- The same without host functions.
-pub tasks-end-alone : (bound : ℕ) (start : Store) (n : ℕ) (i : ModuleInstance) (tasks : List Task) → TasksAreGood start n i tasks → {old last : State ⊥} {ending : Ending} → StoreIsValid old.store → Extends start old.store
+pub tasks-end-alone : (bound : ℕ) (start : Store) (n : ℕ) (i : ModuleInstance) (tasks : List Task) → TasksAreGood start n i tasks
+    → {old last : State ⊥} {ending : Ending} → StoreIsValid old.store → Extends start old.store
     → RunTasks NoHosts bound n i old tasks ending last → EndsTyped NoHosts NoConditions [] old ending last
-tasks-end-alone bound start n i tasks good valid more run = tasks-end NoHosts NoConditions (λ old new hosts same there. tt) (λ hosts hosts' number address lent arguments old new answer t valid there is typed told. absurd told) bound start n i tasks good valid tt more run
+tasks-end-alone bound start n i tasks good valid more run = tasks-end NoHosts NoConditions (λ old new hosts same there. tt)
+    (λ hosts hosts' number address lent arguments old new answer t valid there is typed told. absurd told) bound start n i tasks good valid tt more run
 
-pub tasks-never-stuck-alone : (bound : ℕ) (start : Store) (n : ℕ) (i : ModuleInstance) (tasks : List Task) → TasksAreGood start n i tasks → {old : State ⊥} → StoreIsValid old.store → Extends start old.store → TasksGetStuck NoHosts bound n i old tasks → ⊥
+pub tasks-never-stuck-alone : (bound : ℕ) (start : Store) (n : ℕ) (i : ModuleInstance) (tasks : List Task) → TasksAreGood start n i tasks
+    → {old : State ⊥} → StoreIsValid old.store → Extends start old.store → TasksGetStuck NoHosts bound n i old tasks → ⊥
 tasks-never-stuck-alone bound start n i tasks good valid more getting =
-    tasks-never-stuck NoHosts NoConditions (λ old new hosts same there. tt) (λ hosts hosts' number address lent arguments old new answer t valid there is typed told. absurd told) bound start n i tasks good valid tt more getting
+    tasks-never-stuck NoHosts NoConditions (λ old new hosts same there. tt)
+    (λ hosts hosts' number address lent arguments old new answer t valid there is typed told. absurd told) bound start n i tasks good valid tt more getting
 
 -- ---- links
 
-instance-stays : (old now new : Store) (m : Module) (given : List Extern) → now.instances ≡ old.instances ++ new_instance old m given ∷ [] → Extends now new → StoreIsValid new → InstanceStays old new m given
+instance-stays : (old now new : Store) (m : Module) (given : List Extern) → now.instances ≡ old.instances ++ new_instance old m given ∷ []
+    → Extends now new → StoreIsValid new → InstanceStays old new m given
 instance-stays old now new m given added more valid =
     let i = new_instance old m given in
     let first = ap (λ (is : List ModuleInstance). slice_get is (length old.instances)) added ∙ append-first old.instances [] i in
@@ -276,7 +295,8 @@ module _ (read : (b : Body) → body_of (writing b) ≡ b)
     (kept : (old new : Store) (hosts : List H) → new.functions ≡ old.functions → HaveHosts old hosts → HaveHosts new hosts)
     (linked : (old : Store) (m : Module) (i : ModuleInstance) (made : ObjectLists) (hosts : List H) → HaveHosts old hosts → HaveHosts (with_module old i m made) hosts)
     (well : HostsAnswerWell HostStep HaveHosts) where
-  module _ (bound : ℕ) (m : Module) (given : List Extern) (old : State H) (made : ObjectLists) (valid : StoreIsValid old.store) (there : HaveHosts old.store old.hosts) (linkable : IsLinkable old.store m given)
+  module _ (bound : ℕ) (m : Module) (given : List Extern) (old : State H) (made : ObjectLists) (valid : StoreIsValid old.store)
+      (there : HaveHosts old.store old.hosts) (linkable : IsLinkable old.store m given)
       (made_is : new_objects old.store (new_instance old.store m given) m ≡ Some made) where
     abbrev now : Store
     now = with_module old.store (new_instance old.store m given) m made
@@ -296,7 +316,8 @@ module _ (read : (b : Body) → body_of (writing b) ≡ b)
     -- No task of a link gets stuck.
     pub links-never-stuck : TasksGetStuck HostStep bound (length old.store.instances) (new_instance old.store m given) (record old { store = now }) (tasks_of m) → ⊥
     links-never-stuck =
-        tasks-never-stuck HostStep HaveHosts kept well bound now (length old.store.instances) (new_instance old.store m given) (tasks_of m) (tasks-good read old.store m given made valid linkable made_is)
+        tasks-never-stuck HostStep HaveHosts kept well bound now (length old.store.instances) (new_instance old.store m given) (tasks_of m)
+        (tasks-good read old.store m given made valid linkable made_is)
         now-valid (linked old.store m (new_instance old.store m given) made old.hosts there) (Extends-same now)
 
   -- A link never goes wrong if host functions answer by their types, and a link keeps their conditions.

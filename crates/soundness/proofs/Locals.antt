@@ -103,7 +103,8 @@ module _ (store : Store) (valid : StoreIsValid store) (place : Place) (frame : F
       by ref.ExternRef (FuncRef a) typed rest left = absurd cc
       by ref.ExternRef (ExternRef x) typed rest left = good instruction_cost (I32 (null_flag x) ∷ rest) (ty.I32 ∷ below) ((refl, flag x), left)
 
-  pub reference-works : (op : ReferenceOp) (operands results : List OperandType) → reference_rule (context_at store place) op operands results → Works store place operands results (reference_effect store frame op)
+  pub reference-works : (op : ReferenceOp) (operands results : List OperandType) → reference_rule (context_at store place) op operands results
+      → Works store place operands results (reference_effect store frame op)
   reference-works (reference.Null t) operands results type given is = (
     function_type [] (reference_type t ∷ []),
     type,

@@ -224,7 +224,8 @@ module _ (store : Store) (valid : StoreIsValid store) (place : Place) (frame : F
         let (address, memory, at, held) = found in
         let (n, number) = stored-found store op v v_typed in
         rw (top, next, own.0, at, held, number)
-        (written address memory held instruction_cost (store_into memory.bytes (i + arg.offset) (store_width op) n) (stored-bytes address memory held (i + arg.offset) (store_width op) n) rest below left)
+        (written address memory held instruction_cost (store_into memory.bytes (i + arg.offset) (store_width op) n)
+        (stored-bytes address memory held (i + arg.offset) (store_width op) n) rest below left)
 
     sizes : WorksAs store place (function_type [] (ty.I32 ∷ [])) (memory_or_data_effect store frame memory_op.Size)
     sizes values below typed =
@@ -253,7 +254,8 @@ module _ (store : Store) (valid : StoreIsValid store) (place : Place) (frame : F
         let (target, rest, last, fits'', left) = i32-on-top store second below others in
         let (address, memory, at, held) = found in
         rw (top, next, last, own.0, at, held)
-        (written address memory held (bulk_cost count) (copy_bytes memory.bytes memory.bytes target from count) (copied-bytes address memory held memory.bytes target from count (there address memory held).bytes) rest below left)
+        (written address memory held (bulk_cost count) (copy_bytes memory.bytes memory.bytes target from count)
+        (copied-bytes address memory held memory.bytes target from count (there address memory held).bytes) rest below left)
 
   module _ (segment : ℕ) (inside : segment < (context_at store place).datas) where
     found-data : (address : ℕ) × (d : DataInstance) × (slice_get (instance_of store place.instance).datas segment ≡ Some address) × (slice_get store.datas address ≡ Some d)
@@ -279,9 +281,11 @@ module _ (store : Store) (valid : StoreIsValid store) (place : Place) (frame : F
     drops values below typed =
         let (address, d, at, held) = found-data in
         rw (own.0, at, held)
-        (leaves store valid place frame own (with_data store address (record { bytes = [] })) (data-dropped-extends store valid address d held) (data-dropped-valid store valid address d held) refl instruction_cost values below typed)
+        (leaves store valid place frame own (with_data store address (record { bytes = [] })) (data-dropped-extends store valid address d held)
+        (data-dropped-valid store valid address d held) refl instruction_cost values below typed)
 
-  pub memory-works : (op : MemoryOp) (operands results : List OperandType) → memory_rule (context_at store place) op operands results → Works store place operands results (memory_or_data_effect store frame op)
+  pub memory-works : (op : MemoryOp) (operands results : List OperandType) → memory_rule (context_at store place) op operands results
+      → Works store place operands results (memory_or_data_effect store frame op)
   memory-works (memory_op.Load op arg) operands results (has, aligned, type) given known_are = (function_type (ty.I32 ∷ []) (load_type op ∷ []), type, loads has op arg)
   memory-works (memory_op.Store op arg) operands results (has, aligned, type) given known_are = (function_type (ty.I32 ∷ store_type op ∷ []) [], type, stores has op arg)
   memory-works memory_op.Size operands results (has, type) given known_are = (function_type [] (ty.I32 ∷ []), type, sizes has)

@@ -20,7 +20,8 @@ use Rattle.soundness.proofs.Values.{All-at}
 use Rattle.soundness.proofs.Writes.{All-set}
 
 module _ {H : Type 0} (host_type : H → FuncType) (Answers Own : H → List Val → List ℕ → Answer → List ℕ → H → Type 0) (Keeps : H → Type 0)
-    (narrow : (h h' : H) (arguments : List Val) (bytes bytes' : List ℕ) (answer : Answer) → Keeps h → Answers h arguments bytes answer bytes' h' → host_type h' ≡ host_type h → Own h arguments bytes answer bytes' h' × Keeps h') where
+    (narrow : (h h' : H) (arguments : List Val) (bytes bytes' : List ℕ) (answer : Answer) → Keeps h → Answers h arguments bytes answer bytes' h'
+    → host_type h' ≡ host_type h → Own h arguments bytes answer bytes' h' × Keeps h') where
   abbrev Wide : List H → ℕ → Option ℕ → List Val → Store → Answer → Store → List H → Type 0
   Wide = IsHostStep host_type Answers
 
@@ -29,7 +30,8 @@ module _ {H : Type 0} (host_type : H → FuncType) (Answers Own : H → List Val
 
   -- ---- host functions
 
-  call-of-own : (hosts hosts' : List H) (number : ℕ) (arguments : List Val) (bytes bytes' : List ℕ) (answer : Answer) → All Keeps hosts → IsHostCall host_type Answers hosts number arguments bytes answer bytes' hosts'
+  call-of-own : (hosts hosts' : List H) (number : ℕ) (arguments : List Val) (bytes bytes' : List ℕ) (answer : Answer) → All Keeps hosts
+      → IsHostCall host_type Answers hosts number arguments bytes answer bytes' hosts'
       → IsHostCall host_type Own hosts number arguments bytes answer bytes' hosts' × All Keeps hosts'
   call-of-own hosts hosts' number arguments bytes bytes' answer kept call =
       let (own, keeps) = narrow call.host call.host' arguments bytes bytes' answer (All-at Keeps hosts number call.host call.is kept) call.answers call.same_type in (
@@ -47,7 +49,8 @@ module _ {H : Type 0} (host_type : H → FuncType) (Answers Own : H → List Val
         subst (All Keeps) (sym call.hosts_are) (All-set Keeps hosts number call.host' kept keeps),
       )
 
-  told-own : (hosts hosts' : List H) (number : ℕ) (lent : Option ℕ) (arguments : List Val) (store store' : Store) (answer : Answer) → All Keeps hosts → Wide hosts number lent arguments store answer store' hosts'
+  told-own : (hosts hosts' : List H) (number : ℕ) (lent : Option ℕ) (arguments : List Val) (store store' : Store) (answer : Answer) → All Keeps hosts
+      → Wide hosts number lent arguments store answer store' hosts'
       → Narrow hosts number lent arguments store answer store' hosts' × All Keeps hosts'
   told-own hosts hosts' number lent arguments store store' answer kept (bytes, call, is) =
       let (own, keeps) = call-of-own hosts hosts' number arguments _ bytes answer kept call in ((bytes, own, is), keeps)
@@ -55,7 +58,8 @@ module _ {H : Type 0} (host_type : H → FuncType) (Answers Own : H → List Val
   -- ---- runs
 
   module _ (bound : ℕ) (outside : Frame) where
-    step-of-own : {old new : State H} {first then : Configuration} → All Keeps old.hosts → IsStep Wide bound outside old first new then → IsStep Narrow bound outside old first new then × All Keeps new.hosts
+    step-of-own : {old new : State H} {first then : Configuration} → All Keeps old.hosts → IsStep Wide bound outside old first new then
+        → IsStep Narrow bound outside old first new then × All Keeps new.hosts
     step-of-own kept (goes is enough left same) = (goes is enough left same, subst (All Keeps) (sym same) kept)
     step-of-own kept (grows is enough left same) = (grows is enough left same, subst (All Keeps) (sym same) kept)
     step-of-own kept (opens is enough left same within) = (opens is enough left same within, subst (All Keeps) (sym same) kept)
@@ -65,7 +69,8 @@ module _ {H : Type 0} (host_type : H → FuncType) (Answers Own : H → List Val
     stays-kept : {at last : State H} → All Keeps at.hosts → last ≡ at → All Keeps last.hosts
     stays-kept kept is = subst (λ (s : State H). All Keeps s.hosts) (sym is) kept
 
-    end-of-own : {at last : State H} {reached : Configuration} {ending : Ending} → All Keeps at.hosts → IsEnd Wide bound outside at reached ending last → IsEnd Narrow bound outside at reached ending last × All Keeps last.hosts
+    end-of-own : {at last : State H} {reached : Configuration} {ending : Ending} → All Keeps at.hosts
+        → IsEnd Wide bound outside at reached ending last → IsEnd Narrow bound outside at reached ending last × All Keeps last.hosts
     end-of-own kept (values_left is ending_is last_is) = (values_left is ending_is last_is, stays-kept kept last_is)
     end-of-own kept (trapped is enough ending_is last_is) = (trapped is enough ending_is last_is, subst (λ (s : State H). All Keeps s.hosts) (sym last_is) kept)
     end-of-own {at} {last} kept (host_trapped is enough left told ending_is) =
@@ -74,7 +79,8 @@ module _ {H : Type 0} (host_type : H → FuncType) (Answers Own : H → List Val
     end-of-own kept (no_depth is enough deep ending_is last_is) = (no_depth is enough deep ending_is last_is, stays-kept kept last_is)
     end-of-own kept (no_memory asks within enough ending_is last_is) = (no_memory asks within enough ending_is last_is, stays-kept kept last_is)
 
-    pub calls-of-own : {old last : State H} {first : Configuration} {ending : Ending} → All Keeps old.hosts → Run Wide bound outside old first ending last → Run Narrow bound outside old first ending last × All Keeps last.hosts
+    pub calls-of-own : {old last : State H} {first : Configuration} {ending : Ending} → All Keeps old.hosts
+        → Run Wide bound outside old first ending last → Run Narrow bound outside old first ending last × All Keeps last.hosts
     calls-of-own kept (end is) = let (own, keeps) = end-of-own kept is in (end own, keeps)
     calls-of-own kept (step first rest) =
         let (own, keeps) = step-of-own kept first in

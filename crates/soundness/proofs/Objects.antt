@@ -50,11 +50,20 @@ pub objects-made : (m : Module) (globals : Option (List GlobalInstance)) (elemen
     × (objects ≡ record { tables = map new_table m.tables; memories = map new_memory m.memories; globals = gs; elements = es; datas = map new_data m.datas })
 objects-made m None elements objects is = absurd cc
 objects-made m (Some gs) None objects is = absurd cc
-objects-made m (Some gs) (Some es) objects is = (gs, es, refl, refl, let same : objects ≡ record { tables = map new_table m.tables; memories = map new_memory m.memories; globals = gs; elements = es; datas = map new_data m.datas } = cc in same)
+objects-made m (Some gs) (Some es) objects is = (
+  gs,
+  es,
+  refl,
+  refl,
+  let same : objects
+      ≡ record { tables = map new_table m.tables; memories = map new_memory m.memories; globals = gs; elements = es; datas = map new_data m.datas } = cc in same,
+)
 
 -- If all constant expressions have values, the objects exist.
 pub objects-found : (m : Module) (globals : Option (List GlobalInstance)) (elements : Option (List ElementInstance)) (gs : List GlobalInstance) (es : List ElementInstance)
     → globals ≡ Some gs → elements ≡ Some es → objects_with m globals elements ≡ None → ⊥
 objects-found m globals elements gs es first second none =
-    let found : objects_with m globals elements ≡ objects_with m (Some gs) (Some es) = ap₂ (λ (a : Option (List GlobalInstance)) (b : Option (List ElementInstance)). objects_with m a b) first second in
+    let found : objects_with m globals elements
+    ≡ objects_with m (Some gs) (Some es) = ap₂ (λ (a : Option (List GlobalInstance)) (b : Option (List ElementInstance)). objects_with m a b)
+    first second in
     absurd cc

@@ -54,7 +54,9 @@ stack-parts stack below given is = sym (reverse-reverse stack) ∙ ap (λ (z : L
 results-known : (below results : List ValType) → known below ++ known results ≡ known (reverse (reverse results ++ reverse below))
 results-known below results =
     sym (map-append Known below results)
-    ∙ ap (λ (z : List ValType). known z) (sym (reverse-append (reverse results) (reverse below) ∙ ap (λ (z : List ValType). z ++ reverse (reverse results)) (reverse-reverse below) ∙ ap (λ (z : List ValType). below ++ z) (reverse-reverse results)))
+    ∙ ap (λ (z : List ValType). known z)
+    (sym (reverse-append (reverse results) (reverse below) ∙ ap (λ (z : List ValType). z ++ reverse (reverse results)) (reverse-reverse below) ∙
+    ap (λ (z : List ValType). below ++ z) (reverse-reverse results)))
 
 module _ (stack : List ValType) (s : FuncType) (operands results between : List OperandType) where
   -- The operands of an instruction of one type are on top, and its results replace them.

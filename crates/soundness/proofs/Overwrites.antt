@@ -11,7 +11,14 @@ module _ {X : Type 0} (items : List X) (offset : ℕ) where
   pub overwrite-length : (new : List X) → offset + length new ≤ length items → length (overwrite items offset new) ≡ length items
   overwrite-length new fits =
       let front : length (take offset items) ≡ offset = length-take-le offset items (omega (arith, fits)) in
-      omega (arith, fits, front, length-append (take offset items) (new ++ drop (offset + length new) items), length-append new (drop (offset + length new) items), length-drop (offset + length new) items)
+      omega (
+        arith,
+        fits,
+        front,
+        length-append (take offset items) (new ++ drop (offset + length new) items),
+        length-append new (drop (offset + length new) items),
+        length-drop (offset + length new) items,
+      )
 
   pub items-at-length : (count : ℕ) → offset + count ≤ length items → length (items_at items offset count) ≡ count
   items-at-length count fits = length-take-le count (drop offset items) (omega (arith, fits, length-drop offset items))

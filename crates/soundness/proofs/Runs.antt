@@ -6,7 +6,8 @@ use Rattle.core_types.specs.declared.types.GlobalType.{GlobalType}
 use Rattle.core_types.specs.declared.types.ValType.{ValType}
 use Rattle.meaning.specs.execution.Configurations.{Configuration, Frame, no_frame}
 use Rattle.meaning.specs.execution.Instructions.{Next, Goes, Grows, Opens, CallsHost, Traps, Branches, Returns, TailCalls, Over, NotReady, next}
-use Rattle.meaning.specs.execution.Runs.{Answer, Ending, IsEnd, IsReady, IsStep, NoHosts, Run, State, Steps, none, one_more, goes, grows, opens, calls, values_left, trapped, host_trapped, no_fuel, no_depth, no_memory, end, step}
+use Rattle.meaning.specs.execution.Runs.{Answer, Ending, IsEnd, IsReady, IsStep, NoHosts, Run, State, Steps, none, one_more, goes, grows, opens, calls}
+use Rattle.meaning.specs.execution.Runs.{values_left, trapped, host_trapped, no_fuel, no_depth, no_memory, end, step}
 use Rattle.meaning.specs.execution.Store.{DataInstance, FunctionInstance, GlobalInstance, ModuleInstance, Store}
 use Rattle.meaning.specs.execution.Tables.{ElementInstance}
 use Rattle.meaning.specs.soundness.Values.{ValuesHaveTypes}
@@ -76,7 +77,8 @@ module _ (frame : Frame) (place : Place) (out : IsOutside frame place) where
   good-goes-on store results NotReady fine = absurd fine
 
   -- A typed configuration can take a step or is over.
-  typed-goes-on : (store : Store) (configuration : Configuration) (results : List ValType) → StoreIsValid store → ConfigurationHasType store place configuration results → CanGoOn (next store frame configuration)
+  typed-goes-on : (store : Store) (configuration : Configuration) (results : List ValType) → StoreIsValid store
+      → ConfigurationHasType store place configuration results → CanGoOn (next store frame configuration)
   typed-goes-on store configuration results valid typed =
       good-goes-on store results (next store frame configuration) (stays-good store place frame configuration results valid (outside store) typed)
 
@@ -150,7 +152,8 @@ module _ {H : Type 0} (HostStep : List H → ℕ → Option ℕ → List Val →
       record { extends = Extends-through old.store between.store last.store more.extends ended.extends; valid = ended.valid; there = ended.there; ends = ended.ends }
 
   -- Steps from a typed configuration lead to a typed one.
-  steps-typed : {old last : State H} {first reached : Configuration} (results : List ValType) → StoreIsValid old.store → HaveHosts old.store old.hosts → ConfigurationHasType old.store place first results
+  steps-typed : {old last : State H} {first reached : Configuration} (results : List ValType) → StoreIsValid old.store → HaveHosts old.store old.hosts
+      → ConfigurationHasType old.store place first results
       → Steps HostStep bound frame old first last reached → StepsTyped results old last reached
   steps-typed {old} results valid there typed none = record { extends = Extends-same old.store; valid = valid; there = there; typed = typed }
   steps-typed {old} {last} results valid there typed (one_more {between = between} {second = second} before next_step) =
@@ -174,10 +177,6 @@ module _ {H : Type 0} (HostStep : List H → ℕ → Option ℕ → List Val →
 pub out : IsOutside no_frame outermost
 out = record { instance = refl; frame_locals = refl; locals = refl; labels = refl; results = refl }
 
--- A typed configuration is not stuck.
-pub typed-not-stuck : {store : Store} {configuration : Configuration} → IsTyped store configuration → IsStuck (next store no_frame configuration) → ⊥
-typed-not-stuck {store} {configuration} is stuck = stuck (typed-goes-on no_frame outermost out store configuration is.results is.valid is.typed)
-
 module _ {H : Type 0} (HostStep : List H → ℕ → Option ℕ → List Val → Store → Answer → Store → List H → Type 0) (HaveHosts : Store → List H → Type 0)
     (kept : (old new : Store) (hosts : List H) → new.functions ≡ old.functions → HaveHosts old hosts → HaveHosts new hosts)
     (well : HostsAnswerWell HostStep HaveHosts) (bound : ℕ) where
@@ -187,8 +186,3 @@ module _ {H : Type 0} (HostStep : List H → ℕ → Option ℕ → List Val →
   steps-stay-typed there is steps =
       let then = steps-typed HostStep HaveHosts kept well bound no_frame outermost out is.results is.valid there is.typed steps in
       (record { valid = then.valid; results = is.results; typed = then.typed }, then.there)
-
--- The same without host functions.
-pub steps-alone : (bound : ℕ) {old last : State ⊥} {first then : Configuration} → IsTyped old.store first → Steps NoHosts bound no_frame old first last then → IsTyped last.store then
-steps-alone bound is steps =
-    (steps-stay-typed NoHosts NoConditions (λ old new hosts same there. tt) (λ hosts hosts' number address lent arguments old new answer t valid there is typed told. absurd told) bound tt is steps).0

@@ -1,5 +1,6 @@
 -- Instructions after typed values have good steps.
-use Rattle.std.proofs.Common.{◌≡◌, ℕ, zero, suc, ◌<◌, ◌≤◌, List, [], ◌∷◌, ◌++◌, Bool, true, false, length, take, reverse, Option, Some, None, refl, ap, subst, ◌∙◌, arith, slice_get, if◌then◌else◌, inl, inr}
+use Rattle.std.proofs.Common.{◌≡◌, ℕ, zero, suc, ◌<◌, ◌≤◌, List, [], ◌∷◌, ◌++◌, Bool, true, false, length, take, reverse, Option, Some, None, refl, ap, subst}
+use Rattle.std.proofs.Common.{◌∙◌, arith, slice_get, if◌then◌else◌, inl, inr}
 use Rattle.std.proofs.lemmas.List.{append-nil, length-append, length-reverse, map-append, reverse-append, reverse-reverse}
 use Rattle.std.proofs.lemmas.Option.{slice_get_cases}
 use Rattle.core_types.specs.declared.op.BlockType.{BlockType}
@@ -22,7 +23,8 @@ use Rattle.meaning.specs.structure.Bodies.{Body, Empty, Then, Nested, IfElse, Ki
 use Rattle.meaning.specs.execution.Configurations.{Frame, InLabel, Running, continue_with}
 use Rattle.meaning.specs.execution.Costs.{instruction_cost}
 use Rattle.meaning.specs.execution.Effects.{Done, memory_or_data_effect, numeric_effect, parametric_effect, reference_effect, select_operand, table_at, table_or_elements_effect, variable_effect}
-use Rattle.meaning.specs.execution.Instructions.{Next, Goes, NotReady, TailCalls, Traps, call_entry, call_function, call_of_type, call_through, choose_body, continuation_of, enter_label, label_of, lent_memory, step_instruction, step_sequence}
+use Rattle.meaning.specs.execution.Instructions.{Next, Goes, NotReady, TailCalls, Traps, call_entry, call_function, call_of_type, call_through, choose_body}
+use Rattle.meaning.specs.execution.Instructions.{continuation_of, enter_label, label_of, lent_memory, step_instruction, step_sequence}
 use Rattle.meaning.specs.execution.Store.{FunctionInstance, Store, instance_of}
 use Rattle.meaning.specs.soundness.Values.{ValueHasType, ValuesHaveTypes}
 use Rattle.meaning.specs.validation.Context.{with_label}
@@ -84,7 +86,8 @@ module _ (store : Store) (valid : StoreIsValid store) (place : Place) (frame : F
       let (i, others, top, fits, left) = i32-on-top store values (reverse f.params ++ below) (rw (reverse-append f.params (ty.I32 ∷ [])) at typed) in
       rw (top, own.0, is, at, held)
       (of-entry f (call others) (calls others left) (slice_get table.entries i)
-      (λ v entry. subst (λ (u : RefType). ValueHasType store v (reference_type u)) of_functions (All-at (λ (w : Val). ValueHasType store w (reference_type table.ty.element)) table.entries i v entry table_valid.entries)))
+      (λ v entry. subst (λ (u : RefType). ValueHasType store v (reference_type u)) of_functions
+      (All-at (λ (w : Val). ValueHasType store w (reference_type table.ty.element)) table.entries i v entry table_valid.entries)))
 
   -- A tail call of a function whose results are the frame's.
   tail-called : (f : FuncType) → place.results ≡ Some f.results → (lent : Option ℕ) (values : List Val) (below : List ValType) → ValuesHaveTypes store values (reverse f.params ++ below)
@@ -155,7 +158,8 @@ module _ (store : Store) (valid : StoreIsValid store) (place : Place) (frame : F
         let (below, stack_is, between_is) = operands-on-top stack f operands given between type frames in
         let (address, g, at, held, same) = types-found _ _ store.functions (instance_of store place.instance).functions x f (instance-valid store valid place.instance).functions there in
         rw (own.0, at, held)
-        (function-called store valid place f values below (rw stack_is at typed) rest results (rw between_is at runs) instruction_cost (slice_get (instance_of store place.instance).memories 0) address g same held)
+        (function-called store valid place f values below (rw stack_is at typed) rest results (rw between_is at runs) instruction_cost
+        (slice_get (instance_of store place.instance).memories 0) address g same held)
     controls (CallIndirect y x) (f, is, table, type) =
         let (below, stack_is, between_is) = operands-on-top stack (function_type (f.params ++ ty.I32 ∷ []) f.results) operands given between type frames in
         calls-through y x f is table values below (rw stack_is at typed) (λ under g. call_function instruction_cost store (lent_memory store frame) (Some g) under rest)
@@ -172,23 +176,38 @@ module _ (store : Store) (valid : StoreIsValid store) (place : Place) (frame : F
     pub instructions : (op : PlainOp) → Rule (context_at store place) op operands given → IsGood store place results (step_instruction store frame op values rest)
     instructions (Control op) rule = controls op rule
     instructions (BrTable table) rule = branches-by-table store place frame rest results values stack typed table operands given between rule frames
-    instructions (Reference op) rule = does store place frame valid own rest results (reference_effect store frame op) values stack operands given between typed (reference-works store valid place frame own op operands given rule) frames runs
-    instructions (Parametric op) rule = does store place frame valid own rest results (parametric_effect store frame op) values stack operands given between typed (parametric-works store valid place frame own op operands given rule) frames runs
+    instructions (Reference op) rule = does store place frame valid own rest results (reference_effect store frame op) values stack operands given
+        between typed (reference-works store valid place frame own op operands given rule) frames runs
+    instructions (Parametric op) rule = does store place frame valid own rest results (parametric_effect store frame op) values stack operands given
+        between typed (parametric-works store valid place frame own op operands given rule) frames runs
     instructions (SelectTyped types) (t, is, type) =
         does store place frame valid own rest results (select_operand store frame) values stack operands given between typed
         (λ known_types operands_are. (function_type (t ∷ t ∷ ty.I32 ∷ []) (t ∷ []), type, selects store valid place frame own t)) frames runs
-    instructions (Variable op) rule = does store place frame valid own rest results (variable_effect store frame op) values stack operands given between typed (variable-works store valid place frame own op operands given rule) frames runs
-    instructions (Table op) rule = does store place frame valid own rest results (table_or_elements_effect store frame op) values stack operands given between typed (table-works store valid place frame own op operands given rule) frames runs
-    instructions (Memory op) rule = does store place frame valid own rest results (memory_or_data_effect store frame op) values stack operands given between typed (memory-works store valid place frame own op operands given rule) frames runs
+    instructions (Variable op) rule = does store place frame valid own rest results (variable_effect store frame op) values stack operands given
+        between typed (variable-works store valid place frame own op operands given rule) frames runs
+    instructions (Table op) rule = does store place frame valid own rest results (table_or_elements_effect store frame op) values stack operands given
+        between typed (table-works store valid place frame own op operands given rule) frames runs
+    instructions (Memory op) rule = does store place frame valid own rest results (memory_or_data_effect store frame op) values stack operands given
+        between typed (memory-works store valid place frame own op operands given rule) frames runs
     instructions (Numeric op) type =
         does store place frame valid own rest results (numeric_effect store frame op) values stack operands given between typed
         (λ known_types is. (numeric_instruction_type op, type, numeric-good store valid place frame own op)) frames runs
     instructions (I32Const n) (fits, type) =
         does store place frame valid own rest results (λ vs. Done instruction_cost store frame.locals (I32 n ∷ vs)) values stack operands given between typed
-        (λ known_types is. (function_type [] (ty.I32 ∷ []), type, λ vs below vs_typed. stays store valid place frame own instruction_cost (I32 n ∷ vs) (ty.I32 ∷ below) ((refl, fits), vs_typed))) frames runs
+        (λ known_types is. (
+          function_type [] (ty.I32 ∷ []),
+          type,
+          λ vs below vs_typed.
+              stays store valid place frame own instruction_cost (I32 n ∷ vs) (ty.I32 ∷ below) ((refl, fits), vs_typed),
+        )) frames runs
     instructions (I64Const n) (fits, type) =
         does store place frame valid own rest results (λ vs. Done instruction_cost store frame.locals (I64 n ∷ vs)) values stack operands given between typed
-        (λ known_types is. (function_type [] (ty.I64 ∷ []), type, λ vs below vs_typed. stays store valid place frame own instruction_cost (I64 n ∷ vs) (ty.I64 ∷ below) ((refl, fits), vs_typed))) frames runs
+        (λ known_types is. (
+          function_type [] (ty.I64 ∷ []),
+          type,
+          λ vs below vs_typed.
+              stays store valid place frame own instruction_cost (I64 n ∷ vs) (ty.I64 ∷ below) ((refl, fits), vs_typed),
+        )) frames runs
 
   -- ---- sequences
 
@@ -198,7 +217,8 @@ module _ (store : Store) (valid : StoreIsValid store) (place : Place) (frame : F
   -- An if with both of its bodies, on values with the condition on top.
   chooses : (type : BlockType) (s : FuncType) (inner other rest : Body) (values : List Val) (below : List ValType) → ValuesHaveTypes store values (reverse (s.params ++ ty.I32 ∷ []) ++ below)
       → block_type (context_at store place).types type ≡ Some s
-      → HasType (with_label (context_at store place) s.results) inner (known s.params) (known s.results) → HasType (with_label (context_at store place) s.results) other (known s.params) (known s.results)
+      → HasType (with_label (context_at store place) s.results) inner (known s.params) (known s.results)
+      → HasType (with_label (context_at store place) s.results) other (known s.params) (known s.results)
       → RunsOn store place rest (reverse s.results ++ below) results → IsGood store place results (choose_body store frame type inner other values rest)
   chooses type s inner other rest values below typed is inner_typed other_typed onward =
       let (n, others, top, fits, left) = i32-on-top store values (reverse s.params ++ below) (rw (reverse-append s.params (ty.I32 ∷ [])) at typed) in
@@ -208,7 +228,8 @@ module _ (store : Store) (valid : StoreIsValid store) (place : Place) (frame : F
       by zero others left = rw (in-frame type s is) (enters IfKind type s other rest others below left other_typed onward onward)
       by (suc n) others left = rw (in-frame type s is) (enters IfKind type s inner rest others below left inner_typed onward onward)
 
-  pub sequences : (rest : Body) (values : List Val) (stack : List ValType) → ValuesHaveTypes store values stack → RunsOn store place rest stack results → IsGood store place results (step_sequence store frame values rest)
+  pub sequences : (rest : Body) (values : List Val) (stack : List ValType) → ValuesHaveTypes store values stack
+      → RunsOn store place rest stack results → IsGood store place results (step_sequence store frame values rest)
   sequences Empty values stack typed runs =
       let same : known results ≡ known (reverse stack) = known-fits (reverse stack) (known results) runs in
       let results_are : results ≡ reverse stack = known-same results (reverse stack) same in

@@ -6,7 +6,8 @@ use Rattle.core_types.specs.declared.types.ValType.{ValType}
 use Rattle.meaning.specs.structure.Bodies.{Empty}
 use Rattle.meaning.specs.execution.Configurations.{Activation, Configuration, Frame, InFrame, InLabel, Invoking, Label, Running, answered, continue_with}
 use Rattle.meaning.specs.execution.Costs.{instruction_cost}
-use Rattle.meaning.specs.execution.Instructions.{Next, Goes, Grows, Opens, CallsHost, Traps, Branches, Returns, TailCalls, Over, NotReady, branch_to_label, call_function, in_place, next, step_in_frame, step_in_label}
+use Rattle.meaning.specs.execution.Instructions.{Next, Goes, Grows, Opens, CallsHost, Traps, Branches, Returns, TailCalls, Over, NotReady, branch_to_label}
+use Rattle.meaning.specs.execution.Instructions.{call_function, in_place, next, step_in_frame, step_in_label}
 use Rattle.meaning.specs.execution.Store.{Store}
 use Rattle.meaning.specs.soundness.Values.{ValuesHaveTypes}
 use Rattle.meaning.proofs.lemmas.Layers.{if-at-most}
@@ -33,7 +34,8 @@ module _ (store : Store) (valid : StoreIsValid store) (place : Place) (frame : F
   module _ (label : Label) (stack given carried : List ValType) (arity : label.arity ≡ length carried) (typed : ValuesHaveTypes store label.values stack)
       (onward : RunsOn store place label.rest (reverse given ++ stack) results)
       (again : RunsOn store place (continue_with label.continuation label.rest) (reverse carried ++ stack) results) where
-    around : (new : Store) → Extends store new → (inside : Configuration) → ConfigurationHasType new (inside_label place carried) inside given → ConfigurationHasType new place (InLabel label inside) results
+    around : (new : Store) → Extends store new → (inside : Configuration) → ConfigurationHasType new (inside_label place carried) inside given
+        → ConfigurationHasType new place (InLabel label inside) results
     around new more inside inner = (
       stack,
       given,
@@ -139,9 +141,13 @@ module _ (store : Store) (valid : StoreIsValid store) (place : Place) (frame : F
         let arguments = take (length f.ty.params) kept ++ activation.values in
         let arguments_typed : ValuesHaveTypes store arguments (reverse f.ty.params ++ stack) =
         values-joined store (take (length f.ty.params) kept) activation.values (reverse f.ty.params) stack (kept-typed store kept f.ty.params under kept_values) typed in
-        rw (if-at-most (length f.ty.params) (length kept) (in_place frame (call_function instruction_cost store lent (Some f) arguments activation.rest)) NotReady (kept-enough store kept f.ty.params under kept_values))
+        rw (if-at-most (length f.ty.params) (length kept)
+        (in_place frame (call_function instruction_cost store lent (Some f) arguments activation.rest)) NotReady
+        (kept-enough store kept f.ty.params under kept_values))
         (placed (call_function instruction_cost store lent (Some f) arguments activation.rest)
-        (function-called store valid place f.ty arguments stack arguments_typed activation.rest results (subst (λ (z : List ValType). RunsOn store place activation.rest (reverse z ++ stack) results) same onward) instruction_cost lent address f refl is))
+        (function-called store valid place f.ty arguments stack arguments_typed activation.rest results
+        (subst (λ (z : List ValType). RunsOn store place activation.rest (reverse z ++ stack) results) same onward) instruction_cost lent address
+        f refl is))
     in-frame own_locals (Over values) values_typed =
         (Follows-same store, valid, own, (reverse given ++ stack, values-joined store values activation.values (reverse given) stack values_typed typed, onward))
     in-frame own_locals NotReady good = absurd good
@@ -158,5 +164,6 @@ stays-good store place frame (InFrame activation own_frame inside) results valid
     (stays-good store (inside_frame own_frame.instance locals given) own_frame inside given valid (refl, own_locals) inner)
 stays-good store place frame (Invoking arguments address) results valid own (f, is, typed, same) =
     let on_top : ValuesHaveTypes store arguments (reverse f.ty.params ++ []) = rw (append-nil (reverse f.ty.params)) typed in
-    let runs : RunsOn store place Empty (reverse f.ty.results ++ []) results = subst (λ (z : List ValType). RunsOn store place Empty (reverse f.ty.results ++ []) z) (sym same) (empty-runs store place f.ty.results) in
+    let runs : RunsOn store place Empty (reverse f.ty.results ++ []) results = subst
+    (λ (z : List ValType). RunsOn store place Empty (reverse f.ty.results ++ []) z) (sym same) (empty-runs store place f.ty.results) in
     rw is (function-called store valid place f.ty arguments [] on_top Empty results runs 0 None address f refl is)

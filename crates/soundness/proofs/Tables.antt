@@ -138,7 +138,8 @@ module _ (store : Store) (valid : StoreIsValid store) (place : Place) (frame : F
             } in
             let stays : TableStays table (grow_entries table v count) = (refl, (omega (arith), refl)) in
             grows store valid place frame own (with_table store address (grow_entries table v count)) (table-extends store valid address table (grow_entries table v count) at stays new_valid)
-            (table-valid store valid address table (grow_entries table v count) at stays new_valid) refl (entries_cost count) (I32 table.ty.limits.min ∷ values) (ty.I32 ∷ below) ((refl, size-fits), typed)
+            (table-valid store valid address table (grow_entries table v count) at stays new_valid) refl (entries_cost count)
+            (I32 table.ty.limits.min ∷ values) (ty.I32 ∷ below) ((refl, size-fits), typed)
 
   -- ---- tables and segments of the instance
 
@@ -185,7 +186,9 @@ module _ (store : Store) (valid : StoreIsValid store) (place : Place) (frame : F
         let (offset, rest, last, fits', left) = i32-on-top store second below others in
         let (address, table, at, held, same) = found in
         let v_fits : ValueHasType store v (reference_type table.ty.element) = rw same v_typed in
-        rw (top, middle, last, own.0, at, held) (written address table held (entries_cost count) (fill_entries table.entries offset v count) (filled-entries address table held offset v count v_fits) rest below left)
+        rw (top, middle, last, own.0, at, held)
+        (written address table held (entries_cost count) (fill_entries table.entries offset v count)
+        (filled-entries address table held offset v count v_fits) rest below left)
 
   copies : (target source : ℕ) (t : RefType) → IsTable (context_at store place) target t → IsTable (context_at store place) source t
       → WorksAs store place (function_type (ty.I32 ∷ ty.I32 ∷ ty.I32 ∷ []) []) (table_or_elements_effect store frame (table_op.Copy target source))
@@ -197,7 +200,8 @@ module _ (store : Store) (valid : StoreIsValid store) (place : Place) (frame : F
       let (other, origin, at', held', same') = found source t is_source in
       let entries_fit = subst (λ (u : RefType). AreOf u origin.entries) (same' ∙ sym same) (All-at (TableIsValid store) store.tables other origin held' valid.tables).entries in
       rw (top, middle, last, own.0, at, at', held, held')
-      (written address table held (entries_cost count) (copy_entries table.entries origin.entries into from count) (copied-entries address table held origin.entries into from count entries_fit) rest below left)
+      (written address table held (entries_cost count) (copy_entries table.entries origin.entries into from count)
+      (copied-entries address table held origin.entries into from count entries_fit) rest below left)
 
   module _ (segment : ℕ) (t : RefType) (is : IsElement (context_at store place) segment t) where
     found-elements : (address : ℕ) × (e : ElementInstance) × (slice_get (instance_of store place.instance).elements segment ≡ Some address) × (slice_get store.elements address ≡ Some e) × (e.ty ≡ t)
@@ -212,15 +216,18 @@ module _ (store : Store) (valid : StoreIsValid store) (place : Place) (frame : F
         let (other, e, at', held', same') = found-elements in
         let references_fit = subst (λ (u : RefType). AreOf u e.references) (same' ∙ sym same) (All-at (ElementIsValid store) store.elements other e held' valid.elements) in
         rw (top, middle, last, own.0, at, at', held, held')
-        (written address table held (entries_cost count) (copy_entries table.entries e.references into from count) (copied-entries address table held e.references into from count references_fit) rest below left)
+        (written address table held (entries_cost count) (copy_entries table.entries e.references into from count)
+        (copied-entries address table held e.references into from count references_fit) rest below left)
 
     drops : WorksAs store place (function_type [] []) (table_or_elements_effect store frame (table_op.ElemDrop segment))
     drops values below typed =
         let (address, e, at, held, same) = found-elements in
         rw (own.0, at, held)
-        (leaves store valid place frame own (with_elements store address (record { ty = e.ty; references = [] })) (elements-dropped-extends store valid address e held) (elements-dropped-valid store valid address e held) refl instruction_cost values below typed)
+        (leaves store valid place frame own (with_elements store address (record { ty = e.ty; references = [] }))
+        (elements-dropped-extends store valid address e held) (elements-dropped-valid store valid address e held) refl instruction_cost values below typed)
 
-  pub table-works : (op : TableOp) (operands results : List OperandType) → table_rule (context_at store place) op operands results → Works store place operands results (table_or_elements_effect store frame op)
+  pub table-works : (op : TableOp) (operands results : List OperandType) → table_rule (context_at store place) op operands results
+      → Works store place operands results (table_or_elements_effect store frame op)
   table-works (table_op.Get x) operands results (t, is, type) given known_are = (function_type (ty.I32 ∷ []) (reference_type t ∷ []), type, gets x t is)
   table-works (table_op.Set x) operands results (t, is, type) given known_are = (function_type (ty.I32 ∷ reference_type t ∷ []) [], type, sets x t is)
   table-works (table_op.Size x) operands results (t, is, type) given known_are = (function_type [] (ty.I32 ∷ []), type, sizes x t is)

@@ -83,7 +83,10 @@ module _ (m : Module) (valid : IsValid m) where
       by : (mode : DataMode) → HasDataMode m mode → All (TaskIsTyped m) (data_task x d.bytes mode)
       by data_mode.Passive fits = All-none (TaskIsTyped m)
       by (data_mode.Active memory offset) (below, expression) =
-          let has : HasMemory (module_context m) = (get_or (memories_of m) 0 (record { min = 0; max = None }), slice_get-get_or (memories_of m) 0 (record { min = 0; max = None }) (omega (arith, below))) in
+          let has : HasMemory (module_context m) = (
+            get_or (memories_of m) 0 (record { min = 0; max = None }),
+            slice_get-get_or (memories_of m) 0 (record { min = 0; max = None }) (omega (arith, below)),
+          ) in
           All-first (TaskIsTyped m) _ []
           (expression, copy-typed (Memory (memory_op.Init x)) (Memory (memory_op.DataDrop x)) (has, inside, (refl, refl)) (inside, (refl, refl)))
           (All-none (TaskIsTyped m))

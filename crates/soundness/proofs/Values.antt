@@ -70,7 +70,8 @@ module _ (store : Store) where
   values-at (v ∷ vs) (u ∷ ts) zero t typed is = let same : u ≡ t = cc in (v, refl, rw same at typed.0)
   values-at (v ∷ vs) (u ∷ ts) (suc k) t typed is = values-at vs ts k t typed.1 is
 
-  pub values-set : (vs : List Val) (ts : List ValType) (k : ℕ) (t : ValType) (v : Val) → ValuesHaveTypes store vs ts → slice_get ts k ≡ Some t → ValueHasType store v t → ValuesHaveTypes store (slice_set vs k v) ts
+  pub values-set : (vs : List Val) (ts : List ValType) (k : ℕ) (t : ValType) (v : Val) → ValuesHaveTypes store vs ts → slice_get ts k ≡ Some t
+      → ValueHasType store v t → ValuesHaveTypes store (slice_set vs k v) ts
   values-set vs [] k t v typed is fits = absurd cc
   values-set [] (u ∷ ts) k t v typed is fits = absurd typed
   values-set (w ∷ vs) (u ∷ ts) zero t v typed is fits = let same : t ≡ u = cc in (rw same at fits, typed.1)

@@ -76,7 +76,8 @@ module _ (store : Store) (valid : StoreIsValid store) (place : Place) (frame : F
         (leaves store valid place frame own (with_global store address (record { ty = g.ty; value = v })) (global-extends store valid address g v is stays fits)
         (global-valid store valid address g v is stays fits) refl instruction_cost rest below left)
 
-  pub variable-works : (op : VariableOp) (operands results : List OperandType) → variable_rule (context_at store place) op operands results → Works store place operands results (variable_effect store frame op)
+  pub variable-works : (op : VariableOp) (operands results : List OperandType) → variable_rule (context_at store place) op operands results
+      → Works store place operands results (variable_effect store frame op)
   variable-works (LocalGet x) operands results (t, is, type) given known_are = (function_type [] (t ∷ []), type, local-gets x t is)
   variable-works (LocalSet x) operands results (t, is, type) given known_are = (function_type (t ∷ []) [], type, local-sets x t is)
   variable-works (LocalTee x) operands results (t, is, type) given known_are = (function_type (t ∷ []) (t ∷ []), type, local-tees x t is)

@@ -8,11 +8,14 @@ use Rattle.core_types.specs.declared.types.ValType.{ValType}
 use Rattle.meaning.specs.execution.Configurations.{Frame}
 use Rattle.meaning.specs.execution.Effects.{Done, Grown}
 use Rattle.meaning.specs.execution.Memories.{MemoryInstance}
-use Rattle.meaning.specs.execution.Store.{DataInstance, FunctionInstance, GlobalInstance, Implementation, InCode, InHost, ModuleInstance, Store, with_data, with_elements, with_global, with_memory, with_table}
+use Rattle.meaning.specs.execution.Store.{DataInstance, FunctionInstance, GlobalInstance, Implementation, InCode, InHost, ModuleInstance, Store, with_data}
+use Rattle.meaning.specs.execution.Store.{with_elements, with_global, with_memory, with_table}
 use Rattle.meaning.specs.execution.Tables.{ElementInstance, TableInstance}
 use Rattle.meaning.specs.soundness.Values.{ValueHasType, ValuesHaveTypes}
 use Rattle.meaning.specs.validation.Types.{reference_type}
-use Rattle.soundness.specs.Stores.{AreThere, DataIsValid, DataStays, ElementIsValid, ElementStays, Extends, FunctionIsValid, GlobalIsValid, GlobalStays, HasFewObjects, ImplementationIsValid, InstanceIsValid, Keeps, MemoryIsValid, MemoryStays, StoreIsValid, TableIsValid, TableStays, body_place}
+use Rattle.soundness.specs.Stores.{AreThere, DataIsValid, DataStays, ElementIsValid, ElementStays, Extends, FunctionIsValid, GlobalIsValid, GlobalStays}
+use Rattle.soundness.specs.Stores.{HasFewObjects, ImplementationIsValid, InstanceIsValid, Keeps, MemoryIsValid, MemoryStays, StoreIsValid, TableIsValid}
+use Rattle.soundness.specs.Stores.{TableStays, body_place}
 use Rattle.soundness.proofs.Extension.{Keeps-length, RunsOn-extended, functions-more}
 use Rattle.soundness.specs.Configurations.{FrameHasPlace}
 use Rattle.soundness.specs.Places.{Place}
@@ -35,7 +38,8 @@ module _ {X : Type 0} where
     | inr there ↦ All-at P items k x there all
   ])
 
-  pub Keeps-set : (Stays : X → X → Type 0) → ((x : X) → Stays x x) → (items : List X) (address : ℕ) (old new : X) → slice_get items address ≡ Some old → Stays old new → Keeps Stays items (slice_set items address new)
+  pub Keeps-set : (Stays : X → X → Type 0) → ((x : X) → Stays x x) → (items : List X) (address : ℕ) (old new : X) → slice_get items address ≡ Some old
+      → Stays old new → Keeps Stays items (slice_set items address new)
   Keeps-set Stays same [] address old new at stays k x is = absurd cc
   Keeps-set Stays same (y ∷ ys) zero old new at stays zero x is = let first : x ≡ old = cc in (new, refl, rw first stays)
   Keeps-set Stays same (y ∷ ys) zero old new at stays (suc k) x is = (x, is, same x)
@@ -88,7 +92,8 @@ module _ (old new : Store) (valid : StoreIsValid old) (more : Extends old new) w
   elements-still es all = λ k e inside. λ j d there. value-still _ _ (all k e inside j d there)
 
 -- A store whose lists are as long also has few objects.
-few-still : (old new : Store) → HasFewObjects old → length new.functions ≡ length old.functions → length new.instances ≡ length old.instances → length new.tables ≡ length old.tables → length new.memories ≡ length old.memories
+few-still : (old new : Store) → HasFewObjects old → length new.functions ≡ length old.functions → length new.instances ≡ length old.instances
+    → length new.tables ≡ length old.tables → length new.memories ≡ length old.memories
     → length new.globals ≡ length old.globals → length new.elements ≡ length old.elements → length new.datas ≡ length old.datas → HasFewObjects new
 few-still old new few functions instances tables memories globals elements datas = record {
   functions = omega (arith, few.functions, functions);
@@ -104,7 +109,8 @@ few-still old new few functions instances tables memories globals elements datas
 
 module _ (store : Store) (valid : StoreIsValid store) (address : ℕ) where
   -- A mutable global gets another value of its type.
-  module _ (g : GlobalInstance) (value : Val) (at : slice_get store.globals address ≡ Some g) (stays : GlobalStays g (record { ty = g.ty; value = value })) (typed : ValueHasType store value g.ty.value) where
+  module _ (g : GlobalInstance) (value : Val) (at : slice_get store.globals address ≡ Some g)
+      (stays : GlobalStays g (record { ty = g.ty; value = value })) (typed : ValueHasType store value g.ty.value) where
     abbrev pub with_value : Store
     with_value = with_global store address (record { ty = g.ty; value = value })
 
@@ -252,7 +258,8 @@ module _ (store : Store) (valid : StoreIsValid store) (address : ℕ) where
 -- ---- effects
 
 -- After a step to another store, which is valid and extends the one before, typed values and locals are still typed.
-module _ (store : Store) (valid : StoreIsValid store) (place : Place) (frame : Frame) (own : FrameHasPlace store frame place) (new : Store) (more : Extends store new) (new_valid : StoreIsValid new) (same : new.functions ≡ store.functions) where
+module _ (store : Store) (valid : StoreIsValid store) (place : Place) (frame : Frame) (own : FrameHasPlace store frame place) (new : Store)
+    (more : Extends store new) (new_valid : StoreIsValid new) (same : new.functions ≡ store.functions) where
   pub leaves : (cost : ℕ) (values : List Val) (stack : List ValType) → ValuesHaveTypes store values stack → EffectIsGood store place stack (Done cost new frame.locals values)
   leaves cost values stack typed =
       let longer = functions-more store new valid more in

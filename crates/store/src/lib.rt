@@ -23,6 +23,6 @@ pub use instances::{
 pub use loaded_modules::LoadedModule;
 pub use memories::Memory;
 pub use segments::{DataSegment, ElementSegment};
-pub use state::{Objects, State};
+pub use state::{ENTRY_BYTES, Objects, PAGE_BYTES, State};
 pub use store::Store;
 pub use tables::{Table, null_of};

@@ -15,9 +15,16 @@ use crate::memories::Memory;
 use crate::segments::{DataSegment, ElementSegment};
 use crate::tables::Table;
 use core_types::Val;
+use quota::Quota;
 use std::alloc::{AllocError, Global};
 use std::marker::Model;
 use std::mem;
+
+/// How many bytes of a quota an entry of a table counts.
+pub const ENTRY_BYTES: u64 = 16;
+
+/// How many bytes of a quota a page of a memory counts.
+pub const PAGE_BYTES: u64 = 65_536;
 
 /// Objects that a run may change, one list for each kind.
 #[derive(Drop)]
@@ -54,6 +61,7 @@ pub struct State {
     datas: Vec<DataSegment>,
     pages: u32,
     entries: u32,
+    quota: Quota,
 }
 
 impl Model for State {
@@ -85,8 +93,8 @@ impl Model for State {
 }
 
 impl State {
-    /// Creates a state without objects. A memory may have at most `pages` pages, and a table at most `entries` entries.
-    /// Allocates nothing.
+    /// Creates a state without objects. A memory may have at most `pages` pages, and a table at most `entries` entries. There is
+    /// no quota. Allocates nothing.
     pub fn new(alloc: Global, pages: u32, entries: u32) -> State
         ensures contents { result.contents ≡ no_objects }
         ensures bounds { result.bounds ≡ record { entries = entries; pages = pages } }
@@ -100,6 +108,7 @@ impl State {
             datas: Vec::new(alloc),
             pages,
             entries,
+            quota: Quota::new(u64::MAX),
         }
     }
 
@@ -115,6 +124,40 @@ impl State {
         ensures { result ≡ self.now.bounds.entries }
     {
         self.entries
+    }
+
+    /// Returns the quota of what is held. What else the state shows does not depend on it.
+    pub fn quota(&self) -> Quota {
+        self.quota
+    }
+
+    /// Replaces the quota of what is held.
+    pub fn set_quota(&mut self, quota: Quota)
+        ensures { self.new ≡ self.old }
+    {
+        self.quota = quota;
+    }
+
+    /// Counts bytes that stay. Fails if the quota has fewer left.
+    pub fn keep(&mut self, bytes: u64) -> Result<(), AllocError>
+        ensures { self.new ≡ self.old }
+    {
+        self.quota.keep(bytes)
+    }
+
+    /// Counts bytes that the running call borrows. Fails if the quota has fewer left.
+    pub fn borrow(&mut self, bytes: u64) -> Result<(), AllocError>
+        ensures { self.new ≡ self.old }
+    {
+        self.quota.borrow(bytes)
+    }
+
+    // Fails if the quota has fewer bytes left.
+    fn has_left(&self, bytes: u64) -> Result<(), AllocError> {
+        if bytes > self.quota.left() {
+            return Err(AllocError);
+        }
+        Ok(())
     }
 
     /// Returns the number of tables.
@@ -274,8 +317,12 @@ impl State {
             (grow_entries (table_of self.old address) value count)) }
         ensures unchanged { OnErr result (self.new ≡ self.old) }
     {
+        let bytes = ENTRY_BYTES * count as u64;
+        self.has_left(bytes)?;
         let table = &mut self.tables[address as usize];
-        table.grow(value, count)
+        table.grow(value, count)?;
+        let _ = self.keep(bytes);
+        Ok(())
     }
 
     /// Returns the memory at an address, if there is one.
@@ -339,8 +386,12 @@ impl State {
             (self.new ≡ put_memory self.old address (grow_by (memory_of self.old address) pages)) }
         ensures unchanged { OnErr result (self.new ≡ self.old) }
     {
+        let bytes = PAGE_BYTES * pages as u64;
+        self.has_left(bytes)?;
         let memory = &mut self.memories[address as usize];
-        memory.grow(pages)
+        memory.grow(pages)?;
+        let _ = self.keep(bytes);
+        Ok(())
     }
 
     /// Returns the global at an address, if there is one.

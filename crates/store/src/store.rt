@@ -10,6 +10,7 @@ use crate::loaded_modules::LoadedModule;
 use crate::state::{Objects, State};
 use core_types::{FuncType, Module};
 use meaning::writing_is_read;
+use quota::Quota;
 use std::alloc::{AllocError, Global};
 use std::marker::Model;
 use std::rc::Rc;
@@ -66,6 +67,25 @@ impl Store {
         ensures valid { StoreIsValid (store_of self.now) }
     {
         &self.state
+    }
+
+    /// Returns the quota of what is held. What else the store shows does not depend on it.
+    pub fn quota(&self) -> Quota {
+        self.state.quota()
+    }
+
+    /// Replaces the quota of what is held.
+    pub fn set_quota(&mut self, quota: Quota)
+        ensures { self.new ≡ self.old }
+    {
+        self.state.set_quota(quota);
+    }
+
+    /// Counts bytes that stay. Fails if the quota has fewer left.
+    pub fn keep(&mut self, bytes: u64) -> Result<(), AllocError>
+        ensures { self.new ≡ self.old }
+    {
+        self.state.keep(bytes)
     }
 
     /// Returns whether 32-bit addresses remain for the functions of a module, its objects and an instance of it.

@@ -14,5 +14,5 @@ use std::alloc::Global;
 /// - 4: an allocation failed at the start or for a reply
 #[unsafe(no_mangle)]
 pub extern "C" fn tegvurn_serve(alloc: Global, ask: i32, hear: i32) -> u32 {
-    u32::from(serve(alloc, ask, hear).status())
+    u32::from(serve(alloc, ask, hear, u64::MAX).status())
 }

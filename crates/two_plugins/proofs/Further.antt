@@ -21,7 +21,8 @@ use Rattle.embed.specs.declared.new_fault.NewFault.{NewFault}
 use Rattle.two_plugins.specs.Strangers.{AreStrangers}
 
 module _ {I : Type 0} {F : I → Type 0} (members : (i : I) → Ghosts (F i)) where
-  one-further : {old at new : Embedding (HostObject I F)} {commands : List Command} {replies : List Reply} (command : Command) (reply : Reply) → AppliesAll (HostStep members) old commands replies at → Applies (HostStep members) at command reply new
+  one-further : {old at new : Embedding (HostObject I F)} {commands : List Command} {replies : List Reply} (command : Command) (reply : Reply)
+      → AppliesAll (HostStep members) old commands replies at → Applies (HostStep members) at command reply new
       → AppliesAll (HostStep members) old (commands ++ command ∷ []) (replies ++ reply ∷ []) new
   one-further command reply none step = then_on step none
   one-further command reply (then_on first rest) step = then_on first (one-further command reply rest step)
@@ -29,7 +30,8 @@ module _ {I : Type 0} {F : I → Type 0} (members : (i : I) → Ghosts (F i)) wh
   one-more : (P : Command → Type 0) (commands : List Command) (command : Command) → All P commands → P command → All P (commands ++ command ∷ [])
   one-more P commands command all one = All-append P commands (command ∷ []) all (All-first P command [] one (All-none P))
 
-  pub still-strangers : {at new : Embedding (HostObject I F)} (command : Command) (reply : Reply) → AreStrangers members at → LoadsBytes command → GivesNothing command → Applies (HostStep members) at command reply new → AreStrangers members new
+  pub still-strangers : {at new : Embedding (HostObject I F)} (command : Command) (reply : Reply) → AreStrangers members at → LoadsBytes command
+      → GivesNothing command → Applies (HostStep members) at command reply new → AreStrangers members new
   still-strangers command reply were bytes gives step = record {
     setup = were.setup;
     commands = were.commands ++ command ∷ [];
@@ -53,6 +55,8 @@ module _ {I : Type 0} {F : I → Type 0} (members : (i : I) → Ghosts (F i)) wh
     nothing = All-none GivesNothing;
   }
 
-  pub created-strangers : (setup : Setup) (hosts : List (HostDef I F)) → hosts ≡ [] → (result : Result (Kept I F) NewFault) → Creates type_of_host setup (map (definition_of members) hosts) (created result) → IfOk result (λ at. AreStrangers members (embedding_of at))
-  created-strangers setup hosts nothing (Ok at) is = fresh-strangers setup (embedding_of at) (subst (λ (ds : List (HostDef I F)). Creates type_of_host setup (map (definition_of members) ds) (Ok (embedding_of at))) nothing is)
+  pub created-strangers : (setup : Setup) (hosts : List (HostDef I F)) → hosts ≡ [] → (result : Result (Kept I F) NewFault)
+      → Creates type_of_host setup (map (definition_of members) hosts) (created result) → IfOk result (λ at. AreStrangers members (embedding_of at))
+  created-strangers setup hosts nothing (Ok at) is = fresh-strangers setup (embedding_of at)
+      (subst (λ (ds : List (HostDef I F)). Creates type_of_host setup (map (definition_of members) ds) (Ok (embedding_of at))) nothing is)
   created-strangers setup hosts nothing (Err why) is = tt

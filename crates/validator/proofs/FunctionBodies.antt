@@ -24,7 +24,8 @@ abbrev outside : Module → FuncType → List ValType → Context
 outside m ty locals = record (module_context m) { locals = ty.params ++ locals; results = Some ty.results }
 
 module _ (m : Module) (s : IndexSpaces) (spaces : AreIndexSpaces m s) (marks : HasMarks m s) (f : Func) (ty : FuncType) (lent : BodyContext)
-    (types_are : lent.types.now ≡ m.types) (elements_are : lent.elements.now ≡ m.elements) (datas_are : lent.datas ≡ length m.datas) (spaces_is : lent.spaces.now ≡ s) (params_are : lent.params.now ≡ ty.params)
+    (types_are : lent.types.now ≡ m.types) (elements_are : lent.elements.now ≡ m.elements) (datas_are : lent.datas ≡ length m.datas)
+    (spaces_is : lent.spaces.now ≡ s) (params_are : lent.params.now ≡ ty.params)
     (locals_are : lent.locals.now ≡ f.locals) (results_are : lent.results.now ≡ ty.results) where
   describes : Describes lent (outside m ty f.locals)
   describes = record {

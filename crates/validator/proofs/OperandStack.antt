@@ -14,7 +14,8 @@ nil_parts [] ys e = (refl, sym e)
 nil_parts (x ∷ xs) ys e = absurd cc
 
 -- The last of two lists that are joined is the last of the second one, if it has one.
-last_of : (under own new : List OperandType) (t : OperandType) → new ++ t ∷ [] ≡ under ++ own → length under < length (new ++ t ∷ []) → (rest : List OperandType) × (new ≡ under ++ rest) × (own ≡ rest ++ t ∷ [])
+last_of : (under own new : List OperandType) (t : OperandType) → new ++ t ∷ [] ≡ under ++ own → length under < length (new ++ t ∷ [])
+    → (rest : List OperandType) × (new ≡ under ++ rest) × (own ≡ rest ++ t ∷ [])
 last_of [] own new t e less = (new, refl, sym e)
 last_of (u ∷ under) own [] t e less = absurd (omega arith)
 last_of (u ∷ under) own (n ∷ new) t e less =
@@ -44,14 +45,16 @@ set_last xs y n last =
     whole ∙ take_more_set xs n y (omega (arith, last))
 
 -- The topmost operand is this one, and is popped.
-pub Takes-last : (unreachable : Bool) (height : ℕ) (old : List OperandType) (t : OperandType) (n : ℕ) → n + 1 ≡ length old → t ≡ get_or old n t → height ≤ n → Takes unreachable height old (t ∷ []) (take n old)
+pub Takes-last : (unreachable : Bool) (height : ℕ) (old : List OperandType) (t : OperandType) (n : ℕ) → n + 1 ≡ length old → t ≡ get_or old n t
+    → height ≤ n → Takes unreachable height old (t ∷ []) (take n old)
 Takes-last unreachable height old t n last is high = Takes-top unreachable height old (take n old) t (split_last old t n last is) (omega (arith, last))
 
 pub Takes-nothing : (unreachable : Bool) (height : ℕ) (old : List OperandType) → Takes unreachable height old [] old
 Takes-nothing unreachable height old = record { at = λ under own parts long. (own, parts, inl (sym (append-nil own))) }
 
 -- More operands are taken, from below those that were taken.
-TakenFrom-under : (unreachable : Bool) (own given rest new more : List OperandType) → TakenFrom unreachable own given rest → TakenFrom unreachable rest more new → TakenFrom unreachable own (more ++ given) new
+TakenFrom-under : (unreachable : Bool) (own given rest new more : List OperandType) → TakenFrom unreachable own given rest
+    → TakenFrom unreachable rest more new → TakenFrom unreachable own (more ++ given) new
 TakenFrom-under unreachable own given rest new more (inl parts) (inl last) = inl (parts ∙ ap (λ (z : List OperandType). z ++ given) last ∙ append_assoc new more given)
 TakenFrom-under unreachable own given rest new more (inl parts) (inr (dead, nothing, (n, last))) =
     inr (dead, nothing, (n, ap (λ (z : List OperandType). z ++ given) last ∙ append_assoc (replicate n Unknown) rest given ∙ ap (λ (z : List OperandType). replicate n Unknown ++ z) (sym parts)))
@@ -60,9 +63,18 @@ TakenFrom-under unreachable own given rest new more (inr (dead, nothing, (n, par
     inr (dead, both.0, (n, ap (λ (z : List OperandType). z ++ given) both.1 ∙ parts))
 TakenFrom-under unreachable own given rest new more (inr (dead, nothing, (n, parts))) (inr (again, left, (k, last))) =
     let some : more ≡ replicate k Unknown = last ∙ ap (λ (z : List OperandType). replicate k Unknown ++ z) nothing ∙ append-nil (replicate k Unknown) in
-    inr (dead, left, (k + n, ap (λ (z : List OperandType). z ++ given) some ∙ ap (λ (z : List OperandType). replicate k Unknown ++ z) parts ∙ sym (append_assoc (replicate k Unknown) (replicate n Unknown) own) ∙ ap (λ (z : List OperandType). z ++ own) (replicate-append-replicate k n Unknown)))
+    inr (
+      dead,
+      left,
+      (
+        k + n,
+        ap (λ (z : List OperandType). z ++ given) some ∙ ap (λ (z : List OperandType). replicate k Unknown ++ z) parts ∙ sym
+            (append_assoc (replicate k Unknown) (replicate n Unknown) own) ∙ ap (λ (z : List OperandType). z ++ own) (replicate-append-replicate k n Unknown),
+      ),
+    )
 
-pub Takes-under : (unreachable : Bool) (height : ℕ) (old given mid more new : List OperandType) → Takes unreachable height old given mid → Takes unreachable height mid more new → Takes unreachable height old (more ++ given) new
+pub Takes-under : (unreachable : Bool) (height : ℕ) (old given mid more new : List OperandType) → Takes unreachable height old given mid
+    → Takes unreachable height mid more new → Takes unreachable height old (more ++ given) new
 Takes-under unreachable height old given mid more new first second = record {
   at = λ under own parts long.
       let (rest, left, taken) = first.at under own parts long in
@@ -71,26 +83,34 @@ Takes-under unreachable height old given mid more new first second = record {
 }
 
 -- The same for a list of the taken operands that grows at its end, from the topmost on.
-pub Takes-reverse : (unreachable : Bool) (height : ℕ) (old given mid new : List OperandType) (t : OperandType) → Takes unreachable height old (reverse given) mid → Takes unreachable height mid (t ∷ []) new → Takes unreachable height old (reverse (given ++ t ∷ [])) new
+pub Takes-reverse : (unreachable : Bool) (height : ℕ) (old given mid new : List OperandType) (t : OperandType)
+    → Takes unreachable height old (reverse given) mid → Takes unreachable height mid (t ∷ []) new
+    → Takes unreachable height old (reverse (given ++ t ∷ [])) new
 Takes-reverse unreachable height old given mid new t first second = rw (reverse-append given (t ∷ [])) (Takes-under unreachable height old (reverse given) mid (t ∷ []) new first second)
 
 -- One more of the wanted types, from the last to the first.
-pub AllFit-down : (wanted : List ValType) (left : ℕ) (given : List OperandType) (t : OperandType) (d : ValType) → left < length wanted → Fits t (Known (get_or wanted left d)) → AllFit given (known (drop (left + 1) wanted)) → AllFit (t ∷ given) (known (drop left wanted))
+pub AllFit-down : (wanted : List ValType) (left : ℕ) (given : List OperandType) (t : OperandType) (d : ValType) → left < length wanted
+    → Fits t (Known (get_or wanted left d)) → AllFit given (known (drop (left + 1) wanted)) → AllFit (t ∷ given) (known (drop left wanted))
 AllFit-down wanted left given t d less one more = rw (drop_more wanted left d less) (one, more)
 
 -- One more index of two lists at which the operand fits.
-pub AllFit-up : (given : List OperandType) (wanted : List ValType) (i : ℕ) (d : OperandType) (e : ValType) → i < length given → i < length wanted → AllFit (take i given) (known (take i wanted)) → Fits (get_or given i d) (Known (get_or wanted i e)) → AllFit (take (i + 1) given) (known (take (i + 1) wanted))
+pub AllFit-up : (given : List OperandType) (wanted : List ValType) (i : ℕ) (d : OperandType) (e : ValType) → i < length given → i < length wanted
+    → AllFit (take i given) (known (take i wanted)) → Fits (get_or given i d) (Known (get_or wanted i e))
+    → AllFit (take (i + 1) given) (known (take (i + 1) wanted))
 AllFit-up given wanted i d e less below before one =
-    rw (take_more given i d less, take_more wanted i e below, map-append Known (take i wanted) (get_or wanted i e ∷ [])) (AllFit-joined (take i given) (known (take i wanted)) (get_or given i d ∷ []) (Known (get_or wanted i e) ∷ []) before (one, tt))
+    rw (take_more given i d less, take_more wanted i e below, map-append Known (take i wanted) (get_or wanted i e ∷ []))
+    (AllFit-joined (take i given) (known (take i wanted)) (get_or given i d ∷ []) (Known (get_or wanted i e) ∷ []) before (one, tt))
 
 -- At each index of two such lists the operand fits.
-pub AllFit-at : (given : List OperandType) (wanted : List ValType) (i : ℕ) (d : OperandType) (e : ValType) → i < length given → AllFit given (known wanted) → Fits (get_or given i d) (Known (get_or wanted i e))
+pub AllFit-at : (given : List OperandType) (wanted : List ValType) (i : ℕ) (d : OperandType) (e : ValType) → i < length given
+    → AllFit given (known wanted) → Fits (get_or given i d) (Known (get_or wanted i e))
 AllFit-at [] wanted i d e less fits = absurd (omega arith)
 AllFit-at (t ∷ given) [] i d e less fits = absurd fits
 AllFit-at (t ∷ given) (w ∷ wanted) zero d e less fits = fits.0
 AllFit-at (t ∷ given) (w ∷ wanted) (suc i) d e less fits = AllFit-at given wanted i d e (omega arith) fits.1
 
 -- The same for the result of a pop.
-pub Takes-popped : (unreachable : Bool) (height : ℕ) (old new : List OperandType) (answer : Option OperandType) → old ≡ new ++ option_to_list answer → height < length old → IfSome answer (λ t. Takes unreachable height old (t ∷ []) new)
+pub Takes-popped : (unreachable : Bool) (height : ℕ) (old new : List OperandType) (answer : Option OperandType) → old ≡ new ++ option_to_list answer
+    → height < length old → IfSome answer (λ t. Takes unreachable height old (t ∷ []) new)
 Takes-popped unreachable height old new None e high = tt
 Takes-popped unreachable height old new (Some t) e high = Takes-top unreachable height old new t e high

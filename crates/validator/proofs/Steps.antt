@@ -62,7 +62,8 @@ pub begin_steps : {lent : BodyContext} {old new : Stacks} {given left : List Ope
 begin_steps {lent} {old} {new} {given} {left} frame t o mark type takes fits height alive innermost outer operands = record {
   sound = record {
     keeps = λ context described read opened.
-        IsTypingOfRead-parts context new.innermost frame (reverse new.outer.items) (old.innermost ∷ reverse old.outer.items) new.operands.items (left ++ known frame.start_types.now) (read ++ o ∷ []) innermost outer operands
+        IsTypingOfRead-parts context new.innermost frame (reverse new.outer.items) (old.innermost ∷ reverse old.outer.items) new.operands.items
+        (left ++ known frame.start_types.now) (read ++ o ∷ []) innermost outer operands
         (start_open frame t o (took_open (hand_of frame) opened takes fits) height alive mark (ap (λ (types : List FuncType). block_type types t) described.types ∙ type));
   };
   complete = begin_complete frame t o mark type takes fits height innermost outer operands;

@@ -29,11 +29,15 @@ same_types (t ∷ ts) (u ∷ us) e =
     ap (λ (z : ValType). z ∷ ts) first ∙ ap (λ (z : List ValType). u ∷ z) (same_types ts us rest)
 
 -- A call that gives the results of the function that it is in, by parts.
-parts_of : (context : Context) (t : FuncType) (params results : List ValType) → context.results ≡ Some results → HasFuncType t (known params) (known results) → (any : List OperandType) → (context.results ≡ Some t.results) × (any ++ known params ≡ any ++ known t.params)
+parts_of : (context : Context) (t : FuncType) (params results : List ValType) → context.results ≡ Some results
+    → HasFuncType t (known params) (known results) → (any : List OperandType) → (context.results ≡ Some t.results)
+    × (any ++ known params ≡ any ++ known t.params)
 parts_of context t params results given (takes, gives) any = (given ∙ ap Some (same_types results t.results gives), ap (λ (z : List OperandType). any ++ z) takes)
 
 -- If a call gives the results of the function that contains it, its tail call takes the same over anything, and leads to anything.
-tail_rule : (context : Context) (call tail : ControlOp) (params results : List ValType) → IsTailCallOf call tail → Rule context (Control call) (known params) (known results) → context.results ≡ Some results → (any to : List OperandType) → Rule context (Control tail) (any ++ known params) to
+tail_rule : (context : Context) (call tail : ControlOp) (params results : List ValType) → IsTailCallOf call tail
+    → Rule context (Control call) (known params) (known results) → context.results ≡ Some results → (any to : List OperandType)
+    → Rule context (Control tail) (any ++ known params) to
 tail_rule context call tail params results (inl (x, same, is)) rule given any to =
     let (f, found, shape) = rw same at rule in
     let (gives, takes) = parts_of context f params results given shape any in
@@ -73,8 +77,13 @@ module _ {lent : BodyContext} (old : Stacks) {call tail : ControlOp} (is : IsTai
       rule_refused (Control tail)
       (λ context described theirs others rule.
       let behind = call_behind (inside context (control_stack old)) call tail theirs others is rule in
-      let (operands, results) = type.only context described (known behind.params) (known behind.results) behind.rule in
-      (behind.below, known t.params, refuses, subst (λ (z : List OperandType). AllFit z (behind.below ++ known t.params)) (sym (behind.parts ∙ ap (λ (z : List OperandType). behind.below ++ z) operands)) (AllFit-same (behind.below ++ known t.params))))
+      let (operands, results) = type.only context described (known behind.params) (known behind.results) behind.rule in (
+        behind.below,
+        known t.params,
+        refuses,
+        subst (λ (z : List OperandType). AllFit z (behind.below ++ known t.params))
+            (sym (behind.parts ∙ ap (λ (z : List OperandType). behind.below ++ z) operands)) (AllFit-same (behind.below ++ known t.params)),
+      ))
 
   -- The call gives results that differ from those of the function.
   pub tail_differs : (t : FuncType) → IsTypeOf lent (map label_of (control_stack old)) (Control call) t → (t.results ≡ lent.results.now → ⊥) → CannotBeNext lent old (Plain (Control tail))

@@ -2,8 +2,9 @@
 #![tactic(auto)]
 
 use clap::error::ErrorKind;
-use clap::{Command, Error};
+use clap::{Arg, Command, Error, value_parser};
 use serve::{Ending, serve};
+use std::alloc::{AllocError, Global};
 use std::io::Read;
 use std::process::ExitCode;
 use std::{env, io};
@@ -22,6 +23,25 @@ const NOT_WRITTEN: u8 = 3;
 
 const BAD_ARGUMENTS: u8 = 5;
 
+// What the program's arguments request: to serve with a quota of that many bytes, or to end with a status.
+enum Request {
+    Serve(u64),
+    End(u8),
+}
+
+// The program's arguments. `clap` adds `--help` and `--version`.
+fn command<'a>(alloc: Global) -> Result<Command<'a>, AllocError> {
+    let quota = Arg::new(alloc, "quota")
+        .long("quota")
+        .value_name("BYTES")
+        .value_parser(value_parser!(u64))
+        .help("The most bytes that modules, instances and a call may hold together");
+    Command::new(alloc, "wasmserve")
+        .version(VERSION)
+        .about("Serves an embedding over standard input and output")
+        .arg(quota)
+}
+
 // Prints help, the version, or what is wrong with the arguments. Returns the exit status.
 fn print_help_or_fault(rt: &HostRuntime, error: &Error) -> io::Result<u8> {
     let status = match error.kind() {
@@ -33,15 +53,12 @@ fn print_help_or_fault(rt: &HostRuntime, error: &Error) -> io::Result<u8> {
     Ok(status)
 }
 
-// Reads the program's arguments: none, `--help` or `--version`. Returns the exit status, if there is nothing to serve.
-fn read_arguments(rt: &HostRuntime) -> io::Result<Option<u8>> {
+// Reads the program's arguments.
+fn read_arguments(rt: &HostRuntime) -> io::Result<Request> {
     let words: Vec<String> = env::args(rt)?.collect(rt.alloc())?;
-    let command = Command::new(rt.alloc(), "wasmserve")
-        .version(VERSION)
-        .about("Serves an embedding over standard input and output");
-    match command.try_get_matches_from(words.as_slice()) {
-        Ok(_) => Ok(None),
-        Err(error) => Ok(Some(print_help_or_fault(rt, &error)?)),
+    match command(rt.alloc())?.try_get_matches_from(words.as_slice()) {
+        Ok(matches) => Ok(Request::Serve(matches.get_one::<u64>("quota").unwrap_or(u64::MAX))),
+        Err(error) => Ok(Request::End(print_help_or_fault(rt, &error)?)),
     }
 }
 
@@ -54,9 +71,9 @@ fn would_block(rt: &HostRuntime) -> bool {
     }
 }
 
-// Serves until the conversation ends. Returns the exit status.
-fn serve_client(rt: &HostRuntime) -> u8 {
-    let ending = serve(rt.alloc(), OUTPUT, INPUT);
+// Serves with a quota until the conversation ends. Returns the exit status.
+fn serve_client(rt: &HostRuntime, quota: u64) -> u8 {
+    let ending = serve(rt.alloc(), OUTPUT, INPUT, quota);
     if matches!(ending, Ending::InputOver | Ending::CutShort) && would_block(rt) {
         let _ = eprintln!(rt; "wasmserve: standard input is non-blocking, and a read would block");
     }
@@ -65,8 +82,8 @@ fn serve_client(rt: &HostRuntime) -> u8 {
 
 fn main(rt: HostRuntime) -> ExitCode {
     match read_arguments(&rt) {
-        Ok(None) => ExitCode::from(serve_client(&rt)),
-        Ok(Some(status)) => ExitCode::from(status),
+        Ok(Request::Serve(quota)) => ExitCode::from(serve_client(&rt, quota)),
+        Ok(Request::End(status)) => ExitCode::from(status),
         Err(error) if error.kind() == io::ErrorKind::OutOfMemory => ExitCode::from(OUT_OF_MEMORY),
         Err(_) => ExitCode::from(NOT_WRITTEN),
     }

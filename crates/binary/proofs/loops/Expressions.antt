@@ -34,7 +34,8 @@ pub record HasRead (bytes after : List ℕ) (next : Flow) (bodies new : List Ope
   pub passed : next_bodies bodies op ≡ (next, new)
   pub behind_is : behind ≡ after_next next ops op
 
-pub has-read : (bytes after : List ℕ) (next : Flow) (bodies new : List OpenBody) (ops behind : List Op) → ReadsNext (Ok next) bodies new ops behind after (op_at bytes) → HasRead bytes after next bodies new ops behind
+pub has-read : (bytes after : List ℕ) (next : Flow) (bodies new : List OpenBody) (ops behind : List Op)
+    → ReadsNext (Ok next) bodies new ops behind after (op_at bytes) → HasRead bytes after next bodies new ops behind
 has-read bytes after next bodies new ops behind h = go (op_at bytes) refl h
   where
     go : (read : Option (Op × List ℕ)) → op_at bytes ≡ read → OnRead read (λ op left. (left ≡ after) × (next_bodies bodies op ≡ (next, new)) × (behind ≡ after_next next ops op))

@@ -38,7 +38,9 @@ module _ {H : Type 0} (host_type : H → FuncType) where
 
   -- If the definitions so far have no fault, the next one decides.
   pub fault-next : (names : NamesContents) (k : ℕ) (ds : List (HostDefinition H)) (d : HostDefinition H) (rest : List (HostDefinition H)) → first_fault host_type names k ds ≡ None
-      → first_fault host_type names k (ds ++ d ∷ rest) ≡ option_or (fault_of host_type (with_definitions host_type names k ds) d) (first_fault host_type (with_host (with_definitions host_type names k ds) d.module_name d.name (k + length ds)) (suc (k + length ds)) rest)
+      → first_fault host_type names k (ds ++ d ∷ rest)
+      ≡ option_or (fault_of host_type (with_definitions host_type names k ds) d)
+      (first_fault host_type (with_host (with_definitions host_type names k ds) d.module_name d.name (k + length ds)) (suc (k + length ds)) rest)
   fault-next names k [] d rest none =
       ap (λ (n : ℕ). option_or (fault_of host_type names d) (first_fault host_type (with_host names d.module_name d.name n) (suc n) rest)) (omega arith)
   fault-next names k (e ∷ ds) d rest none = go (fault_of host_type names e) refl none (fault-next (with_host names e.module_name e.name k) (suc k) ds d rest)
@@ -46,12 +48,23 @@ module _ {H : Type 0} (host_type : H → FuncType) where
       names' : NamesContents
       names' = with_host names e.module_name e.name k
 
-      go : (f : Option Fault) → fault_of host_type names e ≡ f → option_or f (first_fault host_type names' (suc k) ds) ≡ None → (first_fault host_type names' (suc k) ds ≡ None → (first_fault host_type names' (suc k) (ds ++ d ∷ rest) ≡ option_or (fault_of host_type (with_definitions host_type names' (suc k) ds) d) (first_fault host_type (with_host (with_definitions host_type names' (suc k) ds) d.module_name d.name (suc k + length ds)) (suc (suc k + length ds)) rest)))
-          → option_or (fault_of host_type names e) (first_fault host_type names' (suc k) (ds ++ d ∷ rest)) ≡ option_or (fault_of host_type (with_definitions host_type names' (suc k) ds) d) (first_fault host_type (with_host (with_definitions host_type names' (suc k) ds) d.module_name d.name (k + suc (length ds))) (suc (k + suc (length ds))) rest)
+      go : (f : Option Fault) → fault_of host_type names e ≡ f → option_or f (first_fault host_type names' (suc k) ds) ≡ None
+          → (first_fault host_type names' (suc k) ds ≡ None
+          → (first_fault host_type names' (suc k) (ds ++ d ∷ rest)
+          ≡ option_or (fault_of host_type (with_definitions host_type names' (suc k) ds) d)
+          (first_fault host_type (with_host (with_definitions host_type names' (suc k) ds) d.module_name d.name (suc k + length ds))
+          (suc (suc k + length ds)) rest)))
+          → option_or (fault_of host_type names e) (first_fault host_type names' (suc k) (ds ++ d ∷ rest))
+          ≡ option_or (fault_of host_type (with_definitions host_type names' (suc k) ds) d)
+          (first_fault host_type (with_host (with_definitions host_type names' (suc k) ds) d.module_name d.name (k + suc (length ds)))
+          (suc (k + suc (length ds))) rest)
       go (Some x) is none' later = absurd (cc)
       go None is none' later =
           let same : suc k + length ds ≡ k + suc (length ds) = omega arith in
-          ap (λ (f : Option Fault). option_or f (first_fault host_type names' (suc k) (ds ++ d ∷ rest))) is ∙ subst (λ (n : ℕ). (first_fault host_type names' (suc k) (ds ++ d ∷ rest) ≡ option_or (fault_of host_type (with_definitions host_type names' (suc k) ds) d) (first_fault host_type (with_host (with_definitions host_type names' (suc k) ds) d.module_name d.name n) (suc n) rest))) same (later none')
+          ap (λ (f : Option Fault). option_or f (first_fault host_type names' (suc k) (ds ++ d ∷ rest))) is ∙ subst
+          (λ (n : ℕ). (first_fault host_type names' (suc k) (ds ++ d ∷ rest)
+          ≡ option_or (fault_of host_type (with_definitions host_type names' (suc k) ds) d)
+          (first_fault host_type (with_host (with_definitions host_type names' (suc k) ds) d.module_name d.name n) (suc n) rest))) same (later none')
 
 -- ---- one more definition is added
 
@@ -80,11 +93,15 @@ module _ {I : Type 0} {F : I → Type 0} (members : (i : I) → Ghosts (F i)) (t
           ∙ fault-next type_of_host no_names 0 so_far (definition_of members next) [] faultless
           ∙ ap (λ (f : Option Fault). option_or f None) (ap (λ (ns : NamesContents). fault_of type_of_host ns (definition_of members next)) (sym names_are) ∙ none)
 
-      decided : (f : Fault) (rest : List (HostDef I F)) → fault_of type_of_host names (definition_of members next) ≡ Some f → first_fault type_of_host no_names 0 (map (definition_of members) (taken ++ next ∷ rest)) ≡ Some f
+      decided : (f : Fault) (rest : List (HostDef I F)) → fault_of type_of_host names (definition_of members next) ≡ Some f
+          → first_fault type_of_host no_names 0 (map (definition_of members) (taken ++ next ∷ rest)) ≡ Some f
       decided f rest is =
           ap (first_fault type_of_host no_names 0) (map-append (definition_of members) taken (next ∷ rest))
           ∙ fault-next type_of_host no_names 0 so_far (definition_of members next) (map (definition_of members) rest) faultless
-          ∙ ap (λ (g : Option Fault). option_or g (first_fault type_of_host (with_host (with_definitions type_of_host no_names 0 so_far) (definition_of members next).module_name (definition_of members next).name (0 + length so_far)) (suc (0 + length so_far)) (map (definition_of members) rest))) (ap (λ (ns : NamesContents). fault_of type_of_host ns (definition_of members next)) (sym names_are) ∙ is)
+          ∙ ap (λ (g : Option Fault). option_or g
+          (first_fault type_of_host (with_host (with_definitions type_of_host no_names 0 so_far) (definition_of members next).module_name
+          (definition_of members next).name (0 + length so_far)) (suc (0 + length so_far)) (map (definition_of members) rest)))
+          (ap (λ (ns : NamesContents). fault_of type_of_host ns (definition_of members next)) (sym names_are) ∙ is)
 
       pub fault-first : (fault : NewFault) (rest : List (HostDef I F)) → IsAtFault members fault names next → IsFirstFault members fault (taken ++ next ∷ rest)
       fault-first HostFuncRef rest is = decided machine.HostFuncRef rest is

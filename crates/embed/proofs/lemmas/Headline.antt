@@ -22,7 +22,8 @@ use Rattle.embed.specs.declared.host_definitions.HostDef.{HostDef}
 module _ (read : (b : Body) → body_of (writing b) ≡ b) {I : Type 0} {F : I → Type 0} (members : (i : I) → Ghosts (F i)) (definitions : List (HostDef I F)) where
   hosts-keep : All (KeepsItsType members) (map (λ (d : HostDefinition (HostObject I F)). d.host) (map (definition_of members) definitions))
   hosts-keep =
-      All-map (KeepsItsType members) (λ (d : HostDefinition (HostObject I F)). KeepsItsType members d.host) (λ (d : HostDefinition (HostObject I F)). d.host) (λ d keeps. keeps) (map (definition_of members) definitions)
+      All-map (KeepsItsType members) (λ (d : HostDefinition (HostObject I F)). KeepsItsType members d.host)
+      (λ (d : HostDefinition (HostObject I F)). d.host) (λ d keeps. keeps) (map (definition_of members) definitions)
       (All-map (λ (d : HostDefinition (HostObject I F)). KeepsItsType members d.host) (λ (d : HostDef I F). Unit {0}) (definition_of members) (λ d one. refl) definitions (λ k d inside. tt))
 
   pub headline-holds : length definitions < 2 ^ 32 → IsAsTheHeadlineSays members definitions
@@ -42,7 +43,8 @@ module _ (read : (b : Body) → body_of (writing b) ≡ b) {I : Type 0} {F : I �
     pub own : IfHostsKeep members old.state.hosts new.state.hosts (AppliesWell (OwnHostStep members) old command reply new)
     pub sound : IsSound type_of_host new
 
-  pub is-done : (old new : Embedding (HostObject I F)) → IsSound type_of_host old → (command : Command) → LinksSoundModule old command → (reply : Reply) → Applies (HostStep members) old command reply new → IsDone old command reply new
+  pub is-done : (old new : Embedding (HostObject I F)) → IsSound type_of_host old → (command : Command) → LinksSoundModule old command
+      → (reply : Reply) → Applies (HostStep members) old command reply new → IsDone old command reply new
   is-done old new sound command linkable reply applies =
       let (well, sound_then) = goes-well type_of_host (HostAnswers members) old new sound reply read command linkable applies in
       record {

@@ -54,11 +54,13 @@ module _ {I : Type 0} {F : I → Type 0} (members : (i : I) → Ghosts (F i)) wh
 
       pub answers : OthersChangeNoAnswers members definitions
       answers setup before asked replied replies old new number fuel command reply keeps come gave inside applies gives another to asks =
-          laws.strangers_change_nothing setup (map (definition_of members) definitions) come.fresh old new before asked replied replies number fuel command reply few-defined come.created come.bytes gave come.applied inside gives another applies
+          laws.strangers_change_nothing setup (map (definition_of members) definitions) come.fresh old new before asked replied replies number fuel
+          command reply few-defined come.created come.bytes gave come.applied inside gives another applies
           (λ n has. inr (ap (λ (hs : List (HostObject I F)). slice_get hs n) same)) to asks
         where
           fresh-keep : All (of.KeepsNothing members) come.fresh.state.hosts
-          fresh-keep = subst (λ (e : Embedding (HostObject I F)). All (of.KeepsNothing members) e.state.hosts) (sym come.created.1) (hosts-all (of.KeepsNothing members) (λ k d inside. (refl, keeps k d inside)))
+          fresh-keep = subst (λ (e : Embedding (HostObject I F)). All (of.KeepsNothing members) e.state.hosts) (sym come.created.1)
+              (hosts-all (of.KeepsNothing members) (λ k d inside. (refl, keeps k d inside)))
 
           old-is : old.state.hosts ≡ come.fresh.state.hosts
           old-is = laws.hosts_stay come.fresh old before replied fresh-keep come.applied
@@ -72,4 +74,5 @@ module _ {I : Type 0} {F : I → Type 0} (members : (i : I) → Ghosts (F i)) wh
         (subst (λ (e : Embedding (HostObject I F)). AppliesAll (HostStep members) e commands replies_b b) (second.created.1 ∙ sym first.created.1) second.applied) had_a had_b
       where
         fresh-functions : All (of.IsFunction members) first.fresh.state.hosts
-        fresh-functions = subst (λ (e : Embedding (HostObject I F)). All (of.IsFunction members) e.state.hosts) (sym first.created.1) (hosts-all (of.IsFunction members) (λ k d inside. (refl, functions k d inside)))
+        fresh-functions = subst (λ (e : Embedding (HostObject I F)). All (of.IsFunction members) e.state.hosts) (sym first.created.1)
+            (hosts-all (of.IsFunction members) (λ k d inside. (refl, functions k d inside)))

@@ -33,7 +33,8 @@ use Rattle.embed.specs.Replies.{refusal_of}
 use Rattle.embed.specs.declared.refusals.Refusal.{Refusal}
 
 -- If one import is given a value that does not match, not every import is given what it requires.
-not-given : (store : Store) (m : Module) (imports : List Import) (externs : List Extern) (index : ℕ) (wanted : Import) (given : Extern) → slice_get imports index ≡ Some wanted → slice_get externs index ≡ Some given
+not-given : (store : Store) (m : Module) (imports : List Import) (externs : List Extern) (index : ℕ) (wanted : Import) (given : Extern)
+    → slice_get imports index ≡ Some wanted → slice_get externs index ≡ Some given
     → (IsGiven store given (import_type m wanted.desc) → ⊥) → AreGiven store m imports externs → ⊥
 not-given store m [] externs index wanted given wanted_is given_is differs all = absurd cc
 not-given store m (i ∷ imports) [] index wanted given wanted_is given_is differs all = all
@@ -52,11 +53,14 @@ module _ {H : Type 0} where
   abbrev pub with_state : Embedding H → State H → Embedding H
   with_state old state = record old { state = state }
 
-  pub load-next : {Z : Type 0} (old : Embedding H) (shared : List (Rc LoadedContents Z)) (next : Rc LoadedContents Z) (bytes : List ℕ) → old.modules ≡ modules_in shared → IsDecoded bytes next.value.source → IsValid next.value.source
+  pub load-next : {Z : Type 0} (old : Embedding H) (shared : List (Rc LoadedContents Z)) (next : Rc LoadedContents Z) (bytes : List ℕ) → old.modules
+      ≡ modules_in shared → IsDecoded bytes next.value.source → IsValid next.value.source
       → Loads old bytes (machine.Loaded (length shared)) (with_modules old (modules_in (shared ++ next ∷ [])))
   load-next old shared next bytes has decoded valid =
       let count : length old.modules ≡ length shared = ap length has ∙ length-map shared (λ (r : Rc LoadedContents _). r.value.source) in
-      let more : modules_in (shared ++ next ∷ []) ≡ old.modules ++ next.value.source ∷ [] = map-append (λ (r : Rc LoadedContents _). r.value.source) shared (next ∷ []) ∙ ap (λ (ms : List Module). ms ++ next.value.source ∷ []) (sym has) in
+      let more : modules_in (shared ++ next ∷ [])
+      ≡ old.modules ++ next.value.source ∷ [] = map-append (λ (r : Rc LoadedContents _). r.value.source) shared (next ∷ []) ∙ ap
+      (λ (ms : List Module). ms ++ next.value.source ∷ []) (sym has) in
       loaded decoded valid (ap machine.Loaded (sym count)) (ap (with_modules old) more)
 
   pub load-refused : (old : Embedding H) (bytes : List ℕ) (refusal : Refusal) → RefusesBytes bytes refusal → Loads old bytes (machine.Refused (refusal_of refusal)) old
@@ -106,7 +110,8 @@ module _ {H : Type 0} (HostStep : List H → ℕ → Option ℕ → List Val →
     cause-refuses : (why : LinkRefusal) → IsCause why old.state.store m externs → Links HostStep old m (machine.Refused (refusal_of (link_refusal why))) old
     cause-refuses (reason.UnknownImport index) why =
         absurd (let same = map_all-length (λ (i : Import). resolve_name old.state.store old.names i.module_name i.name) m.imports externs resolved in omega (arith, same, why.0))
-    cause-refuses (reason.IncompatibleImport index) why = incompatible resolved (not-given old.state.store m m.imports externs index why.1.wanted why.1.given why.1.wanted_is why.1.given_is why.1.differs) (refl, refl)
+    cause-refuses (reason.IncompatibleImport index) why = incompatible resolved
+        (not-given old.state.store m m.imports externs index why.1.wanted why.1.given why.1.wanted_is why.1.given_is why.1.differs) (refl, refl)
     cause-refuses reason.Limit why = too_large resolved why.0 why.1 (refl, refl)
     cause-refuses reason.OutOfMemory why = of.no_memory (refl, refl)
 
@@ -114,7 +119,8 @@ module _ {H : Type 0} (HostStep : List H → ℕ → Option ℕ → List Val →
     link-refused why refused =
         subst (λ (s : State H). Links HostStep old m (machine.Refused (refusal_of (link_refusal why))) (with_state old s)) (sym refused.unchanged) (cause-refuses why refused.cause)
 
-pub module-of : {Z : Type 0} (shared : List (Rc LoadedContents Z)) (number : ℕ) (r : Rc LoadedContents Z) → slice_get shared number ≡ Some r → slice_get (modules_in shared) number ≡ Some r.value.source
+pub module-of : {Z : Type 0} (shared : List (Rc LoadedContents Z)) (number : ℕ) (r : Rc LoadedContents Z) → slice_get shared number ≡ Some r
+    → slice_get (modules_in shared) number ≡ Some r.value.source
 module-of shared number r there = slice_get-map (λ (s : Rc LoadedContents _). s.value.source) shared number ∙ ap (option_map (λ (s : Rc LoadedContents _). s.value.source)) there
 
 -- ---- the first import at fault
@@ -124,7 +130,8 @@ module _ {H : Type 0} (old : Embedding H) (number : ℕ) (m : Module) (there : s
   unresolved-at-fault refusal (cause.missing index unknown none is) = rw is (m, there, unknown)
   unresolved-at-fault refusal (cause.no_memory is) = rw is tt
 
-  pub mismatched-at-fault : (given : List Extern) → resolve_imports old.state.store old.names m.imports ≡ Some given → (why : LinkRefusal) → IsCause why old.state.store m given → IsFirstAtFault old number (link_refusal why)
+  pub mismatched-at-fault : (given : List Extern) → resolve_imports old.state.store old.names m.imports ≡ Some given → (why : LinkRefusal)
+      → IsCause why old.state.store m given → IsFirstAtFault old number (link_refusal why)
   mismatched-at-fault given resolved (reason.UnknownImport index) why =
       absurd (let same = map_all-length (λ (i : Import). resolve_name old.state.store old.names i.module_name i.name) m.imports given resolved in omega (arith, same, why.0))
   mismatched-at-fault given resolved (reason.IncompatibleImport index) why = (m, there, given, resolved, why.1)

@@ -1,12 +1,13 @@
 //! The operations of an embedding, each as a method and as a command (Appendix, Embedding).
 
-ghost use Rattle.std.specs.Prelude.{◌≡◌, ◌++◌, ◌∷◌, [], ◌+◌, ◌<◌, ◌≤◌, IfErr, List, OnOk, OnErr, MatchOption, map, slice_get, vec_len, vec_capacity, length, Some, None};
+ghost use Rattle.std.specs.Prelude.{◌≡◌, ◌++◌, ◌∷◌, [], ◌+◌, ◌<◌, ◌≤◌, IfErr, List, OnOk, OnErr, map, slice_get, vec_len, vec_capacity, length, Some, None};
 ghost use Rattle.embed.specs.Contents.{embedding_of};
 ghost use Rattle.embed.specs.Replies.{call_reply, command_of, global_reply, link_reply, load_reply, register_reply, reply_of, values_reply};
 ghost use Rattle.embed.specs.declared.commands.Reply.{Reply as Answer};
 ghost use Rattle.meaning.specs.embedding.Commands.{Call as CallCommand, Done as DoneReply, GetGlobal as GetGlobalCommand, Link as LinkCommand, Load as LoadCommand, Register as RegisterCommand, SetFuel as SetFuelCommand};
 ghost use Rattle.meaning.specs.embedding.Machine.{Applies, CallsAt, GetsAt, LinksAt, Loads, RegistersAt, SetsFuel, as_function, as_global, export_at};
 ghost use Rattle.embed.specs.Causes.{IsFirstAtFault};
+ghost use Rattle.embed.specs.Quotas.{CountsFor};
 ghost use Rattle.embed.specs.declared.refusals.Refusal.TheVariants.{OutOfMemory as NoMemory};
 ghost use Rattle.soundness.specs.Embedding.{GoesWell, IsSound, LinksSoundModule};
 ghost use Rattle.soundness.specs.Headline.{AppliesWell, IsAsSaid, RunsWell};
@@ -14,6 +15,7 @@ ghost use Rattle.hostfunc.specs.Boxes.{HostStep, IfHostsKeep, OwnHostStep, type_
 
 use crate::commands::{Command, Reply};
 use crate::embedding::Embedding;
+use crate::embedding::modules::module_at;
 use crate::imports::resolve_imports;
 use crate::link_outcome::{LinkOutcome, without_instance};
 use crate::modules::load_module;
@@ -22,11 +24,14 @@ use crate::refusals::Refusal;
 use core_types::Val;
 use exec::{Outcome, invoke};
 use hostfunc::HostFn;
-use instantiate::{LinkEnd, instantiate};
+use instantiate::{LinkEnd, bytes_of_instance, instantiate};
 use meaning::writing_is_read;
+use quota::Quota;
 use std::alloc::AllocError;
-use std::rc::Rc;
-use store::{LoadedModule, accepts};
+use store::accepts;
+
+// How many bytes of a quota a load counts for each byte of the module.
+const LOAD_BYTES: u64 = 64;
 
 // Returns the number after those of these items, which count up from 0.
 fn next_number<T>(items: &[T]) -> u64
@@ -45,17 +50,11 @@ fn append<T: Drop>(items: &mut Vec<T>, item: T)
     let _ = items.push(item);
 }
 
-fn module_at(modules: &[Rc<LoadedModule>], number: u64) -> Option<&Rc<LoadedModule>>
-    ensures { MatchOption result (slice_get modules.now number ≡ None)
-        (λ loaded. slice_get modules.now number ≡ Some loaded.now) }
-{
-    modules.get(number as usize)
-}
-
 impl Embedding {
     fn load_bytes(&mut self, bytes: &[u8]) -> Result<ModuleNumber, Refusal>
-        ensures { Loads (embedding_of self.old) bytes.now (load_reply result)
+        ensures loads { Loads (embedding_of self.old) bytes.now (load_reply result)
             (embedding_of self.new) }
+        ensures quota { self.new.quota ≡ self.old.quota }
     {
         let loaded = load_module(self.alloc, bytes)?;
         let number = next_number(&self.modules);
@@ -63,7 +62,46 @@ impl Embedding {
         Ok(ModuleNumber(number))
     }
 
+    // Loads a module within the quota.
+    fn load_counted(&mut self, bytes: &[u8]) -> Result<ModuleNumber, Refusal>
+        ensures loads { Loads (embedding_of self.old) bytes.now (load_reply result)
+            (embedding_of self.new) }
+        ensures counted { CountsFor (load_reply result) self.old.quota self.new.quota }
+    {
+        let mut quota = self.quota;
+        if quota
+            .keep(LOAD_BYTES.saturating_mul(bytes.len() as u64))
+            .is_err()
+        {
+            return Err(Refusal::OutOfMemory);
+        }
+        match self.load_bytes(bytes) {
+            Ok(number) => {
+                self.quota = quota;
+                Ok(number)
+            }
+            Err(refusal) => Err(refusal),
+        }
+    }
+
+    // Gives the store a quota to count by.
+    fn lend_quota(&mut self, quota: Quota)
+        ensures same { embedding_of self.new ≡ embedding_of self.old }
+        ensures quota { self.new.quota ≡ self.old.quota }
+    {
+        self.store.set_quota(quota);
+    }
+
+    // Takes over the count of the store, in which a command was carried out.
+    fn take_count(&mut self)
+        ensures same { embedding_of self.new ≡ embedding_of self.old }
+        ensures most { self.new.quota.most ≡ self.old.quota.most }
+    {
+        self.quota = self.quota.after(self.store.quota());
+    }
+
     fn link_module(&mut self, number: u64) -> Result<LinkOutcome, Refusal>
+        ensures quota { self.new.quota ≡ self.old.quota }
         ensures links { LinksAt (HostStep ⟦<dyn HostFn as HostFn>⟧) (embedding_of self.old)
             (slice_get (embedding_of self.old).modules number)
             (link_reply result) (embedding_of self.new) }
@@ -94,9 +132,39 @@ impl Embedding {
         }
     }
 
+    // Links the module of a number within the quota.
+    fn link_counted(&mut self, number: u64) -> Result<LinkOutcome, Refusal>
+        ensures counted { CountsFor (link_reply result) self.old.quota self.new.quota }
+        ensures links { LinksAt (HostStep ⟦<dyn HostFn as HostFn>⟧) (embedding_of self.old)
+            (slice_get (embedding_of self.old).modules number)
+            (link_reply result) (embedding_of self.new) }
+        ensures first_at_fault { IfErr result
+            (λ refusal. IsFirstAtFault (embedding_of self.old) number refusal) }
+    {
+        let Some(loaded) = module_at(&self.modules, number) else {
+            return Err(Refusal::UnknownModule);
+        };
+        let mut quota = self.quota;
+        if quota
+            .keep(bytes_of_instance(loaded.as_ref().module()))
+            .is_err()
+        {
+            return Err(Refusal::OutOfMemory);
+        }
+        self.lend_quota(quota);
+        match self.link_module(number) {
+            Ok(outcome) => {
+                self.take_count();
+                Ok(outcome)
+            }
+            Err(refusal) => Err(refusal),
+        }
+    }
+
     // Registers the instance of a number under a name.
     fn give_name(&mut self, number: u64, name: &str) -> Result<(), Refusal>
-        ensures { RegistersAt (embedding_of self.old) name.now
+        ensures quota { self.new.quota ≡ self.old.quota }
+        ensures registers { RegistersAt (embedding_of self.old) name.now
             (slice_get (embedding_of self.old).instances number)
             (register_reply result) (embedding_of self.new) }
     {
@@ -109,7 +177,8 @@ impl Embedding {
 
     // Calls the function that the instance of a number exports under a name.
     fn call_function(&mut self, number: u64, name: &str, args: &[Val]) -> Result<Outcome, Refusal>
-        ensures { CallsAt (HostStep ⟦<dyn HostFn as HostFn>⟧) (embedding_of self.old)
+        ensures quota { self.new.quota ≡ self.old.quota }
+        ensures calls { CallsAt (HostStep ⟦<dyn HostFn as HostFn>⟧) (embedding_of self.old)
             (as_function (export_at (embedding_of self.old) number name.now)) args.now
             (call_reply result) (embedding_of self.new) }
     {
@@ -125,6 +194,23 @@ impl Embedding {
             address,
             args,
         ))
+    }
+
+    // Calls the function that the instance of a number exports under a name, within the quota.
+    fn call_counted(&mut self, number: u64, name: &str, args: &[Val]) -> Result<Outcome, Refusal>
+        ensures counted { CountsFor (call_reply result) self.old.quota self.new.quota }
+        ensures calls { CallsAt (HostStep ⟦<dyn HostFn as HostFn>⟧) (embedding_of self.old)
+            (as_function (export_at (embedding_of self.old) number name.now)) args.now
+            (call_reply result) (embedding_of self.new) }
+    {
+        self.lend_quota(self.quota);
+        match self.call_function(number, name, args) {
+            Ok(outcome) => {
+                self.take_count();
+                Ok(outcome)
+            }
+            Err(refusal) => Err(refusal),
+        }
     }
 
     // Reads the global that the instance of a number exports under a name.
@@ -143,7 +229,8 @@ impl Embedding {
 
     // Sets the fuel left.
     fn replace_fuel(&mut self, fuel: u64)
-        ensures { SetsFuel (embedding_of self.old) fuel DoneReply (embedding_of self.new) }
+        ensures quota { self.new.quota ≡ self.old.quota }
+        ensures sets { SetsFuel (embedding_of self.old) fuel DoneReply (embedding_of self.new) }
     {
         self.meter.set(fuel);
     }
@@ -169,11 +256,12 @@ impl Embedding {
             (LoadCommand bytes.now) (load_reply result) (embedding_of self.new) }
         ensures goes_well { GoesWell (embedding_of self.old) (LoadCommand bytes.now)
             (load_reply result) (embedding_of self.new) }
+        ensures counted { CountsFor (load_reply result) self.old.quota self.new.quota }
         ensures sound { IsSound type_of_host (embedding_of self.new) }
     {
         writing_is_read();
         self.show_sound();
-        self.load_bytes(bytes)
+        self.load_counted(bytes)
     }
 
     /// Links a module with what the names of its imports stand for, and returns the number of the new instance. If a segment or
@@ -203,12 +291,13 @@ impl Embedding {
             (LinkCommand number.0) (link_reply result) (embedding_of self.new)) }
         ensures first_at_fault { IfErr result
             (λ refusal. IsFirstAtFault (embedding_of self.old) number.0 refusal) }
+        ensures counted { CountsFor (link_reply result) self.old.quota self.new.quota }
         ensures sound { IsSound type_of_host (embedding_of self.new) }
     {
         writing_is_read();
         self.show_sound();
         self.show_linked_module(number.0);
-        self.link_module(number.0)
+        self.link_counted(number.0)
     }
 
     /// Registers an instance under a name, and replaces the instance that was registered under it.
@@ -224,6 +313,7 @@ impl Embedding {
             (embedding_of self.new) }
         ensures goes_well { GoesWell (embedding_of self.old) (RegisterCommand instance.0 name.now)
             (register_reply result) (embedding_of self.new) }
+        ensures counts_nothing { self.new.quota ≡ self.old.quota }
         ensures sound { IsSound type_of_host (embedding_of self.new) }
     {
         writing_is_read();
@@ -261,11 +351,12 @@ impl Embedding {
             (OwnHostStep ⟦<dyn HostFn as HostFn>⟧) (embedding_of self.old)
             (CallCommand instance.0 name.now args.now) (call_reply result)
             (embedding_of self.new)) }
+        ensures counted { CountsFor (call_reply result) self.old.quota self.new.quota }
         ensures sound { IsSound type_of_host (embedding_of self.new) }
     {
         writing_is_read();
         self.show_sound();
-        self.call_function(instance.0, name, args)
+        self.call_counted(instance.0, name, args)
     }
 
     /// Returns the value of the global that an instance exports under a name.
@@ -295,6 +386,7 @@ impl Embedding {
             (SetFuelCommand fuel) DoneReply (embedding_of self.new) }
         ensures goes_well { GoesWell (embedding_of self.old) (SetFuelCommand fuel) DoneReply
             (embedding_of self.new) }
+        ensures counts_nothing { self.new.quota ≡ self.old.quota }
         ensures sound { IsSound type_of_host (embedding_of self.new) }
     {
         writing_is_read();
@@ -325,17 +417,18 @@ impl Embedding {
 
     // Applies a command, as the method of its name does.
     fn apply_command(&mut self, command: &Command) -> Reply
-        ensures { Applies (HostStep ⟦<dyn HostFn as HostFn>⟧) (embedding_of self.old)
+        ensures counted { CountsFor (reply_of result) self.old.quota self.new.quota }
+        ensures applied { Applies (HostStep ⟦<dyn HostFn as HostFn>⟧) (embedding_of self.old)
             (command_of command.now) (reply_of result) (embedding_of self.new) }
     {
         match command {
-            Command::Load(bytes) => Reply::from(self.load_bytes(bytes.as_slice())),
-            Command::Link(number) => Reply::from(self.link_module(*number)),
+            Command::Load(bytes) => Reply::from(self.load_counted(bytes.as_slice())),
+            Command::Link(number) => Reply::from(self.link_counted(*number)),
             Command::Register(number, name) => {
                 Reply::from(self.give_name(*number, name.as_str()))
             }
             Command::Call(number, name, args) => {
-                Reply::from(self.call_function(*number, name.as_str(), args.as_slice()))
+                Reply::from(self.call_counted(*number, name.as_str(), args.as_slice()))
             }
             Command::GetGlobal(number, name) => {
                 Reply::from(self.values_of_global(*number, name.as_str()))
@@ -368,6 +461,7 @@ impl Embedding {
             (embedding_of self.new).state.hosts (AppliesWell
             (OwnHostStep ⟦<dyn HostFn as HostFn>⟧) (embedding_of self.old)
             (command_of command.now) (reply_of result) (embedding_of self.new)) }
+        ensures counted { CountsFor (reply_of result) self.old.quota self.new.quota }
         ensures sound { IsSound type_of_host (embedding_of self.new) }
     {
         writing_is_read();
@@ -400,6 +494,7 @@ impl Embedding {
             (embedding_of self.new).state.hosts
             (RunsWell (OwnHostStep ⟦<dyn HostFn as HostFn>⟧) (embedding_of self.old)
             (map command_of commands.now) (map reply_of answers) (embedding_of self.new))) }
+        ensures counted { self.new.quota.most ≡ self.old.quota.most }
         ensures from_sound { IsSound type_of_host (embedding_of self.old) }
         ensures sound { IsSound type_of_host (embedding_of self.new) }
         ensures unchanged { OnErr result

@@ -20,7 +20,8 @@ module _ (address_of : Extern → Option ℕ) (given : List Extern) (whole : Lis
   FoundSoFar k found =
       found ++ given_addresses address_of (drop k given) ≡ whole
 
-  rest-next : (k : ℕ) (d : Extern) (o : Option ℕ) → k < length given → address_of (get_or given k d) ≡ o → before o (given_addresses address_of (drop (k + 1) given)) ≡ given_addresses address_of (drop k given)
+  rest-next : (k : ℕ) (d : Extern) (o : Option ℕ) → k < length given → address_of (get_or given k d) ≡ o
+      → before o (given_addresses address_of (drop (k + 1) given)) ≡ given_addresses address_of (drop k given)
   rest-next k d o inside has = sym (at_drop_more (given_addresses address_of) given k d inside ∙ ap (λ (p : Option ℕ). before p (given_addresses address_of (drop (k + 1) given))) has)
 
   pub found-none : (k : ℕ) (d : Extern) (found : List ℕ) → k < length given → FoundSoFar k found → address_of (get_or given k d) ≡ None → FoundSoFar (k + 1) found

@@ -27,7 +27,8 @@ module _ (store : Store) (i : ModuleInstance) where
   step-put (Memory op) operands no_operator = refl
   step-put (Numeric op) operands no_operator = absurd (no_operator op refl)
 
-  pub put-some : (op : PlainOp) (items after : List Val) (v : Val) → ((n : NumericOp) → op ≡ Numeric n → ⊥) → Some v ≡ constant store i op → after ≡ items ++ v ∷ [] → constant_step store i op (reverse items) ≡ Some (reverse after)
+  pub put-some : (op : PlainOp) (items after : List Val) (v : Val) → ((n : NumericOp) → op ≡ Numeric n → ⊥) → Some v ≡ constant store i op → after
+      ≡ items ++ v ∷ [] → constant_step store i op (reverse items) ≡ Some (reverse after)
   put-some op items after v no_operator has pushed =
       step-put op (reverse items) no_operator
       ∙ ap (λ (o : Option Val). option_map (λ (w : Val). w ∷ reverse items) o) (sym has)
@@ -62,13 +63,17 @@ abbrev pub IsRunFrom : Store → ModuleInstance → List Op → (k : ℕ) → (i
 IsRunFrom store i ops k items = constant_operands store i (drop k ops) (reverse items) ≡ constant_operands store i ops []
 
 module _ (store : Store) (i : ModuleInstance) (ops : List Op) (k : ℕ) (items : List Val) (so_far : IsRunFrom store i ops k items) where
-  pub run-on : (op : Op) (after : List Val) → k < length ops → op ≡ get_or ops k op → constant_operands store i (op ∷ drop (k + 1) ops) (reverse items) ≡ constant_operands store i (drop (k + 1) ops) (reverse after) → IsRunFrom store i ops (k + 1) after
+  pub run-on : (op : Op) (after : List Val) → k < length ops → op ≡ get_or ops k op
+      → constant_operands store i (op ∷ drop (k + 1) ops) (reverse items) ≡ constant_operands store i (drop (k + 1) ops) (reverse after)
+      → IsRunFrom store i ops (k + 1) after
   run-on op after inside is step =
-      sym step ∙ ap (λ (o : Op). constant_operands store i (o ∷ drop (k + 1) ops) (reverse items)) is ∙ ap (λ (os : List Op). constant_operands store i os (reverse items)) (sym (drop_more ops k op inside)) ∙ so_far
+      sym step ∙ ap (λ (o : Op). constant_operands store i (o ∷ drop (k + 1) ops) (reverse items)) is ∙ ap
+      (λ (os : List Op). constant_operands store i os (reverse items)) (sym (drop_more ops k op inside)) ∙ so_far
 
   pub run-none : (op : Op) → k < length ops → op ≡ get_or ops k op → constant_operands store i (op ∷ drop (k + 1) ops) (reverse items) ≡ None → None ≡ constant_value store i ops
   run-none op inside is none =
-      ap only (sym none ∙ ap (λ (o : Op). constant_operands store i (o ∷ drop (k + 1) ops) (reverse items)) is ∙ ap (λ (os : List Op). constant_operands store i os (reverse items)) (sym (drop_more ops k op inside)) ∙ so_far)
+      ap only (sym none ∙ ap (λ (o : Op). constant_operands store i (o ∷ drop (k + 1) ops) (reverse items)) is ∙ ap
+      (λ (os : List Op). constant_operands store i os (reverse items)) (sym (drop_more ops k op inside)) ∙ so_far)
 
   pub run-end : length ops ≤ k → only (Some (reverse items)) ≡ constant_value store i ops
   run-end past = ap only (ap (λ (os : List Op). constant_operands store i os (reverse items)) (sym (drop_all k ops past)) ∙ so_far)

@@ -64,7 +64,8 @@ module _ (bound instance : ℕ) (old : Store) (fuel : ℕ) (configuration : Conf
     same-state same k is = rw (same, is) refl
 
     -- The result of the instruction is a step, or an end.
-    pub steps-or-ends : {U : Type 0} (r : Result U TaskEnd) (o : Outcome) → IsOutcome old 0 o → HasNext o → Passes r o old new fuel left → StepsOrEnds NoHosts r bound its_frame (at old fuel) configuration (at new left) (Running [] rest)
+    pub steps-or-ends : {U : Type 0} (r : Result U TaskEnd) (o : Outcome) → IsOutcome old 0 o → HasNext o → Passes r o old new fuel left
+        → StepsOrEnds NoHosts r bound its_frame (at old fuel) configuration (at new left) (Running [] rest)
     steps-or-ends (Ok u) (made cost store []) many is (enough, left_is, same) = goes (is ∙ ap (λ (s : Store). Goes cost s its_frame (Running [] rest)) (sym same)) enough left_is refl
     steps-or-ends (Ok u) (made cost store (v ∷ vs)) (count, stays) is passes = absurd (omega (arith, count))
     steps-or-ends (Ok u) (grown cost store []) many is (enough, left_is, same) = grows (is ∙ ap (λ (s : Store). Grows cost s its_frame (Running [] rest)) (sym same)) enough left_is refl
@@ -101,6 +102,7 @@ module _ (bound instance : ℕ) (old : Store) (fuel : ℕ) (configuration : Conf
   gets-stuck is = record { ends = record { at = at old fuel; reached = configuration; steps = none; stuck = waiting-stuck is }; no_values = tt }
 
 -- A step after which nothing is left is a run.
-pub steps-run : {U : Type 0} (r : Result U TaskEnd) (bound : ℕ) (frame : Frame) (old new : State ⊥) (configuration : Configuration) → StepsOrEnds NoHosts r bound frame old configuration new (Running [] Empty) → RunsTo NoHosts r bound frame old configuration new
+pub steps-run : {U : Type 0} (r : Result U TaskEnd) (bound : ℕ) (frame : Frame) (old new : State ⊥) (configuration : Configuration)
+    → StepsOrEnds NoHosts r bound frame old configuration new (Running [] Empty) → RunsTo NoHosts r bound frame old configuration new
 steps-run (Ok u) bound frame old new configuration s = ([], step-over bound frame old new configuration [] s)
 steps-run (Err o) bound frame old new configuration ends = ends

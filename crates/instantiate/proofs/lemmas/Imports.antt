@@ -26,7 +26,8 @@ module _ (store : Store) (e : Extern) (wanted : Option ExternType) where
   not_given-unasked unasked w = absurd cc
 
 -- One more import is given what it requires.
-pub given-next : (store : Store) (m : Module) (imports : List Import) (externs : List Extern) (k : ℕ) (i : Import) (e : Extern) → slice_get imports k ≡ Some i → slice_get externs k ≡ Some e → IsGiven store e (import_type m i.desc)
+pub given-next : (store : Store) (m : Module) (imports : List Import) (externs : List Extern) (k : ℕ) (i : Import) (e : Extern) → slice_get imports k
+    ≡ Some i → slice_get externs k ≡ Some e → IsGiven store e (import_type m i.desc)
     → AreGiven store m (take k imports) externs → AreGiven store m (take (suc k) imports) externs
 given-next store m [] externs k i e there given is before = absurd cc
 given-next store m (j ∷ imports) [] k i e there given is before = absurd cc

@@ -20,8 +20,11 @@ addresses_in i = record {
 }
 
 -- An instance of a module has the addresses that are kept, and the module's types and exports.
-pub found-instance : (code : Contents) (number : ℕ) (m : Module) (found : Instance) → HasInstance code number m → slice_get code.instances number ≡ Some found → module_instance (lists_of found.addresses) m ≡ instance_of (code_store code) (Some number)
+pub found-instance : (code : Contents) (number : ℕ) (m : Module) (found : Instance) → HasInstance code number m → slice_get code.instances number
+    ≡ Some found → module_instance (lists_of found.addresses) m ≡ instance_of (code_store code) (Some number)
 found-instance code number m found (addresses, there) kept =
-    let mapped : Some (module_instance_of found) ≡ Some (module_instance addresses m) = (sym (slice_get-map module_instance_of code.instances number ∙ ap (option_map module_instance_of) kept) ∙ there) in
+    let mapped : Some (module_instance_of found)
+    ≡ Some (module_instance addresses m) =
+    (sym (slice_get-map module_instance_of code.instances number ∙ ap (option_map module_instance_of) kept) ∙ there) in
     let same : module_instance_of found ≡ module_instance addresses m = ap (λ (o : Option ModuleInstance). unwrap_or o no_instance) mapped in
     ap (λ (i : ModuleInstance). module_instance (addresses_in i) m) same ∙ sym (ap (λ (o : Option ModuleInstance). unwrap_or o no_instance) there)

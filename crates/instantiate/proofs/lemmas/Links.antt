@@ -38,33 +38,43 @@ given-enough store m (i ∷ imports) [] given = absurd given
 given-enough store m (i ∷ imports) (e ∷ externs) given = let rest = given-enough store m imports externs given.1 in omega (arith, rest)
 
 -- The new tables and memories are those of the module, and so within the limits.
-tables-are : (m : Module) (globals : Option (List GlobalInstance)) (elements : Option (List ElementInstance)) (objects : ObjectLists) → objects_with m globals elements ≡ Some objects → map new_table m.tables ≡ objects.tables
+tables-are : (m : Module) (globals : Option (List GlobalInstance)) (elements : Option (List ElementInstance)) (objects : ObjectLists)
+    → objects_with m globals elements ≡ Some objects → map new_table m.tables ≡ objects.tables
 tables-are m None elements objects is = absurd (cc)
 tables-are m (Some globals) None objects is = absurd (cc)
 tables-are m (Some globals) (Some elements) objects is = ap (λ (o : Option ObjectLists). (unwrap_or o objects).tables) is
 
-memories-are : (m : Module) (globals : Option (List GlobalInstance)) (elements : Option (List ElementInstance)) (objects : ObjectLists) → objects_with m globals elements ≡ Some objects → map new_memory m.memories ≡ objects.memories
+memories-are : (m : Module) (globals : Option (List GlobalInstance)) (elements : Option (List ElementInstance)) (objects : ObjectLists)
+    → objects_with m globals elements ≡ Some objects → map new_memory m.memories ≡ objects.memories
 memories-are m None elements objects is = absurd (cc)
 memories-are m (Some globals) None objects is = absurd (cc)
 memories-are m (Some globals) (Some elements) objects is = ap (λ (o : Option ObjectLists). (unwrap_or o objects).memories) is
 
-pub objects-within : (store : Store) (i : ModuleInstance) (m : Module) (objects : ObjectLists) (bounds : Bounds) → new_objects store i m ≡ Some objects → All (λ (t : TableType). t.limits.min ≤ bounds.entries) m.tables → All (λ (l : Limits). l.min ≤ bounds.pages) m.memories → AreWithin bounds objects.tables objects.memories
+pub objects-within : (store : Store) (i : ModuleInstance) (m : Module) (objects : ObjectLists) (bounds : Bounds) → new_objects store i m
+    ≡ Some objects → All (λ (t : TableType). t.limits.min ≤ bounds.entries) m.tables → All (λ (l : Limits). l.min ≤ bounds.pages) m.memories
+    → AreWithin bounds objects.tables objects.memories
 objects-within store i m objects bounds is few_entries few_pages = record {
-  few_entries = subst (All (IsTableWithin bounds.entries)) (tables-are m (map_all (new_global store i) m.globals) (map_all (new_elements store i) m.elements) objects is) (All-map (IsTableWithin bounds.entries) new_table m.tables few_entries);
-  few_pages = subst (All (IsMemoryWithin bounds.pages)) (memories-are m (map_all (new_global store i) m.globals) (map_all (new_elements store i) m.elements) objects is) (All-map (IsMemoryWithin bounds.pages) new_memory m.memories few_pages);
+  few_entries = subst (All (IsTableWithin bounds.entries))
+      (tables-are m (map_all (new_global store i) m.globals) (map_all (new_elements store i) m.elements) objects is)
+      (All-map (IsTableWithin bounds.entries) new_table m.tables few_entries);
+  few_pages = subst (All (IsMemoryWithin bounds.pages))
+      (memories-are m (map_all (new_global store i) m.globals) (map_all (new_elements store i) m.elements) objects is)
+      (All-map (IsMemoryWithin bounds.pages) new_memory m.memories few_pages);
 }
 
 module _ (number : ℕ) (m : Module) (given : List Extern) (old : Store) (code : Contents) (s : StateContents) (a : IsAllocated number m given old (store_with code s)) where
   -- The new instance has the number that is returned.
   numbered : slice_get (store_with code s).instances number ≡ Some (new_instance old m given)
   numbered =
-      ap (slice_get (store_with code s).instances) a.number_is ∙ ap (λ (store : Store). slice_get store.instances (length old.instances)) a.store_is ∙ slice_get-seam old.instances (new_instance old m given) []
+      ap (slice_get (store_with code s).instances) a.number_is ∙ ap (λ (store : Store). slice_get store.instances (length old.instances)) a.store_is ∙
+      slice_get-seam old.instances (new_instance old m given) []
 
   pub allocated-instance : HasInstance code number m
   allocated-instance = (addresses_in (new_instance old m given), numbered)
 
   -- The tasks of the link go well.
-  pub allocated-good : ((b : Body) → body_of (writing b) ≡ b) → StoreIsValid old → IsLinkable old m given → TasksAreGood (store_with code s) number (instance_of (code_store code) (Some number)) (tasks_of m)
+  pub allocated-good : ((b : Body) → body_of (writing b) ≡ b) → StoreIsValid old → IsLinkable old m given
+      → TasksAreGood (store_with code s) number (instance_of (code_store code) (Some number)) (tasks_of m)
   allocated-good read valid linkable =
       let instance_is : instance_of (code_store code) (Some number) ≡ new_instance old m given = ap (λ (o : Option ModuleInstance). unwrap_or o no_instance) numbered in
       subst (λ (store : Store). TasksAreGood store number (instance_of (code_store code) (Some number)) (tasks_of m)) (sym a.store_is)
@@ -78,25 +88,40 @@ module _ (number : ℕ) (m : Module) (given : List Extern) (old : Store) (code :
 
   -- The run of the tasks is the instantiation.
   module _ {H : Type 0} (HostStep : List H → ℕ → Option ℕ → List Val → Store → Answer → Store → List H → Type 0) (hosts : List H) (bound fuel : ℕ) where
-    ran-links : (ending : Ending) (last : State H) → RunTasks HostStep bound number (instance_of (code_store code) (Some number)) (run_state (store_with code s) hosts fuel) (tasks_of m) ending last → Instantiation HostStep bound m given (run_state old hosts fuel) ending last
+    ran-links : (ending : Ending) (last : State H)
+        → RunTasks HostStep bound number (instance_of (code_store code) (Some number)) (run_state (store_with code s) hosts fuel) (tasks_of m) ending
+        last → Instantiation HostStep bound m given (run_state old hosts fuel) ending last
     ran-links ending last ran =
         let instance_is : instance_of (code_store code) (Some number) ≡ new_instance old m given = ap (λ (o : Option ModuleInstance). unwrap_or o no_instance) numbered in
         record {
           objects = a.objects;
           allocated = a.objects_are;
-          ran = subst (λ (n : ℕ). RunTasks HostStep bound n (new_instance old m given) (run_state (with_module old (new_instance old m given) m a.objects) hosts fuel) (tasks_of m) ending last) a.number_is
+          ran = subst (λ (n : ℕ). RunTasks HostStep bound n (new_instance old m given)
+              (run_state (with_module old (new_instance old m given) m a.objects) hosts fuel) (tasks_of m) ending last) a.number_is
               (subst (λ (i : ModuleInstance). RunTasks HostStep bound number i (run_state (with_module old (new_instance old m given) m a.objects) hosts fuel) (tasks_of m) ending last) instance_is
               (subst (λ (store : Store). RunTasks HostStep bound number (instance_of (code_store code) (Some number)) (run_state store hosts fuel) (tasks_of m) ending last) a.store_is ran));
         }
 
-    pub done-links : (last : State H) → DoneTasks HostStep bound number (instance_of (code_store code) (Some number)) (run_state (store_with code s) hosts fuel) (tasks_of m) last → Instantiation HostStep bound m given (run_state old hosts fuel) (WithValues []) last
+    pub done-links : (last : State H)
+        → DoneTasks HostStep bound number (instance_of (code_store code) (Some number)) (run_state (store_with code s) hosts fuel) (tasks_of m) last
+        → Instantiation HostStep bound m given (run_state old hosts fuel) (WithValues []) last
     done-links last before = ran-links (WithValues []) last (before-all (before [] (Some (WithValues [])) last all_done))
       where
-        before-all : RunTasks HostStep bound number (instance_of (code_store code) (Some number)) (run_state (store_with code s) hosts fuel) (tasks_of m ++ []) (WithValues []) last → RunTasks HostStep bound number (instance_of (code_store code) (Some number)) (run_state (store_with code s) hosts fuel) (tasks_of m) (WithValues []) last
-        before-all = subst (λ (ts : List Task). RunTasks HostStep bound number (instance_of (code_store code) (Some number)) (run_state (store_with code s) hosts fuel) ts (WithValues []) last) (append-nil (tasks_of m))
+        before-all : RunTasks HostStep bound number (instance_of (code_store code) (Some number)) (run_state (store_with code s) hosts fuel)
+            (tasks_of m ++ []) (WithValues []) last
+            → RunTasks HostStep bound number (instance_of (code_store code) (Some number)) (run_state (store_with code s) hosts fuel) (tasks_of m)
+            (WithValues []) last
+        before-all = subst (λ (ts : List Task).
+            RunTasks HostStep bound number (instance_of (code_store code) (Some number)) (run_state (store_with code s) hosts fuel) ts (WithValues [])
+            last) (append-nil (tasks_of m))
 
-    pub ended-links : (o : TaskEnd) (ending : Ending) (last : State H) → ending_in o ≡ Some ending → EndedTasks HostStep bound number (instance_of (code_store code) (Some number)) (run_state (store_with code s) hosts fuel) (tasks_of m) o last
+    pub ended-links : (o : TaskEnd) (ending : Ending) (last : State H) → ending_in o ≡ Some ending
+        → EndedTasks HostStep bound number (instance_of (code_store code) (Some number)) (run_state (store_with code s) hosts fuel) (tasks_of m) o last
         → Instantiation HostStep bound m given (run_state old hosts fuel) ending last
     ended-links o ending last is before =
-        let ran = subst (λ (e : Option Ending). TasksRunOn HostStep bound number (instance_of (code_store code) (Some number)) (run_state (store_with code s) hosts fuel) (tasks_of m ++ []) e last) is (before.ended []) in
-        ran-links ending last (subst (λ (ts : List Task). RunTasks HostStep bound number (instance_of (code_store code) (Some number)) (run_state (store_with code s) hosts fuel) ts ending last) (append-nil (tasks_of m)) ran)
+        let ran = subst (λ (e : Option Ending).
+        TasksRunOn HostStep bound number (instance_of (code_store code) (Some number)) (run_state (store_with code s) hosts fuel)
+        (tasks_of m ++ []) e last) is (before.ended []) in
+        ran-links ending last (subst (λ (ts : List Task).
+        RunTasks HostStep bound number (instance_of (code_store code) (Some number)) (run_state (store_with code s) hosts fuel) ts ending last)
+        (append-nil (tasks_of m)) ran)

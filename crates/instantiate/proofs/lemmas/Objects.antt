@@ -35,10 +35,12 @@ fault-passed Memory o p none missing = tt
 pub few_pages-valid : (m : Module) → IsValid m → All (λ (l : Limits). l.min ≤ 65536) m.memories
 few_pages-valid m valid =
     let imported = imported_memories m.imports in
-    let few : All AreFewPages m.memories = subst (All AreFewPages) (drop_at imported m.memories (length imported) refl) (All-drop AreFewPages (length imported) (imported ++ m.memories) valid.memory_pages) in
+    let few : All AreFewPages m.memories = subst (All AreFewPages) (drop_at imported m.memories (length imported) refl)
+    (All-drop AreFewPages (length imported) (imported ++ m.memories) valid.memory_pages) in
     All-weaker AreFewPages (λ (l : Limits). l.min ≤ 65536) (λ l pages. pages.0) m.memories few
 
-pub datas-next : (m : Module) (k : ℕ) (so_far after : List DataInstance) (new : DataInstance) → k < length m.datas → so_far ≡ map new_data (take k m.datas) → new.bytes ≡ bytes_at m k → after ≡ so_far ++ new ∷ [] → after ≡ map new_data (take (k + 1) m.datas)
+pub datas-next : (m : Module) (k : ℕ) (so_far after : List DataInstance) (new : DataInstance) → k < length m.datas → so_far
+    ≡ map new_data (take k m.datas) → new.bytes ≡ bytes_at m k → after ≡ so_far ++ new ∷ [] → after ≡ map new_data (take (k + 1) m.datas)
 datas-next m k so_far after new inside had bytes pushed =
     let d : DataSegment = record { bytes = []; mode = Passive } in
     let with_bytes : List ℕ → DataInstance = λ bs. record { bytes = bs } in
@@ -69,6 +71,11 @@ module _ (store : Store) (i : ModuleInstance) (m : Module) where
   objects-no_elements none =
       ap (objects_with m (map_all (new_global store i) m.globals)) none ∙ with-no_elements (map_all (new_global store i) m.globals)
 
-  pub objects-made : (tables : List TableInstance) (memories : List MemoryInstance) (globals : List GlobalInstance) (elements : List ElementInstance) (datas : List DataInstance) → tables ≡ map new_table m.tables → memories ≡ map new_memory m.memories → map_all (new_global store i) m.globals ≡ Some globals → map_all (new_elements store i) m.elements ≡ Some elements → datas ≡ map new_data m.datas → new_objects store i m ≡ Some (record { tables = tables; memories = memories; globals = globals; elements = elements; datas = datas })
+  pub objects-made : (tables : List TableInstance) (memories : List MemoryInstance) (globals : List GlobalInstance) (elements : List ElementInstance)
+      (datas : List DataInstance) → tables ≡ map new_table m.tables → memories ≡ map new_memory m.memories → map_all (new_global store i) m.globals
+      ≡ Some globals → map_all (new_elements store i) m.elements ≡ Some elements → datas ≡ map new_data m.datas → new_objects store i m
+      ≡ Some (record { tables = tables; memories = memories; globals = globals; elements = elements; datas = datas })
   objects-made tables memories globals elements datas tables_are memories_are have_globals have_elements datas_are =
-      rw (tables_are, memories_are, datas_are) (ap (λ (gs : Option (List GlobalInstance)). objects_with m gs (map_all (new_elements store i) m.elements)) have_globals ∙ ap (objects_with m (Some globals)) have_elements)
+      rw (tables_are, memories_are, datas_are)
+      (ap (λ (gs : Option (List GlobalInstance)). objects_with m gs (map_all (new_elements store i) m.elements)) have_globals ∙ ap
+      (objects_with m (Some globals)) have_elements)

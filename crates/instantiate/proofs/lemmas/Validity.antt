@@ -50,13 +50,15 @@ is-linkable store m externs n count sound allowed =
     rw count (record { sound = sound; within = allowed.within; count = length-take-le (length m.imports) externs enough; fits = given-taken store m m.imports externs allowed.given })
 
 -- Good tasks that ran without host functions leave a valid store.
-on-valid : (ending : Option Ending) (bound n : ℕ) (i : ModuleInstance) (old new : State ⊥) (tasks : List Task) → StoreIsValid old.store → TasksAreGood old.store n i tasks → TasksRunOn NoHosts bound n i old (tasks ++ []) ending new → StoreIsValid new.store
+on-valid : (ending : Option Ending) (bound n : ℕ) (i : ModuleInstance) (old new : State ⊥) (tasks : List Task) → StoreIsValid old.store
+    → TasksAreGood old.store n i tasks → TasksRunOn NoHosts bound n i old (tasks ++ []) ending new → StoreIsValid new.store
 on-valid (Some ending) bound n i old new tasks valid good ran =
     (tasks-end-alone bound old.store n i tasks good valid (Extends-same old.store) (subst (λ (ts : List Task). RunTasks NoHosts bound n i old ts ending new) (append-nil tasks) ran)).valid
 on-valid None bound n i old new tasks valid good ran =
     absurd (tasks-never-stuck-alone bound old.store n i tasks good valid (Extends-same old.store) (subst (λ (ts : List Task). TasksGetStuck NoHosts bound n i old ts) (append-nil tasks) ran))
 
-pub ran-valid : {U : Type 0} (r : Result U TaskEnd) (bound n : ℕ) (i : ModuleInstance) (old new : State ⊥) (tasks : List Task) → StoreIsValid old.store → TasksAreGood old.store n i tasks → RanTasks NoHosts r bound n i old tasks new → StoreIsValid new.store
+pub ran-valid : {U : Type 0} (r : Result U TaskEnd) (bound n : ℕ) (i : ModuleInstance) (old new : State ⊥) (tasks : List Task)
+    → StoreIsValid old.store → TasksAreGood old.store n i tasks → RanTasks NoHosts r bound n i old tasks new → StoreIsValid new.store
 ran-valid (Ok u) bound n i old new tasks valid good ran = on-valid (Some (WithValues [])) bound n i old new tasks valid good (ran [] (Some (WithValues [])) new all_done)
 ran-valid (Err o) bound n i old new tasks valid good ran = on-valid (ending_in o) bound n i old new tasks valid good (ran.ended [])
 
@@ -79,10 +81,12 @@ module _ (read : (b : Body) → body_of (writing b) ≡ b) {I : Type 0} {F : I �
       → Extends old.store new.store × InstanceStays old.store new.store m (given_to m externs) × (new.fuel ≤ old.fuel)
   ran-leaves bound m externs old new ending valid ready sound allowed run =
       let linkable = is-linkable old.store m externs (length m.imports) refl sound allowed in
-      let (ended, stays) = links-never-go-wrong read (HostStep members) HaveHosts (ready-still type_of_host) (ready-linked type_of_host) (boxes-answer-well members) bound m (given_to m externs) old new ending valid ready linkable run in
+      let (ended, stays) = links-never-go-wrong read (HostStep members) HaveHosts (ready-still type_of_host) (ready-linked type_of_host)
+      (boxes-answer-well members) bound m (given_to m externs) old new ending valid ready linkable run in
       (ended.extends, stays, link-spends (HostStep members) bound m (given_to m externs) run)
 
-  pub link-leaves : (r : Result ℕ LinkEnd) (bound : ℕ) (m : Module) (externs : List Extern) (old new : State (HostObject I F)) → StoreIsValid old.store → HaveHosts old.store old.hosts → IsSoundModule m
+  pub link-leaves : (r : Result ℕ LinkEnd) (bound : ℕ) (m : Module) (externs : List Extern) (old new : State (HostObject I F))
+      → StoreIsValid old.store → HaveHosts old.store old.hosts → IsSoundModule m
       → Links (HostStep members) r bound m externs old new → LeftWell r m externs old new
   link-leaves (Ok number) bound m externs old new valid ready sound linked =
       let (extends, stays, spends) = ran-leaves bound m externs old new (WithValues []) valid ready sound linked.allowed linked.run in

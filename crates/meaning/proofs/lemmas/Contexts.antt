@@ -125,5 +125,12 @@ HasType-extension a b more (Nested kind type inner rest) before after (s, betwee
     let under = Carries-with_label a b (label_types kind s) more in
     (s, between, block_type_extension more type s is, HasType-extension _ _ under inner _ _ inside, other, frame, HasType-extension a b more rest between after last)
 HasType-extension a b more (IfElse type inner other rest) before after (s, between, is, first, second, frame, last) =
-    let under = Carries-with_label a b s.results more in
-    (s, between, block_type_extension more type s is, HasType-extension _ _ under inner _ _ first, HasType-extension _ _ under other _ _ second, frame, HasType-extension a b more rest between after last)
+    let under = Carries-with_label a b s.results more in (
+      s,
+      between,
+      block_type_extension more type s is,
+      HasType-extension _ _ under inner _ _ first,
+      HasType-extension _ _ under other _ _ second,
+      frame,
+      HasType-extension a b more rest between after last,
+    )

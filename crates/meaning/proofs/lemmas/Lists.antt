@@ -34,7 +34,8 @@ module _ {A B : Type 0} (f : A → Option B) (xs : List A) where
 
   pub map_all-next : (k : ℕ) (ys : List B) (d : A) (y : B) → k < length xs → SoFar k ys → f (get_or xs k d) ≡ Some y → SoFar (k + 1) (ys ++ y ∷ [])
   map_all-next k ys d y inside so_far has =
-      so_far ∙ ap (λ (rest : List A). prepended ys (map_all f rest)) (drop_more xs k d inside) ∙ ap (λ (o : Option B). prepended ys (cons o (map_all f (drop (k + 1) xs)))) has ∙ prepended-one ys y (map_all f (drop (k + 1) xs))
+      so_far ∙ ap (λ (rest : List A). prepended ys (map_all f rest)) (drop_more xs k d inside) ∙ ap
+      (λ (o : Option B). prepended ys (cons o (map_all f (drop (k + 1) xs)))) has ∙ prepended-one ys y (map_all f (drop (k + 1) xs))
 
   pub map_all-none : (k : ℕ) (ys : List B) (d : A) → k < length xs → SoFar k ys → f (get_or xs k d) ≡ None → map_all f xs ≡ None
   map_all-none k ys d inside so_far none =

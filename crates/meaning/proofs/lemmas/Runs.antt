@@ -5,7 +5,9 @@ use Rattle.core_types.specs.declared.outcome.Trap.TheVariants.{Host}
 use Rattle.core_types.specs.declared.outcome.Val.{Val}
 use Rattle.meaning.specs.execution.Configurations.{Configuration, Frame, answered, depth}
 use Rattle.meaning.specs.execution.Instructions.{Next, Goes, Grows, Opens, CallsHost, Traps, Branches, Returns, TailCalls, Over, NotReady, next}
-use Rattle.meaning.specs.execution.Runs.{Answer, AsksForMemory, Results, HostTrap, Ending, WithValues, WithTrap, OutOfFuel, OutOfDepth, OutOfMemory, State, IsStep, goes, grows, opens, calls, IsEnd, values_left, trapped, host_trapped, no_fuel, no_depth, no_memory, Run, end, step, Steps, none, one_more, price}
+use Rattle.meaning.specs.execution.Runs.{Answer, AsksForMemory, Results, HostTrap, Ending, WithValues, WithTrap, OutOfFuel, OutOfDepth, OutOfMemory, State}
+use Rattle.meaning.specs.execution.Runs.{IsStep, goes, grows, opens, calls, IsEnd, values_left, trapped, host_trapped, no_fuel, no_depth, no_memory, Run, end}
+use Rattle.meaning.specs.execution.Runs.{step, Steps, none, one_more, price}
 use Rattle.meaning.specs.execution.Store.{Store}
 
 module _ {H : Type 0} where
@@ -19,7 +21,8 @@ module _ {H : Type 0} where
 
 module _ {H : Type 0} (HostStep : List H → ℕ → Option ℕ → List Val → Store → Answer → Store → List H → Type 0) (bound : ℕ) (outside : Frame) where
   -- An end out of memory is before a step that asks for memory.
-  pub memory-asked : {at last : State H} {configuration : Configuration} {ending : Ending} → ending ≡ OutOfMemory → IsEnd HostStep bound outside at configuration ending last → AsksForMemory (next at.store outside configuration)
+  pub memory-asked : {at last : State H} {configuration : Configuration} {ending : Ending} → ending ≡ OutOfMemory
+      → IsEnd HostStep bound outside at configuration ending last → AsksForMemory (next at.store outside configuration)
   memory-asked wants (values_left is e l) = absurd (let both = sym wants ∙ e in cc)
   memory-asked wants (trapped is le e l) = absurd (let both = sym wants ∙ e in cc)
   memory-asked wants (host_trapped is le l host e) = absurd (let both = sym wants ∙ e in cc)
@@ -28,11 +31,14 @@ module _ {H : Type 0} (HostStep : List H → ℕ → Option ℕ → List Val →
   memory-asked wants (no_memory asks within le e l) = asks
 
   -- A run after steps is a run from before them.
-  pub Steps-run : {old between last : State H} {first second : Configuration} {ending : Ending} → Steps HostStep bound outside old first between second → Run HostStep bound outside between second ending last → Run HostStep bound outside old first ending last
+  pub Steps-run : {old between last : State H} {first second : Configuration} {ending : Ending}
+      → Steps HostStep bound outside old first between second → Run HostStep bound outside between second ending last
+      → Run HostStep bound outside old first ending last
   Steps-run none run = run
   Steps-run (one_more before last) run = Steps-run before (step last run)
 
-  pub Steps-join : {old between new : State H} {first second third : Configuration} → Steps HostStep bound outside old first between second → Steps HostStep bound outside between second new third → Steps HostStep bound outside old first new third
+  pub Steps-join : {old between new : State H} {first second third : Configuration} → Steps HostStep bound outside old first between second
+      → Steps HostStep bound outside between second new third → Steps HostStep bound outside old first new third
   Steps-join before none = before
   Steps-join before (one_more more last) = one_more (Steps-join before more) last
 
@@ -63,7 +69,8 @@ module _ {H : Type 0} (HostStep : List H → ℕ → Option ℕ → List Val →
     EndsAt (Opens cost store configuration) ending last =
         NoFuel cost ending last ⊎ ((cost ≤ at.fuel) × (bound ≤ frames) × (ending ≡ OutOfDepth) × (last ≡ at))
     EndsAt (CallsHost cost number lent arguments configuration) ending last =
-        NoFuel cost ending last ⊎ ((code : ℕ) × (cost ≤ at.fuel) × (last.fuel ≡ at.fuel - cost) × HostStep at.hosts number lent arguments at.store (HostTrap code) last.store last.hosts × (ending ≡ WithTrap (Host code)))
+        NoFuel cost ending last ⊎ ((code : ℕ) × (cost ≤ at.fuel) × (last.fuel ≡ at.fuel - cost)
+        × HostStep at.hosts number lent arguments at.store (HostTrap code) last.store last.hosts × (ending ≡ WithTrap (Host code)))
     EndsAt (Traps cost trap) ending last =
         NoFuel cost ending last ⊎ ((cost ≤ at.fuel) × (ending ≡ WithTrap trap) × (last ≡ record at { fuel = at.fuel - cost }))
     EndsAt (Branches label values) ending last = ⊥
@@ -83,7 +90,8 @@ module _ {H : Type 0} (HostStep : List H → ℕ → Option ℕ → List Val →
     StepsAt (Opens cost store configuration) new configuration' =
         GoesTo cost store configuration new configuration' × (frames < bound)
     StepsAt (CallsHost cost number lent arguments configuration) new configuration' =
-        (results : List Val) × (cost ≤ at.fuel) × (new.fuel ≡ at.fuel - cost) × HostStep at.hosts number lent arguments at.store (Results results) new.store new.hosts × (configuration' ≡ answered results configuration)
+        (results : List Val) × (cost ≤ at.fuel) × (new.fuel ≡ at.fuel - cost)
+        × HostStep at.hosts number lent arguments at.store (Results results) new.store new.hosts × (configuration' ≡ answered results configuration)
     StepsAt (Traps cost trap) new configuration' = ⊥
     StepsAt (Branches label values) new configuration' = ⊥
     StepsAt (Returns values) new configuration' = ⊥
@@ -188,7 +196,8 @@ module _ {H : Type 0} (HostStep : List H → ℕ → Option ℕ → List Val →
     abbrev EndAlike : Ending → Ending → State H → State H → Type 0
     EndAlike e f s t = (e ≡ OutOfMemory) ⊎ ((f ≡ OutOfMemory) ⊎ ((e ≡ f) × (s ≡ t)))
 
-    pub Runs-agree : {at s t : State H} {configuration : Configuration} {e f : Ending} → Run HostStep bound outside at configuration e s → Run HostStep bound outside at configuration f t → EndAlike e f s t
+    pub Runs-agree : {at s t : State H} {configuration : Configuration} {e f : Ending} → Run HostStep bound outside at configuration e s
+        → Run HostStep bound outside at configuration f t → EndAlike e f s t
     Runs-agree {at} {s} {t} {configuration} {e} {f} (end a) (end b) = both (IsEnd-at at configuration a) (IsEnd-at at configuration b)
       where
         both : (e ≡ OutOfMemory) ⊎ EndsAt at (depth configuration) (here at configuration) e s → (f ≡ OutOfMemory) ⊎ EndsAt at (depth configuration) (here at configuration) f t → EndAlike e f s t

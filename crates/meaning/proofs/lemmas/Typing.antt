@@ -46,7 +46,8 @@ AllFit-parts (t ∷ ts) (w ∷ wanted) more fits =
 -- ---- bodies
 
 -- Operands that fit those of a stack can be given instead.
-taken-before : (operands results before given after : List OperandType) → AllFit given before → TakesAndGives operands results before after → (now : List OperandType) × TakesAndGives operands results given now × AllFit now after
+taken-before : (operands results before given after : List OperandType) → AllFit given before → TakesAndGives operands results before after
+    → (now : List OperandType) × TakesAndGives operands results given now × AllFit now after
 taken-before operands results before given after fits frame =
     let (below, top, parts, fits_below, fits_top) = AllFit-parts given frame.below frame.given (rw frame.before_is at fits) in
     let left : AllFit (below ++ results) (frame.below ++ results) = AllFit-joined below frame.below results results fits_below (AllFit-same results) in (
@@ -77,9 +78,12 @@ HasType-weakening context (IfElse type inner other rest) under before after (s, 
 -- A body that leads to a stack leads to each that it fits.
 pub HasType-after : (context : Context) (body : Body) (before after wanted : List OperandType) → HasType context body before after → AllFit after wanted → HasType context body before wanted
 HasType-after context Empty before after wanted typed fits = AllFit-through before after wanted typed fits
-HasType-after context (Then op rest) before after wanted (operands, results, between, rule, frame, last) fits = (operands, results, between, rule, frame, HasType-after context rest between after wanted last fits)
-HasType-after context (Nested kind type inner rest) before after wanted (s, between, is, inside, other, frame, last) fits = (s, between, is, inside, other, frame, HasType-after context rest between after wanted last fits)
-HasType-after context (IfElse type inner other rest) before after wanted (s, between, is, inside, second, frame, last) fits = (s, between, is, inside, second, frame, HasType-after context rest between after wanted last fits)
+HasType-after context (Then op rest) before after wanted (operands, results, between, rule, frame, last) fits =
+    (operands, results, between, rule, frame, HasType-after context rest between after wanted last fits)
+HasType-after context (Nested kind type inner rest) before after wanted (s, between, is, inside, other, frame, last) fits =
+    (s, between, is, inside, other, frame, HasType-after context rest between after wanted last fits)
+HasType-after context (IfElse type inner other rest) before after wanted (s, between, is, inside, second, frame, last) fits =
+    (s, between, is, inside, second, frame, HasType-after context rest between after wanted last fits)
 
 -- A body that leads from a stack leads from each stack that fits it.
 pub HasType-before : (context : Context) (body : Body) (before given after : List OperandType) → AllFit given before → HasType context body before after → HasType context body given after
@@ -94,11 +98,15 @@ HasType-before context (IfElse type inner other rest) before given after fits (s
     let (now, framed, left) = taken-before _ _ before given between fits frame in
     (s, now, is, inside, second, framed, HasType-before context rest between now after left last)
 
-pub HasType-joined : (context : Context) (a b : Body) (before between after : List OperandType) → HasType context a before between → HasType context b between after → HasType context (joined a b) before after
+pub HasType-joined : (context : Context) (a b : Body) (before between after : List OperandType) → HasType context a before between
+    → HasType context b between after → HasType context (joined a b) before after
 HasType-joined context Empty b before between after first second = HasType-before context b between before after first second
-HasType-joined context (Then op rest) b before between after (operands, results, next, rule, frame, last) second = (operands, results, next, rule, frame, HasType-joined context rest b next between after last second)
-HasType-joined context (Nested kind type inner rest) b before between after (s, next, is, inside, other, frame, last) second = (s, next, is, inside, other, frame, HasType-joined context rest b next between after last second)
-HasType-joined context (IfElse type inner other rest) b before between after (s, next, is, inside, more, frame, last) second = (s, next, is, inside, more, frame, HasType-joined context rest b next between after last second)
+HasType-joined context (Then op rest) b before between after (operands, results, next, rule, frame, last) second =
+    (operands, results, next, rule, frame, HasType-joined context rest b next between after last second)
+HasType-joined context (Nested kind type inner rest) b before between after (s, next, is, inside, other, frame, last) second =
+    (s, next, is, inside, other, frame, HasType-joined context rest b next between after last second)
+HasType-joined context (IfElse type inner other rest) b before between after (s, next, is, inside, more, frame, last) second =
+    (s, next, is, inside, more, frame, HasType-joined context rest b next between after last second)
 
 nested_writing : (mark : Op) (inner rest more : List Op) → mark ∷ (inner ++ (End ∷ (rest ++ more))) ≡ (mark ∷ (inner ++ (End ∷ rest))) ++ more
 nested_writing mark inner rest more = simp append_assoc

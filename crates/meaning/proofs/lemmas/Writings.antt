@@ -46,9 +46,11 @@ read-inside inner rest inside behind ops =
     ap rests (append_assoc (writing inner) (End ∷ writing rest) ops) ∙ read-closed inner inside (writing rest ++ ops) ∙ ap (closed inner) (behind ops)
 
 -- the two insides of an if with an else, and what follows it
-read-insides : (inner other rest : Body) → IsReadBefore inner → IsReadBefore other → IsReadBefore rest → (ops : List Op) → rests ((writing inner ++ (Else ∷ (writing other ++ (End ∷ writing rest)))) ++ ops) ≡ with_else inner (closed other (before rest (rests ops)))
+read-insides : (inner other rest : Body) → IsReadBefore inner → IsReadBefore other → IsReadBefore rest → (ops : List Op)
+    → rests ((writing inner ++ (Else ∷ (writing other ++ (End ∷ writing rest)))) ++ ops) ≡ with_else inner (closed other (before rest (rests ops)))
 read-insides inner other rest inside otherwise behind ops =
-    ap rests (append_assoc (writing inner) (Else ∷ (writing other ++ (End ∷ writing rest))) ops) ∙ read-else inner inside ((writing other ++ (End ∷ writing rest)) ++ ops) ∙ ap (with_else inner) (read-inside other rest otherwise behind ops)
+    ap rests (append_assoc (writing inner) (Else ∷ (writing other ++ (End ∷ writing rest))) ops) ∙ read-else inner inside
+    ((writing other ++ (End ∷ writing rest)) ++ ops) ∙ ap (with_else inner) (read-inside other rest otherwise behind ops)
 
 -- A body's writing is read as the body before the rest after it.
 pub read : (b : Body) → IsReadBefore b

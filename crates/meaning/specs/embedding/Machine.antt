@@ -16,7 +16,8 @@ use Rattle.meaning.specs.execution.Runs.{Answer, Ending, Run, State, WithValues}
 use Rattle.meaning.specs.execution.Store.{GlobalInstance, ModuleInstance, Store, extern_type, instance_of}
 use Rattle.meaning.specs.soundness.Values.{TakesArguments}
 use Rattle.meaning.specs.embedding.Commands.{Command, Load, Link, Register, Call, GetGlobal, SetFuel}
-use Rattle.meaning.specs.embedding.Commands.{Refusal, Malformed, Unsupported, Limit, Invalid, UnknownModule, UnknownImport, IncompatibleImport, UnknownInstance, UnknownExport, WrongKind, BadArguments, NameTaken, OutOfMemory}
+use Rattle.meaning.specs.embedding.Commands.{Refusal, Malformed, Unsupported, Limit, Invalid, UnknownModule, UnknownImport, IncompatibleImport, UnknownInstance}
+use Rattle.meaning.specs.embedding.Commands.{UnknownExport, WrongKind, BadArguments, NameTaken, OutOfMemory}
 use Rattle.meaning.specs.embedding.Commands.{Reply, Loaded, Linked, Done, Ended, Refused}
 use Rattle.meaning.specs.embedding.Names.{HasHosts, NamesContents, export_of, extern_of, resolve_name, with_instance}
 

@@ -1,6 +1,7 @@
 -- The numbers by which refusals are named, which are this project's own.
 use Rattle.std.specs.Prelude.{ℕ}
-use Rattle.meaning.specs.embedding.Commands.{Refusal, Malformed, Unsupported, Limit, Invalid, UnknownModule, UnknownImport, IncompatibleImport, UnknownInstance, UnknownExport, WrongKind, BadArguments, NameTaken, OutOfMemory}
+use Rattle.meaning.specs.embedding.Commands.{Refusal, Malformed, Unsupported, Limit, Invalid, UnknownModule, UnknownImport, IncompatibleImport, UnknownInstance}
+use Rattle.meaning.specs.embedding.Commands.{UnknownExport, WrongKind, BadArguments, NameTaken, OutOfMemory}
 use Rattle.meaning.specs.embedding.Creation as creation
 
 abbrev pub number_of : Refusal → ℕ

@@ -1,5 +1,6 @@
 -- The integer operators (Execution, Numerics), as formulas over whole numbers.
-use Rattle.std.specs.Prelude.{ℕ, zero, suc, ◌+◌, ◌-◌, ◌*◌, ◌/◌, ◌%◌, ◌^◌, Bool, true, false, Result, Ok, Err, if◌then◌else◌, ◌==◌, not, nat_lt, nat_le, ℤ, pos, ◌-ℤ◌, ◌*ℤ◌, int_lt, int_le, int_div, unsigned_abs, bit_and, bit_or, bit_xor}
+use Rattle.std.specs.Prelude.{ℕ, zero, suc, ◌+◌, ◌-◌, ◌*◌, ◌/◌, ◌%◌, ◌^◌, Bool, true, false, Result, Ok, Err, if◌then◌else◌, ◌==◌, not, nat_lt, nat_le, ℤ, pos}
+use Rattle.std.specs.Prelude.{◌-ℤ◌, ◌*ℤ◌, int_lt, int_le, int_div, unsigned_abs, bit_and, bit_or, bit_xor}
 use Rattle.std.specs.Int.{int_div_euclid, int_rem_euclid}
 use Rattle.core_types.specs.declared.op.UnaryOp.{UnaryOp}
 use Rattle.core_types.specs.declared.op.UnaryOp.TheVariants.{Clz, Ctz, Popcnt, Extend8S, Extend16S}

@@ -5,9 +5,11 @@ use Rattle.core_types.specs.Outcome.{trap_text}
 use Rattle.core_types.specs.declared.outcome.Val.{Val}
 use Rattle.core_types.specs.declared.outcome.Val.TheVariants.{I32, I64, FuncRef, ExternRef}
 use Rattle.meaning.specs.embedding.Commands as embedding
-use Rattle.meaning.specs.embedding.Commands.{Command, Reply, Load, Link, Call, GetGlobal, SetFuel, Loaded, Linked, Done, Ended, Refused, Malformed, Unsupported, Limit, Invalid, UnknownImport, IncompatibleImport, UnknownInstance}
+use Rattle.meaning.specs.embedding.Commands.{Command, Reply, Load, Link, Call, GetGlobal, SetFuel, Loaded, Linked, Done, Ended, Refused, Malformed, Unsupported}
+use Rattle.meaning.specs.embedding.Commands.{Limit, Invalid, UnknownImport, IncompatibleImport, UnknownInstance}
 use Rattle.meaning.specs.execution.Runs.{WithValues, WithTrap, OutOfFuel, OutOfDepth}
-use Rattle.meaning.specs.scripts.Commands.{Action, Invoke, Get, Task, Module, Register, Perform, AssertReturn, AssertTrap, AssertExhaustion, AssertInvalid, AssertMalformed, AssertUnlinkable, AssertUninstantiable, ScriptCommand, Skipped, Tried, Files, contents}
+use Rattle.meaning.specs.scripts.Commands.{Action, Invoke, Get, Task, Module, Register, Perform, AssertReturn, AssertTrap, AssertExhaustion, AssertInvalid}
+use Rattle.meaning.specs.scripts.Commands.{AssertMalformed, AssertUnlinkable, AssertUninstantiable, ScriptCommand, Skipped, Tried, Files, contents}
 use Rattle.meaning.specs.scripts.Dialogues.{Dialogue, Over, Asks, Report}
 
 -- ---- instances

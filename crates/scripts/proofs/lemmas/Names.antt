@@ -67,7 +67,8 @@ module _ {S : Type 0} (old new : HashMap (Bor (List ℕ)) (Bor (List ℕ)) S) (n
       → get_by (λ (k : Bor (List ℕ)). bytes_eq filename k.now) new ≡ cond (bytes_eq name filename) (Some bytes) (get_by (λ (k : Bor (List ℕ)). bytes_eq filename k.now) old)
       → (b : Bool) → bytes_eq name filename ≡ b → files_kept new filename ≡ option_or (files_kept old filename) (if bytes_eq filename name then Some bytes.now else None)
   kept-new-at filename absent changed false is =
-      ap (option_map (λ (f : Bor (List ℕ)). f.now)) (changed ∙ ap (λ (b : Bool). cond b (Some bytes) (get_by (λ (k : Bor (List ℕ)). bytes_eq filename k.now) old)) is) ∙ or_none (files_kept old filename)
+      ap (option_map (λ (f : Bor (List ℕ)). f.now))
+      (changed ∙ ap (λ (b : Bool). cond b (Some bytes) (get_by (λ (k : Bor (List ℕ)). bytes_eq filename k.now) old)) is) ∙ or_none (files_kept old filename)
       ∙ ap (λ (b : Bool). option_or (files_kept old filename) (if b then Some bytes.now else None)) (sym (bytes_eq-sym filename name ∙ is))
   kept-new-at filename absent changed true is =
       let same = same_bytes name filename is in
@@ -104,4 +105,5 @@ pub files-next : (files : List (String Global × Vec ℕ Global)) (k : ℕ) (f :
     → with_file (files_in (files_view (take k files))) (string_bytes f.0) f.1.items ≡ files_in (files_view (take (k + 1) files))
 files-next files k f inside is =
     (λ j filename. under-append (files_view (take k files)) (string_bytes f.0) f.1.items filename j)
-    ∙ ap files_in (sym (ap files_view (take_more files k f inside ∙ ap (λ g. take k files ++ g ∷ []) (sym is)) ∙ map-append (λ (g : String Global × Vec ℕ Global). (string_bytes g.0, g.1.items)) (take k files) (f ∷ [])))
+    ∙ ap files_in (sym (ap files_view (take_more files k f inside ∙ ap (λ g. take k files ++ g ∷ []) (sym is)) ∙ map-append
+    (λ (g : String Global × Vec ℕ Global). (string_bytes g.0, g.1.items)) (take k files) (f ∷ [])))

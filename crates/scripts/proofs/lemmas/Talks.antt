@@ -81,9 +81,11 @@ module _ {H : Type 0} (HostStep : List H → ℕ → Option ℕ → List Val →
 
   module _ {T : Type 0} (see : T → Reply) (fuel : ℕ) (files : Files) (at : Progress) (line : ℕ) (task : Task) (reply : T) {old between new : Embedding H}
       (set : AppliesWell HostStep old (SetFuel fuel) Done between) (held : Holds HostStep see (ask files at.instances task) between (Ok reply) new) where
-    pub tried-holds : (left : Progress) → left ≡ after_tried at line task (see reply) → (next : Progress → Dialogue) → Converses HostStep (turn fuel files (Tried line task) at next) old (next left) new
+    pub tried-holds : (left : Progress) → left ≡ after_tried at line task (see reply) → (next : Progress → Dialogue)
+        → Converses HostStep (turn fuel files (Tried line task) at next) old (next left) new
     tried-holds left is next =
-        subst (λ (p : Progress). Converses HostStep (turn fuel files (Tried line task) at next) old (next p) new) (sym is) (asked Done set (λ lacks. lacks) (held (λ r. next (after_tried at line task r))))
+        subst (λ (p : Progress). Converses HostStep (turn fuel files (Tried line task) at next) old (next p) new) (sym is)
+        (asked Done set (λ lacks. lacks) (held (λ r. next (after_tried at line task r))))
 
     pub tried-breaks : (next : Progress → Dialogue) → BreaksOff HostStep (turn fuel files (Tried line task) at next) old new
     tried-breaks next = went_on Done set (λ lacks. lacks) (breaks-later (held (λ r. next (after_tried at line task r))) here)

@@ -13,7 +13,9 @@ module _ (store : Store) where
   push (w ∷ vs) [] v t h k = absurd h
   push (w ∷ vs) (u ∷ ts) v t h k = (h.0, push vs ts v t h.1 k)
 
-  pub ValuesHaveTypes-next : (vs : List Val) (ts : List ValType) (k : ℕ) (v : Val) (t : ValType) → k < length vs → k < length ts → ValuesHaveTypes store (take k vs) (take k ts) → ValueHasType store (get_or vs k v) (get_or ts k t) → ValuesHaveTypes store (take (k + 1) vs) (take (k + 1) ts)
+  pub ValuesHaveTypes-next : (vs : List Val) (ts : List ValType) (k : ℕ) (v : Val) (t : ValType) → k < length vs → k < length ts
+      → ValuesHaveTypes store (take k vs) (take k ts) → ValueHasType store (get_or vs k v) (get_or ts k t)
+      → ValuesHaveTypes store (take (k + 1) vs) (take (k + 1) ts)
   ValuesHaveTypes-next vs ts k v t in_vs in_ts so_far h = rw (take_more vs k v in_vs, take_more ts k t in_ts) (push (take k vs) (take k ts) (get_or vs k v) (get_or ts k t) so_far h)
 
   -- There is one value for each type.

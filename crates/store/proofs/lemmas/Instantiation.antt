@@ -10,11 +10,13 @@ use Rattle.meaning.specs.execution.Store.{FunctionInstance as Function}
 use Rattle.store.specs.declared.instances.FunctionInstance.{FunctionInstance}
 use Rattle.store.specs.declared.instances.FunctionInstance.TheVariants.{InModule, InHost}
 use Rattle.store.specs.declared.instances.Instance.{Instance}
-use Rattle.store.specs.Contents.{AllFound, IsFound, contents_of, entries_of, entry_function, function_at, host_function, instance_function, module_function, functions_in, instances_in, module_instance_of, no_function, typed_function}
+use Rattle.store.specs.Contents.{AllFound, IsFound, contents_of, entries_of, entry_function, function_at, host_function, instance_function, module_function}
+use Rattle.store.specs.Contents.{functions_in, instances_in, module_instance_of, no_function, typed_function}
 use Rattle.store.proofs.lemmas.Positions.{slice_get-front, slice_get-seam, holds-at}
 
 -- An entry that finds its function still finds it when instances and host functions are added.
-instance-behind : (instances new : List Instance) (instance index : ℕ) → IsSome (instance_function instance index (slice_get instances instance)) → slice_get (instances ++ new) instance ≡ slice_get instances instance
+instance-behind : (instances new : List Instance) (instance index : ℕ) → IsSome (instance_function instance index (slice_get instances instance))
+    → slice_get (instances ++ new) instance ≡ slice_get instances instance
 instance-behind instances new instance index h = go (slice_get instances instance) refl h
   where
     go : (there : Option Instance) → slice_get instances instance ≡ there → IsSome (instance_function instance index there) → slice_get (instances ++ new) instance ≡ slice_get instances instance
@@ -40,7 +42,8 @@ module _ (hosts new_hosts : List FuncType) (instances new_instances : List Insta
   function_at-behind : (fs : List FunctionInstance) → AllFound hosts instances fs → map (function_at (hosts ++ new_hosts) (instances ++ new_instances)) fs ≡ map (function_at hosts instances) fs
   function_at-behind [] h = refl
   function_at-behind (f ∷ fs) h =
-      let first : function_at (hosts ++ new_hosts) (instances ++ new_instances) f ≡ function_at hosts instances f = ap (λ (there : Option Function). unwrap_or there no_function) (entry-behind f h.0) in
+      let first : function_at (hosts ++ new_hosts) (instances ++ new_instances) f
+      ≡ function_at hosts instances f = ap (λ (there : Option Function). unwrap_or there no_function) (entry-behind f h.0) in
       let others = function_at-behind fs h.1 in
       cc
 
@@ -65,10 +68,12 @@ module _ (hosts : List FuncType) (instances : List Instance) (t : FuncType) (fun
       let before : AllFound (hosts ++ t ∷ []) instances functions = rw same_instances at (AllFound-behind hosts (t ∷ []) instances [] functions found) in
       AllFound-append (hosts ++ t ∷ []) instances functions (InHost (length hosts) ∷ []) before (rw host_is refl, tt)
 
-  pub functions-hosted : functions_in (contents_of (functions ++ InHost (length hosts) ∷ []) instances (hosts ++ t ∷ [])) ≡ functions_in (contents_of functions instances hosts) ++ host_function (length hosts) t ∷ []
+  pub functions-hosted : functions_in (contents_of (functions ++ InHost (length hosts) ∷ []) instances (hosts ++ t ∷ []))
+      ≡ functions_in (contents_of functions instances hosts) ++ host_function (length hosts) t ∷ []
   functions-hosted =
       let all = map-append (function_at (hosts ++ t ∷ []) instances) functions (InHost (length hosts) ∷ []) in
-      let before : map (function_at (hosts ++ t ∷ []) instances) functions ≡ map (function_at hosts instances) functions = rw same_instances at (function_at-behind hosts (t ∷ []) instances [] functions found) in
+      let before : map (function_at (hosts ++ t ∷ []) instances) functions
+      ≡ map (function_at hosts instances) functions = rw same_instances at (function_at-behind hosts (t ∷ []) instances [] functions found) in
       let new : function_at (hosts ++ t ∷ []) instances (InHost (length hosts)) ≡ host_function (length hosts) t = ap (λ (there : Option Function). unwrap_or there no_function) host_is in
       rw (all, before, new) refl
 
@@ -111,16 +116,22 @@ module _ (hosts : List FuncType) (instances : List Instance) (i : Instance) (val
 
   AllFound-new : (before funcs : List Func) → i.loaded.value.source.funcs ≡ before ++ funcs → AllFound hosts all (entries_of (length instances) (consecutive (length before) (length funcs)))
   AllFound-new before [] whole = tt
-  AllFound-new before (func ∷ funcs) whole = (IsFound-new (length before) func (here before func funcs whole), rw (next before func funcs whole) at (AllFound-new (before ++ func ∷ []) funcs (onward before func funcs whole)))
+  AllFound-new before (func ∷ funcs) whole = (
+    IsFound-new (length before) func (here before func funcs whole),
+    rw (next before func funcs whole) at (AllFound-new (before ++ func ∷ []) funcs (onward before func funcs whole)),
+  )
 
-  function_at-new : (before funcs : List Func) → i.loaded.value.source.funcs ≡ before ++ funcs → map (function_at hosts all) (entries_of (length instances) (consecutive (length before) (length funcs))) ≡ map named funcs
+  function_at-new : (before funcs : List Func) → i.loaded.value.source.funcs ≡ before ++ funcs
+      → map (function_at hosts all) (entries_of (length instances) (consecutive (length before) (length funcs))) ≡ map named funcs
   function_at-new before [] whole = refl
   function_at-new before (func ∷ funcs) whole =
       let first : function_at hosts all (entry (length before)) ≡ named func = function_at-entry (length before) func (here before func funcs whole) in
-      let others : map (function_at hosts all) (entries_of (length instances) (consecutive (suc (length before)) (length funcs))) ≡ map named funcs = rw (next before func funcs whole) at (function_at-new (before ++ func ∷ []) funcs (onward before func funcs whole)) in
+      let others : map (function_at hosts all) (entries_of (length instances) (consecutive (suc (length before)) (length funcs)))
+      ≡ map named funcs = rw (next before func funcs whole) at (function_at-new (before ++ func ∷ []) funcs (onward before func funcs whole)) in
       cc
 
-  module _ (functions after : List FunctionInstance) (found : AllFound hosts instances functions) (behind : after ≡ functions ++ entries_of (length instances) (consecutive 0 (length i.loaded.value.source.funcs))) where
+  module _ (functions after : List FunctionInstance) (found : AllFound hosts instances functions)
+      (behind : after ≡ functions ++ entries_of (length instances) (consecutive 0 (length i.loaded.value.source.funcs))) where
     abbrev added : List FunctionInstance
     added = entries_of (length instances) (consecutive 0 (length i.loaded.value.source.funcs))
 
@@ -130,7 +141,9 @@ module _ (hosts : List FuncType) (instances : List Instance) (i : Instance) (val
         subst (AllFound hosts all) (sym behind) (AllFound-append hosts all functions added before (AllFound-new [] i.loaded.value.source.funcs refl))
 
     -- The functions are those before, followed by those of the module.
-    pub functions-added : functions_in (contents_of after all hosts) ≡ functions_in (contents_of functions instances hosts) ++ map (new_function (length (instances_in (contents_of functions instances hosts))) i.loaded.value.source) i.loaded.value.source.funcs
+    pub functions-added : functions_in (contents_of after all hosts)
+        ≡ functions_in (contents_of functions instances hosts) ++ map
+        (new_function (length (instances_in (contents_of functions instances hosts))) i.loaded.value.source) i.loaded.value.source.funcs
     functions-added =
         let old = map-append (function_at hosts all) functions added in
         let before : map (function_at hosts all) functions ≡ map (function_at hosts instances) functions = rw (append-nil hosts) at (function_at-behind hosts [] instances (i ∷ []) functions found) in

@@ -8,7 +8,8 @@ use Rattle.sidetable.specs.FlatModules.{AreFlat, IsFlat}
 use Rattle.sidetable.specs.declared.flat_module.PackedFunction.{PackedFunction}
 
 module _ (s : Signatures) (ops : List FlatOp) where
-  pub flat-at : (funcs : List Func) (packed : List PackedFunction) (k : ℕ) (func : Func) (p : PackedFunction) → AreFlat s ops funcs packed → slice_get funcs k ≡ Some func → slice_get packed k ≡ Some p → IsFlat s ops func p
+  pub flat-at : (funcs : List Func) (packed : List PackedFunction) (k : ℕ) (func : Func) (p : PackedFunction) → AreFlat s ops funcs packed
+      → slice_get funcs k ≡ Some func → slice_get packed k ≡ Some p → IsFlat s ops func p
   flat-at [] packed k func p h e g = absurd cc
   flat-at (f ∷ funcs) [] k func p h e g = absurd h
   flat-at (f ∷ funcs) (q ∷ packed) zero func p h e g = let same : f ≡ func = cc in let same_packed : q ≡ p = cc in rw (← same, ← same_packed) h.0

@@ -62,14 +62,11 @@ module _ (hosts : List FuncType) (number : ℕ) where
 -- ---- the function that an instance has under an index
 
 module _ (instance index : ℕ) where
-  pub holder-there : (found : Option Instance) → IsSome (instance_function instance index found) → (i : Instance) × (found ≡ Some i)
-  holder-there None some = absurd cc
-  holder-there (Some i) some = (i, refl)
-
   pub func-there : (i : Instance) → IsSome (instance_function instance index (Some i)) → (f : Func) × (slice_get i.loaded.value.source.funcs index ≡ Some f)
   func-there i some = go (slice_get i.loaded.value.source.funcs index) refl some
     where
-      go : (found : Option Func) → slice_get i.loaded.value.source.funcs index ≡ found → IsSome (module_function instance i.loaded.value.source found) → (f : Func) × (slice_get i.loaded.value.source.funcs index ≡ Some f)
+      go : (found : Option Func) → slice_get i.loaded.value.source.funcs index ≡ found → IsSome (module_function instance i.loaded.value.source found)
+          → (f : Func) × (slice_get i.loaded.value.source.funcs index ≡ Some f)
       go None e some = absurd cc
       go (Some f) e some = (f, e)
 

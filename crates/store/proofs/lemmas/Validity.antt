@@ -33,12 +33,14 @@ module _ (code new : Contents) (s : StateContents) where
   abbrev with_code : List FunctionInstance → List ModuleInstance → Store
   with_code functions instances = record (store_with code s) { functions = functions; instances = instances }
 
-  pub host-grows : (t : FuncType) (number : ℕ) → length (functions_in code) + 1 < 2 ^ 32 → StoreIsValid (store_with code s) → functions_in new ≡ functions_in code ++ host_function number t ∷ [] → instances_in new ≡ instances_in code → Grows (store_with code s) (store_with new s)
+  pub host-grows : (t : FuncType) (number : ℕ) → length (functions_in code) + 1 < 2 ^ 32 → StoreIsValid (store_with code s) → functions_in new
+      ≡ functions_in code ++ host_function number t ∷ [] → instances_in new ≡ instances_in code → Grows (store_with code s) (store_with new s)
   host-grows t number room valid functions instances =
       let same : store_with new s ≡ with_function (store_with code s) (host_function number t) = ap₂ with_code functions instances in
       subst (Grows (store_with code s)) (sym same) (host-extends (store_with code s) t number room valid, host-valid (store_with code s) t number room valid)
 
-pub allocation-grows : ((b : Body) → body_of (writing b) ≡ b) → (old : Store) (m : Module) (i : ModuleInstance) (objects : ObjectLists) → StoreIsValid old → IsAllocation old m i objects → Grows old (with_module old i m objects)
+pub allocation-grows : ((b : Body) → body_of (writing b) ≡ b) → (old : Store) (m : Module) (i : ModuleInstance) (objects : ObjectLists)
+    → StoreIsValid old → IsAllocation old m i objects → Grows old (with_module old i m objects)
 allocation-grows read old m i objects valid a =
     subst (λ (j : ModuleInstance). Grows old (with_module old j m objects)) (sym a.instance_is)
     (allocation-keeps-valid read old m a.given objects valid a.linkable (subst (λ (j : ModuleInstance). new_objects old j m ≡ Some objects) a.instance_is a.objects_are))
@@ -48,5 +50,6 @@ module _ (code new : Contents) (s between last : StateContents) (m : Module) (ad
       → between.contents ≡ s.contents → between.bounds ≡ s.bounds → last.contents ≡ append_objects between.contents objects → last.bounds ≡ between.bounds
       → store_with new last ≡ with_module (store_with code s) (module_instance addresses m) m objects
   module-appended functions instances contents bounds appended bounds' =
-      equal-stores new (record { contents = append_objects s.contents objects; room = s.room; bounds = s.bounds }) last (appended ∙ ap (λ (o : ObjectLists). append_objects o objects) contents) (bounds' ∙ bounds)
+      equal-stores new (record { contents = append_objects s.contents objects; room = s.room; bounds = s.bounds }) last
+      (appended ∙ ap (λ (o : ObjectLists). append_objects o objects) contents) (bounds' ∙ bounds)
       ∙ ap₂ (with_code code new (record { contents = append_objects s.contents objects; room = s.room; bounds = s.bounds })) functions instances

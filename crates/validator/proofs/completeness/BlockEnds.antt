@@ -29,7 +29,8 @@ no_more (Nested LoopKind t inner rest) ops later e = absurd cc
 no_more (Nested IfKind t inner rest) ops later e = absurd cc
 no_more (IfElse t inner other rest) ops later e = absurd cc
 
-frame_end_by : (context : Context) (kind : FrameKind) (start_types end_types : List ValType) (ops after : List Op) → FrameEnd context kind start_types end_types (op.End ∷ ops) after → (ops ≡ after) × NeedsNoElse kind start_types end_types
+frame_end_by : (context : Context) (kind : FrameKind) (start_types end_types : List ValType) (ops after : List Op)
+    → FrameEnd context kind start_types end_types (op.End ∷ ops) after → (ops ≡ after) × NeedsNoElse kind start_types end_types
 frame_end_by context Function start_types end_types ops after e = absurd e
 frame_end_by context Block start_types end_types ops after e = (cc, tt)
 frame_end_by context Loop start_types end_types ops after e = (cc, tt)
@@ -52,7 +53,8 @@ record Second (context : Context) (kind : FrameKind) (start_types end_types : Li
   written : ops ≡ writing other ++ (op.End ∷ after)
   typed : HasType context other (known start_types) (known end_types)
 
-else_by : (context : Context) (kind : FrameKind) (start_types end_types : List ValType) (ops after : List Op) → FrameEnd context kind start_types end_types (op.Else ∷ ops) after → Second context kind start_types end_types ops after
+else_by : (context : Context) (kind : FrameKind) (start_types end_types : List ValType) (ops after : List Op)
+    → FrameEnd context kind start_types end_types (op.Else ∷ ops) after → Second context kind start_types end_types ops after
 else_by context Function start_types end_types ops after e = absurd e
 else_by context Block start_types end_types ops after e = absurd cc
 else_by context Loop start_types end_types ops after e = absurd cc
@@ -78,7 +80,8 @@ pub record Left (l : ControlFrame) (operands : List OperandType) (under theirs :
 pub left_refused : {l : ControlFrame} {operands under theirs : List OperandType} → Refuses l.unreachable l.height operands (known l.end_types.now) → Left l operands under theirs → ⊥
 left_refused {under = under} {theirs = theirs} refuses left = refuses.at under left.own left.whole left.height theirs [] theirs left.covers refl left.fits
 
-pub left_taken : {l : ControlFrame} {operands given new under theirs : List OperandType} → Takes l.unreachable l.height operands given new → AllFit given (known l.end_types.now) → Left l operands under theirs → new ≡ under
+pub left_taken : {l : ControlFrame} {operands given new under theirs : List OperandType} → Takes l.unreachable l.height operands given new
+    → AllFit given (known l.end_types.now) → Left l operands under theirs → new ≡ under
 left_taken {l} {given = given} {new = new} {under = under} {theirs = theirs} takes fits left =
     let (rest, below, taken) = takes.at under left.own left.whole left.height in
     let long = AllFit-length theirs (known l.end_types.now) left.fits ∙ sym (AllFit-length given (known l.end_types.now) fits) in
@@ -96,7 +99,8 @@ module _ {old : Stacks} where
   NeverCloses-refused refuses = never_closes (λ under theirs left. left_refused {l = old.innermost} refuses left)
 
   -- The end types were taken, and operands of the frame are left.
-  pub NeverCloses-over : {given new : List OperandType} → Takes old.innermost.unreachable old.innermost.height old.operands.items given new → AllFit given (known old.innermost.end_types.now) → (length new ≡ old.innermost.height → ⊥) → NeverCloses old
+  pub NeverCloses-over : {given new : List OperandType} → Takes old.innermost.unreachable old.innermost.height old.operands.items given new
+      → AllFit given (known old.innermost.end_types.now) → (length new ≡ old.innermost.height → ⊥) → NeverCloses old
   NeverCloses-over takes fits over = never_closes (λ under theirs left. over (ap length (left_taken {l = old.innermost} takes fits left) ∙ left.height))
 
 module _ {context : Context} {l : ControlFrame} {ls : List ControlFrame} {operands : List OperandType} where
@@ -138,7 +142,8 @@ module _ {context : Context} {l : ControlFrame} {ls : List ControlFrame} {operan
       outermost : (ls : List ControlFrame) (under : List OperandType) (later : List Op) → AroundRest context l ls under later → [] ≡ later → ls ≡ []
       outermost [] under later around e = refl
       outermost (m ∷ ms) under later (after, ended, lower, last, goes, around) e =
-          absurd (never (inside context (l ∷ m ∷ ms)) l.kind l.start_types.now l.end_types.now after (subst (λ (z : List Op). FrameEnd (inside context (l ∷ m ∷ ms)) l.kind l.start_types.now l.end_types.now z after) (sym e) ended))
+          absurd (never (inside context (l ∷ m ∷ ms)) l.kind l.start_types.now l.end_types.now after
+          (subst (λ (z : List Op). FrameEnd (inside context (l ∷ m ∷ ms)) l.kind l.start_types.now l.end_types.now z after) (sym e) ended))
 
 -- There is a frame around one that an end or an else ends.
 pub end_outside : {context : Context} {l : ControlFrame} {operands : List OperandType} {ops : List Op} → IsTypingOfRest context l [] operands (op.End ∷ ops) → ⊥
@@ -153,18 +158,23 @@ else_outside {ops = ops} p =
     let (kind, nothing, last) = p.around in
     let e : op.Else ∷ ops ≡ [] = is_later ∙ last in cc
 
-end_by : {context : Context} {l m : ControlFrame} {ms : List ControlFrame} {operands : List OperandType} {ops : List Op} (p : IsTypingOfRest context l (m ∷ ms) operands (op.End ∷ ops)) → (ops ≡ p.around.0) × NeedsNoElse l.kind l.start_types.now l.end_types.now
+end_by : {context : Context} {l m : ControlFrame} {ms : List ControlFrame} {operands : List OperandType} {ops : List Op}
+    (p : IsTypingOfRest context l (m ∷ ms) operands (op.End ∷ ops)) → (ops ≡ p.around.0) × NeedsNoElse l.kind l.start_types.now l.end_types.now
 end_by {context} {l} {m} {ms} {ops = ops} p =
     let (none, is_later) = no_more p.here.rest ops p.later p.here.written in
-    frame_end_by (inside context (l ∷ m ∷ ms)) l.kind l.start_types.now l.end_types.now ops p.around.0 (subst (λ (z : List Op). FrameEnd (inside context (l ∷ m ∷ ms)) l.kind l.start_types.now l.end_types.now z p.around.0) (sym is_later) p.around.1)
+    frame_end_by (inside context (l ∷ m ∷ ms)) l.kind l.start_types.now l.end_types.now ops p.around.0
+    (subst (λ (z : List Op). FrameEnd (inside context (l ∷ m ∷ ms)) l.kind l.start_types.now l.end_types.now z p.around.0) (sym is_later) p.around.1)
 
 -- An end ends only a frame that needs no else.
-end_alone : {context : Context} {l : ControlFrame} {ls : List ControlFrame} {operands : List OperandType} {ops : List Op} → IsTypingOfRest context l ls operands (op.End ∷ ops) → NeedsNoElse l.kind l.start_types.now l.end_types.now
+end_alone : {context : Context} {l : ControlFrame} {ls : List ControlFrame} {operands : List OperandType} {ops : List Op}
+    → IsTypingOfRest context l ls operands (op.End ∷ ops) → NeedsNoElse l.kind l.start_types.now l.end_types.now
 end_alone {ls = []} p = absurd (end_outside p)
 end_alone {ls = m ∷ ms} p = (end_by p).1
 
 -- An end ends a frame, and the frame around it continues.
-pub end_goes : {context : Context} {l m : ControlFrame} {ms : List ControlFrame} {operands given new : List OperandType} {ops : List Op} → Takes l.unreachable l.height operands given new → AllFit given (known l.end_types.now) → IsTypingOfRest context l (m ∷ ms) operands (op.End ∷ ops) → IsTypingOfRest context m ms (new ++ known l.end_types.now) ops
+pub end_goes : {context : Context} {l m : ControlFrame} {ms : List ControlFrame} {operands given new : List OperandType} {ops : List Op}
+    → Takes l.unreachable l.height operands given new → AllFit given (known l.end_types.now)
+    → IsTypingOfRest context l (m ∷ ms) operands (op.End ∷ ops) → IsTypingOfRest context m ms (new ++ known l.end_types.now) ops
 end_goes {l = l} {m} takes fits p =
     let here = left_taken takes fits (end_left p) in
     let (after, ended, lower, last, goes, around) = p.around in
@@ -184,23 +194,29 @@ end_goes {l = l} {m} takes fits p =
       };
     }
 
-second_of : {context : Context} {l m : ControlFrame} {ms : List ControlFrame} {operands : List OperandType} {ops : List Op} (p : IsTypingOfRest context l (m ∷ ms) operands (op.Else ∷ ops)) → Second (inside context (l ∷ m ∷ ms)) l.kind l.start_types.now l.end_types.now ops p.around.0
+second_of : {context : Context} {l m : ControlFrame} {ms : List ControlFrame} {operands : List OperandType} {ops : List Op}
+    (p : IsTypingOfRest context l (m ∷ ms) operands (op.Else ∷ ops))
+    → Second (inside context (l ∷ m ∷ ms)) l.kind l.start_types.now l.end_types.now ops p.around.0
 second_of {context} {l} {m} {ms} {ops = ops} p =
     let (none, is_later) = no_else p.here.rest ops p.later p.here.written in
-    else_by (inside context (l ∷ m ∷ ms)) l.kind l.start_types.now l.end_types.now ops p.around.0 (subst (λ (z : List Op). FrameEnd (inside context (l ∷ m ∷ ms)) l.kind l.start_types.now l.end_types.now z p.around.0) (sym is_later) p.around.1)
+    else_by (inside context (l ∷ m ∷ ms)) l.kind l.start_types.now l.end_types.now ops p.around.0
+    (subst (λ (z : List Op). FrameEnd (inside context (l ∷ m ∷ ms)) l.kind l.start_types.now l.end_types.now z p.around.0) (sym is_later) p.around.1)
 
 -- An else ends only the first body of an if.
 pub else_kind : {context : Context} {l : ControlFrame} {ls : List ControlFrame} {operands : List OperandType} {ops : List Op} → IsTypingOfRest context l ls operands (op.Else ∷ ops) → l.kind ≡ If
 else_kind {ls = []} p = absurd (else_outside p)
 else_kind {ls = m ∷ ms} p = (second_of p).is
 
-else_inside : {context : Context} {l m : ControlFrame} {ms : List ControlFrame} {operands given new : List OperandType} {ops : List Op} → Takes l.unreachable l.height operands given new → AllFit given (known l.end_types.now) → IsTypingOfRest context l (m ∷ ms) operands (op.Else ∷ ops)
+else_inside : {context : Context} {l m : ControlFrame} {ms : List ControlFrame} {operands given new : List OperandType} {ops : List Op}
+    → Takes l.unreachable l.height operands given new → AllFit given (known l.end_types.now) → IsTypingOfRest context l (m ∷ ms) operands (op.Else ∷ ops)
     → IsTypingOfRest context (otherwise l) (m ∷ ms) (new ++ known l.start_types.now) ops
 else_inside {context} {l} {m} {ms} {new = new} takes fits p =
     let here = left_taken takes fits (else_left p) in
     let (after, ended, lower, last, goes, around) = p.around in
     let second = second_of p in
-    let typed = subst (λ (k : FrameKind). HasType (record context { labels = label_by k l.start_types.now l.end_types.now ∷ map label_of (m ∷ ms) }) second.other (known l.start_types.now) (known l.end_types.now)) second.is second.typed in
+    let typed = subst (λ (k : FrameKind).
+    HasType (record context { labels = label_by k l.start_types.now l.end_types.now ∷ map label_of (m ∷ ms) }) second.other
+    (known l.start_types.now) (known l.end_types.now)) second.is second.typed in
     record {
       under = p.under;
       later = op.End ∷ p.around.0;
@@ -217,7 +233,8 @@ else_inside {context} {l} {m} {ms} {new = new} takes fits p =
       };
     }
 
-pub else_goes : {context : Context} {l : ControlFrame} {ls : List ControlFrame} {operands given new : List OperandType} {ops : List Op} → Takes l.unreachable l.height operands given new → AllFit given (known l.end_types.now) → IsTypingOfRest context l ls operands (op.Else ∷ ops)
+pub else_goes : {context : Context} {l : ControlFrame} {ls : List ControlFrame} {operands given new : List OperandType} {ops : List Op}
+    → Takes l.unreachable l.height operands given new → AllFit given (known l.end_types.now) → IsTypingOfRest context l ls operands (op.Else ∷ ops)
     → IsTypingOfRest context (otherwise l) ls (new ++ known l.start_types.now) ops
 else_goes {ls = []} takes fits p = absurd (else_outside p)
 else_goes {ls = m ∷ ms} takes fits p = else_inside takes fits p
@@ -230,7 +247,11 @@ module _ {s : BodyContext} {old : Stacks} where
   end_needs_else bar = record { at = λ context is ops p. bar (end_alone p) }
 
   pub end_outside_refused : old.outer.items ≡ [] → CannotBeNext s old op.End
-  end_outside_refused none = record { at = λ context is ops p. end_outside (subst (λ (z : List ControlFrame). IsTypingOfRest context old.innermost z old.operands.items (op.End ∷ ops)) (ap (λ (z : List ControlFrame). reverse z) none) p) }
+  end_outside_refused none = record {
+    at = λ context is ops p.
+        end_outside (subst (λ (z : List ControlFrame). IsTypingOfRest context old.innermost z old.operands.items (op.End ∷ ops))
+        (ap (λ (z : List ControlFrame). reverse z) none) p);
+  }
 
   pub else_refused : NeverCloses old → CannotBeNext s old op.Else
   else_refused never = record { at = λ context is ops p. never_left never (else_left p) }
@@ -239,11 +260,13 @@ module _ {s : BodyContext} {old : Stacks} where
   else_without_if bar = record { at = λ context is ops p. bar (else_kind p) }
 
 module _ {s : BodyContext} {old new : Stacks} {given left : List OperandType} where
-  pub end_complete : (around : ControlFrame) (outer : List ControlFrame) → reverse old.outer.items ≡ around ∷ reverse outer → Takes old.innermost.unreachable old.innermost.height old.operands.items given left → AllFit given (known old.innermost.end_types.now)
+  pub end_complete : (around : ControlFrame) (outer : List ControlFrame) → reverse old.outer.items ≡ around ∷ reverse outer
+      → Takes old.innermost.unreachable old.innermost.height old.operands.items given left → AllFit given (known old.innermost.end_types.now)
       → new.innermost ≡ around → new.outer.items ≡ outer → new.operands.items ≡ left ++ known old.innermost.end_types.now → KeepsRest s old new op.End
   end_complete around outer split takes fits innermost below operands = record {
     on = λ context is ops p.
-        IsTypingOfRest-parts context new.innermost around (reverse new.outer.items) (reverse outer) new.operands.items (left ++ known old.innermost.end_types.now) ops innermost (ap (λ (z : List ControlFrame). reverse z) below) operands
+        IsTypingOfRest-parts context new.innermost around (reverse new.outer.items) (reverse outer) new.operands.items
+        (left ++ known old.innermost.end_types.now) ops innermost (ap (λ (z : List ControlFrame). reverse z) below) operands
         (end_goes takes fits (subst (λ (z : List ControlFrame). IsTypingOfRest context old.innermost z old.operands.items (op.End ∷ ops)) split p));
   }
 
@@ -251,5 +274,6 @@ module _ {s : BodyContext} {old new : Stacks} {given left : List OperandType} wh
       → new.innermost ≡ otherwise old.innermost → new.outer.items ≡ old.outer.items → new.operands.items ≡ left ++ known old.innermost.start_types.now → KeepsRest s old new op.Else
   else_complete takes fits innermost outer operands = record {
     on = λ context is ops p.
-        IsTypingOfRest-parts context new.innermost (otherwise old.innermost) (reverse new.outer.items) (reverse old.outer.items) new.operands.items (left ++ known old.innermost.start_types.now) ops innermost (ap (λ (z : List ControlFrame). reverse z) outer) operands (else_goes takes fits p);
+        IsTypingOfRest-parts context new.innermost (otherwise old.innermost) (reverse new.outer.items) (reverse old.outer.items) new.operands.items
+        (left ++ known old.innermost.start_types.now) ops innermost (ap (λ (z : List ControlFrame). reverse z) outer) operands (else_goes takes fits p);
   }

@@ -54,7 +54,9 @@ one_body ops inner rest later e = e ∙ append_assoc inner (op.End ∷ rest) lat
 two_bodies : (ops inner other rest later : List Op) → ops ≡ (inner ++ (op.Else ∷ (other ++ (op.End ∷ rest)))) ++ later → ops ≡ inner ++ (op.Else ∷ (other ++ (op.End ∷ (rest ++ later))))
 two_bodies ops inner other rest later e = e ∙ simp append_assoc
 
-block_start_of : (context : Context) (kind : FrameKind) (t : BlockType) (o : Op) (rest : Body) (before after : List OperandType) (ops later : List Op) → IsMark kind t o → HasType context rest before after → o ∷ ops ≡ writing rest ++ later → (o ∷ ops ≡ later → ⊥) → BlockStart context kind t before after ops later
+block_start_of : (context : Context) (kind : FrameKind) (t : BlockType) (o : Op) (rest : Body) (before after : List OperandType) (ops later : List Op)
+    → IsMark kind t o → HasType context rest before after → o ∷ ops ≡ writing rest ++ later → (o ∷ ops ≡ later → ⊥)
+    → BlockStart context kind t before after ops later
 block_start_of context kind t o Empty before after ops later mark typed e bar = absurd (bar e)
 block_start_of context Function t o rest before after ops later mark typed e bar = absurd mark
 block_start_of context Else t o rest before after ops later mark typed e bar = absurd mark
@@ -144,14 +146,19 @@ module _ {context : Context} {l : ControlFrame} {ls : List ControlFrame} {operan
       block_start_of (inside context (l ∷ ls)) kind t o p.here.rest p.here.theirs (known l.end_types.now) ops p.later mark (rw (append-nil p.here.theirs) at p.here.typed) p.here.written
       (later_begins context l ls p.under p.later o ops (mark_begins kind t o mark) p.around)
 
-  pub begin_refused : (wanted : List OperandType) → Refuses l.unreachable l.height operands wanted → (p : IsTypingOfRest context l ls operands (o ∷ ops)) → known ((block_start p).s.params ++ condition_by kind) ≡ wanted → ⊥
+  pub begin_refused : (wanted : List OperandType) → Refuses l.unreachable l.height operands wanted
+      → (p : IsTypingOfRest context l ls operands (o ∷ ops)) → known ((block_start p).s.params ++ condition_by kind) ≡ wanted → ⊥
   begin_refused wanted refuses p same =
       let b = block_start p in
-      refuses.at p.under p.here.own p.here.whole p.here.height p.here.theirs b.frame.below b.frame.given p.here.covers b.frame.before_is (subst (λ (z : List OperandType). AllFit b.frame.given z) same b.frame.fits)
+      refuses.at p.under p.here.own p.here.whole p.here.height p.here.theirs b.frame.below b.frame.given p.here.covers b.frame.before_is
+      (subst (λ (z : List OperandType). AllFit b.frame.given z) same b.frame.fits)
 
 -- A block begins: its body and what follows it continue as they would.
-pub begin_goes : {context : Context} {l : ControlFrame} {ls : List ControlFrame} {operands given left : List OperandType} {ops : List Op} (new : ControlFrame) (t : BlockType) (o : Op) (mark : IsMark new.kind t o) → Takes l.unreachable l.height operands given left
-    → AllFit given (known (new.start_types.now ++ condition_by new.kind)) → new.height ≡ length left → (p : IsTypingOfRest context l ls operands (o ∷ ops)) → (block_start new.kind t o mark p).s ≡ signature_of new → IsTypingOfRest context new (l ∷ ls) (left ++ known new.start_types.now) ops
+pub begin_goes : {context : Context} {l : ControlFrame} {ls : List ControlFrame} {operands given left : List OperandType} {ops : List Op}
+    (new : ControlFrame) (t : BlockType) (o : Op) (mark : IsMark new.kind t o) → Takes l.unreachable l.height operands given left
+    → AllFit given (known (new.start_types.now ++ condition_by new.kind)) → new.height ≡ length left
+    → (p : IsTypingOfRest context l ls operands (o ∷ ops)) → (block_start new.kind t o mark p).s ≡ signature_of new
+    → IsTypingOfRest context new (l ∷ ls) (left ++ known new.start_types.now) ops
 begin_goes {context} {l} {ls} {given = given} {left = left} new t o mark takes fits height p same =
     let b = block_start new.kind t o mark p in
     let (rest, parts, taken) = takes.at p.under p.here.own p.here.whole p.here.height in
@@ -160,7 +167,9 @@ begin_goes {context} {l} {ls} {given = given} {left = left} new t o mark takes f
     let long = AllFit-length b.frame.given wanted framed ∙ sym (AllFit-length given wanted fits) in
     let (covers, fit) = Covers-taken l.unreachable p.here.own given rest p.here.theirs b.frame.below b.frame.given p.here.covers taken b.frame.before_is long in
     let typed = subst (λ (s : FuncType). HasType (with_label (inside context (l ∷ ls)) (label_by new.kind s.params s.results)) b.inner (known s.params) (known s.results)) same b.typed in
-    let ended = subst (λ (s : FuncType). FrameEnd (with_label (inside context (l ∷ ls)) (label_by new.kind s.params s.results)) new.kind s.params s.results b.ending (writing b.rest ++ p.later)) same b.ended in
+    let ended = subst (λ (s : FuncType).
+    FrameEnd (with_label (inside context (l ∷ ls)) (label_by new.kind s.params s.results)) new.kind s.params s.results b.ending
+    (writing b.rest ++ p.later)) same b.ended in
     let results = ap (λ (s : FuncType). known s.results) same in
     record {
       under = left;
@@ -177,7 +186,8 @@ begin_goes {context} {l} {ls} {given = given} {left = left} new t o mark takes f
           theirs = b.frame.below;
           covers = covers;
           rest = b.rest;
-          typed = subst (λ (z : List OperandType). HasType (inside context (l ∷ ls)) b.rest z (known l.end_types.now)) (b.frame.after_is ∙ ap (λ (z : List OperandType). b.frame.below ++ z) results) b.last;
+          typed = subst (λ (z : List OperandType). HasType (inside context (l ∷ ls)) b.rest z (known l.end_types.now))
+              (b.frame.after_is ∙ ap (λ (z : List OperandType). b.frame.below ++ z) results) b.last;
           written = refl;
         },
         p.around,
@@ -227,6 +237,7 @@ pub begin_complete : {lent : BodyContext} {old new : Stacks} {given left : List 
 begin_complete {old = old} {new} {left = left} frame t o mark type takes fits height innermost outer operands = record {
   on = λ context described ops p.
       let b = block_start frame.kind t o mark p in
-      IsTypingOfRest-parts context new.innermost frame (reverse new.outer.items) (old.innermost ∷ reverse old.outer.items) new.operands.items (left ++ known frame.start_types.now) ops innermost outer operands
+      IsTypingOfRest-parts context new.innermost frame (reverse new.outer.items) (old.innermost ∷ reverse old.outer.items) new.operands.items
+      (left ++ known frame.start_types.now) ops innermost outer operands
       (begin_goes frame t o mark takes fits height p (block_same t (signature_of frame) b.s described type b.is));
 }

@@ -61,7 +61,8 @@ before-put t u operands results before between none one frame fits =
     (last_type t u last, subst (AreFit t) (sym before_is) below, omega (arith, longer, same))
 
 -- The same for an instruction that replaces two operands of its type with one.
-pub before-operator : (t u : ValType) (operands results before between : List OperandType) → operands ≡ known (u ∷ u ∷ []) → results ≡ known (u ∷ []) → TakesAndGives operands results before between → AreFit t between
+pub before-operator : (t u : ValType) (operands results before between : List OperandType) → operands ≡ known (u ∷ u ∷ []) → results ≡ known (u ∷ [])
+    → TakesAndGives operands results before between → AreFit t between
     → (u ≡ t) × AreFit t before × (2 ≤ length before) × (suc (length between) ≡ length before)
 before-operator t u operands results before between two one frame fits =
     let between_is : between ≡ frame.below ++ known (u ∷ []) = frame.after_is ∙ ap (λ (ts : List OperandType). frame.below ++ ts) one in

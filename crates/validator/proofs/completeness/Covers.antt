@@ -1,5 +1,6 @@
 -- Laws of the operands of a typing that a frame's own operands cover.
-use Rattle.std.proofs.Common.{◌≡◌, ℕ, zero, suc, ◌+◌, ◌<◌, ◌≤◌, Bool, true, false, List, [], ◌∷◌, ◌++◌, length, length-append, take, drop, get_or, replicate, refl, sym, ap, subst, ◌∙◌, inl, inr, append_assoc, arith}
+use Rattle.std.proofs.Common.{◌≡◌, ℕ, zero, suc, ◌+◌, ◌<◌, ◌≤◌, Bool, true, false, List, [], ◌∷◌, ◌++◌, length, length-append, take, drop, get_or, replicate}
+use Rattle.std.proofs.Common.{refl, sym, ap, subst, ◌∙◌, inl, inr, append_assoc, arith}
 use Rattle.std.proofs.lemmas.List.{append-nil, drop_more, length-replicate, map-append, nil_from_length, take-append-drop}
 use Rattle.core_types.specs.declared.types.OperandType.TheVariants.{Known, Unknown}
 use Rattle.core_types.specs.declared.types.OperandType.{OperandType}
@@ -49,7 +50,8 @@ unknown_fit (suc n) (u ∷ us) e = (tt, unknown_fit n us (omega arith))
 
 -- If the same number of operands is taken from a typing's, the rest covers those that are left, and the taken ones fit those of the
 -- typing.
-pub Covers-taken : (unreachable : Bool) (own given rest theirs below top : List OperandType) → Covers unreachable own theirs → TakenFrom unreachable own given rest → theirs ≡ below ++ top → length top ≡ length given → Covers unreachable rest below × AllFit given top
+pub Covers-taken : (unreachable : Bool) (own given rest theirs below top : List OperandType) → Covers unreachable own theirs
+    → TakenFrom unreachable own given rest → theirs ≡ below ++ top → length top ≡ length given → Covers unreachable rest below × AllFit given top
 Covers-taken unreachable own given rest theirs below top covers (inl parts) e long =
     let (front, back, halves, first, second) = AllFit-split rest given covers.top (rw parts at covers.fits) in
     let whole : (covers.others ++ front) ++ back ≡ below ++ top = append_assoc covers.others front back ∙ ap (λ (z : List OperandType). covers.others ++ z) (sym halves) ∙ sym covers.parts ∙ e in
@@ -61,13 +63,15 @@ Covers-taken unreachable own given rest theirs below top covers (inr (dead, noth
     let whole : covers.others ++ covers.top ≡ (below ++ front) ++ back = sym covers.parts ∙ e ∙ ap (λ (z : List OperandType). below ++ z) halves ∙ sym (append_assoc below front back) in
     let total : length top ≡ length front + length back = ap length halves ∙ length-append front back in
     let same = same_end covers.others covers.top (below ++ front) back whole (omega (arith, long, sizes, count, total, AllFit-length own covers.top covers.fits)) in
-    let fits : AllFit (replicate n Unknown ++ own) (front ++ back) = AllFit-joined (replicate n Unknown) front own back (unknown_fit n front count) (subst (λ (z : List OperandType). AllFit own z) same.1 covers.fits) in (
+    let fits : AllFit (replicate n Unknown ++ own) (front ++ back) = AllFit-joined (replicate n Unknown) front own back (unknown_fit n front count)
+    (subst (λ (z : List OperandType). AllFit own z) same.1 covers.fits) in (
       record { others = below; top = []; parts = sym (append-nil below); fits = rw nothing tt; alone = λ alive. let both : true ≡ false = sym dead ∙ alive in absurd cc },
       rw (parts, halves) fits,
     )
 
 -- What was taken does not fit what is wanted.
-pub Refuses-misfit : (unreachable : Bool) (height : ℕ) (old given new wanted : List OperandType) → Takes unreachable height old given new → length given ≡ length wanted → (AllFit given wanted → ⊥) → Refuses unreachable height old wanted
+pub Refuses-misfit : (unreachable : Bool) (height : ℕ) (old given new wanted : List OperandType) → Takes unreachable height old given new
+    → length given ≡ length wanted → (AllFit given wanted → ⊥) → Refuses unreachable height old wanted
 Refuses-misfit unreachable height old given new wanted takes same wrong = record {
   at = λ under own parts long theirs below top covers e fit.
       let (rest, left, taken) = takes.at under own parts long in
@@ -76,7 +80,8 @@ Refuses-misfit unreachable height old given new wanted takes same wrong = record
 }
 
 -- All that the frame has was taken, and it is less than what is wanted.
-pub Refuses-short : (unreachable : Bool) (height : ℕ) (old given new wanted : List OperandType) → Takes unreachable height old given new → IsDry unreachable height new → length given < length wanted → Refuses unreachable height old wanted
+pub Refuses-short : (unreachable : Bool) (height : ℕ) (old given new wanted : List OperandType) → Takes unreachable height old given new
+    → IsDry unreachable height new → length given < length wanted → Refuses unreachable height old wanted
 Refuses-short unreachable height old given new wanted takes (alive, low) less = record {
   at = λ under own parts long theirs below top covers e fit.
       let (rest, left, taken) = takes.at under own parts long in
@@ -95,25 +100,32 @@ pub Refuses-dry : (unreachable : Bool) (height : ℕ) (old : List OperandType) (
 Refuses-dry unreachable height old wanted dry = Refuses-short unreachable height old [] old (wanted ∷ []) (Takes-nothing unreachable height old) dry (omega arith)
 
 -- If operands of the last types were taken and the one before is refused, all of them are refused.
-pub Refuses-more : (unreachable : Bool) (height : ℕ) (old given new front back : List OperandType) (wanted : OperandType) → Takes unreachable height old given new → AllFit given back → Refuses unreachable height new (wanted ∷ []) → Refuses unreachable height old (front ++ (wanted ∷ back))
+pub Refuses-more : (unreachable : Bool) (height : ℕ) (old given new front back : List OperandType) (wanted : OperandType)
+    → Takes unreachable height old given new → AllFit given back → Refuses unreachable height new (wanted ∷ [])
+    → Refuses unreachable height old (front ++ (wanted ∷ back))
 Refuses-more unreachable height old given new front back wanted takes fits refuses = record {
   at = λ under own parts long theirs below top covers e fit.
       let (first, others, halves, fit_first, fit_others) = AllFit-parts top front (wanted ∷ back) fit in
       let (one, last, parts_others, fit_one, fit_last) = AllFit-parts others (wanted ∷ []) back fit_others in
       let (rest, left, taken) = takes.at under own parts long in
       let whole : theirs ≡ ((below ++ first) ++ one) ++ last =
-      e ∙ ap (λ (z : List OperandType). below ++ z) (halves ∙ ap (λ (z : List OperandType). first ++ z) parts_others) ∙ sym (append_assoc below first (one ++ last)) ∙ sym (append_assoc (below ++ first) one last) in
+      e ∙ ap (λ (z : List OperandType). below ++ z) (halves ∙ ap (λ (z : List OperandType). first ++ z) parts_others) ∙ sym
+      (append_assoc below first (one ++ last)) ∙ sym (append_assoc (below ++ first) one last) in
       let covered = Covers-taken unreachable own given rest theirs ((below ++ first) ++ one) last covers taken whole (AllFit-length last back fit_last ∙ sym (AllFit-length given back fits)) in
       refuses.at under rest left long ((below ++ first) ++ one) (below ++ first) one covered.0 refl fit_one;
 }
 
 -- The same for types, the last of which were taken.
-pub Refuses-down : (unreachable : Bool) (height : ℕ) (old given new : List OperandType) (wanted : List ValType) (left : ℕ) (d : ValType) → left < length wanted → Takes unreachable height old given new → AllFit given (known (drop (left + 1) wanted))
+pub Refuses-down : (unreachable : Bool) (height : ℕ) (old given new : List OperandType) (wanted : List ValType) (left : ℕ) (d : ValType)
+    → left < length wanted → Takes unreachable height old given new → AllFit given (known (drop (left + 1) wanted))
     → Refuses unreachable height new (Known (get_or wanted left d) ∷ []) → Refuses unreachable height old (known wanted)
 Refuses-down unreachable height old given new wanted left d less takes fits refuses =
     let parts : known wanted ≡ known (take left wanted) ++ (Known (get_or wanted left d) ∷ known (drop (left + 1) wanted)) =
-    ap known (sym (take-append-drop left wanted)) ∙ map-append Known (take left wanted) (drop left wanted) ∙ ap (λ (z : List ValType). known (take left wanted) ++ known z) (drop_more wanted left d less) in
-    subst (λ (z : List OperandType). Refuses unreachable height old z) (sym parts) (Refuses-more unreachable height old given new (known (take left wanted)) (known (drop (left + 1) wanted)) (Known (get_or wanted left d)) takes fits refuses)
+    ap known (sym (take-append-drop left wanted)) ∙ map-append Known (take left wanted) (drop left wanted) ∙ ap
+    (λ (z : List ValType). known (take left wanted) ++ known z) (drop_more wanted left d less) in
+    subst (λ (z : List OperandType). Refuses unreachable height old z) (sym parts)
+    (Refuses-more unreachable height old given new (known (take left wanted)) (known (drop (left + 1) wanted)) (Known (get_or wanted left d))
+    takes fits refuses)
 
 -- Results that fit those of a typing are pushed.
 pub Covers-put : (unreachable : Bool) (own theirs results others : List OperandType) → Covers unreachable own theirs → AllFit results others → Covers unreachable (own ++ results) (theirs ++ others)
@@ -126,11 +138,13 @@ Covers-put unreachable own theirs results others covers fits = record {
 }
 
 -- The topmost of the wanted operands is refused.
-pub Refuses-top : (unreachable : Bool) (height : ℕ) (old front : List OperandType) (wanted : OperandType) → Refuses unreachable height old (wanted ∷ []) → Refuses unreachable height old (front ++ wanted ∷ [])
+pub Refuses-top : (unreachable : Bool) (height : ℕ) (old front : List OperandType) (wanted : OperandType)
+    → Refuses unreachable height old (wanted ∷ []) → Refuses unreachable height old (front ++ wanted ∷ [])
 Refuses-top unreachable height old front wanted refuses = Refuses-more unreachable height old [] old front [] wanted (Takes-nothing unreachable height old) tt refuses
 
 -- Operands are refused below one that was taken.
-pub Refuses-under : (unreachable : Bool) (height : ℕ) (old mid wanted : List OperandType) (t topmost : OperandType) → Takes unreachable height old (t ∷ []) mid → Refuses unreachable height mid wanted → Refuses unreachable height old (wanted ++ topmost ∷ [])
+pub Refuses-under : (unreachable : Bool) (height : ℕ) (old mid wanted : List OperandType) (t topmost : OperandType)
+    → Takes unreachable height old (t ∷ []) mid → Refuses unreachable height mid wanted → Refuses unreachable height old (wanted ++ topmost ∷ [])
 Refuses-under unreachable height old mid wanted t topmost takes refuses = record {
   at = λ under own parts long theirs below top covers e fit.
       let (front, back, halves, fit_front, fit_back) = AllFit-parts top wanted (topmost ∷ []) fit in

@@ -62,7 +62,9 @@ module _ {m : Module} (valid : IsValid m) where
       let tables = All-split (IsOrdered types) (imported_tables m.imports) m.tables valid.table_limits in
       let memories = All-split IsValidMemory (imported_memories m.imports) m.memories both in
       record {
-        imports = imports_valid types m.imports (subst (All (IsTyped types)) (sym (functions_imported m.imports)) functions.0) (subst (All (IsOrdered types)) (sym (tables_imported m.imports)) tables.0) (subst (All IsValidMemory) (sym (memories_imported m.imports)) memories.0);
+        imports = imports_valid types m.imports (subst (All (IsTyped types)) (sym (functions_imported m.imports)) functions.0)
+            (subst (All (IsOrdered types)) (sym (tables_imported m.imports)) tables.0)
+            (subst (All IsValidMemory) (sym (memories_imported m.imports)) memories.0);
         functions = All-unmap (IsTyped types) (λ (f : Func). f.ty) m.funcs functions.1;
         tables = tables.1;
         memories = memories.1;

@@ -17,7 +17,8 @@ use Rattle.validator.specs.Steps.{CannotBeNext, KeepsRest}
 use Rattle.validator.proofs.completeness.RestBodies.{plain_goes, plain_next, plain_refused, plain_stops}
 
 -- What the stacks leave possible, part by part.
-pub IsTypingOfRest-parts : (context : Context) (innermost l : ControlFrame) (outer ls : List ControlFrame) (all operands : List OperandType) (ops : List Op) → innermost ≡ l → outer ≡ ls → all ≡ operands → IsTypingOfRest context l ls operands ops → IsTypingOfRest context innermost outer all ops
+pub IsTypingOfRest-parts : (context : Context) (innermost l : ControlFrame) (outer ls : List ControlFrame) (all operands : List OperandType)
+    (ops : List Op) → innermost ≡ l → outer ≡ ls → all ≡ operands → IsTypingOfRest context l ls operands ops → IsTypingOfRest context innermost outer all ops
 IsTypingOfRest-parts context innermost l outer ls all operands ops same_frame same_frames same_operands possible =
     subst (λ (z : List OperandType). IsTypingOfRest context innermost outer z ops) (sym same_operands)
     (subst (λ (z : List ControlFrame). IsTypingOfRest context innermost z operands ops) (sym same_frames)
@@ -29,25 +30,33 @@ RuleAt context old o operands results = Rule (inside context (control_stack old)
 
 module _ {s : BodyContext} {old new : Stacks} where
   -- The same number of operands is taken as each rule takes. If they fit these, results that fit its own are pushed.
-  pub rule_complete : {given left : List OperandType} (o : PlainOp) (results : List OperandType) → new.innermost ≡ old.innermost → new.outer ≡ old.outer → Takes old.innermost.unreachable old.innermost.height old.operands.items given left → new.operands.items ≡ left ++ results
-      → ((context : Context) → Describes s context → (theirs others : List OperandType) → RuleAt context old o theirs others → (length given ≡ length theirs) × (AllFit given theirs → AllFit results others)) → KeepsRest s old new (op.Plain o)
+  pub rule_complete : {given left : List OperandType} (o : PlainOp) (results : List OperandType) → new.innermost ≡ old.innermost → new.outer
+      ≡ old.outer → Takes old.innermost.unreachable old.innermost.height old.operands.items given left → new.operands.items ≡ left ++ results
+      → ((context : Context) → Describes s context → (theirs others : List OperandType) → RuleAt context old o theirs others
+      → (length given ≡ length theirs) × (AllFit given theirs → AllFit results others)) → KeepsRest s old new (op.Plain o)
   rule_complete {left = left} o results innermost outer takes operands each = record {
     on = λ context is ops p.
         let n = plain_next p in
         let (long, fits) = each context is n.operands n.results n.rule in
-        IsTypingOfRest-parts context new.innermost old.innermost (reverse new.outer.items) (reverse old.outer.items) new.operands.items (left ++ results) ops innermost (ap (λ v. reverse v.items) outer) operands (plain_goes results takes p long fits);
+        IsTypingOfRest-parts context new.innermost old.innermost (reverse new.outer.items) (reverse old.outer.items) new.operands.items
+        (left ++ results) ops innermost (ap (λ v. reverse v.items) outer) operands (plain_goes results takes p long fits);
   }
 
   -- Nothing can be reached after it.
-  pub stop_complete : {given left : List OperandType} (o : PlainOp) → new.innermost ≡ unreachable_from_here old.innermost → new.outer ≡ old.outer → Takes old.innermost.unreachable old.innermost.height old.operands.items given left → new.operands.items ≡ take old.innermost.height left → KeepsRest s old new (op.Plain o)
+  pub stop_complete : {given left : List OperandType} (o : PlainOp) → new.innermost ≡ unreachable_from_here old.innermost → new.outer ≡ old.outer
+      → Takes old.innermost.unreachable old.innermost.height old.operands.items given left → new.operands.items ≡ take old.innermost.height left
+      → KeepsRest s old new (op.Plain o)
   stop_complete {left = left} o innermost outer takes operands = record {
     on = λ context is ops p.
-        IsTypingOfRest-parts context new.innermost (unreachable_from_here old.innermost) (reverse new.outer.items) (reverse old.outer.items) new.operands.items (take old.innermost.height left) ops innermost (ap (λ v. reverse v.items) outer) operands (plain_stops takes p);
+        IsTypingOfRest-parts context new.innermost (unreachable_from_here old.innermost) (reverse new.outer.items) (reverse old.outer.items)
+        new.operands.items (take old.innermost.height left) ops innermost (ap (λ v. reverse v.items) outer) operands (plain_stops takes p);
   }
 
 -- Operands that a rule takes on top are refused, whichever rule it is.
 pub rule_refused : {s : BodyContext} {old : Stacks} (o : PlainOp)
-    → ((context : Context) → Describes s context → (theirs others : List OperandType) → RuleAt context old o theirs others → (below wanted : List OperandType) × Refuses old.innermost.unreachable old.innermost.height old.operands.items wanted × AllFit theirs (below ++ wanted))
+    → ((context : Context) → Describes s context → (theirs others : List OperandType) → RuleAt context old o theirs others
+    → (below wanted : List OperandType) × Refuses old.innermost.unreachable old.innermost.height old.operands.items wanted
+    × AllFit theirs (below ++ wanted))
     → CannotBeNext s old (op.Plain o)
 rule_refused o each = record {
   at = λ context is ops p.
@@ -57,5 +66,7 @@ rule_refused o each = record {
 }
 
 -- No rule holds.
-pub no_rule : {s : BodyContext} {old : Stacks} (o : PlainOp) → ((context : Context) → Describes s context → (theirs others : List OperandType) → RuleAt context old o theirs others → ⊥) → CannotBeNext s old (op.Plain o)
+pub no_rule : {s : BodyContext} {old : Stacks} (o : PlainOp)
+    → ((context : Context) → Describes s context → (theirs others : List OperandType) → RuleAt context old o theirs others → ⊥)
+    → CannotBeNext s old (op.Plain o)
 no_rule o never = record { at = λ context is ops p. let n = plain_next p in never context is n.operands n.results n.rule }

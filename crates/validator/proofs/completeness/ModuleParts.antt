@@ -64,7 +64,8 @@ constant_global g t value mutability =
     ap (λ (v : ValType). record { value = v; mutability = g.mutability }) value ∙ ap (λ (k : Mutability). record { value = t; mutability = k }) mutability
 
 module _ {m : Module} {s : IndexSpaces} {context : ConstantContext} (spaces : AreIndexSpaces m s) (marks : HasMarks m s) (lends : IsConstantContext m s context) where
-  reference_given : (op : ReferenceOp) (t : ValType) → IsConstant (constant_context m) (Plain (Reference op)) → Rule (constant_context m) (Reference op) [] (known (t ∷ [])) → GivesReference context op t
+  reference_given : (op : ReferenceOp) (t : ValType) → IsConstant (constant_context m) (Plain (Reference op))
+      → Rule (constant_context m) (Reference op) [] (known (t ∷ [])) → GivesReference context op t
   unfolding GivesReference
   reference_given (reference.Null r) t constant rule = let same = rule.1 in cc
   reference_given reference.IsNull t constant rule = absurd constant
@@ -88,7 +89,8 @@ module _ {m : Module} {s : IndexSpaces} {context : ConstantContext} (spaces : Ar
   global_given (GlobalSet x) t constant rule = absurd constant
 
   -- An operator takes something.
-  no_operator : (op : NumericOp) (t : ValType) → IsConstant (constant_context m) (Plain (Numeric op)) → Rule (constant_context m) (Numeric op) [] (known (t ∷ [])) → GivesConstant context (Numeric op) t
+  no_operator : (op : NumericOp) (t : ValType) → IsConstant (constant_context m) (Plain (Numeric op))
+      → Rule (constant_context m) (Numeric op) [] (known (t ∷ [])) → GivesConstant context (Numeric op) t
   no_operator op t constant rule =
       let (u, operates, two, one) = operator_rule (constant_context m) op [] (known (t ∷ [])) constant rule in absurd cc
 
@@ -122,7 +124,8 @@ module _ {m : Module} {s : IndexSpaces} {context : ConstantContext} (spaces : Ar
         | inl given ↦ (
             let (u, none, one) = given in
             let (type, fits_before, longer) = before-put t u operands results before between none one frame fits in
-            let rule_of : Rule (constant_context m) op [] (known (t ∷ [])) = subst (λ (ts : List OperandType). Rule (constant_context m) op [] ts) (one ∙ ap (λ (v : ValType). known (v ∷ [])) type) (subst (λ (ts : List OperandType). Rule (constant_context m) op ts results) none rule) in
+            let rule_of : Rule (constant_context m) op [] (known (t ∷ [])) = subst (λ (ts : List OperandType). Rule (constant_context m) op [] ts)
+            (one ∙ ap (λ (v : ValType). known (v ∷ [])) type) (subst (λ (ts : List OperandType). Rule (constant_context m) op ts results) none rule) in
             (fits_before, (length between, inl (instruction_given op t constant rule_of, longer), leads)))
         | inr given ↦ (
             let (n, op_is, (u, operates, two, one)) = given in
@@ -140,14 +143,17 @@ module _ {m : Module} {s : IndexSpaces} {context : ConstantContext} (spaces : Ar
       let (fits, leads) = leads_from expression.body t [] (subst (All (IsConstant (constant_context m))) expression.written expression.constant) expression.typed in
       subst (λ (written : List Op). IsConstantIn context written t) (sym expression.written) leads
 
-  pub globals_given : (globals : List Global) → All (λ (g : Global). IsConstantExpression (constant_context m) g.init g.ty.value) globals → All (λ (g : Global). IsConstantIn context g.init g.ty.value) globals
-  globals_given = All-weaker (λ (g : Global). IsConstantExpression (constant_context m) g.init g.ty.value) (λ (g : Global). IsConstantIn context g.init g.ty.value) (λ g. expression_given g.init g.ty.value)
+  pub globals_given : (globals : List Global) → All (λ (g : Global). IsConstantExpression (constant_context m) g.init g.ty.value) globals
+      → All (λ (g : Global). IsConstantIn context g.init g.ty.value) globals
+  globals_given = All-weaker (λ (g : Global). IsConstantExpression (constant_context m) g.init g.ty.value)
+      (λ (g : Global). IsConstantIn context g.init g.ty.value) (λ g. expression_given g.init g.ty.value)
 
   items_given : (t : RefType) (items : ElementItems) → HasItemsOfType m t items → AreItemsIn s context t items
   unfolding AreItemsIn
   items_given t (Functions indices) h = (h.0, subst (λ (functions : List ℕ). All (λ (x : ℕ). x < length functions) indices) (sym spaces.functions) h.1)
   items_given t (Expressions expressions) h =
-      All-weaker (λ (ops : List Op). IsConstantExpression (constant_context m) ops (reference_type t)) (λ (ops : List Op). IsConstantIn context ops (reference_type t)) (λ ops. expression_given ops (reference_type t)) expressions h
+      All-weaker (λ (ops : List Op). IsConstantExpression (constant_context m) ops (reference_type t))
+      (λ (ops : List Op). IsConstantIn context ops (reference_type t)) (λ ops. expression_given ops (reference_type t)) expressions h
 
   element_mode_given : (t : RefType) (mode : ElementMode) → HasElementMode m t mode → IsElementModeIn s context t mode
   unfolding IsElementModeIn
@@ -176,7 +182,8 @@ module _ {m : Module} {s : IndexSpaces} (spaces : AreIndexSpaces m s) where
       let index = get_or (function_indices m) x 0 in
       let there = slice_get-get_or (function_indices m) x 0 inside in
       let type_there = slice_get-get_or m.types index empty (All-get_or (λ (x : ℕ). x < length m.types) (function_indices m) x 0 inside typed) in
-      let known_as : slice_get (map (type_at m.types) (function_indices m)) x ≡ Some (type_at m.types index) = slice_get-map (type_at m.types) (function_indices m) x ∙ ap (option_map (type_at m.types)) there in
+      let known_as : slice_get (map (type_at m.types) (function_indices m)) x
+      ≡ Some (type_at m.types index) = slice_get-map (type_at m.types) (function_indices m) x ∙ ap (option_map (type_at m.types)) there in
       let is_type : type_at m.types index ≡ get_or m.types index empty = ap (λ (found : Option FuncType). unwrap_or found empty) type_there in
       let is_empty : type_at m.types index ≡ empty = cc in
       (index, rw spaces.functions there, type_there ∙ ap Some (sym is_type ∙ is_empty))

@@ -43,7 +43,8 @@ begins_else ops (op.Block t) more begins e = cc
 begins_else ops (op.Loop t) more begins e = cc
 begins_else ops (op.If t) more begins e = cc
 
-no_end_begins : (context : Context) (kind : FrameKind) (start_types end_types : List ValType) (o : Op) (ops after : List Op) → IsNoEnd o → FrameEnd context kind start_types end_types (o ∷ ops) after → ⊥
+no_end_begins : (context : Context) (kind : FrameKind) (start_types end_types : List ValType) (o : Op) (ops after : List Op) → IsNoEnd o
+    → FrameEnd context kind start_types end_types (o ∷ ops) after → ⊥
 no_end_begins context Function start_types end_types o ops after begins e = e
 no_end_begins context Block start_types end_types o ops after begins e = begins_end ops o after begins e
 no_end_begins context Loop start_types end_types o ops after begins e = begins_end ops o after begins e
@@ -51,10 +52,12 @@ no_end_begins context Else start_types end_types o ops after begins e = begins_e
 no_end_begins context If start_types end_types o ops after begins (inl (e, same)) = begins_end ops o after begins e
 no_end_begins context If start_types end_types o ops after begins (inr (other, e, typed)) = begins_else ops o (writing other ++ (op.End ∷ after)) begins e
 
-pub later_begins : (context : Context) (l : ControlFrame) (ls : List ControlFrame) (under : List OperandType) (later : List Op) (o : Op) (ops : List Op) → IsNoEnd o → AroundRest context l ls under later → o ∷ ops ≡ later → ⊥
+pub later_begins : (context : Context) (l : ControlFrame) (ls : List ControlFrame) (under : List OperandType) (later : List Op) (o : Op)
+    (ops : List Op) → IsNoEnd o → AroundRest context l ls under later → o ∷ ops ≡ later → ⊥
 later_begins context l [] under later o ops begins (kind, none, nothing) e = cc
 later_begins context l (m ∷ ms) under later o ops begins (after, ended, lower, last, goes, around) e =
-    no_end_begins (inside context (l ∷ m ∷ ms)) l.kind l.start_types.now l.end_types.now o ops after begins (subst (λ (z : List Op). FrameEnd (inside context (l ∷ m ∷ ms)) l.kind l.start_types.now l.end_types.now z after) (sym e) ended)
+    no_end_begins (inside context (l ∷ m ∷ ms)) l.kind l.start_types.now l.end_types.now o ops after begins
+    (subst (λ (z : List Op). FrameEnd (inside context (l ∷ m ∷ ms)) l.kind l.start_types.now l.end_types.now z after) (sym e) ended)
 
 -- How an instruction that is next takes its operands.
 pub record Next (context : Context) (o : PlainOp) (before after : List OperandType) (ops later : List Op) : Type 0 where
@@ -67,28 +70,43 @@ pub record Next (context : Context) (o : PlainOp) (before after : List OperandTy
   pub typed : HasType context rest between after
   pub written : ops ≡ writing rest ++ later
 
-next_of : (context : Context) (o : PlainOp) (rest : Body) (before after : List OperandType) (ops later : List Op) → HasType context rest before after → op.Plain o ∷ ops ≡ writing rest ++ later → (op.Plain o ∷ ops ≡ later → ⊥) → Next context o before after ops later
+next_of : (context : Context) (o : PlainOp) (rest : Body) (before after : List OperandType) (ops later : List Op) → HasType context rest before after
+    → op.Plain o ∷ ops ≡ writing rest ++ later → (op.Plain o ∷ ops ≡ later → ⊥) → Next context o before after ops later
 next_of context o Empty before after ops later typed e bar = absurd (bar e)
 next_of context o (Then other rest) before after ops later (operands, results, between, rule, frame, last) e bar =
     let same : other ≡ o = cc in
     let tails : ops ≡ writing rest ++ later = cc in
-    record { operands = operands; results = results; between = between; rule = subst (λ (z : PlainOp). Rule context z operands results) same rule; frame = frame; rest = rest; typed = last; written = tails }
+    record {
+      operands = operands;
+      results = results;
+      between = between;
+      rule = subst (λ (z : PlainOp). Rule context z operands results) same rule;
+      frame = frame;
+      rest = rest;
+      typed = last;
+      written = tails;
+    }
 next_of context o (Nested BlockKind t inner rest) before after ops later typed e bar = absurd cc
 next_of context o (Nested LoopKind t inner rest) before after ops later typed e bar = absurd cc
 next_of context o (Nested IfKind t inner rest) before after ops later typed e bar = absurd cc
 next_of context o (IfElse t inner other rest) before after ops later typed e bar = absurd cc
 
-around_stopped : (context : Context) (l : ControlFrame) (ls : List ControlFrame) (under : List OperandType) (later : List Op) → AroundRest context l ls under later → AroundRest context (unreachable_from_here l) ls under later
+around_stopped : (context : Context) (l : ControlFrame) (ls : List ControlFrame) (under : List OperandType) (later : List Op)
+    → AroundRest context l ls under later → AroundRest context (unreachable_from_here l) ls under later
 around_stopped context l [] under later around = around
 around_stopped context l (m ∷ ms) under later around = around
 
 module _ {context : Context} {l : ControlFrame} {ls : List ControlFrame} where
-  pub plain_next : {operands : List OperandType} {o : PlainOp} {ops : List Op} (p : IsTypingOfRest context l ls operands (op.Plain o ∷ ops)) → Next (inside context (l ∷ ls)) o p.here.theirs (known l.end_types.now) ops p.later
+  pub plain_next : {operands : List OperandType} {o : PlainOp} {ops : List Op} (p : IsTypingOfRest context l ls operands (op.Plain o ∷ ops))
+      → Next (inside context (l ∷ ls)) o p.here.theirs (known l.end_types.now) ops p.later
   plain_next {o = o} {ops = ops} p =
-      next_of (inside context (l ∷ ls)) o p.here.rest p.here.theirs (known l.end_types.now) ops p.later (rw (append-nil p.here.theirs) at p.here.typed) p.here.written (later_begins context l ls p.under p.later (op.Plain o) ops tt p.around)
+      next_of (inside context (l ∷ ls)) o p.here.rest p.here.theirs (known l.end_types.now) ops p.later
+      (rw (append-nil p.here.theirs) at p.here.typed) p.here.written (later_begins context l ls p.under p.later (op.Plain o) ops tt p.around)
 
   -- Operands that are the topmost of those that the instruction takes are refused: it has no typing.
-  pub plain_refused : {operands : List OperandType} {o : PlainOp} {ops : List Op} (below wanted : List OperandType) → Refuses l.unreachable l.height operands wanted → (p : IsTypingOfRest context l ls operands (op.Plain o ∷ ops)) → AllFit (plain_next p).operands (below ++ wanted) → ⊥
+  pub plain_refused : {operands : List OperandType} {o : PlainOp} {ops : List Op} (below wanted : List OperandType)
+      → Refuses l.unreachable l.height operands wanted → (p : IsTypingOfRest context l ls operands (op.Plain o ∷ ops))
+      → AllFit (plain_next p).operands (below ++ wanted) → ⊥
   plain_refused below wanted refuses p fits =
       let n = plain_next p in
       let (front, back, parts, first, second) = AllFit-parts n.frame.given below wanted (AllFit-through n.frame.given n.operands (below ++ wanted) n.frame.fits fits) in
@@ -96,7 +114,8 @@ module _ {context : Context} {l : ControlFrame} {ls : List ControlFrame} where
       (n.frame.before_is ∙ ap (λ (z : List OperandType). n.frame.below ++ z) parts ∙ sym (append_assoc n.frame.below front back)) second
 
   -- An instruction whose operands are taken, and whose results fit those of each typing that these fit, leaves possible what was.
-  pub plain_goes : {operands given new : List OperandType} {o : PlainOp} {ops : List Op} (results : List OperandType) → Takes l.unreachable l.height operands given new → (p : IsTypingOfRest context l ls operands (op.Plain o ∷ ops))
+  pub plain_goes : {operands given new : List OperandType} {o : PlainOp} {ops : List Op} (results : List OperandType)
+      → Takes l.unreachable l.height operands given new → (p : IsTypingOfRest context l ls operands (op.Plain o ∷ ops))
       → length given ≡ length (plain_next p).operands → (AllFit given (plain_next p).operands → AllFit results (plain_next p).results) → IsTypingOfRest context l ls (new ++ results) ops
   plain_goes {given = given} results takes p long fits =
       let n = plain_next p in
@@ -120,7 +139,8 @@ module _ {context : Context} {l : ControlFrame} {ls : List ControlFrame} where
       }
 
   -- Nothing can be reached after it: any operands cover those of each typing.
-  pub plain_stops : {operands given new : List OperandType} {o : PlainOp} {ops : List Op} → Takes l.unreachable l.height operands given new → (p : IsTypingOfRest context l ls operands (op.Plain o ∷ ops)) → IsTypingOfRest context (unreachable_from_here l) ls (take l.height new) ops
+  pub plain_stops : {operands given new : List OperandType} {o : PlainOp} {ops : List Op} → Takes l.unreachable l.height operands given new
+      → (p : IsTypingOfRest context l ls operands (op.Plain o ∷ ops)) → IsTypingOfRest context (unreachable_from_here l) ls (take l.height new) ops
   plain_stops takes p =
       let n = plain_next p in
       let (rest, left, taken) = takes.at p.under p.here.own p.here.whole p.here.height in

@@ -20,10 +20,13 @@ use Rattle.validator.specs.Steps.{CannotBeNext, KeepsRest, NeverCloses}
 use Rattle.validator.proofs.completeness.BlockEnds.{nothing_left}
 use Rattle.validator.proofs.completeness.Instructions.{IsTypingOfRest-parts}
 
-first_possible : {context : Context} {l : ControlFrame} {results : List ValType} {ops : List Op} (body : Body) → l.kind ≡ Function → l.end_types.now ≡ results → context.labels ≡ [] → l.height ≡ 0 → ops ≡ writing body
+first_possible : {context : Context} {l : ControlFrame} {results : List ValType} {ops : List Op} (body : Body) → l.kind ≡ Function → l.end_types.now
+    ≡ results → context.labels ≡ [] → l.height ≡ 0 → ops ≡ writing body
     → IsBodyOf context results body → IsTypingOfRest context l [] [] ops
 first_possible {context} {l} {results} body kind end_types bare height written typed =
-    let label : results ∷ context.labels ≡ label_of l ∷ [] = ap (λ (z : List (List ValType)). results ∷ z) bare ∙ ap (λ (t : List ValType). t ∷ []) (sym end_types) ∙ ap (λ k. label_by k l.start_types.now l.end_types.now ∷ []) (sym kind) in
+    let label : results ∷ context.labels
+    ≡ label_of l ∷ [] = ap (λ (z : List (List ValType)). results ∷ z) bare ∙ ap (λ (t : List ValType). t ∷ []) (sym end_types) ∙ ap
+    (λ k. label_by k l.start_types.now l.end_types.now ∷ []) (sym kind) in
     let same = subst (λ (z : List ValType). HasType (with_label context results) body [] (known z)) (sym end_types) typed in
     record {
       under = [];
@@ -42,7 +45,8 @@ first_possible {context} {l} {results} body kind end_types bare height written t
     }
 
 -- Before anything is read.
-pub first_goes : (s : BodyContext) (ops : List Op) (stacks : Stacks) → stacks.innermost.kind ≡ Function → stacks.innermost.end_types.now ≡ s.results.now → stacks.innermost.height ≡ 0 → stacks.outer.items ≡ [] → stacks.operands.items ≡ [] → IsRestTyped s ops stacks ops
+pub first_goes : (s : BodyContext) (ops : List Op) (stacks : Stacks) → stacks.innermost.kind ≡ Function → stacks.innermost.end_types.now
+    ≡ s.results.now → stacks.innermost.height ≡ 0 → stacks.outer.items ≡ [] → stacks.operands.items ≡ [] → IsRestTyped s ops stacks ops
 first_goes s ops stacks kind end_types height alone nothing = record {
   in_context = λ context is body written typed.
       IsTypingOfRest-parts context stacks.innermost stacks.innermost (reverse stacks.outer.items) [] stacks.operands.items [] ops refl (ap (λ (z : List ControlFrame). reverse z) alone) nothing
@@ -75,6 +79,7 @@ module _ (s : BodyContext) (ops : List Op) (stacks : Stacks) (goes : IsRestTyped
         never.at p.under left.own p.here.theirs left.whole left.height left.covers left.fits;
   }
 
-pub err_never_whole : (result : Result (Unit {0}) Fault) (s : BodyContext) (ops : List Op) (stacks : Stacks) → IsRestTyped s ops stacks [] → IfErr result (OnInvalid (NeverCloses stacks)) → IfErr result (OnInvalid (IsUntyped s ops))
+pub err_never_whole : (result : Result (Unit {0}) Fault) (s : BodyContext) (ops : List Op) (stacks : Stacks) → IsRestTyped s ops stacks []
+    → IfErr result (OnInvalid (NeverCloses stacks)) → IfErr result (OnInvalid (IsUntyped s ops))
 err_never_whole (Ok done) s ops stacks goes refused = tt
 err_never_whole (Err fault) s ops stacks goes refused = λ invalid. never_whole s ops stacks goes (refused invalid)

@@ -54,10 +54,13 @@ module _ {m : Module} (declarations : HasValidDeclarations m) where
   pub functions_typed : All (λ (x : ℕ). x < length m.types) (imported_functions m.imports ++ map (λ (f : Func). f.ty) m.funcs)
   functions_typed =
       let IsTyped = λ (x : ℕ). x < length m.types in
-      All-append IsTyped (imported_functions m.imports) (map (λ (f : Func). f.ty) m.funcs) (subst (All IsTyped) (functions_imported m.imports) (imports_are IsTyped function_of imported_typed)) (All-map IsTyped (λ (f : Func). f.ty) m.funcs declarations.functions)
+      All-append IsTyped (imported_functions m.imports) (map (λ (f : Func). f.ty) m.funcs)
+      (subst (All IsTyped) (functions_imported m.imports) (imports_are IsTyped function_of imported_typed))
+      (All-map IsTyped (λ (f : Func). f.ty) m.funcs declarations.functions)
 
   memories_valid : All IsValidMemory (imported_memories m.imports ++ m.memories)
-  memories_valid = All-append IsValidMemory (imported_memories m.imports) m.memories (subst (All IsValidMemory) (memories_imported m.imports) (imports_are IsValidMemory memory_of imported_memory)) declarations.memories
+  memories_valid = All-append IsValidMemory (imported_memories m.imports) m.memories
+      (subst (All IsValidMemory) (memories_imported m.imports) (imports_are IsValidMemory memory_of imported_memory)) declarations.memories
 
   pub module_valid : HasValidParts m → All (IsValidFunction m) m.funcs → IsValid m
   module_valid parts bodies =
@@ -66,7 +69,8 @@ module _ {m : Module} (declarations : HasValidDeclarations m) where
       record {
         function_types = functions_typed;
         bodies = bodies;
-        table_limits = All-append IsOrdered (imported_tables m.imports) m.tables (subst (All IsOrdered) (tables_imported m.imports) (imports_are IsOrdered table_of imported_ordered)) declarations.tables;
+        table_limits = All-append IsOrdered (imported_tables m.imports) m.tables
+            (subst (All IsOrdered) (tables_imported m.imports) (imports_are IsOrdered table_of imported_ordered)) declarations.tables;
         memory_limits = All-weaker IsValidMemory AreOrdered (λ l h. h.0) memories memories_valid;
         memory_pages = All-weaker IsValidMemory AreFewPages (λ l h. h.1) memories memories_valid;
         one_memory = parts.one_memory;

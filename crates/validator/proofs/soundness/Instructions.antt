@@ -17,7 +17,9 @@ use Rattle.validator.specs.Steps.{KeepsRead}
 use Rattle.validator.proofs.soundness.ReadBodies.{plain_open, stop_open, took_open}
 
 -- What the stacks state, part by part.
-pub IsTypingOfRead-parts : (context : Context) (innermost l : ControlFrame) (outer ls : List ControlFrame) (all operands : List OperandType) (read : List Op) → innermost ≡ l → outer ≡ ls → all ≡ operands → IsTypingOfRead context l ls operands [] read → IsTypingOfRead context innermost outer all [] read
+pub IsTypingOfRead-parts : (context : Context) (innermost l : ControlFrame) (outer ls : List ControlFrame) (all operands : List OperandType)
+    (read : List Op) → innermost ≡ l → outer ≡ ls → all ≡ operands → IsTypingOfRead context l ls operands [] read
+    → IsTypingOfRead context innermost outer all [] read
 IsTypingOfRead-parts context innermost l outer ls all operands read same_frame same_frames same_operands opened =
     subst (λ (z : List OperandType). IsTypingOfRead context innermost outer z [] read) (sym same_operands)
     (subst (λ (z : List ControlFrame). IsTypingOfRead context innermost z operands [] read) (sym same_frames)
@@ -25,19 +27,25 @@ IsTypingOfRead-parts context innermost l outer ls all operands read same_frame s
 
 module _ {s : BodyContext} {old new : Stacks} where
   -- Operands are taken that fit those of a rule, and its results are pushed.
-  pub rule_sound : {given left : List OperandType} (o : PlainOp) (wanted results : List OperandType) → new.innermost ≡ old.innermost → new.outer ≡ old.outer → Takes old.innermost.unreachable old.innermost.height old.operands.items given left → AllFit given wanted
+  pub rule_sound : {given left : List OperandType} (o : PlainOp) (wanted results : List OperandType) → new.innermost ≡ old.innermost → new.outer
+      ≡ old.outer → Takes old.innermost.unreachable old.innermost.height old.operands.items given left → AllFit given wanted
       → new.operands.items ≡ left ++ results → ((context : Context) → Describes s context → Rule (inside context (control_stack old)) o wanted results) → KeepsRead s old new (op.Plain o)
   rule_sound {left = left} o wanted results innermost outer takes fits operands rule = record {
     keeps = λ context described read opened.
-        IsTypingOfRead-parts context new.innermost old.innermost (reverse new.outer.items) (reverse old.outer.items) new.operands.items (left ++ results) (read ++ op.Plain o ∷ []) innermost (ap (λ v. reverse v.items) outer) operands
+        IsTypingOfRead-parts context new.innermost old.innermost (reverse new.outer.items) (reverse old.outer.items) new.operands.items
+        (left ++ results) (read ++ op.Plain o ∷ []) innermost (ap (λ v. reverse v.items) outer) operands
         (plain_open o results (took_open wanted opened takes fits) (rule context described));
   }
 
   -- Operands are taken that fit those of a rule, over anything, which leads to anything.
-  pub stop_sound : {given left : List OperandType} (o : PlainOp) (wanted : List OperandType) → new.innermost ≡ unreachable_from_here old.innermost → new.outer ≡ old.outer → Takes old.innermost.unreachable old.innermost.height old.operands.items given left → AllFit given wanted
-      → new.operands.items ≡ take old.innermost.height left → ((context : Context) → Describes s context → (any to : List OperandType) → Rule (inside context (control_stack old)) o (any ++ wanted) to) → KeepsRead s old new (op.Plain o)
+  pub stop_sound : {given left : List OperandType} (o : PlainOp) (wanted : List OperandType) → new.innermost ≡ unreachable_from_here old.innermost
+      → new.outer ≡ old.outer → Takes old.innermost.unreachable old.innermost.height old.operands.items given left → AllFit given wanted
+      → new.operands.items ≡ take old.innermost.height left
+      → ((context : Context) → Describes s context → (any to : List OperandType) → Rule (inside context (control_stack old)) o (any ++ wanted) to)
+      → KeepsRead s old new (op.Plain o)
   stop_sound {left = left} o wanted innermost outer takes fits operands rule = record {
     keeps = λ context described read opened.
-        IsTypingOfRead-parts context new.innermost (unreachable_from_here old.innermost) (reverse new.outer.items) (reverse old.outer.items) new.operands.items (take old.innermost.height left) (read ++ op.Plain o ∷ []) innermost (ap (λ v. reverse v.items) outer) operands
+        IsTypingOfRead-parts context new.innermost (unreachable_from_here old.innermost) (reverse new.outer.items) (reverse old.outer.items)
+        new.operands.items (take old.innermost.height left) (read ++ op.Plain o ∷ []) innermost (ap (λ v. reverse v.items) outer) operands
         (stop_open o (took_open wanted opened takes fits) (rule context described));
   }

@@ -37,7 +37,8 @@ use Rattle.core_types.specs.declared.types.ValType.TheVariants.{I32}
 use Rattle.core_types.specs.declared.types.ValType.{ValType}
 use Rattle.meaning.specs.structure.Bodies.{Body, Empty, Then, writing}
 use Rattle.meaning.specs.validation.Instructions.{TakesAndGives, HasType, known, Rule}
-use Rattle.meaning.specs.validation.Modules.{constant_context, Exists, function_indices, HasDataMode, HasElementMode, HasItemsOfType, IsConstant, IsConstantExpression, IsValidElement, IsValidStart, type_at}
+use Rattle.meaning.specs.validation.Modules.{constant_context, Exists, function_indices, HasDataMode, HasElementMode, HasItemsOfType, IsConstant}
+use Rattle.meaning.specs.validation.Modules.{IsConstantExpression, IsValidElement, IsValidStart, type_at}
 use Rattle.meaning.specs.validation.Types.{reference_type}
 use Rattle.validator.specs.declared.constants.ConstantContext.{ConstantContext}
 use Rattle.validator.specs.declared.context.IndexSpaces.{IndexSpaces}
@@ -160,7 +161,8 @@ module _ {m : Module} {s : IndexSpaces} {context : ConstantContext} (spaces : Ar
   IsBodyFrom t height ops =
       (body : Body) × (ops ≡ writing body) × All (IsConstant (constant_context m)) ops × HasType (constant_context m) body (all_of t height) (known (t ∷ []))
 
-  with_instruction : (t : ValType) (height behind : ℕ) (op : PlainOp) (ops : List Op) (operands results : List OperandType) → IsConstant (constant_context m) (Plain op) → Rule (constant_context m) op operands results
+  with_instruction : (t : ValType) (height behind : ℕ) (op : PlainOp) (ops : List Op) (operands results : List OperandType)
+      → IsConstant (constant_context m) (Plain op) → Rule (constant_context m) op operands results
       → TakesAndGives operands results (all_of t height) (all_of t behind) → IsBodyFrom t behind ops → IsBodyFrom t height (Plain op ∷ ops)
   unfolding IsBodyFrom
   with_instruction t height behind op ops operands results constant rule frame (body, written, all, typed) = (
@@ -191,14 +193,18 @@ module _ {m : Module} {s : IndexSpaces} {context : ConstantContext} (spaces : Ar
       let (body, written, all, typed) = body_from ops t 0 leads in
       record { constant = all; body = body; written = written; typed = typed }
 
-  pub globals_valid : (globals : List Global) → All (λ (g : Global). IsConstantIn context g.init g.ty.value) globals → All (λ (g : Global). IsConstantExpression (constant_context m) g.init g.ty.value) globals
-  globals_valid = All-weaker (λ (g : Global). IsConstantIn context g.init g.ty.value) (λ (g : Global). IsConstantExpression (constant_context m) g.init g.ty.value) (λ g. expression_constant g.init g.ty.value)
+  pub globals_valid : (globals : List Global) → All (λ (g : Global). IsConstantIn context g.init g.ty.value) globals
+      → All (λ (g : Global). IsConstantExpression (constant_context m) g.init g.ty.value) globals
+  globals_valid = All-weaker (λ (g : Global). IsConstantIn context g.init g.ty.value)
+      (λ (g : Global). IsConstantExpression (constant_context m) g.init g.ty.value) (λ g. expression_constant g.init g.ty.value)
 
   items_valid : (t : RefType) (items : ElementItems) → AreItemsIn s context t items → HasItemsOfType m t items
   unfolding AreItemsIn
   items_valid t (Functions indices) h = (h.0, subst (λ (functions : List ℕ). All (λ (x : ℕ). x < length functions) indices) spaces.functions h.1)
   items_valid t (Expressions expressions) h =
-      All-weaker (λ (ops : List Op). IsConstantIn context ops (reference_type t)) (λ (ops : List Op). IsConstantExpression (constant_context m) ops (reference_type t)) (λ ops. expression_constant ops (reference_type t)) expressions h
+      All-weaker (λ (ops : List Op). IsConstantIn context ops (reference_type t))
+      (λ (ops : List Op). IsConstantExpression (constant_context m) ops (reference_type t)) (λ ops. expression_constant ops (reference_type t))
+      expressions h
 
   element_mode_valid : (t : RefType) (mode : ElementMode) → IsElementModeIn s context t mode → HasElementMode m t mode
   unfolding IsElementModeIn

@@ -25,22 +25,28 @@ use Rattle.validator.specs.Operands.{TakenFrom, Takes}
 use Rattle.validator.specs.Soundness.{Admits, AroundRead, HereRead, IsTypingOfRead, FrameStart}
 
 -- Operands that were taken can be pushed again.
-Admits-taken : (unreachable : Bool) (own given rest hand target : List OperandType) → TakenFrom unreachable own given rest → Admits unreachable (rest ++ (given ++ hand)) target → Admits unreachable (own ++ hand) target
+Admits-taken : (unreachable : Bool) (own given rest hand target : List OperandType) → TakenFrom unreachable own given rest
+    → Admits unreachable (rest ++ (given ++ hand)) target → Admits unreachable (own ++ hand) target
 Admits-taken false own given rest hand target (inl parts) admits = admits ∙ sym (append_assoc rest given hand) ∙ ap (λ (z : List OperandType). z ++ hand) (sym parts)
 Admits-taken false own given rest hand target (inr (dead, nothing, more)) admits = absurd (let e : false ≡ true = dead in cc)
-Admits-taken true own given rest hand target (inl parts) (any, is) = (any, is ∙ ap (λ (z : List OperandType). any ++ z) (sym (append_assoc rest given hand) ∙ ap (λ (z : List OperandType). z ++ hand) (sym parts)))
+Admits-taken true own given rest hand target (inl parts) (any, is) =
+    (any, is ∙ ap (λ (z : List OperandType). any ++ z) (sym (append_assoc rest given hand) ∙ ap (λ (z : List OperandType). z ++ hand) (sym parts)))
 Admits-taken true own given rest hand target (inr (dead, nothing, (n, parts))) (any, is) =
-    let whole : rest ++ (given ++ hand) ≡ replicate n Unknown ++ (own ++ hand) = ap (λ (z : List OperandType). z ++ (given ++ hand)) nothing ∙ ap (λ (z : List OperandType). z ++ hand) parts ∙ append_assoc (replicate n Unknown) own hand in
+    let whole : rest ++ (given ++ hand)
+    ≡ replicate n Unknown ++ (own ++ hand) = ap (λ (z : List OperandType). z ++ (given ++ hand)) nothing ∙ ap
+    (λ (z : List OperandType). z ++ hand) parts ∙ append_assoc (replicate n Unknown) own hand in
     (any ++ replicate n Unknown, is ∙ ap (λ (z : List OperandType). any ++ z) whole ∙ sym (append_assoc any (replicate n Unknown) (own ++ hand)))
 
 -- Those in hand can be treated as what they fit.
-Admits-fit : (unreachable : Bool) (own hand wanted target : List OperandType) → AllFit hand wanted → Admits unreachable (own ++ wanted) target → (other : List OperandType) × Admits unreachable (own ++ hand) other × AllFit other target
+Admits-fit : (unreachable : Bool) (own hand wanted target : List OperandType) → AllFit hand wanted → Admits unreachable (own ++ wanted) target
+    → (other : List OperandType) × Admits unreachable (own ++ hand) other × AllFit other target
 Admits-fit false own hand wanted target fits admits = (own ++ hand, refl, rw admits (AllFit-joined own own hand wanted (AllFit-same own) fits))
 Admits-fit true own hand wanted target fits (any, is) =
     (any ++ (own ++ hand), (any, refl), rw is (AllFit-joined any any (own ++ hand) (own ++ wanted) (AllFit-same any) (AllFit-joined own own hand wanted (AllFit-same own) fits)))
 
 -- Others can be in hand, above the same operands.
-Admits-other : (unreachable : Bool) (own hand other target : List OperandType) → Admits unreachable (own ++ other) target → (any : List OperandType) × Admits unreachable (own ++ hand) (any ++ hand) × (target ≡ any ++ other)
+Admits-other : (unreachable : Bool) (own hand other target : List OperandType) → Admits unreachable (own ++ other) target → (any : List OperandType)
+    × Admits unreachable (own ++ hand) (any ++ hand) × (target ≡ any ++ other)
 Admits-other false own hand other target admits = (own, refl, admits)
 Admits-other true own hand other target (any, is) = (any ++ own, (any, append_assoc any own hand), is ∙ sym (append_assoc any own other))
 
@@ -53,15 +59,18 @@ Admits-alone false own target alive admits = admits
 Admits-alone true own target alive admits = absurd cc
 
 behind : {read : List Op} (all : List Op) (more body : Body) (before : List Op) → all ≡ read ++ writing more → read ≡ before ++ writing body → all ≡ before ++ writing (joined body more)
-behind {read} all more body before is written = is ∙ ap (λ (z : List Op). z ++ writing more) written ∙ append_assoc before (writing body) (writing more) ∙ ap (λ (z : List Op). before ++ z) (sym (writing-joined body more))
+behind {read} all more body before is written = is ∙ ap (λ (z : List Op). z ++ writing more) written ∙ append_assoc before (writing body)
+    (writing more) ∙ ap (λ (z : List Op). before ++ z) (sym (writing-joined body more))
 
-around_stopped : (context : Context) (l : ControlFrame) (ls : List ControlFrame) (under : List OperandType) (before : List Op) → AroundRead context l ls under before → AroundRead context (unreachable_from_here l) ls under before
+around_stopped : (context : Context) (l : ControlFrame) (ls : List ControlFrame) (under : List OperandType) (before : List Op)
+    → AroundRead context l ls under before → AroundRead context (unreachable_from_here l) ls under before
 around_stopped context l [] under before around = around
 around_stopped context l (m ∷ ms) under before around = around
 
 module _ {context : Context} {l : ControlFrame} {ls : List ControlFrame} where
   -- Operands are taken from the stack into the hand.
-  take_open : {old given new hand : List OperandType} {read : List Op} → IsTypingOfRead context l ls old hand read → Takes l.unreachable l.height old given new → IsTypingOfRead context l ls new (given ++ hand) read
+  take_open : {old given new hand : List OperandType} {read : List Op} → IsTypingOfRead context l ls old hand read
+      → Takes l.unreachable l.height old given new → IsTypingOfRead context l ls new (given ++ hand) read
   take_open {given = given} {hand = hand} o takes =
       let h = o.here in
       let (rest, left, taken) = takes.at o.under h.own h.whole h.height in
@@ -80,7 +89,8 @@ module _ {context : Context} {l : ControlFrame} {ls : List ControlFrame} where
       }
 
   -- Those in hand are treated as what they fit.
-  fit_open : {operands hand : List OperandType} {read : List Op} (wanted : List OperandType) → IsTypingOfRead context l ls operands hand read → AllFit hand wanted → IsTypingOfRead context l ls operands wanted read
+  fit_open : {operands hand : List OperandType} {read : List Op} (wanted : List OperandType) → IsTypingOfRead context l ls operands hand read
+      → AllFit hand wanted → IsTypingOfRead context l ls operands wanted read
   fit_open {hand = hand} wanted o fits =
       let h = o.here in
       record {
@@ -102,7 +112,8 @@ module _ {context : Context} {l : ControlFrame} {ls : List ControlFrame} where
       }
 
   -- Operands that fit the wanted types are taken into the hand, which was empty.
-  pub took_open : {old given new : List OperandType} {read : List Op} (wanted : List OperandType) → IsTypingOfRead context l ls old [] read → Takes l.unreachable l.height old given new → AllFit given wanted → IsTypingOfRead context l ls new wanted read
+  pub took_open : {old given new : List OperandType} {read : List Op} (wanted : List OperandType) → IsTypingOfRead context l ls old [] read
+      → Takes l.unreachable l.height old given new → AllFit given wanted → IsTypingOfRead context l ls new wanted read
   took_open {given = given} wanted o takes fits = fit_open wanted (rw (append-nil given) at (take_open o takes)) fits
 
   -- Those in hand are pushed on the stack.
@@ -126,7 +137,8 @@ module _ {context : Context} {l : ControlFrame} {ls : List ControlFrame} where
   -- ---- more is read
 
   -- What leads from those in hand to others is read.
-  more_open : {operands hand : List OperandType} {read : List Op} (other : List OperandType) (more : Body) (all : List Op) → IsTypingOfRead context l ls operands hand read → ((any : List OperandType) → HasType (inside context (l ∷ ls)) more (any ++ hand) (any ++ other))
+  more_open : {operands hand : List OperandType} {read : List Op} (other : List OperandType) (more : Body) (all : List Op)
+      → IsTypingOfRead context l ls operands hand read → ((any : List OperandType) → HasType (inside context (l ∷ ls)) more (any ++ hand) (any ++ other))
       → all ≡ read ++ writing more → IsTypingOfRead context l ls operands other all
   more_open {hand = hand} other more all o typed is =
       let h = o.here in
@@ -149,12 +161,24 @@ module _ {context : Context} {l : ControlFrame} {ls : List ControlFrame} where
       }
 
   -- An instruction is read that takes what is in hand.
-  pub plain_open : {operands hand : List OperandType} {read : List Op} (o : PlainOp) (results : List OperandType) → IsTypingOfRead context l ls operands hand read → Rule (inside context (l ∷ ls)) o hand results → IsTypingOfRead context l ls (operands ++ results) [] (read ++ op.Plain o ∷ [])
+  pub plain_open : {operands hand : List OperandType} {read : List Op} (o : PlainOp) (results : List OperandType)
+      → IsTypingOfRead context l ls operands hand read → Rule (inside context (l ∷ ls)) o hand results
+      → IsTypingOfRead context l ls (operands ++ results) [] (read ++ op.Plain o ∷ [])
   plain_open {hand = hand} {read = read} o results opened rule =
-      push_open (more_open results (Then o Empty) (read ++ op.Plain o ∷ []) opened (λ any. (hand, results, any ++ results, rule, record { below = any; given = hand; before_is = refl; fits = AllFit-same hand; after_is = refl }, AllFit-same (any ++ results))) refl)
+      push_open (more_open results (Then o Empty) (read ++ op.Plain o ∷ []) opened
+      (λ any. (
+        hand,
+        results,
+        any ++ results,
+        rule,
+        record { below = any; given = hand; before_is = refl; fits = AllFit-same hand; after_is = refl },
+        AllFit-same (any ++ results),
+      )) refl)
 
   -- An instruction is read that takes what is in hand over anything, and leads to anything: nothing is reached after it.
-  pub stop_open : {operands hand : List OperandType} {read : List Op} (o : PlainOp) → IsTypingOfRead context l ls operands hand read → ((any to : List OperandType) → Rule (inside context (l ∷ ls)) o (any ++ hand) to) → IsTypingOfRead context (unreachable_from_here l) ls (take l.height operands) [] (read ++ op.Plain o ∷ [])
+  pub stop_open : {operands hand : List OperandType} {read : List Op} (o : PlainOp) → IsTypingOfRead context l ls operands hand read
+      → ((any to : List OperandType) → Rule (inside context (l ∷ ls)) o (any ++ hand) to)
+      → IsTypingOfRead context (unreachable_from_here l) ls (take l.height operands) [] (read ++ op.Plain o ∷ [])
   stop_open {operands = operands} {hand = hand} {read = read} o opened rule =
       let h = opened.here in
       record {
@@ -170,8 +194,14 @@ module _ {context : Context} {l : ControlFrame} {ls : List ControlFrame} where
           reaches = record {
             each = λ target admits.
                 HasType-joined (inside context (l ∷ ls)) h.body (Then o Empty) (known l.start_types.now) (h.own ++ hand) target
-                (h.reaches.each (h.own ++ hand) (Admits-same l.unreachable (h.own ++ hand)))
-                (h.own ++ hand, target, target, rule h.own target, record { below = []; given = h.own ++ hand; before_is = refl; fits = AllFit-same (h.own ++ hand); after_is = refl }, AllFit-same target);
+                (h.reaches.each (h.own ++ hand) (Admits-same l.unreachable (h.own ++ hand))) (
+                  h.own ++ hand,
+                  target,
+                  target,
+                  rule h.own target,
+                  record { below = []; given = h.own ++ hand; before_is = refl; fits = AllFit-same (h.own ++ hand); after_is = refl },
+                  AllFit-same target,
+                );
           };
         };
       }
@@ -185,12 +215,14 @@ module _ {context : Context} {l : ControlFrame} {ls : List ControlFrame} where
       (nothing, sym (o.here.whole ∙ ap (λ (z : List OperandType). o.under ++ z) nothing ∙ append-nil o.under))
 
   -- Its body leads from the start types to the end types.
-  pub whole_body : {operands : List OperandType} {read : List Op} (o : IsTypingOfRead context l ls operands (known l.end_types.now) read) → length operands ≡ l.height → HasType (inside context (l ∷ ls)) o.here.body (known l.start_types.now) (known l.end_types.now)
+  pub whole_body : {operands : List OperandType} {read : List Op} (o : IsTypingOfRead context l ls operands (known l.end_types.now) read)
+      → length operands ≡ l.height → HasType (inside context (l ∷ ls)) o.here.body (known l.start_types.now) (known l.end_types.now)
   whole_body o short =
       let alone : o.here.own ++ known l.end_types.now ≡ known l.end_types.now = ap (λ (z : List OperandType). z ++ known l.end_types.now) (dry o short).0 in
       o.here.reaches.each (known l.end_types.now) (rw alone (Admits-same l.unreachable (known l.end_types.now)))
 
-set_marks : (context : Context) (kind : FrameKind) (t : BlockType) (o : Op) (s : FuncType) (read : List Op) → IsMark kind t o → (block_type context.types t ≡ Some s) → FrameStart context kind s read (read ++ o ∷ [])
+set_marks : (context : Context) (kind : FrameKind) (t : BlockType) (o : Op) (s : FuncType) (read : List Op) → IsMark kind t o
+    → (block_type context.types t ≡ Some s) → FrameStart context kind s read (read ++ o ∷ [])
 set_marks context Function t o s read mark is = absurd mark
 set_marks context Block t o s read mark is = (t, ap (λ (z : Op). read ++ z ∷ []) mark, is)
 set_marks context Loop t o s read mark is = (t, ap (λ (z : Op). read ++ z ∷ []) mark, is)
@@ -198,7 +230,8 @@ set_marks context If t o s read mark is = (t, ap (λ (z : Op). read ++ z ∷ [])
 set_marks context Else t o s read mark is = absurd mark
 
 -- The operands that the instruction of a mark takes.
-pub mark_takes : (kind : FrameKind) (t : BlockType) (o : Op) (topmost : Bool) (start_types : List ValType) → IsMark kind t o → (IsTrue topmost ↔ (kind ≡ If)) → with_i32 start_types topmost ≡ start_types ++ condition_by kind
+pub mark_takes : (kind : FrameKind) (t : BlockType) (o : Op) (topmost : Bool) (start_types : List ValType) → IsMark kind t o
+    → (IsTrue topmost ↔ (kind ≡ If)) → with_i32 start_types topmost ≡ start_types ++ condition_by kind
 mark_takes Function t o topmost start_types mark test = absurd mark
 mark_takes Block t o false start_types mark test = sym (append-nil start_types)
 mark_takes Block t o true start_types mark test = absurd (let e : Block ≡ If = test.0 refl in cc)
@@ -209,8 +242,10 @@ mark_takes If t o true start_types mark test = refl
 mark_takes Else t o topmost start_types mark test = absurd mark
 
 -- A block begins.
-pub start_open : {context : Context} {l : ControlFrame} {ls : List ControlFrame} {operands : List OperandType} {read : List Op} (new : ControlFrame) (t : BlockType) (o : Op) → IsTypingOfRead context l ls operands (hand_of new) read → new.height ≡ length operands → new.unreachable ≡ false
-    → IsMark new.kind t o → block_type (inside context (new ∷ l ∷ ls)).types t ≡ Some (signature_of new) → IsTypingOfRead context new (l ∷ ls) (operands ++ known new.start_types.now) [] (read ++ o ∷ [])
+pub start_open : {context : Context} {l : ControlFrame} {ls : List ControlFrame} {operands : List OperandType} {read : List Op} (new : ControlFrame)
+    (t : BlockType) (o : Op) → IsTypingOfRead context l ls operands (hand_of new) read → new.height ≡ length operands → new.unreachable ≡ false
+    → IsMark new.kind t o → block_type (inside context (new ∷ l ∷ ls)).types t ≡ Some (signature_of new)
+    → IsTypingOfRead context new (l ∷ ls) (operands ++ known new.start_types.now) [] (read ++ o ∷ [])
 start_open {context} {l} {ls} {operands} {read} new t o opened height alive mark is =
     record {
       under = operands;
@@ -222,7 +257,11 @@ start_open {context} {l} {ls} {operands} {read} new t o opened height alive mark
         whole = refl;
         height = sym height;
         written = sym (append-nil (read ++ o ∷ []));
-        reaches = record { each = λ target admits. rw (Admits-alone new.unreachable (known new.start_types.now ++ []) target alive admits) (rw (append-nil (known new.start_types.now)) (AllFit-same (known new.start_types.now))) };
+        reaches = record {
+          each = λ target admits.
+              rw (Admits-alone new.unreachable (known new.start_types.now ++ []) target alive admits)
+              (rw (append-nil (known new.start_types.now)) (AllFit-same (known new.start_types.now)));
+        };
       };
     }
 
@@ -232,17 +271,35 @@ record Whole (context : Context) (kind : FrameKind) (s : FuncType) (inner : Body
   typed : (any : List OperandType) → HasType context block (any ++ known (s.params ++ condition_by kind)) (any ++ known s.results)
   written : (before ++ writing inner) ++ op.End ∷ [] ≡ outer ++ writing block
 
-whole : (context : Context) (kind : FrameKind) (start_types end_types : List ValType) (inner : Body) (outer before : List Op) → FrameStart (with_label context (label_by kind start_types end_types)) kind (function_type start_types end_types) outer before → NeedsNoElse kind start_types end_types
+whole : (context : Context) (kind : FrameKind) (start_types end_types : List ValType) (inner : Body) (outer before : List Op)
+    → FrameStart (with_label context (label_by kind start_types end_types)) kind (function_type start_types end_types) outer before
+    → NeedsNoElse kind start_types end_types
     → HasType (with_label context (label_by kind start_types end_types)) inner (known start_types) (known end_types) → Whole context kind (function_type start_types end_types) inner outer before
 whole context Function start_types end_types inner outer before marks alone typed = absurd marks
 whole context Block start_types end_types inner outer before (t, is, type) alone typed = record {
   block = Nested BlockKind t inner Empty;
-  typed = λ any. (function_type start_types end_types, any ++ known end_types, type, typed, tt, record { below = any; given = known (start_types ++ []); before_is = refl; fits = AllFit-same (known (start_types ++ [])); after_is = refl }, AllFit-same (any ++ known end_types));
+  typed = λ any. (
+    function_type start_types end_types,
+    any ++ known end_types,
+    type,
+    typed,
+    tt,
+    record { below = any; given = known (start_types ++ []); before_is = refl; fits = AllFit-same (known (start_types ++ [])); after_is = refl },
+    AllFit-same (any ++ known end_types),
+  );
   written = rw is (simp append_assoc);
 }
 whole context Loop start_types end_types inner outer before (t, is, type) alone typed = record {
   block = Nested LoopKind t inner Empty;
-  typed = λ any. (function_type start_types end_types, any ++ known end_types, type, typed, tt, record { below = any; given = known (start_types ++ []); before_is = refl; fits = AllFit-same (known (start_types ++ [])); after_is = refl }, AllFit-same (any ++ known end_types));
+  typed = λ any. (
+    function_type start_types end_types,
+    any ++ known end_types,
+    type,
+    typed,
+    tt,
+    record { below = any; given = known (start_types ++ []); before_is = refl; fits = AllFit-same (known (start_types ++ [])); after_is = refl },
+    AllFit-same (any ++ known end_types),
+  );
   written = rw is (simp append_assoc);
 }
 whole context If start_types end_types inner outer before (t, is, type) alone typed = record {
@@ -273,7 +330,9 @@ whole context Else start_types end_types inner outer before (t, first, is, type,
 }
 
 -- A block ends.
-pub close_open : {context : Context} {l m : ControlFrame} {ms : List ControlFrame} {operands : List OperandType} {read : List Op} → IsTypingOfRead context l (m ∷ ms) operands (known l.end_types.now) read → length operands ≡ l.height → NeedsNoElse l.kind l.start_types.now l.end_types.now
+pub close_open : {context : Context} {l m : ControlFrame} {ms : List ControlFrame} {operands : List OperandType} {read : List Op}
+    → IsTypingOfRead context l (m ∷ ms) operands (known l.end_types.now) read → length operands ≡ l.height
+    → NeedsNoElse l.kind l.start_types.now l.end_types.now
     → IsTypingOfRead context m ms (operands ++ known l.end_types.now) [] (read ++ op.End ∷ [])
 close_open {context} {l} {m} {ms} {operands} {read} o short alone =
     let (outer, marks, lower, earlier, here, around) = o.around in
@@ -283,7 +342,8 @@ close_open {context} {l} {m} {ms} {operands} {read} o short alone =
     push_open (rw (dry o short).1 at after)
 
 -- The first body of an if ends, and the second one begins.
-else_inside : {context : Context} {l m : ControlFrame} {ms : List ControlFrame} {operands : List OperandType} {read : List Op} → IsTypingOfRead context l (m ∷ ms) operands (known l.end_types.now) read → length operands ≡ l.height → l.kind ≡ If
+else_inside : {context : Context} {l m : ControlFrame} {ms : List ControlFrame} {operands : List OperandType} {read : List Op}
+    → IsTypingOfRead context l (m ∷ ms) operands (known l.end_types.now) read → length operands ≡ l.height → l.kind ≡ If
     → IsTypingOfRead context (otherwise l) (m ∷ ms) (operands ++ known l.start_types.now) [] (read ++ op.Else ∷ [])
 else_inside {context} {l} {m} {ms} {operands} {read} o short is =
     let (outer, marks, lower, earlier, here, around) = o.around in
@@ -311,7 +371,8 @@ else_inside {context} {l} {m} {ms} {operands} {read} o short is =
       };
     }
 
-pub else_open : {context : Context} {l : ControlFrame} {ls : List ControlFrame} {operands : List OperandType} {read : List Op} → IsTypingOfRead context l ls operands (known l.end_types.now) read → length operands ≡ l.height → l.kind ≡ If
+pub else_open : {context : Context} {l : ControlFrame} {ls : List ControlFrame} {operands : List OperandType} {read : List Op}
+    → IsTypingOfRead context l ls operands (known l.end_types.now) read → length operands ≡ l.height → l.kind ≡ If
     → IsTypingOfRead context (otherwise l) ls (operands ++ known l.start_types.now) [] (read ++ op.Else ∷ [])
 else_open {ls = []} o short is = absurd (let e : If ≡ Function = sym is ∙ o.around.0 in cc)
 else_open {ls = m ∷ ms} o short is = else_inside o short is
@@ -321,7 +382,8 @@ pub reverse_push : (outer more : List ControlFrame) (l : ControlFrame) → more 
 reverse_push outer more l e = ap (λ (z : List ControlFrame). reverse z) e ∙ reverse-append outer (l ∷ [])
 
 -- A function's frame, before anything is read.
-pub nothing_open : {context : Context} (l : ControlFrame) → l.kind ≡ Function → l.start_types.now ≡ [] → context.results ≡ Some l.end_types.now → l.height ≡ 0 → l.unreachable ≡ false → IsTypingOfRead context l [] [] [] []
+pub nothing_open : {context : Context} (l : ControlFrame) → l.kind ≡ Function → l.start_types.now ≡ [] → context.results ≡ Some l.end_types.now
+    → l.height ≡ 0 → l.unreachable ≡ false → IsTypingOfRead context l [] [] [] []
 nothing_open l kind start_types end_types height alive = record {
   under = [];
   before = [];

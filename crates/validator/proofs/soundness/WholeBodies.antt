@@ -19,9 +19,14 @@ use Rattle.validator.proofs.soundness.Instructions.{IsTypingOfRead-parts}
 use Rattle.validator.proofs.soundness.ReadBodies.{whole_body, nothing_open, took_open}
 
 -- Before anything is read.
-pub first_read : (s : BodyContext) (stacks : Stacks) → stacks.innermost.kind ≡ Function → stacks.innermost.start_types.now ≡ [] → stacks.innermost.end_types.now ≡ s.results.now → stacks.innermost.height ≡ 0 → stacks.innermost.unreachable ≡ false → stacks.outer.items ≡ [] → stacks.operands.items ≡ [] → IsReadTyped s stacks []
+pub first_read : (s : BodyContext) (stacks : Stacks) → stacks.innermost.kind ≡ Function → stacks.innermost.start_types.now ≡ []
+    → stacks.innermost.end_types.now ≡ s.results.now → stacks.innermost.height ≡ 0 → stacks.innermost.unreachable ≡ false → stacks.outer.items ≡ []
+    → stacks.operands.items ≡ [] → IsReadTyped s stacks []
 first_read s stacks kind start_types end_types height alive alone nothing = record {
-  in_context = λ context described. IsTypingOfRead-parts context stacks.innermost stacks.innermost (reverse stacks.outer.items) [] stacks.operands.items [] [] refl (ap (λ (z : List ControlFrame). reverse z) alone) nothing (nothing_open stacks.innermost kind start_types (described.results ∙ ap Some (sym end_types)) height alive);
+  in_context = λ context described.
+      IsTypingOfRead-parts context stacks.innermost stacks.innermost (reverse stacks.outer.items) [] stacks.operands.items [] [] refl
+      (ap (λ (z : List ControlFrame). reverse z) alone) nothing
+      (nothing_open stacks.innermost kind start_types (described.results ∙ ap Some (sym end_types)) height alive);
 }
 
 -- One more operation.
@@ -36,8 +41,12 @@ all_read s stacks left read before alone closes = record {
       let whole = took_open (known stacks.innermost.end_types.now) opened closes.takes closes.fits in
       let (kind, start_types, ends, under, nothing) = whole.around in
       let end_types : stacks.innermost.end_types.now ≡ s.results.now = cc in
-      let label : label_of stacks.innermost ∷ [] ≡ s.results.now ∷ context.labels = ap (λ k. label_by k stacks.innermost.start_types.now stacks.innermost.end_types.now ∷ []) kind ∙ ap (λ (t : List ValType). t ∷ []) end_types ∙ ap (λ (z : List (List ValType)). s.results.now ∷ z) (sym described.labels) in
-      let typed = subst (λ (z : List (List ValType)). HasType (record context { labels = z }) whole.here.body (known stacks.innermost.start_types.now) (known stacks.innermost.end_types.now)) label (whole_body whole closes.dry) in (
+      let label : label_of stacks.innermost ∷ []
+      ≡ s.results.now ∷ context.labels = ap (λ k. label_by k stacks.innermost.start_types.now stacks.innermost.end_types.now ∷ []) kind ∙ ap
+      (λ (t : List ValType). t ∷ []) end_types ∙ ap (λ (z : List (List ValType)). s.results.now ∷ z) (sym described.labels) in
+      let typed = subst (λ (z : List (List ValType)).
+      HasType (record context { labels = z }) whole.here.body (known stacks.innermost.start_types.now) (known stacks.innermost.end_types.now))
+      label (whole_body whole closes.dry) in (
         whole.here.body,
         whole.here.written ∙ ap (λ (z : List Op). z ++ writing whole.here.body) nothing,
         subst (λ (z : List ValType). HasType (with_label context s.results.now) whole.here.body [] (known z)) end_types
@@ -45,6 +54,7 @@ all_read s stacks left read before alone closes = record {
       );
 }
 
-pub ok_all_read : (result : Result (Unit {0}) Fault) (s : BodyContext) (stacks : Stacks) (left : List OperandType) (read : List Op) → IsReadTyped s stacks read → stacks.outer.items ≡ [] → OnOk result (Closes stacks left) → OnOk result (IsTyped s read)
+pub ok_all_read : (result : Result (Unit {0}) Fault) (s : BodyContext) (stacks : Stacks) (left : List OperandType) (read : List Op)
+    → IsReadTyped s stacks read → stacks.outer.items ≡ [] → OnOk result (Closes stacks left) → OnOk result (IsTyped s read)
 ok_all_read (Ok done) s stacks left read before alone closes = all_read s stacks left read before alone closes
 ok_all_read (Err fault) s stacks left read before alone closes = tt

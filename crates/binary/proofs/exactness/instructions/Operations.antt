@@ -12,7 +12,8 @@ use Rattle.binary.specs.Conventions.{chosen_at}
 use Rattle.binary.specs.Instructions.{branch_table, branch_table_at, group_at, op_at, operation_at, plain_at, prefixed_at, stored_at}
 use Rattle.binary.specs.Types.{val_type_at}
 use Rattle.binary.specs.Values.{unsigned_at, vector_at}
-use Rattle.binary.proofs.exactness.Choices.{IsFront, SoundCase, SoundCases, at_byte, bare_sound, byte_reader, case_sound, choice_reader, mapped_case_sound, mapped_reader, pair_reader, tag_sound, up_to_sound}
+use Rattle.binary.proofs.exactness.Choices.{IsFront, SoundCase, SoundCases, at_byte, bare_sound, byte_reader, case_sound, choice_reader, mapped_case_sound}
+use Rattle.binary.proofs.exactness.Choices.{mapped_reader, pair_reader, tag_sound, up_to_sound}
 use Rattle.binary.proofs.exactness.Integers.{signed_reader, unsigned_reader}
 use Rattle.binary.proofs.exactness.Readers.{IsReader, bind_some}
 use Rattle.binary.proofs.exactness.Types.{block_type_reader, val_type_reader}

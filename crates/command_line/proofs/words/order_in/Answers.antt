@@ -5,5 +5,6 @@ use Rattle.command_line.proofs.words.order_in.Goals as goal
 
 pub returns-in-Some : goal.returns-in-Some
 returns-in-Some c =
-    let met = entered c.args.matches.now (codes "script") (rows_of (found_of c.in-Some.found.now)) (c.subcommand_matches.ensures.found.0 (search rules)) (rw c.in-Some.is at c.subcommand_matches.ensures.rows) in
+    let met = entered c.args.matches.now (codes "script") (rows_of (found_of c.in-Some.found.now))
+    (c.subcommand_matches.ensures.found.0 (search rules)) (rw c.in-Some.is at c.subcommand_matches.ensures.rows) in
     rw met (refl, c.in_ok-script_order_of.ensures)

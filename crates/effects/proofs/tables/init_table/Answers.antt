@@ -4,4 +4,5 @@ use Rattle.effects.proofs.tables.init_table.Goals as goal
 pub returns : goal.returns
 returns c code =
     let (enough, left) = c.in_ok-left.ensures in
-    rw c.written.ensures (wrote-table code c.args.state.now c.table_init.new.state c.args.address c.table_init_cost-cost.result c.args.fuel c.in_ok-left.left enough left c.table_init_cost-cost.ensures.some _ _ c.table_init.result c.table_init_cost-cost.ensures.price c.table_init.ensures)
+    rw c.written.ensures (wrote-table code c.args.state.now c.table_init.new.state c.args.address c.table_init_cost-cost.result c.args.fuel
+    c.in_ok-left.left enough left c.table_init_cost-cost.ensures.some _ _ c.table_init.result c.table_init_cost-cost.ensures.price c.table_init.ensures)

@@ -21,7 +21,8 @@ returns-in-None-clause-refused c =
       found = c.loop-k.externs.items;
       before = c.loop-k.invariant.before;
     })
-    (map_all-none resolve c.args.imports.now c.loop-k.k c.loop-k.externs.items c.index-imports-k.result c.loop-k-test.true c.loop-k.invariant.so_far (ap resolve (sym c.index-imports-k.is) ∙ sym here)) refl
+    (map_all-none resolve c.args.imports.now c.loop-k.k c.loop-k.externs.items c.index-imports-k.result c.loop-k-test.true c.loop-k.invariant.so_far
+    (ap resolve (sym c.index-imports-k.is) ∙ sym here)) refl
 
 pub loop-k-preserved : goal.loop-k-preserved
 loop-k-preserved c =
@@ -31,7 +32,8 @@ loop-k-preserved c =
     rw c.in_ok-push-in-Some.ensures.items (record {
       so_far = map_all-next resolve c.args.imports.now c.loop-k.k c.loop-k.externs.items c.index-imports-k.result c.in-Some.found c.loop-k-test.true c.loop-k.invariant.so_far is;
       before = rw (take_more c.args.imports.now c.loop-k.k c.index-imports-k.result c.loop-k-test.true)
-          (map_all-append resolve (get_or c.args.imports.now c.loop-k.k c.index-imports-k.result) c.in-Some.found is (take c.loop-k.k c.args.imports.now) c.loop-k.externs.items c.loop-k.invariant.before);
+          (map_all-append resolve (get_or c.args.imports.now c.loop-k.k c.index-imports-k.result) c.in-Some.found is
+          (take c.loop-k.k c.args.imports.now) c.loop-k.externs.items c.loop-k.invariant.before);
     })
 
 pub returns-clause-found : goal.returns-clause-found

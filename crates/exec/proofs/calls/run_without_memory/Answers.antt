@@ -24,5 +24,6 @@ returns-clause-runs c =
     let flat_is = c.flat.ensures.same ∙ ap (λ (l : LoadedContents). l.flat) c.as_ref.ensures in
     let sees = none-taken c.args.bound r c.args.instance.now loaded flat flat_is c.requires.memory (record { min = 0; max = None }) [] in
     let ran = c.run in
-    runs-after c.args.bound r c.args.instance.now loaded flat flat_is _ _ sees c.as_mut_slice.result.now c.as_mut_slice.ensures.value ran.result ran.new.cells ran.new.callers ran.new.position ran.ensures.stops refl ran.new.state refl
+    runs-after c.args.bound r c.args.instance.now loaded flat flat_is _ _ sees c.as_mut_slice.result.now c.as_mut_slice.ensures.value ran.result
+    ran.new.cells ran.new.callers ran.new.position ran.ensures.stops refl ran.new.state refl
     (with_items c.args.call.now.cells ran.new.cells) (written-over _ _ _ (ran.auto.cells ∙ c.as_mut_slice.ensures.len))

@@ -18,7 +18,8 @@ use Rattle.interpreter.proofs.Turning.{place-fits}
 use Rattle.exec.specs.Hosting.{WaitsForHost, position_answered, with_results}
 use Rattle.exec.specs.Resting.{at_rest, machine_of}
 use Rattle.hostfunc.specs.Boxes.{HostStep}
-use Rattle.exec.proofs.Answering.{comes-or-ends, arguments-fit-there, behind-there, cells_held, comes-back-there, comes-behind, ends-there, out-of-memory, room-back-there, room-behind, traps-there, types-there}
+use Rattle.exec.proofs.Answering.{comes-or-ends, arguments-fit-there, behind-there, cells_held, comes-back-there, comes-behind, ends-there, out-of-memory}
+use Rattle.exec.proofs.Answering.{room-back-there, room-behind, traps-there, types-there}
 use Rattle.exec.proofs.hosts.call_host.Goals as goal
 
 pub read_arguments-requires-clause-enough : goal.read_arguments-requires-clause-enough
@@ -61,11 +62,20 @@ call_lent-requires g c =
     let f = c.in-Some-InHost.host in
     let is = rw c.in-Some-InHost.field-0-is at c.in-Some-InHost.ensures.found in
     let passed = c.deref-2.ensures.value ∙ (rw (c.as_slice-types.ensures, c.deref.ensures.value) at c.in-Ok.ensures) in
-    record { there = (f.ty.now, c.requires.hosts.typed c.args.wanted.address f.number (host_function f.number f.ty.now) is refl, ap (map type_of) passed ∙ types-there c.args.bound r w c.args.wanted.kind c.args.wanted.address c.args.wanted.behind wait f.number f.ty.now is) }
+    record {
+      there = (
+        f.ty.now,
+        c.requires.hosts.typed c.args.wanted.address f.number (host_function f.number f.ty.now) is refl,
+        ap (map type_of) passed ∙ types-there c.args.bound r w c.args.wanted.kind c.args.wanted.address c.args.wanted.behind wait f.number f.ty.now is,
+      );
+    }
 
 pub returns-in-Ok-call_lent-clause-hosts : goal.returns-in-Ok-call_lent-clause-hosts
 returns-in-Ok-call_lent-clause-hosts g c =
-    ready-kept type_of_host _ (hosts_in c.args.hosts.now) (hosts_in c.call_lent.new.hosts) c.in-Some-InHost.host.number (first_memory (code_store c.args.code.now) c.args.call.now.position.instance) c.deref-2.result.now (store_with c.args.code.now c.args.state.now) (store_with c.args.code.now c.call_lent.new.state) (Results c.in-Ok-call_lent.values.items) c.in-Ok-call_lent.ensures.answered c.requires.hosts
+    ready-kept type_of_host _ (hosts_in c.args.hosts.now) (hosts_in c.call_lent.new.hosts) c.in-Some-InHost.host.number
+    (first_memory (code_store c.args.code.now) c.args.call.now.position.instance) c.deref-2.result.now
+    (store_with c.args.code.now c.args.state.now) (store_with c.args.code.now c.call_lent.new.state) (Results c.in-Ok-call_lent.values.items)
+    c.in-Ok-call_lent.ensures.answered c.requires.hosts
 
 pub returns-in-Err-Trap-clause-came : goal.returns-in-Err-Trap-clause-came
 returns-in-Err-Trap-clause-came g c = λ w wait. (
@@ -73,11 +83,16 @@ returns-in-Err-Trap-clause-came g c = λ w wait. (
     let f = c.in-Some-InHost.host in
     let is = rw c.in-Some-InHost.field-0-is at c.in-Some-InHost.ensures.found in
     let passed = c.deref-2.ensures.value ∙ (rw (c.as_slice-types.ensures, c.deref.ensures.value) at c.in-Ok.ensures) in
-    rw c.in-Err-Trap.why-is (traps-there c.args.bound r w c.args.wanted.address c.args.wanted.behind f.number f.ty.now is type_of_host _ (hosts_in c.args.hosts.now) (hosts_in c.call_lent.new.hosts) c.args.wanted.kind wait (store_with c.args.code.now c.call_lent.new.state) c.in-Err-Trap.why (rw (passed, c.in-Err-Trap.field-0-is) at c.in-Err-Trap.ensures.answered)))
+    rw c.in-Err-Trap.why-is (traps-there c.args.bound r w c.args.wanted.address c.args.wanted.behind f.number f.ty.now is type_of_host _
+    (hosts_in c.args.hosts.now) (hosts_in c.call_lent.new.hosts) c.args.wanted.kind wait (store_with c.args.code.now c.call_lent.new.state)
+    c.in-Err-Trap.why (rw (passed, c.in-Err-Trap.field-0-is) at c.in-Err-Trap.ensures.answered)))
 
 pub returns-in-Err-Trap-clause-hosts : goal.returns-in-Err-Trap-clause-hosts
 returns-in-Err-Trap-clause-hosts g c =
-    ready-kept type_of_host _ (hosts_in c.args.hosts.now) (hosts_in c.call_lent.new.hosts) c.in-Some-InHost.host.number (first_memory (code_store c.args.code.now) c.args.call.now.position.instance) c.deref-2.result.now (store_with c.args.code.now c.args.state.now) (store_with c.args.code.now c.call_lent.new.state) (HostTrap c.in-Err-Trap.why) (rw c.in-Err-Trap.field-0-is at c.in-Err-Trap.ensures.answered) c.requires.hosts
+    ready-kept type_of_host _ (hosts_in c.args.hosts.now) (hosts_in c.call_lent.new.hosts) c.in-Some-InHost.host.number
+    (first_memory (code_store c.args.code.now) c.args.call.now.position.instance) c.deref-2.result.now
+    (store_with c.args.code.now c.args.state.now) (store_with c.args.code.now c.call_lent.new.state) (HostTrap c.in-Err-Trap.why)
+    (rw c.in-Err-Trap.field-0-is at c.in-Err-Trap.ensures.answered) c.requires.hosts
 
 pub returns-clause-came : goal.returns-clause-came
 returns-clause-came g c = λ w wait. (
@@ -85,7 +100,8 @@ returns-clause-came g c = λ w wait. (
     let f = c.in-Some-InHost.host in
     let is = rw c.in-Some-InHost.field-0-is at c.in-Some-InHost.ensures.found in
     let (hosts_same, store_same) = c.in-Err-Memory.ensures.unchanged (cc) in
-    rw (hosts_same, store_same) (out-of-memory c.args.bound r w c.args.wanted.address c.args.wanted.behind f.number f.ty.now is type_of_host _ (hosts_in c.args.hosts.now) (hosts_in c.args.hosts.now) c.args.wanted.kind wait))
+    rw (hosts_same, store_same) (out-of-memory c.args.bound r w c.args.wanted.address c.args.wanted.behind f.number f.ty.now is type_of_host _
+    (hosts_in c.args.hosts.now) (hosts_in c.args.hosts.now) c.args.wanted.kind wait))
 
 pub index_mut-requires : goal.index_mut-requires
 index_mut-requires g c =
@@ -104,7 +120,9 @@ put_results-requires-clause-room g c =
     let is = rw c.in-Some-InHost.field-0-is at c.in-Some-InHost.ensures.found in
     let passed = c.deref-2.ensures.value ∙ (rw (c.as_slice-types.ensures, c.deref.ensures.value) at c.in-Ok.ensures) in
     let nested = subst (λ (kind : CallKind). WaitsForHost c.args.bound r w kind c.args.wanted.address c.args.wanted.behind) c.in-Nested.is wait in
-    let fits = room-behind c.args.bound r w c.args.wanted.address c.args.wanted.behind f.number f.ty.now is type_of_host _ (hosts_in c.args.hosts.now) (hosts_in c.call_lent.new.hosts) c.requires.hosts c.call_lent.new.state c.in-Ok-call_lent.values.items (rw passed at c.in-Ok-call_lent.ensures.answered) nested in
+    let fits = room-behind c.args.bound r w c.args.wanted.address c.args.wanted.behind f.number f.ty.now is type_of_host _ (hosts_in c.args.hosts.now)
+    (hosts_in c.call_lent.new.hosts) c.requires.hosts c.call_lent.new.state c.in-Ok-call_lent.values.items
+    (rw passed at c.in-Ok-call_lent.ensures.answered) nested in
     let params = ap (λ (ts : List ValType). length ts) c.as_slice-types.ensures in
     let many = ap (λ (vs : List Val). length vs) c.deref-in-Nested.ensures.value in
     let size = length-set c.args.call.now.cells.items c.args.call.now.position.top c.args.call.now.position.operand in
@@ -120,16 +138,23 @@ returns-in-Nested-clause-came g c = λ w wait. (
     let count = ap (λ (ts : List ValType). length ts) c.as_slice-types.ensures in
     let values = c.deref-in-Nested.ensures.value in
     let nested = subst (λ (kind : CallKind). WaitsForHost c.args.bound r w kind c.args.wanted.address c.args.wanted.behind) c.in-Nested.is wait in
-    comes-behind c.args.bound r w c.args.wanted.address c.args.wanted.behind f.number f.ty.now is type_of_host _ (hosts_in c.args.hosts.now) (hosts_in c.call_lent.new.hosts) c.requires.hosts c.call_lent.new.state c.in-Ok-call_lent.values.items told nested c.put_results.new.call
-    (c.put_results.ensures.cells ∙ ap (λ (n : ℕ). with_results (cells_held r) (c.args.wanted.behind - n) c.deref-in-Nested.result.now) count ∙ ap (with_results (cells_held r) (c.args.wanted.behind - length f.ty.now.params)) values)
-    (c.put_results.ensures.position ∙ ap (λ (fr : Frame). position_answered fr c.args.call.now.position (c.args.wanted.behind - length c.as_slice-types.result.now) c.deref-in-Nested.result.now (cells_held r)) c.frame_behind-frame.ensures
+    comes-behind c.args.bound r w c.args.wanted.address c.args.wanted.behind f.number f.ty.now is type_of_host _ (hosts_in c.args.hosts.now)
+    (hosts_in c.call_lent.new.hosts) c.requires.hosts c.call_lent.new.state c.in-Ok-call_lent.values.items told nested c.put_results.new.call
+    (c.put_results.ensures.cells ∙ ap (λ (n : ℕ). with_results (cells_held r) (c.args.wanted.behind - n) c.deref-in-Nested.result.now) count ∙ ap
+    (with_results (cells_held r) (c.args.wanted.behind - length f.ty.now.params)) values)
+    (c.put_results.ensures.position ∙ ap
+    (λ (fr : Frame). position_answered fr c.args.call.now.position (c.args.wanted.behind - length c.as_slice-types.result.now)
+    c.deref-in-Nested.result.now (cells_held r)) c.frame_behind-frame.ensures
     ∙ ap (λ (n : ℕ). position_answered (frame_waiting c.args.call.now.position) c.args.call.now.position (c.args.wanted.behind - n) c.deref-in-Nested.result.now (cells_held r)) count
     ∙ ap (λ (vs : List Val). position_answered (frame_waiting c.args.call.now.position) c.args.call.now.position (c.args.wanted.behind - length f.ty.now.params) vs (cells_held r)) values)
     c.put_results.ensures.callers)
 
 pub returns-in-Nested-clause-hosts : goal.returns-in-Nested-clause-hosts
 returns-in-Nested-clause-hosts g c =
-    ready-kept type_of_host _ (hosts_in c.args.hosts.now) (hosts_in c.call_lent.new.hosts) c.in-Some-InHost.host.number (first_memory (code_store c.args.code.now) c.args.call.now.position.instance) c.deref-2.result.now (store_with c.args.code.now c.args.state.now) (store_with c.args.code.now c.call_lent.new.state) (Results c.in-Ok-call_lent.values.items) c.in-Ok-call_lent.ensures.answered c.requires.hosts
+    ready-kept type_of_host _ (hosts_in c.args.hosts.now) (hosts_in c.call_lent.new.hosts) c.in-Some-InHost.host.number
+    (first_memory (code_store c.args.code.now) c.args.call.now.position.instance) c.deref-2.result.now
+    (store_with c.args.code.now c.args.state.now) (store_with c.args.code.now c.call_lent.new.state) (Results c.in-Ok-call_lent.values.items)
+    c.in-Ok-call_lent.ensures.answered c.requires.hosts
 
 pub return_results-requires-clause-room : goal.return_results-requires-clause-room
 return_results-requires-clause-room g c = λ frame others are. (
@@ -139,7 +164,9 @@ return_results-requires-clause-room g c = λ frame others are. (
     let is = rw c.in-Some-InHost.field-0-is at c.in-Some-InHost.ensures.found in
     let passed = c.deref-2.ensures.value ∙ (rw (c.as_slice-types.ensures, c.deref.ensures.value) at c.in-Ok.ensures) in
     let tail = subst (λ (kind : CallKind). WaitsForHost c.args.bound r w kind c.args.wanted.address c.args.wanted.behind) c.in-Tail.is wait in
-    room-back-there c.args.bound r w c.args.wanted.address c.args.wanted.behind f.number f.ty.now is type_of_host _ (hosts_in c.args.hosts.now) (hosts_in c.call_lent.new.hosts) c.requires.hosts c.call_lent.new.state c.in-Ok-call_lent.values.items (rw passed at c.in-Ok-call_lent.ensures.answered) tail frame others are)
+    room-back-there c.args.bound r w c.args.wanted.address c.args.wanted.behind f.number f.ty.now is type_of_host _ (hosts_in c.args.hosts.now)
+    (hosts_in c.call_lent.new.hosts) c.requires.hosts c.call_lent.new.state c.in-Ok-call_lent.values.items
+    (rw passed at c.in-Ok-call_lent.ensures.answered) tail frame others are)
 
 pub returns-in-Ok-call_lent-clause-came : goal.returns-in-Ok-call_lent-clause-came
 returns-in-Ok-call_lent-clause-came g c = λ w wait. (
@@ -152,7 +179,11 @@ returns-in-Ok-call_lent-clause-came g c = λ w wait. (
     comes-or-ends (HostStep (λ vtable. (g.dyn-1.0.entry vtable).1)) c.args.bound r (hosts_in c.args.hosts.now) w _ _ c.return_results.result
     (IfOk-weaker c.return_results.result _ _ (λ done back. (
     let (frame, are, cells, position) = back in
-    comes-back-there c.args.bound r w c.args.wanted.address c.args.wanted.behind f.number f.ty.now is type_of_host _ (hosts_in c.args.hosts.now) (hosts_in c.call_lent.new.hosts) c.requires.hosts c.call_lent.new.state c.in-Ok-call_lent.values.items told tail frame c.return_results.new.call.callers are c.return_results.new.call cells position refl)) c.return_results.ensures.back)
+    comes-back-there c.args.bound r w c.args.wanted.address c.args.wanted.behind f.number f.ty.now is type_of_host _ (hosts_in c.args.hosts.now)
+    (hosts_in c.call_lent.new.hosts) c.requires.hosts c.call_lent.new.state c.in-Ok-call_lent.values.items told tail frame
+    c.return_results.new.call.callers are c.return_results.new.call cells position refl)) c.return_results.ensures.back)
     (IfErr-weaker c.return_results.result _ _ (λ outcome over. (
     let (none, ending, left) = over in
-    rw (ending, left) (ends-there c.args.bound r w c.args.wanted.address c.args.wanted.behind f.number f.ty.now is type_of_host _ (hosts_in c.args.hosts.now) (hosts_in c.call_lent.new.hosts) c.requires.hosts c.call_lent.new.state c.in-Ok-call_lent.values.items told tail none))) c.return_results.ensures.over))
+    rw (ending, left) (ends-there c.args.bound r w c.args.wanted.address c.args.wanted.behind f.number f.ty.now is type_of_host _
+    (hosts_in c.args.hosts.now) (hosts_in c.call_lent.new.hosts) c.requires.hosts c.call_lent.new.state c.in-Ok-call_lent.values.items told tail
+    none))) c.return_results.ensures.over))

@@ -12,7 +12,14 @@ returns g c = (
         let code = c.code-code.result.now in
         let here : slice_get (functions_in code) address ≡ Some f = rw c.code-code.ensures there in
         let inside : address < length (functions_in code) = slice_get_within (functions_in code) address f here in
-        c.loop-address.invariant address number f (omega (arith, inside, length-map code.functions (function_at code.hosts code.instances), c.function_count-address-end.ensures, c.loop-address-test.false)) here is;
+        c.loop-address.invariant address number f
+        (omega (
+          arith,
+          inside,
+          length-map code.functions (function_at code.hosts code.instances),
+          c.function_count-address-end.ensures,
+          c.loop-address-test.false,
+        )) here is;
     no_funcrefs = c.args.hosts.now.no_funcrefs;
   },
   λ ready. refl,

@@ -7,13 +7,16 @@ pub memory_at-address-requires : goal.memory_at-address-requires
 memory_at-address-requires c = let (bound, u, b) = c.requires in let k = copies-bytes _ u bound b in (k.address, k.named)
 
 pub integer-target-requires : goal.integer-target-requires
-integer-target-requires c = let (bound, u, b) = c.requires in let k = copies-bytes _ u bound b in record { low = omega (arith, k.has_operands.low); inside = k.has_operands.inside; cell = k.has_operands.cells 2 (omega arith) }
+integer-target-requires c = let (bound, u, b) = c.requires in let k = copies-bytes _ u bound b in
+    record { low = omega (arith, k.has_operands.low); inside = k.has_operands.inside; cell = k.has_operands.cells 2 (omega arith) }
 
 pub integer-from-requires : goal.integer-from-requires
-integer-from-requires c = let (bound, u, b) = c.requires in let k = copies-bytes _ u bound b in record { low = omega (arith, k.has_operands.low); inside = k.has_operands.inside; cell = k.has_operands.cells 1 (omega arith) }
+integer-from-requires c = let (bound, u, b) = c.requires in let k = copies-bytes _ u bound b in
+    record { low = omega (arith, k.has_operands.low); inside = k.has_operands.inside; cell = k.has_operands.cells 1 (omega arith) }
 
 pub integer-count-requires : goal.integer-count-requires
-integer-count-requires c = let (bound, u, b) = c.requires in let k = copies-bytes _ u bound b in record { low = omega (arith, k.has_operands.low); inside = k.has_operands.inside; cell = k.has_operands.cells 0 (omega arith) }
+integer-count-requires c = let (bound, u, b) = c.requires in let k = copies-bytes _ u bound b in
+    record { low = omega (arith, k.has_operands.low); inside = k.has_operands.inside; cell = k.has_operands.cells 0 (omega arith) }
 
 pub copy_memory-requires : goal.copy_memory-requires
 copy_memory-requires c = let (bound, u, b) = c.requires in let k = copies-bytes _ u bound b in let at : c.memory_at-address.result ≡ k.address = cc in omega (arith, at, k.inside)

@@ -7,13 +7,16 @@ pub memory_at-address-requires : goal.memory_at-address-requires
 memory_at-address-requires c = let (bound, u, b) = c.requires in let k = fills-bytes _ u bound b in (k.address, k.named)
 
 pub integer-offset-requires : goal.integer-offset-requires
-integer-offset-requires c = let (bound, u, b) = c.requires in let k = fills-bytes _ u bound b in record { low = omega (arith, k.has_operands.low); inside = k.has_operands.inside; cell = k.has_operands.cells 2 (omega arith) }
+integer-offset-requires c = let (bound, u, b) = c.requires in let k = fills-bytes _ u bound b in
+    record { low = omega (arith, k.has_operands.low); inside = k.has_operands.inside; cell = k.has_operands.cells 2 (omega arith) }
 
 pub integer-value-requires : goal.integer-value-requires
-integer-value-requires c = let (bound, u, b) = c.requires in let k = fills-bytes _ u bound b in record { low = omega (arith, k.has_operands.low); inside = k.has_operands.inside; cell = k.has_operands.cells 1 (omega arith) }
+integer-value-requires c = let (bound, u, b) = c.requires in let k = fills-bytes _ u bound b in
+    record { low = omega (arith, k.has_operands.low); inside = k.has_operands.inside; cell = k.has_operands.cells 1 (omega arith) }
 
 pub integer-count-requires : goal.integer-count-requires
-integer-count-requires c = let (bound, u, b) = c.requires in let k = fills-bytes _ u bound b in record { low = omega (arith, k.has_operands.low); inside = k.has_operands.inside; cell = k.has_operands.cells 0 (omega arith) }
+integer-count-requires c = let (bound, u, b) = c.requires in let k = fills-bytes _ u bound b in
+    record { low = omega (arith, k.has_operands.low); inside = k.has_operands.inside; cell = k.has_operands.cells 0 (omega arith) }
 
 pub fill_memory-requires : goal.fill_memory-requires
 fill_memory-requires c = let (bound, u, b) = c.requires in let k = fills-bytes _ u bound b in let at : c.memory_at-address.result ≡ k.address = cc in omega (arith, at, k.inside)

@@ -7,7 +7,8 @@ pub memory_at-address-requires : goal.memory_at-address-requires
 memory_at-address-requires c = let (bound, u, b) = c.requires in let k = grows-bytes _ u bound b in (k.address, k.named)
 
 pub integer-pages-requires : goal.integer-pages-requires
-integer-pages-requires c = let (bound, u, b) = c.requires in let k = grows-bytes _ u bound b in record { low = omega (arith, k.has_operands.low); inside = k.has_operands.inside; cell = k.has_operands.cells 0 (omega arith) }
+integer-pages-requires c = let (bound, u, b) = c.requires in let k = grows-bytes _ u bound b in
+    record { low = omega (arith, k.has_operands.low); inside = k.has_operands.inside; cell = k.has_operands.cells 0 (omega arith) }
 
 pub grow_memory-requires : goal.grow_memory-requires
 grow_memory-requires c = let (bound, u, b) = c.requires in let k = grows-bytes _ u bound b in let at : c.memory_at-address.result ≡ k.address = cc in omega (arith, at, k.inside)

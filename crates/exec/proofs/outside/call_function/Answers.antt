@@ -6,7 +6,20 @@ use Rattle.exec.proofs.outside.call_function.Goals as goal
 pub call_code-requires : goal.call_code-requires
 call_code-requires g c =
     let found = rw c.in-Some-InModule.field-0-is at c.in-Some-InModule.ensures.callee in
-    record { takes = (c.args.address, record { valid = c.requires.valid; found = found.there; flat = found.flat; declared = found.declared; types = found.types; accepted = c.requires.arguments }); hosts = c.requires.hosts }
+    record {
+      takes = (
+        c.args.address,
+        record {
+          valid = c.requires.valid;
+          found = found.there;
+          flat = found.flat;
+          declared = found.declared;
+          types = found.types;
+          accepted = c.requires.arguments;
+        },
+      );
+      hosts = c.requires.hosts;
+    }
 
 pub call_host_alone-requires : goal.call_host_alone-requires
 call_host_alone-requires g c =
@@ -23,7 +36,17 @@ call_host_alone-requires g c =
 pub returns-in-Some-InModule : goal.returns-in-Some-InModule
 returns-in-Some-InModule g c =
     let found = rw c.in-Some-InModule.field-0-is at c.in-Some-InModule.ensures.callee in
-    record { run = c.call_code.ensures.run c.args.address (record { valid = c.requires.valid; found = found.there; flat = found.flat; declared = found.declared; types = found.types; accepted = c.requires.arguments }) }
+    record {
+      run = c.call_code.ensures.run c.args.address
+          (record {
+            valid = c.requires.valid;
+            found = found.there;
+            flat = found.flat;
+            declared = found.declared;
+            types = found.types;
+            accepted = c.requires.arguments;
+          });
+    }
 
 pub returns-in-Some-InHost : goal.returns-in-Some-InHost
 returns-in-Some-InHost g c =

@@ -15,12 +15,14 @@ call_from_outside-requires g c = record {
 
 pub invariant_of-store : goal.invariant_of-store
 invariant_of-store g c =
-    (call-ends (λ vtable. (g.dyn-1.0.entry vtable).1) _ _ _ _ _ _ _ c.args.address c.args.args.now _ c.store.invariant (rw (← c.store.view_is) at c.requires.hosts) (rw (← c.store.view_is) at c.requires.arguments) c.call_from_outside.ensures.run).valid
+    (call-ends (λ vtable. (g.dyn-1.0.entry vtable).1) _ _ _ _ _ _ _ c.args.address c.args.args.now _ c.store.invariant
+    (rw (← c.store.view_is) at c.requires.hosts) (rw (← c.store.view_is) at c.requires.arguments) c.call_from_outside.ensures.run).valid
 
 pub returns : goal.returns
 returns g c =
     let run = c.call_from_outside.ensures.run in
-    let ended = call-ends (λ vtable. (g.dyn-1.0.entry vtable).1) _ _ _ _ _ _ _ c.args.address c.args.args.now _ c.store.invariant (rw (← c.store.view_is) at c.requires.hosts) (rw (← c.store.view_is) at c.requires.arguments) run in
+    let ended = call-ends (λ vtable. (g.dyn-1.0.entry vtable).1) _ _ _ _ _ _ _ c.args.address c.args.args.now _ c.store.invariant
+    (rw (← c.store.view_is) at c.requires.hosts) (rw (← c.store.view_is) at c.requires.arguments) run in
     rw (← c.store.view_is) (record {
       run = run;
       own = own-call (λ vtable. (g.dyn-1.0.entry vtable).1) c.args.meter.now.bound no_frame run;

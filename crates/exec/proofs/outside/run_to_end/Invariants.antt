@@ -8,7 +8,8 @@ use Rattle.exec.proofs.outside.run_to_end.Given as goal
 
 abbrev pub invariant-loop-call : goal.invariant-loop-call
 invariant-loop-call g l = record {
-  came : CameOver (HostStep (λ vtable. (g.dyn-1.0.entry vtable).1)) l.bound (at_rest l.code l.initial.state l.initial.call) (hosts_in l.initial.hosts) l.types (at_rest l.code l.state l.call) (hosts_in l.hosts);
+  came : CameOver (HostStep (λ vtable. (g.dyn-1.0.entry vtable).1)) l.bound (at_rest l.code l.initial.state l.initial.call) (hosts_in l.initial.hosts)
+      l.types (at_rest l.code l.state l.call) (hosts_in l.hosts);
   hosts : HaveHosts (store_with l.code l.state) (hosts_in l.hosts);
   room : length l.values.items ≡ length l.types;
 }

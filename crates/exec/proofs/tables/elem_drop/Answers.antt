@@ -17,7 +17,8 @@ pub returns : goal.returns
 returns c bound u b =
     let k = drops _ u bound c.args.segment b in
     let at : c.elements_at-address.result ≡ k.address = cc in record {
-      outcome = made 1 (with_elements (store_with c.args.code.now c.args.state.now) c.elements_at-address.result (record { ty = (elements_of c.args.state.now c.elements_at-address.result).ty; references = [] })) [];
+      outcome = made 1 (with_elements (store_with c.args.code.now c.args.state.now) c.elements_at-address.result
+          (record { ty = (elements_of c.args.state.now c.elements_at-address.result).ty; references = [] })) [];
       has = rw (at) k.has;
       low = k.low;
       room = room-none (machine_of (at_rest c.args.code.now c.args.state.now c.args.call.now)) 0 _ _ _ _ _ _ (c.drop_elements.ensures c.args.code.now);

@@ -10,16 +10,21 @@ pub table_at-other-requires : goal.table_at-other-requires
 table_at-other-requires c = let (bound, u, b) = c.requires in let (other, named, inside, k) = copies _ u bound c.args.x c.args.y b in (other, named)
 
 pub integer-target-requires : goal.integer-target-requires
-integer-target-requires c = let (bound, u, b) = c.requires in let (other, named, inside, k) = copies _ u bound c.args.x c.args.y b in record { low = omega (arith, k.has_operands.low); inside = k.has_operands.inside; cell = k.has_operands.cells 2 (omega arith) }
+integer-target-requires c = let (bound, u, b) = c.requires in let (other, named, inside, k) = copies _ u bound c.args.x c.args.y b in
+    record { low = omega (arith, k.has_operands.low); inside = k.has_operands.inside; cell = k.has_operands.cells 2 (omega arith) }
 
 pub integer-from-requires : goal.integer-from-requires
-integer-from-requires c = let (bound, u, b) = c.requires in let (other, named, inside, k) = copies _ u bound c.args.x c.args.y b in record { low = omega (arith, k.has_operands.low); inside = k.has_operands.inside; cell = k.has_operands.cells 1 (omega arith) }
+integer-from-requires c = let (bound, u, b) = c.requires in let (other, named, inside, k) = copies _ u bound c.args.x c.args.y b in
+    record { low = omega (arith, k.has_operands.low); inside = k.has_operands.inside; cell = k.has_operands.cells 1 (omega arith) }
 
 pub integer-count-requires : goal.integer-count-requires
-integer-count-requires c = let (bound, u, b) = c.requires in let (other, named, inside, k) = copies _ u bound c.args.x c.args.y b in record { low = omega (arith, k.has_operands.low); inside = k.has_operands.inside; cell = k.has_operands.cells 0 (omega arith) }
+integer-count-requires c = let (bound, u, b) = c.requires in let (other, named, inside, k) = copies _ u bound c.args.x c.args.y b in
+    record { low = omega (arith, k.has_operands.low); inside = k.has_operands.inside; cell = k.has_operands.cells 0 (omega arith) }
 
 pub copy_table-requires : goal.copy_table-requires
-copy_table-requires c = let (bound, u, b) = c.requires in let (other, named, inside, k) = copies _ u bound c.args.x c.args.y b in let at : c.table_at-address.result ≡ k.address = cc in let from_is : c.table_at-other.result ≡ other = cc in record { there = omega (arith, at, k.inside); source = omega (arith, from_is, inside) }
+copy_table-requires c = let (bound, u, b) = c.requires in let (other, named, inside, k) = copies _ u bound c.args.x c.args.y b in
+    let at : c.table_at-address.result ≡ k.address = cc in let from_is : c.table_at-other.result ≡ other = cc in
+    record { there = omega (arith, at, k.inside); source = omega (arith, from_is, inside) }
 
 pub returns : goal.returns
 returns c bound u b =

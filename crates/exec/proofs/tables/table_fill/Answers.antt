@@ -7,16 +7,19 @@ pub table_at-address-requires : goal.table_at-address-requires
 table_at-address-requires c = let (bound, u, b) = c.requires in let k = fills _ u bound c.args.x b in (k.address, k.named)
 
 pub integer-offset-requires : goal.integer-offset-requires
-integer-offset-requires c = let (bound, u, b) = c.requires in let k = fills _ u bound c.args.x b in record { low = omega (arith, k.has_operands.low); inside = k.has_operands.inside; cell = k.has_operands.cells 2 (omega arith) }
+integer-offset-requires c = let (bound, u, b) = c.requires in let k = fills _ u bound c.args.x b in
+    record { low = omega (arith, k.has_operands.low); inside = k.has_operands.inside; cell = k.has_operands.cells 2 (omega arith) }
 
 pub integer-count-requires : goal.integer-count-requires
-integer-count-requires c = let (bound, u, b) = c.requires in let k = fills _ u bound c.args.x b in record { low = omega (arith, k.has_operands.low); inside = k.has_operands.inside; cell = k.has_operands.cells 0 (omega arith) }
+integer-count-requires c = let (bound, u, b) = c.requires in let k = fills _ u bound c.args.x b in
+    record { low = omega (arith, k.has_operands.low); inside = k.has_operands.inside; cell = k.has_operands.cells 0 (omega arith) }
 
 pub operand-cell-requires : goal.operand-cell-requires
 operand-cell-requires c = let (bound, u, b) = c.requires in let k = fills _ u bound c.args.x b in record { low = omega (arith, k.has_operands.low); inside = k.has_operands.inside }
 
 pub fill_table-requires : goal.fill_table-requires
-fill_table-requires c = let (bound, u, b) = c.requires in let k = fills _ u bound c.args.x b in let at : c.table_at-address.result ≡ k.address = cc in record { there = omega (arith, at, k.inside); cell = rw (at, c.operand-cell.ensures) (k.has_operands.cells 1 (omega arith)) }
+fill_table-requires c = let (bound, u, b) = c.requires in let k = fills _ u bound c.args.x b in let at : c.table_at-address.result ≡ k.address = cc in
+    record { there = omega (arith, at, k.inside); cell = rw (at, c.operand-cell.ensures) (k.has_operands.cells 1 (omega arith)) }
 
 pub returns : goal.returns
 returns c bound u b =

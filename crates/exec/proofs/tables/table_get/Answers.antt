@@ -7,7 +7,8 @@ pub table_at-address-requires : goal.table_at-address-requires
 table_at-address-requires c = let (bound, u, b) = c.requires in let k = gets _ u bound c.args.x b in (k.address, k.named)
 
 pub integer-offset-requires : goal.integer-offset-requires
-integer-offset-requires c = let (bound, u, b) = c.requires in let k = gets _ u bound c.args.x b in record { low = omega (arith, k.has_operands.low); inside = k.has_operands.inside; cell = k.has_operands.cells 0 (omega arith) }
+integer-offset-requires c = let (bound, u, b) = c.requires in let k = gets _ u bound c.args.x b in
+    record { low = omega (arith, k.has_operands.low); inside = k.has_operands.inside; cell = k.has_operands.cells 0 (omega arith) }
 
 pub get_entry-requires : goal.get_entry-requires
 get_entry-requires c = let (bound, u, b) = c.requires in let k = gets _ u bound c.args.x b in let at : c.table_at-address.result ≡ k.address = cc in omega (arith, at, k.inside)

@@ -7,13 +7,15 @@ pub table_at-address-requires : goal.table_at-address-requires
 table_at-address-requires c = let (bound, u, b) = c.requires in let k = sets _ u bound c.args.x b in (k.address, k.named)
 
 pub integer-offset-requires : goal.integer-offset-requires
-integer-offset-requires c = let (bound, u, b) = c.requires in let k = sets _ u bound c.args.x b in record { low = omega (arith, k.has_operands.low); inside = k.has_operands.inside; cell = k.has_operands.cells 1 (omega arith) }
+integer-offset-requires c = let (bound, u, b) = c.requires in let k = sets _ u bound c.args.x b in
+    record { low = omega (arith, k.has_operands.low); inside = k.has_operands.inside; cell = k.has_operands.cells 1 (omega arith) }
 
 pub operand-cell-requires : goal.operand-cell-requires
 operand-cell-requires c = let (bound, u, b) = c.requires in let k = sets _ u bound c.args.x b in record { low = omega (arith, k.has_operands.low); inside = k.has_operands.inside }
 
 pub set_entry-requires : goal.set_entry-requires
-set_entry-requires c = let (bound, u, b) = c.requires in let k = sets _ u bound c.args.x b in let at : c.table_at-address.result ≡ k.address = cc in record { there = omega (arith, at, k.inside); cell = rw (at, c.operand-cell.ensures) (k.has_operands.cells 0 (omega arith)) }
+set_entry-requires c = let (bound, u, b) = c.requires in let k = sets _ u bound c.args.x b in let at : c.table_at-address.result ≡ k.address = cc in
+    record { there = omega (arith, at, k.inside); cell = rw (at, c.operand-cell.ensures) (k.has_operands.cells 0 (omega arith)) }
 
 pub returns : goal.returns
 returns c bound u b =

@@ -7,5 +7,6 @@ loop-index-preserved c =
     let pushed = c.in_ok-push.ensures.items in
     record {
       indices = indices_more c.args.exports.now here.found.items c.push.new.self.items here.index c.as_str.result pushed here.invariant.indices;
-      named = names_more c.args.exports.now here.found.items c.push.new.self.items here.index c.as_str.result pushed c.index-exports-index.result c.loop-index-test.true c.as_str.ensures here.invariant.named;
+      named = names_more c.args.exports.now here.found.items c.push.new.self.items here.index c.as_str.result pushed c.index-exports-index.result
+          c.loop-index-test.true c.as_str.ensures here.invariant.named;
     }

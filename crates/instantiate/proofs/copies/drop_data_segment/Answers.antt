@@ -31,4 +31,5 @@ returns-clause-run c =
     let o = made 1 (with_data old a (record { bytes = [] })) [] in
     steps-run c.pass.result c.args.meter.now.bound frame (link_state code c.args.state.now c.args.meter.now.left) (link_state code c.drop_data.new.state c.pass.new.meter.left) first
     (steps-or-ends c.args.meter.now.bound c.args.linked.now.instance old c.args.meter.now.left first Empty new c.pass.new.meter.left c.pass.result o (refl, refl)
-    (ap (λ (found : Option (ℕ × DataInstance)). continue_after frame (drop_data old frame found []) Empty) c.in-Some.ensures.1) (c.pass.ensures.passes o old new (rw c.left.ensures at (c.drop_data.ensures code))))
+    (ap (λ (found : Option (ℕ × DataInstance)). continue_after frame (drop_data old frame found []) Empty) c.in-Some.ensures.1)
+    (c.pass.ensures.passes o old new (rw c.left.ensures at (c.drop_data.ensures code))))

@@ -33,4 +33,5 @@ returns-clause-run c =
     let o = made 1 (with_elements old a (record { ty = (elements_of c.args.state.now a).ty; references = [] })) [] in
     steps-run c.pass.result c.args.meter.now.bound frame (link_state code c.args.state.now c.args.meter.now.left) (link_state code c.drop_elements.new.state c.pass.new.meter.left) first
     (steps-or-ends c.args.meter.now.bound c.args.linked.now.instance old c.args.meter.now.left first Empty new c.pass.new.meter.left c.pass.result o (refl, refl)
-    (ap (λ (found : Option (ℕ × ElementInstance)). continue_after frame (drop_elements old frame found []) Empty) c.in-Some.ensures.1) (c.pass.ensures.passes o old new (rw c.left.ensures at (c.drop_elements.ensures code))))
+    (ap (λ (found : Option (ℕ × ElementInstance)). continue_after frame (drop_elements old frame found []) Empty) c.in-Some.ensures.1)
+    (c.pass.ensures.passes o old new (rw c.left.ensures at (c.drop_elements.ensures code))))

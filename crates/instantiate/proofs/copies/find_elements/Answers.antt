@@ -8,7 +8,8 @@ pub returns-in_err-address : goal.returns-in_err-address
 returns-in_err-address c = rw c.from_residual.ensures (not-named c.args.state.now.contents.elements _ c.in_err-address.ensures)
 
 pub returns-in_err-element_segment : goal.returns-in_err-element_segment
-returns-in_err-element_segment c = rw c.from_residual-in_err-element_segment.ensures (not-located c.args.state.now.contents.elements _ c.in_ok-address.address c.in_ok-address.ensures (sym c.in_err-element_segment.ensures))
+returns-in_err-element_segment c = rw c.from_residual-in_err-element_segment.ensures
+    (not-located c.args.state.now.contents.elements _ c.in_ok-address.address c.in_ok-address.ensures (sym c.in_err-element_segment.ensures))
 
 pub returns : goal.returns
 returns c =

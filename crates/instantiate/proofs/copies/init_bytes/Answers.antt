@@ -49,5 +49,6 @@ returns-clause-step c rest =
     let is = ap (λ (into : Option (ℕ × MemoryInstance)). continue_after frame (in_memory old frame into (Init c.args.segment) operands) rest) c.in-Some.ensures.1
     ∙ ap (λ (from : Option (ℕ × DataInstance)). continue_after frame (init_memory old frame a m from operands) rest) c.in-Some-find_data.ensures.1
     ∙ ap (λ (e : Effect). continue_after frame e rest) (write-effect old frame c.args.count a m copied []) in
-    steps-or-ends c.args.meter.now.bound c.args.linked.now.instance old c.args.meter.now.left (Running operands (Then (Memory (Init c.args.segment)) rest)) rest new c.pass.new.meter.left c.pass.result o
+    steps-or-ends c.args.meter.now.bound c.args.linked.now.instance old c.args.meter.now.left
+    (Running operands (Then (Memory (Init c.args.segment)) rest)) rest new c.pass.new.meter.left c.pass.result o
     (write-outcome old frame c.args.count a m copied) is (c.pass.ensures.passes o old new (rw c.left-fuel.ensures at (c.init_memory.ensures c.args.linked.now.code.now)))

@@ -32,7 +32,9 @@ returns-in_default-find_elements-clause-step c rest =
     let operands = I32 c.args.count ∷ (I32 0 ∷ (I32 c.args.target ∷ [])) in
     gets-stuck c.args.meter.now.bound c.args.linked.now.instance old c.args.meter.now.left (Running operands (Then (Table (Init c.args.segment c.args.table)) rest)) rest
     (ap (λ (into : Option (ℕ × TableInstance)). continue_after frame (init_table old frame into (elements_at old frame c.args.segment) operands) rest) c.in-Some.ensures.1
-    ∙ ap (λ (from : Option (ℕ × ElementInstance)). continue_after frame (init_table old frame (Some (c.in-Some.address, table_of c.args.state.now c.in-Some.address)) from operands) rest) c.in_default-find_elements.ensures)
+    ∙ ap (λ (from : Option (ℕ × ElementInstance)).
+    continue_after frame (init_table old frame (Some (c.in-Some.address, table_of c.args.state.now c.in-Some.address)) from operands) rest)
+    c.in_default-find_elements.ensures)
 
 pub returns-clause-step : goal.returns-clause-step
 returns-clause-step c rest =
@@ -48,5 +50,6 @@ returns-clause-step c rest =
     let is = ap (λ (into : Option (ℕ × TableInstance)). continue_after frame (init_table old frame into (elements_at old frame c.args.segment) operands) rest) c.in-Some.ensures.1
     ∙ ap (λ (from : Option (ℕ × ElementInstance)). continue_after frame (init_table old frame (Some (a, t)) from operands) rest) c.in-Some-find_elements.ensures.1
     ∙ ap (λ (e : Effect). continue_after frame e rest) (write-effect old frame (entries_cost c.args.count) a t copied []) in
-    steps-or-ends c.args.meter.now.bound c.args.linked.now.instance old c.args.meter.now.left (Running operands (Then (Table (Init c.args.segment c.args.table)) rest)) rest new c.pass.new.meter.left c.pass.result o
+    steps-or-ends c.args.meter.now.bound c.args.linked.now.instance old c.args.meter.now.left
+    (Running operands (Then (Table (Init c.args.segment c.args.table)) rest)) rest new c.pass.new.meter.left c.pass.result o
     (write-outcome old frame (entries_cost c.args.count) a t copied) is (c.pass.ensures.passes o old new (rw c.left-fuel.ensures at (c.init_table.ensures c.args.linked.now.code.now)))

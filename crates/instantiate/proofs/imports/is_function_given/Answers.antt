@@ -15,7 +15,9 @@ pub returns-in-Some-Some : goal.returns-in-Some-Some
 returns-in-Some-Some c =
     let there = rw c.code.ensures at c.in-Some-Some.ensures.found in
     let asked = rw c.as_slice.ensures at (slice_get_read c.as_slice.result.now _ c.args.x c.in-Some-Some.ty.now refl c.in-Some-Some.ensures'.lookup.3.0 c.in-Some-Some.ensures'.lookup.1) in
-    is_given-by (store_of c.args.store.now) (FuncValue c.args.address) (import_type c.args.wanted.now (FuncImport c.args.x)) c.is_same.result (Func (callee_function c.in-Some-Some.callee).ty) (Func c.in-Some-Some.ty.now) (ap (option_map (λ (f : FunctionInstance). Func f.ty)) there) (ap (option_map (λ (t : FuncType). Func t)) asked) (rw c.ty.ensures at c.is_same.ensures)
+    is_given-by (store_of c.args.store.now) (FuncValue c.args.address) (import_type c.args.wanted.now (FuncImport c.args.x)) c.is_same.result
+    (Func (callee_function c.in-Some-Some.callee).ty) (Func c.in-Some-Some.ty.now) (ap (option_map (λ (f : FunctionInstance). Func f.ty)) there)
+    (ap (option_map (λ (t : FuncType). Func t)) asked) (rw c.ty.ensures at c.is_same.ensures)
 
 pub returns-in_default : goal.returns-in_default
 returns-in_default c =

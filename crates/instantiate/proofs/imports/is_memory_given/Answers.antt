@@ -10,4 +10,5 @@ use Rattle.instantiate.proofs.imports.is_memory_given.Goals as goal
 pub returns-in-Some : goal.returns-in-Some
 returns-in-Some c =
     let there = ap (option_map (λ (memory : MemoryInstance). Memory memory.limits)) (sym (rw c.state.ensures.same at c.in-Some.ensures)) in
-    is_given-by (store_of c.args.store.now) (MemoryValue c.args.address) (Some (Memory c.args.wanted)) c.matches.result (Memory c.limits.result) (Memory c.args.wanted) (rw c.limits.ensures there) refl c.matches.ensures
+    is_given-by (store_of c.args.store.now) (MemoryValue c.args.address) (Some (Memory c.args.wanted)) c.matches.result (Memory c.limits.result)
+    (Memory c.args.wanted) (rw c.limits.ensures there) refl c.matches.ensures

@@ -10,4 +10,5 @@ use Rattle.instantiate.proofs.imports.is_table_given.Goals as goal
 pub returns-in-Some : goal.returns-in-Some
 returns-in-Some c =
     let there = ap (option_map (λ (table : TableInstance). Table table.ty)) (sym (rw c.state.ensures.same at c.in-Some.ensures)) in
-    is_given-by (store_of c.args.store.now) (TableValue c.args.address) (Some (Table c.args.wanted)) c.matches.result (Table c.ty.result) (Table c.args.wanted) (rw c.ty.ensures there) refl c.matches.ensures
+    is_given-by (store_of c.args.store.now) (TableValue c.args.address) (Some (Table c.args.wanted)) c.matches.result (Table c.ty.result)
+    (Table c.args.wanted) (rw c.ty.ensures there) refl c.matches.ensures

@@ -22,7 +22,8 @@ returns-in_err-shared c =
 pub append_module-requires-clause-within : goal.append_module-requires-clause-within
 append_module-requires-clause-within c =
     let m = c.args.loaded.now.value.source in
-    objects-within (store_of c.args.store.now) (module_instance (lists_of c.in_ok-addresses.addresses) m) m c.in-Ok.objects c.args.store.now.state.bounds c.in-Ok.ensures.values c.requires.limits.few_entries c.requires.limits.few_pages
+    objects-within (store_of c.args.store.now) (module_instance (lists_of c.in_ok-addresses.addresses) m) m c.in-Ok.objects
+    c.args.store.now.state.bounds c.in-Ok.ensures.values c.requires.limits.few_entries c.requires.limits.few_pages
 
 pub returns-in_err-append_module : goal.returns-in_err-append_module
 returns-in_err-append_module c =

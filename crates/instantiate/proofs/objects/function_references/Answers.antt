@@ -9,12 +9,17 @@ use Rattle.instantiate.proofs.objects.function_references.Goals as goal
 
 pub returns-in-None-clause-none : goal.returns-in-None-clause-none
 returns-in-None-clause-none c = λ (code : Contents) (m : Module).
-    map_all-none (λ (x : ℕ). constant (store_with code c.args.state.now) (module_instance (lists_of c.args.addresses.now) m) (Reference (Func x))) c.args.indices.now c.loop-k.k c.loop-k.found.items 0 c.loop-k-test.true (c.loop-k.invariant code m) (sym (c.in-None.ensures code m))
+    map_all-none (λ (x : ℕ). constant (store_with code c.args.state.now) (module_instance (lists_of c.args.addresses.now) m) (Reference (Func x)))
+    c.args.indices.now c.loop-k.k c.loop-k.found.items 0 c.loop-k-test.true (c.loop-k.invariant code m) (sym (c.in-None.ensures code m))
 
 pub loop-k-preserved : goal.loop-k-preserved
 loop-k-preserved c = λ (code : Contents) (m : Module).
-    rw c.in_ok-push-in-Some.ensures.items (map_all-next (λ (x : ℕ). constant (store_with code c.args.state.now) (module_instance (lists_of c.args.addresses.now) m) (Reference (Func x))) c.args.indices.now c.loop-k.k c.loop-k.found.items 0 c.in-Some.value c.loop-k-test.true (c.loop-k.invariant code m) (sym (c.in-Some.ensures code m)))
+    rw c.in_ok-push-in-Some.ensures.items
+    (map_all-next (λ (x : ℕ). constant (store_with code c.args.state.now) (module_instance (lists_of c.args.addresses.now) m)
+    (Reference (Func x))) c.args.indices.now c.loop-k.k c.loop-k.found.items 0 c.in-Some.value c.loop-k-test.true (c.loop-k.invariant code m)
+    (sym (c.in-Some.ensures code m)))
 
 pub returns-clause-values : goal.returns-clause-values
 returns-clause-values c = λ (code : Contents) (m : Module).
-    map_all-end (λ (x : ℕ). constant (store_with code c.args.state.now) (module_instance (lists_of c.args.addresses.now) m) (Reference (Func x))) c.args.indices.now c.loop-k.k c.loop-k.found.items c.loop-k-test.false (c.loop-k.invariant code m)
+    map_all-end (λ (x : ℕ). constant (store_with code c.args.state.now) (module_instance (lists_of c.args.addresses.now) m) (Reference (Func x)))
+    c.args.indices.now c.loop-k.k c.loop-k.found.items c.loop-k-test.false (c.loop-k.invariant code m)

@@ -11,7 +11,8 @@ returns-in_err-globals-clause-none c =
     let instance = module_instance (lists_of c.args.addresses.now) wanted in
     let passed = err_from_is_err_and c.from_residual.result c.from_residual.ensures.1 in
     let missing = rw (c.state-state.ensures.same, c.as_slice.ensures, c.module-wanted.ensures.same, c.as_ref.ensures) at (c.in_err-globals.ensures.none c.args.store.now.code wanted) in
-    rw (passed.1, passed.2) (fault-passed c.in_err-globals.field-0.0 (map_all (new_global store instance) wanted.globals) (new_objects store instance wanted) (objects-no_globals store instance wanted) missing)
+    rw (passed.1, passed.2) (fault-passed c.in_err-globals.field-0.0 (map_all (new_global store instance) wanted.globals)
+    (new_objects store instance wanted) (objects-no_globals store instance wanted) missing)
 
 pub returns-in_err-elements-clause-none : goal.returns-in_err-elements-clause-none
 returns-in_err-elements-clause-none c =
@@ -20,7 +21,8 @@ returns-in_err-elements-clause-none c =
     let instance = module_instance (lists_of c.args.addresses.now) wanted in
     let passed = err_from_is_err_and c.from_residual-in_err-elements.result c.from_residual-in_err-elements.ensures.1 in
     let missing = rw (c.state-state.ensures.same, c.as_slice-2.ensures, c.module-wanted.ensures.same, c.as_ref.ensures) at (c.in_err-elements.ensures.none c.args.store.now.code wanted) in
-    rw (passed.1, passed.2) (fault-passed c.in_err-elements.field-0.0 (map_all (new_elements store instance) wanted.elements) (new_objects store instance wanted) (objects-no_elements store instance wanted) missing)
+    rw (passed.1, passed.2) (fault-passed c.in_err-elements.field-0.0 (map_all (new_elements store instance) wanted.elements)
+    (new_objects store instance wanted) (objects-no_elements store instance wanted) missing)
 
 pub new_memories-requires : goal.new_memories-requires
 new_memories-requires c =
@@ -35,4 +37,5 @@ returns-clause-values c =
     let elements = rw (c.state-state.ensures.same, c.as_slice-2.ensures, c.module-wanted.ensures.same, c.as_ref.ensures) at (c.in_ok-elements.ensures.values c.args.store.now.code wanted) in
     let tables = rw (c.as_slice-3.ensures, c.module-wanted.ensures.same, c.as_ref.ensures) at c.in_ok-new_tables.ensures in
     let memories = rw (c.as_slice-4.ensures, c.module-wanted.ensures.same, c.as_ref.ensures) at c.in_ok-new_memories.ensures in
-    objects-made store instance wanted c.in_ok-new_tables.field-0.items c.in_ok-new_memories.field-0.items c.in_ok-globals.globals.items c.in_ok-elements.elements.items c.in_ok-new_datas.field-0.items tables memories globals elements c.in_ok-new_datas.ensures
+    objects-made store instance wanted c.in_ok-new_tables.field-0.items c.in_ok-new_memories.field-0.items c.in_ok-globals.globals.items
+    c.in_ok-elements.elements.items c.in_ok-new_datas.field-0.items tables memories globals elements c.in_ok-new_datas.ensures

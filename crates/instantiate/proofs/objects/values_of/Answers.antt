@@ -8,13 +8,17 @@ use Rattle.instantiate.proofs.objects.values_of.Goals as goal
 pub returns-in-None-clause-none : goal.returns-in-None-clause-none
 returns-in-None-clause-none c = λ (code : Contents) (m : Module).
     let f = constant_value (store_with code c.args.state.now) (module_instance (lists_of c.args.addresses.now) m) in
-    map_all-none f c.args.expressions.now c.loop-k.k c.loop-k.found.items c.index-expressions-k.result c.loop-k-test.true (c.loop-k.invariant code m) (ap f (sym c.index-expressions-k.is) ∙ sym (c.in_ok-value.ensures code m) ∙ c.in-None.is)
+    map_all-none f c.args.expressions.now c.loop-k.k c.loop-k.found.items c.index-expressions-k.result c.loop-k-test.true (c.loop-k.invariant code m)
+    (ap f (sym c.index-expressions-k.is) ∙ sym (c.in_ok-value.ensures code m) ∙ c.in-None.is)
 
 pub loop-k-preserved : goal.loop-k-preserved
 loop-k-preserved c = λ (code : Contents) (m : Module).
     let f = constant_value (store_with code c.args.state.now) (module_instance (lists_of c.args.addresses.now) m) in
-    rw c.in_ok-push-in-Some.ensures.items (map_all-next f c.args.expressions.now c.loop-k.k c.loop-k.found.items c.index-expressions-k.result c.in-Some.value c.loop-k-test.true (c.loop-k.invariant code m) (ap f (sym c.index-expressions-k.is) ∙ sym (c.in_ok-value.ensures code m) ∙ c.in-Some.is))
+    rw c.in_ok-push-in-Some.ensures.items
+    (map_all-next f c.args.expressions.now c.loop-k.k c.loop-k.found.items c.index-expressions-k.result c.in-Some.value c.loop-k-test.true
+    (c.loop-k.invariant code m) (ap f (sym c.index-expressions-k.is) ∙ sym (c.in_ok-value.ensures code m) ∙ c.in-Some.is))
 
 pub returns-clause-values : goal.returns-clause-values
 returns-clause-values c = λ (code : Contents) (m : Module).
-    map_all-end (constant_value (store_with code c.args.state.now) (module_instance (lists_of c.args.addresses.now) m)) c.args.expressions.now c.loop-k.k c.loop-k.found.items c.loop-k-test.false (c.loop-k.invariant code m)
+    map_all-end (constant_value (store_with code c.args.state.now) (module_instance (lists_of c.args.addresses.now) m)) c.args.expressions.now
+    c.loop-k.k c.loop-k.found.items c.loop-k-test.false (c.loop-k.invariant code m)

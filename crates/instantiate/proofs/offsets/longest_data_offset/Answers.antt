@@ -9,8 +9,10 @@ pub loop-k-preserved : goal.loop-k-preserved
 loop-k-preserved c =
     let same : data_offset (get_or c.args.datas.now c.loop-k.k c.index-datas-k.result) ≡ c.data_offset_length-length.result = sym c.data_offset_length-length.ensures in
     elim c.if-length-longest.branch [
-      | then-length-longest w ↦ room-next data_offset c.args.datas.now c.loop-k.k c.loop-k.longest c.if-length-longest.longest c.index-datas-k.result c.loop-k-test.true c.loop-k.invariant (omega (arith, w.longest-is, w.if-length-longest.true)) (omega (arith, w.longest-is, same))
-      | else-length-longest w ↦ room-next data_offset c.args.datas.now c.loop-k.k c.loop-k.longest c.if-length-longest.longest c.index-datas-k.result c.loop-k-test.true c.loop-k.invariant (omega (arith, w.longest-is)) (omega (arith, w.longest-is, w.if-length-longest.false, same))
+      | then-length-longest w ↦ room-next data_offset c.args.datas.now c.loop-k.k c.loop-k.longest c.if-length-longest.longest c.index-datas-k.result
+          c.loop-k-test.true c.loop-k.invariant (omega (arith, w.longest-is, w.if-length-longest.true)) (omega (arith, w.longest-is, same))
+      | else-length-longest w ↦ room-next data_offset c.args.datas.now c.loop-k.k c.loop-k.longest c.if-length-longest.longest c.index-datas-k.result
+          c.loop-k-test.true c.loop-k.invariant (omega (arith, w.longest-is)) (omega (arith, w.longest-is, w.if-length-longest.false, same))
     ]
 
 pub returns : goal.returns

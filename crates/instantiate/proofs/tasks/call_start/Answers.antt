@@ -23,4 +23,7 @@ returns-then-not-accepts-clause-run g c = record {
 
 pub returns-clause-run : goal.returns-clause-run
 returns-clause-run g c =
-    called _ c.end_of.result c.invoke.result c.args.meter.now.bound no_frame (run_state (store_of c.args.store.now) (hosts_in c.args.hosts.now) c.args.meter.now.left) (run_state (store_of c.invoke.new.store) (hosts_in c.invoke.new.hosts) c.invoke.new.meter.left) (Invoking [] c.args.address) c.end_of.ensures c.invoke.ensures.run
+    called _ c.end_of.result c.invoke.result c.args.meter.now.bound no_frame
+    (run_state (store_of c.args.store.now) (hosts_in c.args.hosts.now) c.args.meter.now.left)
+    (run_state (store_of c.invoke.new.store) (hosts_in c.invoke.new.hosts) c.invoke.new.meter.left) (Invoking [] c.args.address) c.end_of.ensures
+    c.invoke.ensures.run

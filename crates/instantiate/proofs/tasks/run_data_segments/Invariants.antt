@@ -12,4 +12,6 @@ invariant-loop-k l =
     (l.meter.bound ≡ l.initial.meter.bound)
     × (l.meter.frames ≡ l.initial.meter.frames)
     × (l.operands ≡ l.initial.operands)
-    × SoFar NoHosts l.initial.meter.bound l.linked.instance (instance_in l.linked) (λ (x : ℕ) (e : DataSegment). data_task x e.bytes e.mode) l.linked.module_read.now.datas (link_state l.linked.code.now l.initial.state l.initial.meter.left) (link_state l.linked.code.now l.state l.meter.left) l.k
+    × SoFar NoHosts l.initial.meter.bound l.linked.instance (instance_in l.linked) (λ (x : ℕ) (e : DataSegment). data_task x e.bytes e.mode)
+    l.linked.module_read.now.datas (link_state l.linked.code.now l.initial.state l.initial.meter.left)
+    (link_state l.linked.code.now l.state l.meter.left) l.k

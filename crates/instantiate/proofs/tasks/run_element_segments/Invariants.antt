@@ -12,4 +12,6 @@ invariant-loop-k l =
     (l.meter.bound ≡ l.initial.meter.bound)
     × (l.meter.frames ≡ l.initial.meter.frames)
     × (l.operands ≡ l.initial.operands)
-    × SoFar NoHosts l.initial.meter.bound l.linked.instance (instance_in l.linked) (λ (x : ℕ) (e : ElementSegment). element_task x e.items e.mode) l.linked.module_read.now.elements (link_state l.linked.code.now l.initial.state l.initial.meter.left) (link_state l.linked.code.now l.state l.meter.left) l.k
+    × SoFar NoHosts l.initial.meter.bound l.linked.instance (instance_in l.linked) (λ (x : ℕ) (e : ElementSegment). element_task x e.items e.mode)
+    l.linked.module_read.now.elements (link_state l.linked.code.now l.initial.state l.initial.meter.left)
+    (link_state l.linked.code.now l.state l.meter.left) l.k

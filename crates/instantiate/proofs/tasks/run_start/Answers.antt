@@ -11,7 +11,10 @@ pub returns-in-Some-function_address-clause-ran : goal.returns-in-Some-function_
 returns-in-Some-function_address-clause-ran g c =
     let i = instance_of (code_store c.args.store.now.code) (Some c.args.instance) in
     let has = rw c.code.ensures at (sym c.in-Some-function_address.ensures) in
-    rw c.in-Some.is (started _ c.args.meter.now.bound c.args.instance i c.call_start.result (run_state (store_of c.args.store.now) (hosts_in c.args.hosts.now) c.args.meter.now.left) (run_state (store_of c.call_start.new.store) (hosts_in c.call_start.new.hosts) c.call_start.new.meter.left) c.in-Some.x c.in-Some-function_address.address has c.call_start.ensures.run)
+    rw c.in-Some.is (started _ c.args.meter.now.bound c.args.instance i c.call_start.result
+    (run_state (store_of c.args.store.now) (hosts_in c.args.hosts.now) c.args.meter.now.left)
+    (run_state (store_of c.call_start.new.store) (hosts_in c.call_start.new.hosts) c.call_start.new.meter.left) c.in-Some.x
+    c.in-Some-function_address.address has c.call_start.ensures.run)
 
 pub returns-in-None-function_address-clause-ran : goal.returns-in-None-function_address-clause-ran
 returns-in-None-function_address-clause-ran g c =

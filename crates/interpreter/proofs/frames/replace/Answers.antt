@@ -23,7 +23,11 @@ returns c =
     let low = c.requires.replaces.arguments in
     let declared = c.requires.replaces.declared in
     let count : flat.params + (flat.locals - flat.params) ≡ flat.locals = omega (arith, declared) in
-    let cells = rw count at (moved-and-cleared c.args.cells.now c.move_down.new.cells c.clear.new.cells c.args.at.now.base (c.args.from.top + 1 - flat.params) flat.params (flat.locals - flat.params) c.args.from.top c.args.from.operand (omega (arith, low)) c.move_down.ensures.moved c.clear.ensures.cleared) in
-    subst (λ (p : Position). Crosses c.args.around.bound (loop_at (world_at c.args.around c.args.state.now c.args.memory.now) c.args.cells.now c.args.callers.now c.args.at.now) c.cross.result c.args.why.now c.clear.new.cells c.args.callers.now p) (sym c.cross.ensures.there)
+    let cells = rw count at (moved-and-cleared c.args.cells.now c.move_down.new.cells c.clear.new.cells c.args.at.now.base
+    (c.args.from.top + 1 - flat.params) flat.params (flat.locals - flat.params) c.args.from.top c.args.from.operand (omega (arith, low))
+    c.move_down.ensures.moved c.clear.ensures.cleared) in
+    subst (λ (p : Position). Crosses c.args.around.bound
+    (loop_at (world_at c.args.around c.args.state.now c.args.memory.now) c.args.cells.now c.args.callers.now c.args.at.now) c.cross.result
+    c.args.why.now c.clear.new.cells c.args.callers.now p) (sym c.cross.ensures.there)
     (crosses-over c.args.around.bound _ c.args.cells.now c.args.callers.now c.args.at.now next c.args.from c.args.function.now c.requires.sound c.requires.replaces c.requires.paid
     (omega (arith, c.if-flat-cells.false, declared, low)) c.clear.new.cells (cells, c.clear.ensures.size ∙ c.move_down.ensures.size ∙ size) c.cross.result c.cross.ensures.crossed _)

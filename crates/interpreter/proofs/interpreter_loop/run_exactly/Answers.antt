@@ -39,7 +39,8 @@ pub loop-x-preserved-in-Enter : goal.loop-x-preserved-in-Enter
 loop-x-preserved-in-Enter c = pays-op _ _ _ c.loop-x.invariant _ _ c.fetch.ensures.turns c.in-Enter.is _ _ _ _ _ _ (omega arith) (λ g leads. leads.0)
 
 pub loop-x-preserved-then-condition-eq0 : goal.loop-x-preserved-then-condition-eq0
-loop-x-preserved-then-condition-eq0 c = pays-op _ _ _ c.loop-x.invariant _ _ c.fetch.ensures.turns c.in-If.is _ _ _ _ _ _ (omega arith) (λ g leads. rw c.entry.ensures (leads.0 c.if-condition-eq0.true))
+loop-x-preserved-then-condition-eq0 c = pays-op _ _ _ c.loop-x.invariant _ _ c.fetch.ensures.turns c.in-If.is _ _ _ _ _ _ (omega arith)
+    (λ g leads. rw c.entry.ensures (leads.0 c.if-condition-eq0.true))
 
 pub loop-x-preserved-else-condition-eq0 : goal.loop-x-preserved-else-condition-eq0
 loop-x-preserved-else-condition-eq0 c = pays-op _ _ _ c.loop-x.invariant _ _ c.fetch.ensures.turns c.in-If.is _ _ _ _ _ _ (omega arith) (λ g leads. leads.1 c.if-condition-eq0.false)
@@ -53,16 +54,20 @@ loop-x-preserved-else-condition-eq0-2 c =
     (branches-op _ _ _ c.loop-x.invariant _ _ c.fetch.ensures.turns c.in-BrIf.is c.entry-e.result c.entry-e.ensures _ _ c.branch-cells.ensures.moved (omega arith) c.if-condition-eq0-2.false)
 
 pub loop-x-preserved-in-I32Load : goal.loop-x-preserved-in-I32Load
-loop-x-preserved-in-I32Load c = pays-op _ _ _ c.loop-x.invariant _ _ c.fetch.ensures.turns c.in-I32Load.is _ _ _ _ _ _ (omega arith) (λ g leads. rw c.in-Ok.is at (leads.0 c.load_i32.result (rw c.from-in-I32Load.ensures at c.load_i32.ensures)))
+loop-x-preserved-in-I32Load c = pays-op _ _ _ c.loop-x.invariant _ _ c.fetch.ensures.turns c.in-I32Load.is _ _ _ _ _ _ (omega arith)
+    (λ g leads. rw c.in-Ok.is at (leads.0 c.load_i32.result (rw c.from-in-I32Load.ensures at c.load_i32.ensures)))
 
 pub loop-x-preserved-in-Binary : goal.loop-x-preserved-in-Binary
-loop-x-preserved-in-Binary c = pays-op _ _ _ c.loop-x.invariant _ _ c.fetch.ensures.turns c.in-Binary.is _ _ _ _ _ _ (omega arith) (λ g leads. rw c.in-Ok-compute_binary.is at (leads.0 c.compute_binary.result c.compute_binary.ensures))
+loop-x-preserved-in-Binary c = pays-op _ _ _ c.loop-x.invariant _ _ c.fetch.ensures.turns c.in-Binary.is _ _ _ _ _ _ (omega arith)
+    (λ g leads. rw c.in-Ok-compute_binary.is at (leads.0 c.compute_binary.result c.compute_binary.ensures))
 
 pub loop-x-preserved-in-Load : goal.loop-x-preserved-in-Load
-loop-x-preserved-in-Load c = pays-op _ _ _ c.loop-x.invariant _ _ c.fetch.ensures.turns c.in-Load.is _ _ _ _ _ _ (omega arith) (λ g leads. rw c.in-Ok-load_cell.is at (leads.0 c.load_cell.result (rw c.from-in-Load.ensures at c.load_cell.ensures)))
+loop-x-preserved-in-Load c = pays-op _ _ _ c.loop-x.invariant _ _ c.fetch.ensures.turns c.in-Load.is _ _ _ _ _ _ (omega arith)
+    (λ g leads. rw c.in-Ok-load_cell.is at (leads.0 c.load_cell.result (rw c.from-in-Load.ensures at c.load_cell.ensures)))
 
 pub loop-x-preserved-in-Store : goal.loop-x-preserved-in-Store
-loop-x-preserved-in-Store c = pays-op _ _ _ c.loop-x.invariant _ _ c.fetch.ensures.turns c.in-Store.is _ _ _ _ _ _ (omega arith) (λ g leads. leads.0 (Ok c.store_cell.new.bytes) (rw (c.from-in-Store.ensures, c.in-Ok-store_cell.is) at c.store_cell.ensures))
+loop-x-preserved-in-Store c = pays-op _ _ _ c.loop-x.invariant _ _ c.fetch.ensures.turns c.in-Store.is _ _ _ _ _ _ (omega arith)
+    (λ g leads. leads.0 (Ok c.store_cell.new.bytes) (rw (c.from-in-Store.ensures, c.in-Ok-store_cell.is) at c.store_cell.ensures))
 
 pub transfer-requires-clause-sound : goal.transfer-requires-clause-sound
 transfer-requires-clause-sound c = some-there _ _ _ c.loop-x.invariant c.requires.sound
@@ -109,18 +114,31 @@ pub returns-then-at-eq0-12 : goal.returns-then-at-eq0-12
 returns-then-at-eq0-12 c = record { stops = lacks-op _ _ _ c.loop-x.invariant _ _ c.fetch.ensures.turns c.in-Store.is (omega arith) (λ g leads. leads.1) }
 
 pub returns-in-Err : goal.returns-in-Err
-returns-in-Err c = record { stops = fails-op _ _ _ c.loop-x.invariant _ _ c.fetch.ensures.turns c.in-I32Load.is c.in-Err.trap (omega arith) (λ g leads. rw c.in-Err.is at (leads.0 c.load_i32.result (rw c.from-in-I32Load.ensures at c.load_i32.ensures))) }
+returns-in-Err c = record {
+  stops = fails-op _ _ _ c.loop-x.invariant _ _ c.fetch.ensures.turns c.in-I32Load.is c.in-Err.trap (omega arith)
+      (λ g leads. rw c.in-Err.is at (leads.0 c.load_i32.result (rw c.from-in-I32Load.ensures at c.load_i32.ensures)));
+}
 
 pub returns-in-Err-compute_binary : goal.returns-in-Err-compute_binary
-returns-in-Err-compute_binary c = record { stops = fails-op _ _ _ c.loop-x.invariant _ _ c.fetch.ensures.turns c.in-Binary.is c.in-Err-compute_binary.trap (omega arith) (λ g leads. rw c.in-Err-compute_binary.is at (leads.0 c.compute_binary.result c.compute_binary.ensures)) }
+returns-in-Err-compute_binary c =
+    record {
+      stops = fails-op _ _ _ c.loop-x.invariant _ _ c.fetch.ensures.turns c.in-Binary.is c.in-Err-compute_binary.trap (omega arith)
+          (λ g leads. rw c.in-Err-compute_binary.is at (leads.0 c.compute_binary.result c.compute_binary.ensures));
+    }
 
 pub returns-in-Err-load_cell : goal.returns-in-Err-load_cell
-returns-in-Err-load_cell c = record { stops = fails-op _ _ _ c.loop-x.invariant _ _ c.fetch.ensures.turns c.in-Load.is c.in-Err-load_cell.trap (omega arith) (λ g leads. rw c.in-Err-load_cell.is at (leads.0 c.load_cell.result (rw c.from-in-Load.ensures at c.load_cell.ensures))) }
+returns-in-Err-load_cell c = record {
+  stops = fails-op _ _ _ c.loop-x.invariant _ _ c.fetch.ensures.turns c.in-Load.is c.in-Err-load_cell.trap
+      (omega arith) (λ g leads. rw c.in-Err-load_cell.is at (leads.0 c.load_cell.result (rw c.from-in-Load.ensures at c.load_cell.ensures)));
+}
 
 pub returns-in-Err-store_cell : goal.returns-in-Err-store_cell
 returns-in-Err-store_cell c =
     let (wanted, kept) = rw c.in-Err-store_cell.is at c.store_cell.ensures in
-    record { stops = rw kept (fails-op _ _ _ c.loop-x.invariant _ _ c.fetch.ensures.turns c.in-Store.is c.in-Err-store_cell.trap (omega arith) (λ g leads. leads.0 (Err c.in-Err-store_cell.trap) (rw c.from-in-Store.ensures at wanted))) }
+    record {
+      stops = rw kept (fails-op _ _ _ c.loop-x.invariant _ _ c.fetch.ensures.turns c.in-Store.is c.in-Err-store_cell.trap (omega arith)
+          (λ g leads. leads.0 (Err c.in-Err-store_cell.trap) (rw c.from-in-Store.ensures at wanted)));
+    }
 
 pub returns-in-None : goal.returns-in-None
 returns-in-None c = record {
@@ -150,7 +168,8 @@ pub loop-x-smaller-in-Goes-leave : goal.loop-x-smaller-in-Goes-leave
 loop-x-smaller-in-Goes-leave c = (c.in-Goes-leave.ensures c.loop-x.at.fuel (leaves-op _ _ _ _ _ _ c.loop-x.invariant c.requires.sound _ _ c.fetch.ensures.turns c.in-Leave.is)).2
 
 pub loop-x-preserved-in-Goes-leave : goal.loop-x-preserved-in-Goes-leave
-loop-x-preserved-in-Goes-leave c = ran-then _ _ _ _ c.loop-x.invariant (c.in-Goes-leave.ensures c.loop-x.at.fuel (leaves-op _ _ _ _ _ _ c.loop-x.invariant c.requires.sound _ _ c.fetch.ensures.turns c.in-Leave.is)).0
+loop-x-preserved-in-Goes-leave c = ran-then _ _ _ _ c.loop-x.invariant
+    (c.in-Goes-leave.ensures c.loop-x.at.fuel (leaves-op _ _ _ _ _ _ c.loop-x.invariant c.requires.sound _ _ c.fetch.ensures.turns c.in-Leave.is)).0
 
 pub loop-x-preserved-in-Goes-transfer : goal.loop-x-preserved-in-Goes-transfer
 loop-x-preserved-in-Goes-transfer c = ran-then _ _ _ _ c.loop-x.invariant c.in-Goes-transfer.ensures.0
@@ -161,10 +180,17 @@ returns-in-Switches-leave c =
     record { stops = stops-across _ _ _ c.loop-x.invariant stop.Switches c.leave.new.at _ _ (record { from = from; falls = falls }) }
 
 pub returns-in-Stops-leave : goal.returns-in-Stops-leave
-returns-in-Stops-leave c = record { stops = stops-across _ _ _ c.loop-x.invariant _ c.leave.new.at _ _ (c.in-Stops-leave.ensures c.loop-x.at.fuel (leaves-op _ _ _ _ _ _ c.loop-x.invariant c.requires.sound _ _ c.fetch.ensures.turns c.in-Leave.is)) }
+returns-in-Stops-leave c = record {
+  stops = stops-across _ _ _ c.loop-x.invariant _ c.leave.new.at _ _
+      (c.in-Stops-leave.ensures c.loop-x.at.fuel (leaves-op _ _ _ _ _ _ c.loop-x.invariant c.requires.sound _ _ c.fetch.ensures.turns c.in-Leave.is));
+}
 
 pub returns-in-Switches-transfer : goal.returns-in-Switches-transfer
-returns-in-Switches-transfer c = record { stops = stops-across _ _ _ c.loop-x.invariant stop.Switches c.transfer.new.at _ _ (record { from = c.in-Switches-transfer.ensures.0; falls = c.in-Switches-transfer.ensures.1 }) }
+returns-in-Switches-transfer c =
+    record {
+      stops = stops-across _ _ _ c.loop-x.invariant stop.Switches c.transfer.new.at _ _
+          (record { from = c.in-Switches-transfer.ensures.0; falls = c.in-Switches-transfer.ensures.1 });
+    }
 
 pub returns-in-Stops-transfer : goal.returns-in-Stops-transfer
 returns-in-Stops-transfer c = record { stops = stops-across _ _ _ c.loop-x.invariant _ c.transfer.new.at _ _ c.in-Stops-transfer.ensures }

@@ -21,10 +21,12 @@ moved-some cells cells' top to kept operand some low within there moved size =
           ∙ ap (λ (z : List ℕ). z ++ (operand ∷ [])) (ap (λ (i : ℕ). take i cells') (sym n) ∙ moved)
           ∙ append_assoc (take (to + 1) cells) (take k (drop from cells)) (operand ∷ [])
           ∙ ap (λ (z : List ℕ). take (to + 1) cells ++ z)
-          (ap (λ (c : ℕ). take k (drop from cells) ++ (c ∷ [])) (sym topmost) ∙ sym (take-suc (drop from cells) k 0 (omega (arith, rest, within, low, some))) ∙ ap (λ (i : ℕ). take i (drop from cells)) (sym kept_is));
+          (ap (λ (c : ℕ). take k (drop from cells) ++ (c ∷ [])) (sym topmost) ∙ sym
+          (take-suc (drop from cells) k 0 (omega (arith, rest, within, low, some))) ∙ ap (λ (i : ℕ). take i (drop from cells)) (sym kept_is));
       size = size;
     }
 
 pub returns-then-kept-gt1 : goal.returns-then-kept-gt1
 returns-then-kept-gt1 c =
-    moved-some c.args.cells.now c.move_down.new.cells c.args.top c.args.to c.args.kept c.args.operand (omega arith) c.requires.low c.requires.within c.requires.there c.move_down.ensures.moved c.move_down.ensures.size
+    moved-some c.args.cells.now c.move_down.new.cells c.args.top c.args.to c.args.kept c.args.operand (omega arith) c.requires.low c.requires.within
+    c.requires.there c.move_down.ensures.moved c.move_down.ensures.size

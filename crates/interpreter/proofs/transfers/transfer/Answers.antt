@@ -3,8 +3,11 @@ use Rattle.interpreter.proofs.Transferring.{back-lacks, back-leaves, br-lacks, b
 use Rattle.interpreter.proofs.transfers.transfer.Goals as goal
 
 pub leave-requires-clause-leaves : goal.leave-requires-clause-leaves
-leave-requires-clause-leaves c =
-    (c.args.at.now.fuel, back-leaves _ _ _ _ c.args.at.now _ _ c.requires.turns c.in-Some-pay-3.fuel c.in-Some-pay-3.ensures.some c.in-Return.is c.requires.sound c.entry-results.result c.entry-results.ensures)
+leave-requires-clause-leaves c = (
+  c.args.at.now.fuel,
+  back-leaves _ _ _ _ c.args.at.now _ _ c.requires.turns c.in-Some-pay-3.fuel c.in-Some-pay-3.ensures.some c.in-Return.is
+      c.requires.sound c.entry-results.result c.entry-results.ensures,
+)
 
 pub returns-in-Some : goal.returns-in-Some
 returns-in-Some c = unreachable-traps _ _ _ _ c.args.at.now _ _ c.requires.turns c.in-Some.fuel c.in-Some.ensures.some c.in-Unreachable.is
@@ -17,21 +20,26 @@ returns-in-Jump c = jumps _ _ _ _ c.args.at.now _ _ c.requires.turns c.in-Jump.i
 
 pub returns-in-Some-pay : goal.returns-in-Some-pay
 returns-in-Some-pay c =
-    br-lands _ _ _ _ c.args.at.now _ _ c.requires.turns c.in-Some-pay.fuel c.in-Some-pay.ensures.some c.in-Br.is _ c.entry-in-Br.ensures _ c.branch-cells.new.at c.branch-cells.ensures.moved c.branch-cells.ensures.landed
+    br-lands _ _ _ _ c.args.at.now _ _ c.requires.turns c.in-Some-pay.fuel c.in-Some-pay.ensures.some c.in-Br.is _ c.entry-in-Br.ensures _
+    c.branch-cells.new.at c.branch-cells.ensures.moved c.branch-cells.ensures.landed
 
 pub returns-in_default-pay : goal.returns-in_default-pay
 returns-in_default-pay c = br-lacks _ _ _ _ c.args.at.now _ _ c.requires.turns c.in-Br.is _ c.in_default-pay.ensures.none
 
 pub returns-in-Some-pay-2 : goal.returns-in-Some-pay-2
 returns-in-Some-pay-2 c =
-    br-table-lands _ _ _ _ c.args.at.now _ _ c.requires.turns c.in-Some-pay-2.fuel c.in-Some-pay-2.ensures.some c.in-BrTable.is c.chosen-e.result c.chosen-e.ensures _ c.branch-cells-in-BrTable.new.at (get_or c.args.cells.now (c.args.at.now.top - 1) 0) c.branch-cells-in-BrTable.ensures.moved c.branch-cells-in-BrTable.ensures.landed
+    br-table-lands _ _ _ _ c.args.at.now _ _ c.requires.turns c.in-Some-pay-2.fuel c.in-Some-pay-2.ensures.some c.in-BrTable.is c.chosen-e.result
+    c.chosen-e.ensures _ c.branch-cells-in-BrTable.new.at (get_or c.args.cells.now (c.args.at.now.top - 1) 0)
+    c.branch-cells-in-BrTable.ensures.moved c.branch-cells-in-BrTable.ensures.landed
 
 pub returns-in_default-pay-2 : goal.returns-in_default-pay-2
 returns-in_default-pay-2 c = br-table-lacks _ _ _ _ c.args.at.now _ _ c.requires.turns c.in-BrTable.is _ c.in_default-pay-2.ensures.none
 
 pub returns-in-Some-pay-3 : goal.returns-in-Some-pay-3
 returns-in-Some-pay-3 c =
-    c.leave.ensures c.args.at.now.fuel (back-leaves _ _ _ _ c.args.at.now _ _ c.requires.turns c.in-Some-pay-3.fuel c.in-Some-pay-3.ensures.some c.in-Return.is c.requires.sound c.entry-results.result c.entry-results.ensures)
+    c.leave.ensures c.args.at.now.fuel
+    (back-leaves _ _ _ _ c.args.at.now _ _ c.requires.turns c.in-Some-pay-3.fuel c.in-Some-pay-3.ensures.some c.in-Return.is c.requires.sound
+    c.entry-results.result c.entry-results.ensures)
 
 pub returns-in_default-pay-3 : goal.returns-in_default-pay-3
 returns-in_default-pay-3 c = back-lacks _ _ _ _ c.args.at.now _ _ c.requires.turns c.in-Return.is _ c.in_default-pay-3.ensures.none

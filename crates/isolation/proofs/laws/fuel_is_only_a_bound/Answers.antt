@@ -22,7 +22,9 @@ returns-clause-less g c = record {
   links = λ hosts. links-end-early (HostStepBy hosts);
   all_links = λ hosts functions. links-all-end-early (HostStepBy hosts) (links-agree (HostStepBy hosts) (steps-agree hosts.type (AnswersBy hosts) functions));
   command_lists = λ hosts. lists-end-early (HostStepBy hosts);
-  all_command_lists = λ hosts functions. lists-all-end-early (HostStepBy hosts) (commands-agree (HostStepBy hosts) (steps-agree hosts.type (AnswersBy hosts) functions) c.bytes_spell_one_module.ensures);
+  all_command_lists = λ hosts functions.
+      lists-all-end-early (HostStepBy hosts)
+      (commands-agree (HostStepBy hosts) (steps-agree hosts.type (AnswersBy hosts) functions) c.bytes_spell_one_module.ensures);
 }
 
 pub returns-clause-deeper : goal.returns-clause-deeper

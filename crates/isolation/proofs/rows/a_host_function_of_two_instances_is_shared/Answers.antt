@@ -16,7 +16,8 @@ second = marked (region_with_host is_one)
 -- One function and one memory of its own, and the host function.
 whole : (only : ℕ → Bool) (own : ℕ) → and_two only own ≡ true → only own ≡ true → InstanceIsWithin (marked (region_with_host only)) (record (instance_with own) { functions = own ∷ (2 ∷ []) })
 whole only own function memory = record {
-  functions = All-first (Has (λ (n : ℕ). and_two only n ≡ true)) own (2 ∷ []) function (All-first (Has (λ (n : ℕ). and_two only n ≡ true)) 2 [] refl (All-none (Has (λ (n : ℕ). and_two only n ≡ true))));
+  functions = All-first (Has (λ (n : ℕ). and_two only n ≡ true)) own (2 ∷ []) function
+      (All-first (Has (λ (n : ℕ). and_two only n ≡ true)) 2 [] refl (All-none (Has (λ (n : ℕ). and_two only n ≡ true))));
   tables = All-none (Has (λ (n : ℕ). is_none n ≡ true));
   memories = All-first (Has (λ (n : ℕ). only n ≡ true)) own [] memory (All-none (Has (λ (n : ℕ). only n ≡ true)));
   globals = All-none (Has (λ (n : ℕ). is_none n ≡ true));
@@ -25,7 +26,8 @@ whole only own function memory = record {
 }
 
 module _ (only : ℕ → Bool) where
-  functions : (address : ℕ) (f : FunctionInstance) → Has (λ (n : ℕ). and_two only n ≡ true) address → slice_get with_host.functions address ≡ Some f → FunctionIsWithin (marked (region_with_host only)) f
+  functions : (address : ℕ) (f : FunctionInstance) → Has (λ (n : ℕ). and_two only n ≡ true) address → slice_get with_host.functions address ≡ Some f
+      → FunctionIsWithin (marked (region_with_host only)) f
   functions zero f has is = let same_function : function_in 0 ≡ f = cc in subst (FunctionIsWithin (marked (region_with_host only))) same_function has
   functions (suc zero) f has is = let same_function : function_in 1 ≡ f = cc in subst (FunctionIsWithin (marked (region_with_host only))) same_function has
   functions (suc (suc zero)) f has is = let same_function : host_function ≡ f = cc in subst (FunctionIsWithin (marked (region_with_host only))) same_function refl

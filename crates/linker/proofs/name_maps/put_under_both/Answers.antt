@@ -22,4 +22,6 @@ returns-in-Some-clause-unchanged c =
 pub returns-in-None-clause-put : goal.returns-in-None-clause-put
 returns-in-None-clause-put c =
     let none = no_numbers c.args.maps.now c.args.first.now c.in-None.ensures.value in
-    on_ok_weaker c.add_map.result (λ put. put ∙ (λ j. put_under (maps_in (c.get_mut.follows.holds-at-none j)) c.args.first.now (put_under (none j) c.args.second.now c.args.number))) c.add_map.ensures.put
+    on_ok_weaker c.add_map.result (λ put.
+    put ∙ (λ j. put_under (maps_in (c.get_mut.follows.holds-at-none j)) c.args.first.now (put_under (none j) c.args.second.now c.args.number)))
+    c.add_map.ensures.put

@@ -30,11 +30,14 @@ module _ (store : Store) (frame : Frame) (values after : List Val) where
   of_function None is = absurd (cc)
   of_function (Some a) is = left (FuncRef (Some a) ∷ values) is
 
-  of_object : (a : ℕ) (g : Option GlobalInstance) → option_map (λ (v : Val). v ∷ values) (option_map (λ (h : GlobalInstance). h.value) g) ≡ Some after → get_global store frame (locate_at a g) values ≡ Left
+  of_object : (a : ℕ) (g : Option GlobalInstance) → option_map (λ (v : Val). v ∷ values) (option_map (λ (h : GlobalInstance). h.value) g) ≡ Some after
+      → get_global store frame (locate_at a g) values ≡ Left
   of_object a None is = absurd (cc)
   of_object a (Some g) is = left (g.value ∷ values) is
 
-  of_global : (address : Option ℕ) → option_map (λ (v : Val). v ∷ values) (option_map (λ (g : GlobalInstance). g.value) (item_of store.globals address)) ≡ Some after → get_global store frame (locate store.globals address) values ≡ Left
+  of_global : (address : Option ℕ)
+      → option_map (λ (v : Val). v ∷ values) (option_map (λ (g : GlobalInstance). g.value) (item_of store.globals address)) ≡ Some after
+      → get_global store frame (locate store.globals address) values ≡ Left
   of_global None is = absurd (cc)
   of_global (Some a) is = of_object a (slice_get store.globals a) is
 

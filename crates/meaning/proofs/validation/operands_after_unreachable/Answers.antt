@@ -13,7 +13,8 @@ pub returns-clause-any : goal.returns-clause-any
 returns-clause-any c = λ context.
     let two = known (I32 ∷ I32 ∷ []) in
     let one = known (I32 ∷ []) in
-    let dropped : HasType context (Then (Parametric DropOperand) Empty) one [] = (one, [], [], (Known I32, refl, refl), record { below = []; given = one; before_is = refl; fits = (refl, tt); after_is = refl }, tt) in
+    let dropped : HasType context (Then (Parametric DropOperand) Empty) one [] =
+    (one, [], [], (Known I32, refl, refl), record { below = []; given = one; before_is = refl; fits = (refl, tt); after_is = refl }, tt) in
     let added : HasType context sum_dropped two [] = (two, one, one, (refl, refl), record { below = []; given = two; before_is = refl; fits = (refl, (refl, tt)); after_is = refl }, dropped) in
     ([], two, two, tt, record { below = []; given = []; before_is = refl; fits = tt; after_is = refl }, added)
 

@@ -12,6 +12,8 @@ returns-in_default-clause-not_spelt c _ types rest fits e =
 
 pub returns-in_default-split_type-clause-not_spelt : goal.returns-in_default-split_type-clause-not_spelt
 returns-in_default-split_type-clause-not_spelt c _ types rest fits e =
-    let same = same_number c.in-Some.count (length types) _ (flat_map type_bytes types ++ rest) c.in-Some.ensures.fits fits (c.in-Some.ensures.found ∙ sym e ∙ append_assoc _ (flat_map type_bytes types) rest) in
-    let next = next_item (λ (_ : ValType). Unit {0}) type_bytes 7 (λ ty. length-number_bytes (number_of ty)) c.loop-i.types.items types _ rest (λ _ _ _. tt) (omega (arith, same.0)) (c.loop-i.invariant.read ∙ same.1) in
+    let same = same_number c.in-Some.count (length types) _ (flat_map type_bytes types ++ rest) c.in-Some.ensures.fits fits
+    (c.in-Some.ensures.found ∙ sym e ∙ append_assoc _ (flat_map type_bytes types) rest) in
+    let next = next_item (λ (_ : ValType). Unit {0}) type_bytes 7 (λ ty. length-number_bytes (number_of ty)) c.loop-i.types.items types _ rest
+    (λ _ _ _. tt) (omega (arith, same.0)) (c.loop-i.invariant.read ∙ same.1) in
     c.in_default-split_type.ensures.none refl next.0 next.1 next.3

@@ -8,5 +8,6 @@ returns g c =
     let contents = g.W.Write.contents in
     let report = c.args.report.now in
     printed-flushed contents c.args.out.now c.print_counts.new.out c.flush.new.self (report_lines report)
-    (printed-then contents c.args.out.now c.print_failures.new.out c.print_counts.new.out (flat_map failure_line report.failures.items) (counts_line report.passed report.failed report.skipped) (rw c.as_slice.ensures.value at c.print_failures.ensures) c.print_counts.ensures)
+    (printed-then contents c.args.out.now c.print_failures.new.out c.print_counts.new.out (flat_map failure_line report.failures.items)
+    (counts_line report.passed report.failed report.skipped) (rw c.as_slice.ensures.value at c.print_failures.ensures) c.print_counts.ensures)
     c.flush.ensures

@@ -28,4 +28,5 @@ pub returns-in-AssertUnlinkable : goal.returns-in-AssertUnlinkable
 returns-in-AssertUnlinkable g c = rw c.in-AssertUnlinkable.is (rw (c.contents-in-AssertUnlinkable.ensures, c.as_str-in-AssertUnlinkable.ensures.value) at c.load_and_link-in-AssertUnlinkable.ensures)
 
 pub returns-in-AssertUninstantiable : goal.returns-in-AssertUninstantiable
-returns-in-AssertUninstantiable g c = rw c.in-AssertUninstantiable.is (rw (c.contents-in-AssertUninstantiable.ensures, c.as_str-in-AssertUninstantiable.ensures.value) at c.load_and_link-in-AssertUninstantiable.ensures)
+returns-in-AssertUninstantiable g c = rw c.in-AssertUninstantiable.is
+    (rw (c.contents-in-AssertUninstantiable.ensures, c.as_str-in-AssertUninstantiable.ensures.value) at c.load_and_link-in-AssertUninstantiable.ensures)

@@ -17,7 +17,8 @@ returns-in-Loaded g c =
 
 pub returns-in_default : goal.returns-in_default
 returns-in_default g c = λ next.
-    subst (λ (left : Dialogue). Converses (HostStep (λ vtable. (g.dyn-1.0.entry vtable).1)) (load_and_link c.args.bytes.now next) (embedding_of c.args.embedding.now) left (embedding_of c.load.new.embedding))
+    subst (λ (left : Dialogue). Converses (HostStep (λ vtable. (g.dyn-1.0.entry vtable).1)) (load_and_link c.args.bytes.now next)
+    (embedding_of c.args.embedding.now) left (embedding_of c.load.new.embedding))
     (linking-other c.in_ok-reply.reply c.in_default.not-Loaded next) (c.in_ok-reply.ensures (λ reply. linking reply next))
 
 pub returns-in_err-reply : goal.returns-in_err-reply

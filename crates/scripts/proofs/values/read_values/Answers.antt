@@ -15,9 +15,12 @@ returns-in-None c =
 pub loop-k-preserved : goal.loop-k-preserved
 loop-k-preserved c =
     let read = λ (v : Value). value_of (view v) in
-    rw c.in_ok-push-in-Some-value.ensures.items (map_all-next read c.in-Some.items.now c.loop-k.k c.loop-k.values.items c.index-items-k.result c.in-Some-value.found c.loop-k-test.true c.loop-k.invariant (ap read (sym c.index-items-k.is) ∙ sym c.in-Some-value.ensures))
+    rw c.in_ok-push-in-Some-value.ensures.items
+    (map_all-next read c.in-Some.items.now c.loop-k.k c.loop-k.values.items c.index-items-k.result c.in-Some-value.found c.loop-k-test.true
+    c.loop-k.invariant (ap read (sym c.index-items-k.is) ∙ sym c.in-Some-value.ensures))
 
 pub returns : goal.returns
 returns c =
     let read = λ (v : Value). value_of (view v) in
-    values_in-found view c.args.key.now (view c.args.object.now) c.in-Some.items.now _ c.in-Some.ensures (map_all-end read c.in-Some.items.now c.loop-k.k c.loop-k.values.items c.loop-k-test.false c.loop-k.invariant)
+    values_in-found view c.args.key.now (view c.args.object.now) c.in-Some.items.now _ c.in-Some.ensures
+    (map_all-end read c.in-Some.items.now c.loop-k.k c.loop-k.values.items c.loop-k-test.false c.loop-k.invariant)

@@ -15,7 +15,13 @@ returns c =
     let locals = c.in_ok-locals.ensures ∙ c.in_ok-sum.ensures ∙ ap₂ (λ (n m : ℕ). n + m) (c.len-3.ensures ∙ ap (λ (t : FuncType). length t.params) ty) c.len-4.ensures in
     let at : c.in_ok-place.place ≡ length c.args.f.now.operations.items = omega (arith, c.in_ok-place.ensures, c.len-5.ensures) in
     let m : FlatModule = record { functions = c.push-2.new.self; operations = c.push.new.self; tables = c.flatten_body.new.f.tables } in
-    let p : PackedFunction = record { place = c.in_ok-place.place; params = c.in_ok-params.params; locals = c.in_ok-locals.locals; results = c.in_ok-results.results; greatest = c.in_ok-greatest.greatest } in
+    let p : PackedFunction = record {
+      place = c.in_ok-place.place;
+      params = c.in_ok-params.params;
+      locals = c.in_ok-locals.locals;
+      results = c.in_ok-results.results;
+      greatest = c.in_ok-greatest.greatest;
+    } in
     let (body₀, e₀) = c.requires.body in
     let first = c.in_ok-greatest.ensures body₀ e₀ in
     let behind = placed-behind s c.args.f.now.operations.items c.args.f.now.tables p body₀ c.flatten_body.new.f m first at c.in_ok-push.ensures.items refl in

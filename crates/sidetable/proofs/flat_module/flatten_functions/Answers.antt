@@ -21,4 +21,6 @@ loop-index-preserved c =
     let f = c.index-funcs-index.result in
     let new = module_of c.flatten_function.new.functions c.flatten_function.new.f in
     let more = take_more c.args.funcs.now c.loop-index.index f (omega arith) ∙ ap (λ (g : Func). take c.loop-index.index c.args.funcs.now ++ (g ∷ [])) (sym c.index-funcs-index.is) in
-    subst (λ (fs : List Func). ArePushed s fs new) (sym more) (all-more s (take c.loop-index.index c.args.funcs.now) (module_of c.loop-index.functions c.loop-index.f) new f c.loop-index.invariant c.in_ok-flatten_function.ensures)
+    subst (λ (fs : List Func). ArePushed s fs new) (sym more)
+    (all-more s (take c.loop-index.index c.args.funcs.now) (module_of c.loop-index.functions c.loop-index.f) new f c.loop-index.invariant
+    c.in_ok-flatten_function.ensures)

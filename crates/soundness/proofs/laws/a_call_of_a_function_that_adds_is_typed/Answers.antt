@@ -77,5 +77,7 @@ returns c = record {
   };
   typed = (adder, refl, ((refl, omega (arith)), ((refl, omega (arith)), tt)), refl);
   too_few = λ (f, is, typed, same). let wrong = subst (λ (g : FunctionInstance). ValuesHaveTypes adding (I32 1 ∷ []) (reverse g.ty.params)) (adds f is) typed in absurd wrong.1;
-  other = λ (f, is, typed, same). let wrong = subst (λ (g : FunctionInstance). ValuesHaveTypes adding (I64 2 ∷ I32 1 ∷ []) (reverse g.ty.params)) (adds f is) typed in let types : ty.I32 ≡ ty.I64 = wrong.0.0 in absurd cc;
+  other = λ (f, is, typed, same).
+      let wrong = subst (λ (g : FunctionInstance). ValuesHaveTypes adding (I64 2 ∷ I32 1 ∷ []) (reverse g.ty.params)) (adds f is) typed in
+      let types : ty.I32 ≡ ty.I64 = wrong.0.0 in absurd cc;
 }

@@ -13,4 +13,5 @@ pub returns-in_err-validate_declarations-clause-invalid : goal.returns-in_err-va
 returns-in_err-validate_declarations-clause-invalid c = with_any_error _ _ (λ error. inr (λ valid. c.in_err-validate_declarations.ensures.invalid (declarations_valid valid)))
 
 pub returns-clause-invalid : goal.returns-clause-invalid
-returns-clause-invalid c = IfErr-weaker c.validate_functions.result _ _ (λ error either. elim either [ inl none ↦ inl none | inr wrong ↦ inr (λ valid. wrong valid.bodies) ]) c.validate_functions.ensures.invalid
+returns-clause-invalid c = IfErr-weaker c.validate_functions.result _ _
+    (λ error either. elim either [ inl none ↦ inl none | inr wrong ↦ inr (λ valid. wrong valid.bodies) ]) c.validate_functions.ensures.invalid

@@ -47,8 +47,10 @@ returns-clause-valid c =
     (
     λ datas. record {
       one_memory = rw (c.deref.ensures.value, c.requires.spaces.memories) at (c.is_at_most_one.ensures.0 c.in_ok-require.ensures.valid);
-      globals = globals_valid c.requires.spaces c.requires.marks c.constant_context-context.ensures m.globals (rw c.as_slice.ensures at (c.are_valid_globals.ensures.0 c.in_ok-require-2.ensures.valid));
-      elements = elements_valid c.requires.spaces c.requires.marks c.constant_context-context.ensures m.elements (rw c.as_slice-3.ensures at (c.are_valid_elements.ensures.0 c.in_ok-require-6.ensures.valid));
+      globals = globals_valid c.requires.spaces c.requires.marks c.constant_context-context.ensures m.globals
+          (rw c.as_slice.ensures at (c.are_valid_globals.ensures.0 c.in_ok-require-2.ensures.valid));
+      elements = elements_valid c.requires.spaces c.requires.marks c.constant_context-context.ensures m.elements
+          (rw c.as_slice-3.ensures at (c.are_valid_elements.ensures.0 c.in_ok-require-6.ensures.valid));
       datas = datas_valid c.requires.spaces c.requires.marks c.constant_context-context.ensures m.datas (rw c.as_slice-4.ensures at (c.are_valid_datas.ensures.0 datas));
       start = start_valid c.requires.spaces m.start (rw c.as_slice-2.ensures at (c.is_valid_start.ensures.0 c.in_ok-require-5.ensures.valid));
       exports = exports_exist c.requires.spaces m.exports (rw c.as_slice-exports.ensures at (c.all_exist.ensures.0 c.in_ok-require-3.ensures.valid));

@@ -5,7 +5,8 @@ use Rattle.validator.specs.Operands.{Takes}
 use Rattle.validator.proofs.operands.pop_types.Given as goal
 
 abbrev pub invariant-loop-left : goal.invariant-loop-left
-invariant-loop-left l = (l.left ≤ length l.wanted) × (given : List OperandType) × Takes l.frame.unreachable l.frame.height l.fn.operands.items given l.operands.items × AllFit given (known (drop l.left l.wanted))
+invariant-loop-left l = (l.left ≤ length l.wanted) × (given : List OperandType)
+    × Takes l.frame.unreachable l.frame.height l.fn.operands.items given l.operands.items × AllFit given (known (drop l.left l.wanted))
 
 abbrev pub decreases-loop-left : goal.decreases-loop-left
 decreases-loop-left l = l.left

@@ -1,14 +1,16 @@
-use Rattle.std.proofs.Common.{◌++◌, ◌∷◌, [], ◌<◌, ◌≤◌, ◌∙◌, length, arith, sym}
+use Rattle.std.proofs.Common.{◌++◌, ◌∷◌, [], ◌<◌, ◌≤◌, ◌∙◌, length, arith, refl, sym}
 use Rattle.std.proofs.lemmas.Grind.{common_steps}
 use Rattle.std.proofs.lemmas.List.{append-nil, map-append, take_all}
 use Rattle.meaning.proofs.lemmas.Lists.{map-next}
 use Rattle.soundness.proofs.Embedding.{none-well, one-more-well}
 use Rattle.hostfunc.specs.Boxes.{IfHostsKeep}
-use Rattle.embed.specs.Replies.{command_of}
+use Rattle.embed.specs.Replies.{command_of, reply_of}
+use Rattle.embed.proofs.lemmas.Counting.{counts-most}
 use Rattle.embed.proofs.embedding.Embedding.apply_all.Goals as goal
 
 pub loop-command-init : goal.loop-command-init
 loop-command-init g c = record {
+  counted = refl;
   room = grind (arith, common_steps);
   run = ([], c.in_ok-try_reserve.ensures.items ∙ sym (append-nil c.args.replies.now.items), none-well _ _, λ kept. (none-well _ _, kept));
 }
@@ -24,6 +26,7 @@ loop-command-preserved g c =
     (one-more-well _ run_own applied_own, keeps_then)) in
     let inside : c.loop-command.command-index < length c.args.commands.now = c.loop-command-test.true in
     record {
+      counted = counts-most (reply_of c.apply-reply.result) _ _ applied.counted ∙ c.loop-command.invariant.counted;
       room = grind (arith, common_steps);
       run = (
         answers ++ c.apply-reply.result ∷ [],

@@ -8,6 +8,7 @@ use Rattle.embed.proofs.embedding.Embedding.apply_all.Given as goal
 
 abbrev pub invariant-loop-command : goal.invariant-loop-command
 invariant-loop-command g l = record {
+  counted : l.self.quota.most ≡ l.fn.self.quota.most;
   room : vec_len l.replies + (length l.commands - l.command-index) ≤ vec_capacity l.replies;
   run : (answers : List Reply) × (l.replies.items ≡ l.fn.replies.items ++ answers)
       × RunsWell (HostStep (λ vtable. (g.dyn-1.0.entry vtable).1)) (embedding_of l.fn.self) (map command_of (take l.command-index l.commands)) (map reply_of answers) (embedding_of l.self)

@@ -5,7 +5,7 @@ use Rattle.std.proofs.lemmas.List.{take_more}
 use Rattle.meaning.specs.embedding.Machine.{named_type}
 use Rattle.meaning.specs.execution.Store.{instance_of}
 use Rattle.store.specs.Contents.{store_of}
-use Rattle.embed.specs.Exports.{AreExports}
+use Rattle.interface.specs.Listings.{AreExports}
 use Rattle.embed.proofs.embedding.Embedding.exports.Goals as goal
 
 pub loop-export-preserved : goal.loop-export-preserved

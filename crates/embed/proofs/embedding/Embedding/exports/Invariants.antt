@@ -3,7 +3,7 @@ use Rattle.std.specs.Prelude.{Some, filter_map}
 use Rattle.meaning.specs.embedding.Machine.{named_type}
 use Rattle.meaning.specs.execution.Store.{instance_of}
 use Rattle.store.specs.Contents.{store_of}
-use Rattle.embed.specs.Exports.{AreExports}
+use Rattle.interface.specs.Listings.{AreExports}
 use Rattle.embed.proofs.embedding.Embedding.exports.Given as goal
 
 abbrev pub invariant-loop-export : goal.invariant-loop-export

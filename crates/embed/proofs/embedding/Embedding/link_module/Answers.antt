@@ -13,7 +13,8 @@ returns-in-Ok-clause-links g c =
     let resolved = rw (c.as_slice-imports.ensures, c.module.ensures.same, c.as_ref.ensures) at c.in_ok-externs.ensures.found in
     let state = run_state (store_of c.instantiate.new.store) (hosts_in c.instantiate.new.hosts) c.instantiate.new.meter.left in
     rw (there, c.next_number-count.ensures, c.deref-in-Ok.ensures.value, c.append.ensures.appended, c.in_ok-try_reserve.ensures.items)
-    (link-linked _ old state c.args.self.now.meter.bound c.in-Some.loaded.now.value.source c.in_ok-externs.externs.items resolved c.args.self.now.bound c.in-Ok.address (rw c.deref-2.ensures.value at c.in-Ok.ensures.linked))
+    (link-linked _ old state c.args.self.now.meter.bound c.in-Some.loaded.now.value.source c.in_ok-externs.externs.items resolved
+    c.args.self.now.bound c.in-Ok.address (rw c.deref-2.ensures.value at c.in-Ok.ensures.linked))
 
 pub returns-in-Err-Refused-clause-links : goal.returns-in-Err-Refused-clause-links
 returns-in-Err-Refused-clause-links g c =
@@ -32,7 +33,9 @@ returns-clause-links g c =
     let resolved = rw (c.as_slice-imports.ensures, c.module.ensures.same, c.as_ref.ensures) at c.in_ok-externs.ensures.found in
     let state = run_state (store_of c.instantiate.new.store) (hosts_in c.instantiate.new.hosts) c.instantiate.new.meter.left in
     rw (there, c.in_ok-try_reserve.ensures.items)
-    (link-ended _ old state c.args.self.now.meter.bound c.in-Some.loaded.now.value.source c.in_ok-externs.externs.items resolved c.args.self.now.bound c.in-Err-Ended.outcome (link_outcome_reply c.without_instance.result) (rw (c.deref-2.ensures.value, c.in-Err-Ended.field-0-is) at c.in-Err-Ended.ensures.linked) (rw c.in-Err-Ended.outcome-is at c.without_instance.ensures))
+    (link-ended _ old state c.args.self.now.meter.bound c.in-Some.loaded.now.value.source c.in_ok-externs.externs.items resolved c.args.self.now.bound
+    c.in-Err-Ended.outcome (link_outcome_reply c.without_instance.result)
+    (rw (c.deref-2.ensures.value, c.in-Err-Ended.field-0-is) at c.in-Err-Ended.ensures.linked) (rw c.in-Err-Ended.outcome-is at c.without_instance.ensures))
 
 pub without_instance-requires : goal.without_instance-requires
 without_instance-requires g c = rw c.in-Err-Ended.outcome-is (rw c.in-Err-Ended.field-0-is at c.in-Err-Ended.ensures.linked).no_values

@@ -7,5 +7,7 @@ use Rattle.embed.proofs.embedding.Embedding.load.Goals as goal
 
 pub returns : goal.returns
 returns g c =
-    let (well, sound) = goes-well type_of_host (HostAnswers (λ vtable. (g.dyn-1.0.entry vtable).1)) (embedding_of c.args.self.now) (embedding_of c.load_bytes.new.self) c.show_sound.ensures (load_reply c.load_bytes.result) c.writing_is_read.ensures.whole (machine.Load c.args.bytes.now) tt c.load_bytes.ensures in
-    record { applied = c.load_bytes.ensures; goes_well = well; sound = sound }
+    let (well, sound) = goes-well type_of_host (HostAnswers (λ vtable. (g.dyn-1.0.entry vtable).1)) (embedding_of c.args.self.now)
+    (embedding_of c.load_counted.new.self) c.show_sound.ensures (load_reply c.load_counted.result) c.writing_is_read.ensures.whole
+    (machine.Load c.args.bytes.now) tt c.load_counted.ensures.loads in
+    record { applied = c.load_counted.ensures.loads; goes_well = well; counted = c.load_counted.ensures.counted; sound = sound }

@@ -7,5 +7,7 @@ use Rattle.embed.proofs.embedding.Embedding.register.Goals as goal
 
 pub returns : goal.returns
 returns g c =
-    let (well, sound) = goes-well type_of_host (HostAnswers (λ vtable. (g.dyn-1.0.entry vtable).1)) (embedding_of c.args.self.now) (embedding_of c.give_name.new.self) c.show_sound.ensures (register_reply c.give_name.result) c.writing_is_read.ensures.whole (machine.Register c.args.instance.0 c.args.name.now) tt c.give_name.ensures in
-    record { applied = c.give_name.ensures; goes_well = well; sound = sound }
+    let (well, sound) = goes-well type_of_host (HostAnswers (λ vtable. (g.dyn-1.0.entry vtable).1)) (embedding_of c.args.self.now)
+    (embedding_of c.give_name.new.self) c.show_sound.ensures (register_reply c.give_name.result) c.writing_is_read.ensures.whole
+    (machine.Register c.args.instance.0 c.args.name.now) tt c.give_name.ensures.registers in
+    record { applied = c.give_name.ensures.registers; goes_well = well; counts_nothing = c.give_name.ensures.quota; sound = sound }

@@ -7,13 +7,15 @@ pub loop-low-preserved-in-Less : goal.loop-low-preserved-in-Less
 loop-low-preserved-in-Less c =
     let left = c.loop-low in
     let less = compared c.as_str.result.now _ c.args.name.now c.cmp.result Less c.cmp.ensures (c.as_str.ensures ∙ c.export_at-export.ensures.named) c.in-Less.is in
-    lies_behind c.args.exports.now c.args.self.now c.args.name.now c.requires.order c.requires.differ left.low left.high (left.low + (left.high - left.low) / 2) left.invariant (omega (arith, c.loop-low-test.true)) less
+    lies_behind c.args.exports.now c.args.self.now c.args.name.now c.requires.order c.requires.differ left.low left.high
+    (left.low + (left.high - left.low) / 2) left.invariant (omega (arith, c.loop-low-test.true)) less
 
 pub loop-low-preserved : goal.loop-low-preserved
 loop-low-preserved c =
     let left = c.loop-low in
     let greater = compared c.as_str.result.now _ c.args.name.now c.cmp.result Greater c.cmp.ensures (c.as_str.ensures ∙ c.export_at-export.ensures.named) c.in-Greater.is in
-    lies_before c.args.exports.now c.args.self.now c.args.name.now c.requires.order c.requires.differ left.low left.high (left.low + (left.high - left.low) / 2) left.invariant (omega arith) (omega (arith, c.loop-low-test.true)) greater
+    lies_before c.args.exports.now c.args.self.now c.args.name.now c.requires.order c.requires.differ left.low left.high
+    (left.low + (left.high - left.low) / 2) left.invariant (omega arith) (omega (arith, c.loop-low-test.true)) greater
 
 pub returns-in-Equal : goal.returns-in-Equal
 returns-in-Equal c =

@@ -12,7 +12,8 @@ returns-then-eq c =
     told_apart c.as_str.result.now c.as_str-in-loop-place.result.now _ _ c.eq.result c.eq.ensures (c.as_str.ensures ∙ c.export_at-before.ensures.named)
     (c.as_str-in-loop-place.ensures ∙ c.export_at-here.ensures.named) ∙ c.if-eq.true in (
       λ differ. absurd cc,
-      λ differ. absurd (true≢false (sym same ∙ names_apart c.args.exports.now c.args.self.now c.requires (place - 1) place (omega (arith, c.loop-place.auto.place)) (omega (arith, long, c.loop-place-test.true)) differ)),
+      λ differ. absurd (true≢false (sym same ∙ names_apart c.args.exports.now c.args.self.now c.requires (place - 1) place
+          (omega (arith, c.loop-place.auto.place)) (omega (arith, long, c.loop-place-test.true)) differ)),
     )
 
 pub loop-place-preserved : goal.loop-place-preserved

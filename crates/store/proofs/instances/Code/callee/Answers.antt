@@ -11,7 +11,8 @@ module_function-requires c =
     let inside = c.self.inside in
     let kept = contents_of inside.functions.items inside.instances.items inside.hosts.items in
     let within : c.args.address < length inside.functions.items = rw (← c.self.view_is) at c.requires in
-    let there = slice_get_read inside.functions.items (length inside.functions.items) c.args.address c.index.result.now refl within c.index.ensures ∙ ap (λ (f : FunctionInstance). Some f) c.in-InModule.is in
+    let there = slice_get_read inside.functions.items (length inside.functions.items) c.args.address c.index.result.now refl within c.index.ensures ∙
+    ap (λ (f : FunctionInstance). Some f) c.in-InModule.is in
     rw (← c.self.view_is) (entry-found kept c.args.address _ there c.self.invariant.found)
 
 pub index-requires-in-InHost : goal.index-requires-in-InHost
@@ -19,7 +20,8 @@ index-requires-in-InHost c =
     let inside = c.self.inside in
     let kept = contents_of inside.functions.items inside.instances.items inside.hosts.items in
     let within : c.args.address < length inside.functions.items = rw (← c.self.view_is) at c.requires in
-    let there = slice_get_read inside.functions.items (length inside.functions.items) c.args.address c.index.result.now refl within c.index.ensures ∙ ap (λ (f : FunctionInstance). Some f) c.in-InHost.is in
+    let there = slice_get_read inside.functions.items (length inside.functions.items) c.args.address c.index.result.now refl within c.index.ensures ∙
+    ap (λ (f : FunctionInstance). Some f) c.in-InHost.is in
     let within_hosts = host-within kept.hosts c.in-InHost.number (entry-found kept c.args.address _ there c.self.invariant.found) in
     search (rules, within_hosts)
 
@@ -28,7 +30,8 @@ returns-in-InModule c =
     let inside = c.self.inside in
     let kept = contents_of inside.functions.items inside.instances.items inside.hosts.items in
     let within : c.args.address < length inside.functions.items = rw (← c.self.view_is) at c.requires in
-    let there = slice_get_read inside.functions.items (length inside.functions.items) c.args.address c.index.result.now refl within c.index.ensures ∙ ap (λ (f : FunctionInstance). Some f) c.in-InModule.is in
+    let there = slice_get_read inside.functions.items (length inside.functions.items) c.args.address c.index.result.now refl within c.index.ensures ∙
+    ap (λ (f : FunctionInstance). Some f) c.in-InModule.is in
     let found = rw (← c.self.view_is) at c.module_function.ensures.found in
     record {
       there = rw (← c.self.view_is) (function-there kept c.args.address _ there _ found);
@@ -42,7 +45,8 @@ returns-in-InHost c =
     let inside = c.self.inside in
     let kept = contents_of inside.functions.items inside.instances.items inside.hosts.items in
     let within : c.args.address < length inside.functions.items = rw (← c.self.view_is) at c.requires in
-    let there = slice_get_read inside.functions.items (length inside.functions.items) c.args.address c.index.result.now refl within c.index.ensures ∙ ap (λ (f : FunctionInstance). Some f) c.in-InHost.is in
+    let there = slice_get_read inside.functions.items (length inside.functions.items) c.args.address c.index.result.now refl within c.index.ensures ∙
+    ap (λ (f : FunctionInstance). Some f) c.in-InHost.is in
     let inside_hosts = host-within kept.hosts c.in-InHost.number (entry-found kept c.args.address _ there c.self.invariant.found) in
     let host = slice_get_read inside.hosts.items (length inside.hosts.items) c.in-InHost.number c.index-in-InHost.result.now refl inside_hosts c.index-in-InHost.ensures in
     record {

@@ -24,7 +24,8 @@ type-there c =
 pub index-flat-requires : goal.index-flat-requires
 index-flat-requires c =
     let inside = c.self.inside in
-    let within = code-within (module_signatures inside.validated) (operations_of inside.flat) inside.validated.funcs inside.flat.functions.items c.args.index c.self.invariant.0.functions (rw (← c.self.view_is) at c.requires) in
+    let within = code-within (module_signatures inside.validated) (operations_of inside.flat) inside.validated.funcs inside.flat.functions.items
+    c.args.index c.self.invariant.0.functions (rw (← c.self.view_is) at c.requires) in
     search (rules, within)
 
 pub returns-clause-func : goal.returns-clause-func
@@ -36,10 +37,12 @@ returns-clause-ty c = rw (← c.self.view_is) (type-there c)
 pub returns-clause-flat : goal.returns-clause-flat
 returns-clause-flat c =
     let inside = c.self.inside in
-    let within = code-within (module_signatures inside.validated) (operations_of inside.flat) inside.validated.funcs inside.flat.functions.items c.args.index c.self.invariant.0.functions (rw (← c.self.view_is) at c.requires) in
+    let within = code-within (module_signatures inside.validated) (operations_of inside.flat) inside.validated.funcs inside.flat.functions.items
+    c.args.index c.self.invariant.0.functions (rw (← c.self.view_is) at c.requires) in
     let there = slice_get_read inside.flat.functions.items (length inside.flat.functions.items) c.args.index c.index-flat.result.now refl within c.index-flat.ensures in
     rw (← c.self.view_is)
-    (flat-at (module_signatures inside.validated) (operations_of inside.flat) inside.validated.funcs inside.flat.functions.items c.args.index c.index-as_slice-index.result _ c.self.invariant.0.functions (func-there c) there)
+    (flat-at (module_signatures inside.validated) (operations_of inside.flat) inside.validated.funcs inside.flat.functions.items c.args.index
+    c.index-as_slice-index.result _ c.self.invariant.0.functions (func-there c) there)
 
 pub returns-clause-body : goal.returns-clause-body
 returns-clause-body c = body-written c.self.inside.validated c.args.index c.index-as_slice-index.result c.module-module_read.ensures.valid (func-there c)

@@ -19,16 +19,22 @@ returns-in_err-reserve_all-clause-extends c =
 pub returns-in_err-append_instance-clause-extends : goal.returns-in_err-append_instance-clause-extends
 returns-in_err-append_instance-clause-extends c =
     rw (← c.self.view_is) (grows-same _ _ c.self.invariant
-    (ap (λ (code : Contents). store_with code c.reserve_all.new.self) c.in_err-append_instance.ensures.unchanged ∙ equal-stores c.self.inside.code c.self.inside.state c.reserve_all.new.self c.reserve_all.ensures.contents c.reserve_all.ensures.bounds)).0
+    (ap (λ (code : Contents). store_with code c.reserve_all.new.self) c.in_err-append_instance.ensures.unchanged ∙ equal-stores c.self.inside.code
+    c.self.inside.state c.reserve_all.new.self c.reserve_all.ensures.contents c.reserve_all.ensures.bounds)).0
 
 pub append_instance-requires-clause-types : goal.append_instance-requires-clause-types
 append_instance-requires-clause-types c =
     allocated c.writing_is_read.ensures.whole (store_with c.self.inside.code c.self.inside.state) _ c.args.objects c.self.invariant (rw (← c.self.view_is) at c.requires.linkable)
 
 -- The module's functions and objects and its instance follow what was there.
-appended : (c : goal.After-append_all) → store_with c.append_instance.new.self c.append_all.new.self ≡ with_module (store_with c.self.inside.code c.self.inside.state) (module_instance (lists_of c.args.addresses) c.args.loaded.value.source) c.args.loaded.value.source c.args.objects
+appended : (c : goal.After-append_all) → store_with c.append_instance.new.self c.append_all.new.self
+    ≡ with_module (store_with c.self.inside.code c.self.inside.state) (module_instance (lists_of c.args.addresses) c.args.loaded.value.source)
+    c.args.loaded.value.source c.args.objects
 appended c =
-    module-appended c.self.inside.code c.append_instance.new.self c.self.inside.state c.reserve_all.new.self c.append_all.new.self c.args.loaded.value.source (lists_of c.args.addresses) c.args.objects c.in_ok-append_instance.ensures.functions c.in_ok-append_instance.ensures.instances c.reserve_all.ensures.contents c.reserve_all.ensures.bounds c.append_all.ensures.contents c.append_all.ensures.bounds
+    module-appended c.self.inside.code c.append_instance.new.self c.self.inside.state c.reserve_all.new.self c.append_all.new.self
+    c.args.loaded.value.source (lists_of c.args.addresses) c.args.objects c.in_ok-append_instance.ensures.functions
+    c.in_ok-append_instance.ensures.instances c.reserve_all.ensures.contents c.reserve_all.ensures.bounds c.append_all.ensures.contents
+    c.append_all.ensures.bounds
 
 pub returns-clause-appended : goal.returns-clause-appended
 returns-clause-appended c = rw (← c.self.view_is) (appended c)
@@ -46,14 +52,17 @@ returns-clause-extends c =
 pub overflow_sub-imported : goal.overflow_sub-imported
 overflow_sub-imported c =
     let own : c.len-2.result ≡ length c.args.loaded.value.source.funcs = search rules in
-    let within = own-within c.self.inside.code c.self.inside.state (record { loaded = c.args.loaded; addresses = c.args.addresses; imported = 0 }) c.args.objects (rw (← c.self.view_is) at c.requires.linkable) in
+    let within = own-within c.self.inside.code c.self.inside.state (record { loaded = c.args.loaded; addresses = c.args.addresses; imported = 0 })
+    c.args.objects (rw (← c.self.view_is) at c.requires.linkable) in
     omega (arith, own, within, c.len.ensures)
 
 pub append_instance-requires-clause-own : goal.append_instance-requires-clause-own
 append_instance-requires-clause-own c =
     let all : c.len.result ≡ length c.args.addresses.functions.items = search rules in
     let own : c.len-2.result ≡ length c.args.loaded.value.source.funcs = search rules in
-    adds-functions c.self.inside.code c.self.inside.state (record { loaded = c.args.loaded; addresses = c.args.addresses; imported = c.len.result - c.len-2.result }) c.args.objects (rw (← c.self.view_is) at c.requires.linkable)
+    adds-functions c.self.inside.code c.self.inside.state
+    (record { loaded = c.args.loaded; addresses = c.args.addresses; imported = c.len.result - c.len-2.result }) c.args.objects
+    (rw (← c.self.view_is) at c.requires.linkable)
     (ap₂ (λ (n k : ℕ). n - k) all own)
 
 pub invariant_of-self : goal.invariant_of-self
@@ -65,12 +74,16 @@ returns-in_err-reserve_all-clause-unchanged c =
 
 pub invariant_of-self-in_err-append_instance : goal.invariant_of-self-in_err-append_instance
 invariant_of-self-in_err-append_instance c =
-    rw (c.in_err-append_instance.ensures.unchanged, equal-stores c.self.inside.code c.self.inside.state c.reserve_all.new.self c.reserve_all.ensures.contents c.reserve_all.ensures.bounds) c.self.invariant
+    rw (
+      c.in_err-append_instance.ensures.unchanged,
+      equal-stores c.self.inside.code c.self.inside.state c.reserve_all.new.self c.reserve_all.ensures.contents c.reserve_all.ensures.bounds,
+    ) c.self.invariant
 
 pub returns-in_err-append_instance-clause-unchanged : goal.returns-in_err-append_instance-clause-unchanged
 returns-in_err-append_instance-clause-unchanged c =
     on_err _ c.from_residual-in_err-append_instance.result
-    (rw (← c.self.view_is, c.in_err-append_instance.ensures.unchanged) (equal-stores c.self.inside.code c.self.inside.state c.reserve_all.new.self c.reserve_all.ensures.contents c.reserve_all.ensures.bounds))
+    (rw (← c.self.view_is, c.in_err-append_instance.ensures.unchanged)
+    (equal-stores c.self.inside.code c.self.inside.state c.reserve_all.new.self c.reserve_all.ensures.contents c.reserve_all.ensures.bounds))
 
 pub append_all-requires-clause-within : goal.append_all-requires-clause-within
 append_all-requires-clause-within c = rw c.reserve_all.ensures.bounds (rw (← c.self.view_is) at c.requires.within)

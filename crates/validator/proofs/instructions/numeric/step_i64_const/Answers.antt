@@ -7,4 +7,6 @@ use Rattle.validator.proofs.instructions.numeric.step_i64_const.Goals as goal
 
 pub returns : goal.returns
 returns c = λ lent.
-    fixed_steps lent c.args.stacks.now _ c.apply.result (I64Const c.args.value) _ (function_type [] (I64 ∷ [])) (c.takes_gives.ensures ∙ ap (function_type []) c.once.ensures) (λ context. (omega arith, (refl, refl))) (λ context operands results rule. rule.1) c.apply.ensures
+    fixed_steps lent c.args.stacks.now _ c.apply.result (I64Const c.args.value) _ (function_type [] (I64 ∷ []))
+    (c.takes_gives.ensures ∙ ap (function_type []) c.once.ensures) (λ context. (omega arith, (refl, refl)))
+    (λ context operands results rule. rule.1) c.apply.ensures

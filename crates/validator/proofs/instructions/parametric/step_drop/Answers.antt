@@ -15,7 +15,8 @@ returns-in-Some c = λ lent.
     let same = sym (append-nil c.pop.new.operands.items) in (
       record {
         sound = rule_sound (Parametric DropOperand) (t ∷ []) [] refl refl c.in-Some.ensures.some (AllFit-same (t ∷ [])) same (λ context described. (t, refl, refl));
-        complete = rule_complete (Parametric DropOperand) [] refl refl c.in-Some.ensures.some same (λ context described theirs others rule. let (t, operands, results) = rule in (sym (ap length operands), λ fit. rw results tt));
+        complete = rule_complete (Parametric DropOperand) [] refl refl c.in-Some.ensures.some same
+            (λ context described theirs others rule. let (t, operands, results) = rule in (sym (ap length operands), λ fit. rw results tt));
       },
       tt,
     )

@@ -18,10 +18,12 @@ returns c = λ lent.
         sound = record {
           keeps = λ context described read opened.
               IsTypingOfRead-parts context _ (otherwise old.innermost) _ (reverse old.outer.items) _ (left ++ known old.innermost.start_types.now) (read ++ op.Else ∷ [])
-              (ap otherwise finished.frames.innermost) (ap (λ v. reverse v.items) finished.frames.outer) (c.in_ok-push_types.ensures ∙ ap (λ l. left ++ known l.start_types.now) finished.frames.innermost)
+              (ap otherwise finished.frames.innermost) (ap (λ v. reverse v.items) finished.frames.outer)
+              (c.in_ok-push_types.ensures ∙ ap (λ l. left ++ known l.start_types.now) finished.frames.innermost)
               (else_open (took_open (known old.innermost.end_types.now) opened closes.takes closes.fits) closes.dry c.in-If.is);
         };
-        complete = else_complete {old = old} closes.takes closes.fits (ap otherwise finished.frames.innermost) (ap (λ v. v.items) finished.frames.outer) (c.in_ok-push_types.ensures ∙ ap (λ l. left ++ known l.start_types.now) finished.frames.innermost);
+        complete = else_complete {old = old} closes.takes closes.fits (ap otherwise finished.frames.innermost)
+            (ap (λ v. v.items) finished.frames.outer) (c.in_ok-push_types.ensures ∙ ap (λ l. left ++ known l.start_types.now) finished.frames.innermost);
       },
       tt,
     )

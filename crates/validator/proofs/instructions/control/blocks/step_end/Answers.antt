@@ -21,12 +21,14 @@ returns c = λ lent.
       record {
         sound = record {
           keeps = λ context described read opened.
-              let whole = subst (λ ls. IsTypingOfRead context old.innermost ls left (known old.innermost.end_types.now) read) split (took_open (known old.innermost.end_types.now) opened closes.takes closes.fits) in
+              let whole = subst (λ ls. IsTypingOfRead context old.innermost ls left (known old.innermost.end_types.now) read) split
+              (took_open (known old.innermost.end_types.now) opened closes.takes closes.fits) in
               IsTypingOfRead-parts context _ around _ (reverse below) _ (left ++ known old.innermost.end_types.now) (read ++ op.End ∷ [])
               c.replace-inner.ensures.after refl (c.in_ok-push_types.ensures ∙ ap (λ l. left ++ known l.end_types.now) (c.replace-inner.ensures.value ∙ finished.frames.innermost))
               (close_open whole closes.dry (c.if-not-needs_no_else.ensures.0 refl));
         };
-        complete = end_complete {old = old} around below split closes.takes closes.fits c.replace-inner.ensures.after refl (c.in_ok-push_types.ensures ∙ ap (λ l. left ++ known l.end_types.now) (c.replace-inner.ensures.value ∙ finished.frames.innermost));
+        complete = end_complete {old = old} around below split closes.takes closes.fits c.replace-inner.ensures.after refl
+            (c.in_ok-push_types.ensures ∙ ap (λ l. left ++ known l.end_types.now) (c.replace-inner.ensures.value ∙ finished.frames.innermost));
       },
       tt,
     )

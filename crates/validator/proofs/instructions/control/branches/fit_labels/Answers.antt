@@ -9,7 +9,8 @@ use Rattle.validator.proofs.instructions.control.branches.fit_labels.Goals as go
 pub loop-index-preserved : goal.loop-index-preserved
 loop-index-preserved c =
     let below : c.loop-index.index-index < length c.args.numbers.now = omega arith in
-    let fits : FitsLabelAt c.args.innermost.now c.args.outer.now c.args.given.now (get_or c.args.numbers.now c.loop-index.index-index 0) = (c.in-Some.types.now, c.in-Some.ensures.some, c.if-not-all_fit.ensures.0 refl) in
+    let fits : FitsLabelAt c.args.innermost.now c.args.outer.now c.args.given.now (get_or c.args.numbers.now c.loop-index.index-index 0) =
+    (c.in-Some.types.now, c.in-Some.ensures.some, c.if-not-all_fit.ensures.0 refl) in
     (All-more (FitsLabelAt c.args.innermost.now c.args.outer.now c.args.given.now) c.args.numbers.now c.loop-index.index-index 0 below c.loop-index.invariant.0 fits, fits)
 
 pub loop-index-preserved-then-eq : goal.loop-index-preserved-then-eq
@@ -31,4 +32,5 @@ returns-in_default-clause-refused c = λ all.
 pub returns-then-not-all_fit-clause-refused : goal.returns-then-not-all_fit-clause-refused
 returns-then-not-all_fit-clause-refused c = λ all.
     let below : c.loop-index.index-index < length c.args.numbers.now = omega arith in
-    carry-misfit c.args.innermost.now c.args.outer.now c.args.given.now c.args.numbers.now c.loop-index.index-index _ c.in-Some.types.now below refl c.in-Some.ensures.some (λ fits. let fit = c.if-not-all_fit.ensures.1 fits in absurd cc) all
+    carry-misfit c.args.innermost.now c.args.outer.now c.args.given.now c.args.numbers.now c.loop-index.index-index _ c.in-Some.types.now below refl
+    c.in-Some.ensures.some (λ fits. let fit = c.if-not-all_fit.ensures.1 fits in absurd cc) all

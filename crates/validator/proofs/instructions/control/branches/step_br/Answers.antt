@@ -21,7 +21,9 @@ pub returns-in_default : goal.returns-in_default
 returns-in_default c = λ lent. (
   tt,
   λ invalid.
-      no_rule (Control (Br c.args.index)) (λ context is theirs others rule. let (below, types, named, parts) = rule in label-missing c.args.stacks.now.innermost _ _ c.args.index types c.deref.ensures.value c.in_default.ensures.none named),
+      no_rule (Control (Br c.args.index))
+      (λ context is theirs others rule. let (below, types, named, parts) = rule in
+      label-missing c.args.stacks.now.innermost _ _ c.args.index types c.deref.ensures.value c.in_default.ensures.none named),
 )
 
 pub returns-then-not-pop_types : goal.returns-then-not-pop_types

@@ -27,5 +27,7 @@ pub returns-in_default : goal.returns-in_default
 returns-in_default c = λ lent. (
   tt,
   λ invalid.
-      no_rule (Control (BrIf c.args.index)) (λ context is theirs others rule. let (types, named, shape) = rule in label-missing c.args.stacks.now.innermost _ _ c.args.index types c.deref.ensures.value c.in_default.ensures.none named),
+      no_rule (Control (BrIf c.args.index))
+      (λ context is theirs others rule. let (types, named, shape) = rule in
+      label-missing c.args.stacks.now.innermost _ _ c.args.index types c.deref.ensures.value c.in_default.ensures.none named),
 )

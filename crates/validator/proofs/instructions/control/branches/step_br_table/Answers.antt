@@ -24,8 +24,11 @@ returns c = λ lent.
     let fits = subst (λ ts. AllFit ts (known types)) c.deref-2.ensures.value (c.if-not-all_fit.ensures.0 refl) in
     let all = carry-along c.args.stacks.now.innermost _ _ _ given _ _ c.deref-4.ensures.value c.deref-3.ensures.value c.as_slice.ensures c.if-not-fit_labels.ensures.fit in
     let stop = c.set_unreachable.ensures in
-    let all_fit = AllFit-joined given given (t ∷ []) (Known I32 ∷ []) (AllFit-same given) (fit, tt) in
-    (stop_steps (BrTable c.args.table.now) (given ++ Known I32 ∷ []) stop.innermost stop.outer taken all_fit stop.operands (λ context described any to. (any, given, refl, all, (types, carries, fits))), tt)
+    let all_fit = AllFit-joined given given (t ∷ []) (Known I32 ∷ []) (AllFit-same given) (fit, tt) in (
+      stop_steps (BrTable c.args.table.now) (given ++ Known I32 ∷ []) stop.innermost stop.outer taken all_fit stop.operands
+          (λ context described any to. (any, given, refl, all, (types, carries, fits))),
+      tt,
+    )
 
 pub returns-then-not-pop_fitting : goal.returns-then-not-pop_fitting
 returns-then-not-pop_fitting c = λ lent. (
@@ -62,8 +65,12 @@ returns-in_err-given c = λ lent.
           let (below, given, parts, all, (named_types, named, fits)) = rule in
           let same = label-unique (control_stack c.args.stacks.now) c.args.table.now.default named_types types named carries in
           let count : length given ≡ length types = AllFit-length given (known named_types) fits ∙ length-map named_types Known ∙ ap length same in
-          let wanted = given ++ Known I32 ∷ [] in
-          (below, wanted, Refuses-under _ _ _ _ given t (Known I32) takes ((c.in_err-given.ensures.refused (sym passed.2 ∙ invalid)).at given count), subst (λ z. AllFit z (below ++ wanted)) (sym parts) (AllFit-same (below ++ wanted)))),
+          let wanted = given ++ Known I32 ∷ [] in (
+            below,
+            wanted,
+            Refuses-under _ _ _ _ given t (Known I32) takes ((c.in_err-given.ensures.refused (sym passed.2 ∙ invalid)).at given count),
+            subst (λ z. AllFit z (below ++ wanted)) (sym parts) (AllFit-same (below ++ wanted)),
+          )),
     )
 
 pub returns-then-not-all_fit : goal.returns-then-not-all_fit
@@ -81,7 +88,8 @@ returns-then-not-all_fit c = λ lent. (
       let same = label-unique (control_stack c.args.stacks.now) c.args.table.now.default named_types types named carries in
       let count : length taken ≡ length given = c.in_ok-given.ensures.count ∙ sym (AllFit-length given (known named_types) fits ∙ length-map named_types Known ∙ ap length same) in
       let wanted = given ++ Known I32 ∷ [] in
-      let refuses = Refuses-misfit _ _ _ taken _ given c.in_ok-given.ensures.took count (λ fit_given. wrong (AllFit-through taken given (known types) fit_given (subst (λ ts. AllFit given (known ts)) same fits))) in
+      let refuses = Refuses-misfit _ _ _ taken _ given c.in_ok-given.ensures.took count
+      (λ fit_given. wrong (AllFit-through taken given (known types) fit_given (subst (λ ts. AllFit given (known ts)) same fits))) in
       (below, wanted, Refuses-under _ _ _ _ given t (Known I32) takes refuses, subst (λ z. AllFit z (below ++ wanted)) (sym parts) (AllFit-same (below ++ wanted)))),
 )
 
@@ -100,6 +108,8 @@ returns-then-not-fit_labels c = λ lent. (
       let count : length taken ≡ length given = c.in_ok-given.ensures.count ∙ sym (AllFit-length given (known named_types) fits ∙ length-map named_types Known ∙ ap length same) in
       let wanted = given ++ Known I32 ∷ [] in
       let refuses = Refuses-misfit _ _ _ taken _ given c.in_ok-given.ensures.took count
-      (λ fit_given. c.if-not-fit_labels.ensures.refused (carry-along c.args.stacks.now.innermost _ _ taken _ _ _ (sym c.deref-4.ensures.value) (sym c.deref-3.ensures.value) (sym c.as_slice.ensures) (carry-through c.args.stacks.now.innermost c.args.stacks.now.outer.items taken given _ fit_given all))) in
+      (λ fit_given. c.if-not-fit_labels.ensures.refused
+      (carry-along c.args.stacks.now.innermost _ _ taken _ _ _ (sym c.deref-4.ensures.value) (sym c.deref-3.ensures.value)
+      (sym c.as_slice.ensures) (carry-through c.args.stacks.now.innermost c.args.stacks.now.outer.items taken given _ fit_given all))) in
       (below, wanted, Refuses-under _ _ _ _ given t (Known I32) takes refuses, subst (λ z. AllFit z (below ++ wanted)) (sym parts) (AllFit-same (below ++ wanted)))),
 )

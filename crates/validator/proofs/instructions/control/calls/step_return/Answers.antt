@@ -10,8 +10,11 @@ use Rattle.validator.proofs.instructions.control.calls.step_return.Goals as goal
 pub returns : goal.returns
 returns c =
     let (given, takes, fits) = c.if-not-pop_types.ensures in
-    let stop = c.set_unreachable.ensures in
-    (stop_steps (Control Return) (known c.args.context.now.results.now) stop.innermost stop.outer takes fits stop.operands (λ context described any to. (any, c.args.context.now.results.now, described.results, refl)), tt)
+    let stop = c.set_unreachable.ensures in (
+      stop_steps (Control Return) (known c.args.context.now.results.now) stop.innermost stop.outer takes fits stop.operands
+          (λ context described any to. (any, c.args.context.now.results.now, described.results, refl)),
+      tt,
+    )
 
 pub returns-then-not-pop_types : goal.returns-then-not-pop_types
 returns-then-not-pop_types c = (

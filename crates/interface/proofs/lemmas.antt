@@ -1,0 +1,3 @@
+-- Lemmas on lists of imports and exports.
+pub mod Growing
+pub mod IndexSpaces

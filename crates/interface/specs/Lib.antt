@@ -1,0 +1,4 @@
+-- What a module imports and exports.
+pub mod IndexSpaces
+pub mod Types
+pub mod Listings

@@ -1,0 +1,13 @@
+//! What a module imports and exports: its index spaces, and lists of imports and exports with their types.
+#![tactic(auto)]
+
+mod exports;
+mod imports;
+mod index_spaces;
+mod modules;
+mod types;
+
+pub use exports::{ExportType, Exports, Listing};
+pub use imports::{ImportType, Imports};
+pub use modules::{exports_of, imports_of};
+pub use types::Declaration;

@@ -1,0 +1,1 @@
+"""What `tools/check/real` is made of: the programs, their sources, how they are built, their inputs, and how they run."""
