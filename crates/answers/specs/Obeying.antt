@@ -20,12 +20,12 @@ use Rattle.answers.specs.declared.answer.Answer.{Answer}
 use Rattle.answers.specs.declared.answer.Answer.TheVariants.{Done, Applied, Global, FuelLeft, QuotaLeft, Exports, Imports, Ran, Refused, NotNow}
 use Rattle.answers.specs.declared.causes.Cause.TheVariants.{Command, Script}
 
--- A file to keep is appended, a script takes all files, and other orders leave them.
+-- A file is appended, a script takes all files, and other orders leave them.
 abbrev pub LeavesFiles : List (String Allocator × Vec ℕ Allocator) → order.Order → Answer
     → List (String Allocator × Vec ℕ Allocator) → Type 0
-LeavesFiles old (order.Keep name bytes) Done new =
+LeavesFiles old (order.File name bytes) Done new =
     files_view new ≡ files_view old ++ (name, bytes) ∷ []
-LeavesFiles old (order.Keep name bytes) answer new = new ≡ old
+LeavesFiles old (order.File name bytes) answer new = new ≡ old
 LeavesFiles old (order.RunScript text) answer new = new ≡ []
 LeavesFiles old order answer new = new ≡ old
 
@@ -36,11 +36,11 @@ IsReply (Global value) reply' = reply' ≡ machine.Ended (WithValues (value ∷ 
 IsReply answer reply' = ⊥
 
 module _ {I : Type 0} {F : I → Type 0} (members : (i : I) → Ghosts (F i)) where
-  -- A file is kept, or memory ran out.
-  abbrev pub IsKept : Answer → Type 0
-  IsKept Done = Unit {0}
-  IsKept (Refused cause) = cause ≡ Command OutOfMemory
-  IsKept answer = ⊥
+  -- The file is appended, or memory ran out.
+  abbrev pub IsAdded : Answer → Type 0
+  IsAdded Done = Unit {0}
+  IsAdded (Refused cause) = cause ≡ Command OutOfMemory
+  IsAdded answer = ⊥
 
   -- The exports of an instance are listed, or the list is refused.
   abbrev pub ListsExports : Embedding (HostObject I F) → (instance : ℕ) → Answer → Type 0
@@ -94,7 +94,7 @@ module _ {I : Type 0} {F : I → Type 0} (members : (i : I) → Ghosts (F i)) wh
   Obeys files old (order.NamedExport instance name) answer new =
       GivesExport old instance name answer × (new ≡ old)
   Obeys files old (order.RunScript text) answer new = RunsText files text old answer new
-  Obeys files old (order.Keep name bytes) answer new = IsKept answer × (new ≡ old)
+  Obeys files old (order.File name bytes) answer new = IsAdded answer × (new ≡ old)
   Obeys files old order.End answer new = (answer ≡ Done) × (new ≡ old)
   Obeys files old (order.Define first second signature) answer new =
       (answer ≡ NotNow) × (new ≡ old)

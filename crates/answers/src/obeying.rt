@@ -5,7 +5,7 @@ ghost use Rattle.orders.specs.Orders.{QuotaLeft as QuotaOrder};
 ghost use Rattle.orders.specs.Readings.{order_of};
 ghost use Rattle.quota.specs.Counting.{left_of};
 ghost use Rattle.scripts.specs.Runs.{files_view};
-ghost use Rattle.answers.specs.Obeying.{LeavesFiles, Obeys, RunsText};
+ghost use Rattle.answers.specs.Obeying.{GivesExport, LeavesFiles, ListsExports, ListsModuleExports, ListsModuleImports, Obeys, RunsText};
 
 use crate::answer::Answer;
 use crate::causes::Cause;
@@ -21,8 +21,8 @@ fn no_memory() -> Answer
     Answer::Refused(Cause::Command(Refusal::OutOfMemory))
 }
 
-// Appends a file to those that are kept.
-fn keep_file(
+// Appends a file to those of the next script.
+fn add_file(
     alloc: Global,
     name: &str,
     bytes: &[u8],
@@ -58,7 +58,54 @@ fn run_text(
     }
 }
 
-/// Obeys an order, and returns the answer. `files` are those that were kept. A script takes them all.
+// Lists what an instance exports.
+fn list_exports(embedding: &Embedding, instance: u64) -> Answer
+    requires nothing { Unit {0} }
+    ensures { ListsExports ⟦<dyn HostFn as HostFn>⟧ (embedding_of embedding.now) instance result }
+{
+    match embedding.exports(InstanceNumber(instance)) {
+        Ok(exports) => Answer::Exports(exports),
+        Err(refusal) => Answer::Refused(Cause::Command(refusal)),
+    }
+}
+
+// Returns the type of what an instance exports under a name.
+fn give_export(embedding: &Embedding, instance: u64, name: &str) -> Answer
+    requires nothing { Unit {0} }
+    ensures { GivesExport ⟦<dyn HostFn as HostFn>⟧ (embedding_of embedding.now) instance name.now
+        result }
+{
+    match embedding.export_named(InstanceNumber(instance), name) {
+        Ok(exports) => Answer::Exports(exports),
+        Err(refusal) => Answer::Refused(Cause::Command(refusal)),
+    }
+}
+
+// Lists what a module imports.
+fn list_module_imports(embedding: &Embedding, number: u64) -> Answer
+    requires nothing { Unit {0} }
+    ensures { ListsModuleImports ⟦<dyn HostFn as HostFn>⟧ (embedding_of embedding.now) number
+        result }
+{
+    match embedding.module_imports(ModuleNumber(number)) {
+        Ok(imports) => Answer::Imports(imports),
+        Err(refusal) => Answer::Refused(Cause::Command(refusal)),
+    }
+}
+
+// Lists what a module exports.
+fn list_module_exports(embedding: &Embedding, number: u64) -> Answer
+    requires nothing { Unit {0} }
+    ensures { ListsModuleExports ⟦<dyn HostFn as HostFn>⟧ (embedding_of embedding.now) number
+        result }
+{
+    match embedding.module_exports(ModuleNumber(number)) {
+        Ok(exports) => Answer::Exports(exports),
+        Err(refusal) => Answer::Refused(Cause::Command(refusal)),
+    }
+}
+
+/// Obeys an order, and returns the answer. `files` are those of the next script, which takes them all.
 pub fn obey(
     alloc: Global,
     embedding: &mut Embedding,
@@ -95,17 +142,9 @@ pub fn obey(
             Answer::Applied(Reply::Done)
         }
         Order::FuelLeft => Answer::FuelLeft(embedding.fuel_left()),
-        Order::Exports(number) => match embedding.exports(InstanceNumber(*number)) {
-            Ok(exports) => Answer::Exports(exports),
-            Err(refusal) => Answer::Refused(Cause::Command(refusal)),
-        },
-        Order::NamedExport(number, name) => {
-            match embedding.export_named(InstanceNumber(*number), name) {
-                Ok(exports) => Answer::Exports(exports),
-                Err(refusal) => Answer::Refused(Cause::Command(refusal)),
-            }
-        }
-        Order::Keep(name, bytes) => match keep_file(alloc, name, bytes, files) {
+        Order::Exports(number) => list_exports(embedding, *number),
+        Order::NamedExport(number, name) => give_export(embedding, *number, name),
+        Order::File(name, bytes) => match add_file(alloc, name, bytes, files) {
             Ok(()) => Answer::Done,
             Err(_) => no_memory(),
         },
@@ -115,14 +154,8 @@ pub fn obey(
             answer
         }
         Order::QuotaLeft => Answer::QuotaLeft(embedding.quota_left()),
-        Order::ModuleImports(number) => match embedding.module_imports(ModuleNumber(*number)) {
-            Ok(imports) => Answer::Imports(imports),
-            Err(refusal) => Answer::Refused(Cause::Command(refusal)),
-        },
-        Order::ModuleExports(number) => match embedding.module_exports(ModuleNumber(*number)) {
-            Ok(exports) => Answer::Exports(exports),
-            Err(refusal) => Answer::Refused(Cause::Command(refusal)),
-        },
+        Order::ModuleImports(number) => list_module_imports(embedding, *number),
+        Order::ModuleExports(number) => list_module_exports(embedding, *number),
         Order::Define(..) | Order::Begin(..) | Order::Quota(_) => Answer::NotNow,
     }
 }

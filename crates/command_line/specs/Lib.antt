@@ -1,4 +1,4 @@
 pub mod Depths
 pub mod Numbers
 pub mod Commands
-pub mod Orders
+pub mod Subcommands

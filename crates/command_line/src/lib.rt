@@ -6,6 +6,6 @@ mod words;
 
 pub use digits::{number, short_number};
 pub use words::{
-    CallOrder, DEFAULT_DEPTH, DEFAULT_FUEL, LARGEST_DEPTH, Order, ScriptOrder, WordsFault,
-    read_words,
+    CallSubcommand, DEFAULT_DEPTH, DEFAULT_FUEL, LARGEST_DEPTH, ScriptSubcommand, Subcommand,
+    WordsFault, read_words,
 };

@@ -5,7 +5,7 @@ ghost use Rattle.clap.specs.Words.{AddsSubcommand, all_of, first_of, found_of, r
 ghost use Rattle.command_line.specs.Commands.{IsArgument, IsCommand, call, check, option as option_rule, plain, program, repeated as repeated_rule, required as required_rule, script};
 ghost use Rattle.command_line.specs.Depths.{IsDepth, IsNoDepth};
 ghost use Rattle.command_line.specs.Numbers.{IsBound, IsFuel, IsNumberOf};
-ghost use Rattle.command_line.specs.Orders.{AsksFor, IsCallOrder, IsOrder, IsScriptOrder};
+ghost use Rattle.command_line.specs.Subcommands.{AsksFor, IsCallSubcommand, IsSubcommand, IsScriptSubcommand};
 
 use crate::digits::number;
 use clap::error::ErrorKind;
@@ -23,7 +23,7 @@ pub const LARGEST_DEPTH: u32 = 65_535;
 
 /// The call that the arguments request.
 #[derive(Drop)]
-pub struct CallOrder<'a> {
+pub struct CallSubcommand<'a> {
     pub file: &'a str,
     pub export: &'a str,
     pub args: Vec<&'a str>,
@@ -33,7 +33,7 @@ pub struct CallOrder<'a> {
 
 /// The run of a script that the arguments request.
 #[derive(Clone, Copy)]
-pub struct ScriptOrder<'a> {
+pub struct ScriptSubcommand<'a> {
     pub file: &'a str,
     pub fuel: u64,
     pub depth: u32,
@@ -41,11 +41,11 @@ pub struct ScriptOrder<'a> {
 
 /// What the arguments request.
 #[derive(Drop)]
-pub enum Order<'a> {
+pub enum Subcommand<'a> {
     /// A run of a script.
-    Script(ScriptOrder<'a>),
+    Script(ScriptSubcommand<'a>),
     /// A call of an exported function.
-    Call(CallOrder<'a>),
+    Call(CallSubcommand<'a>),
     /// A check of the module in the file at this path.
     Check(&'a str),
 }
@@ -229,20 +229,23 @@ fn depth_in(matches: &ArgMatches<'_>) -> Result<u32, WordsFault>
     }
 }
 
-fn script_order_of<'a>(matches: &ArgMatches<'a>) -> Result<ScriptOrder<'a>, WordsFault>
-    ensures { IfOk result (IsScriptOrder (rows_of (found_of matches.now))) }
+fn script_subcommand_of<'a>(matches: &ArgMatches<'a>) -> Result<ScriptSubcommand<'a>, WordsFault>
+    ensures { IfOk result (IsScriptSubcommand (rows_of (found_of matches.now))) }
 {
-    Ok(ScriptOrder {
+    Ok(ScriptSubcommand {
         file: word_of(matches, "file")?,
         fuel: fuel_in(matches)?,
         depth: depth_in(matches)?,
     })
 }
 
-fn call_order_of<'a>(alloc: Global, matches: &ArgMatches<'a>) -> Result<CallOrder<'a>, WordsFault>
-    ensures { IfOk result (IsCallOrder (rows_of (found_of matches.now))) }
+fn call_subcommand_of<'a>(
+    alloc: Global,
+    matches: &ArgMatches<'a>,
+) -> Result<CallSubcommand<'a>, WordsFault>
+    ensures { IfOk result (IsCallSubcommand (rows_of (found_of matches.now))) }
 {
-    Ok(CallOrder {
+    Ok(CallSubcommand {
         file: word_of(matches, "file")?,
         export: word_of(matches, "export")?,
         args: words_of(alloc, matches, "args")?,
@@ -252,17 +255,17 @@ fn call_order_of<'a>(alloc: Global, matches: &ArgMatches<'a>) -> Result<CallOrde
 }
 
 // Returns what the arguments request, after they were matched against the commands.
-fn order_in<'a>(alloc: Global, matches: &ArgMatches<'a>) -> Result<Order<'a>, WordsFault>
-    ensures { IfOk result (IsOrder (subcommand_rows_of matches.now)) }
+fn subcommand_in<'a>(alloc: Global, matches: &ArgMatches<'a>) -> Result<Subcommand<'a>, WordsFault>
+    ensures { IfOk result (IsSubcommand (subcommand_rows_of matches.now)) }
 {
     if let Some(found) = matches.subcommand_matches("script") {
-        return Ok(Order::Script(script_order_of(found)?));
+        return Ok(Subcommand::Script(script_subcommand_of(found)?));
     }
     if let Some(found) = matches.subcommand_matches("call") {
-        return Ok(Order::Call(call_order_of(alloc, found)?));
+        return Ok(Subcommand::Call(call_subcommand_of(alloc, found)?));
     }
     match matches.subcommand_matches("check") {
-        Some(found) => Ok(Order::Check(word_of(found, "file")?)),
+        Some(found) => Ok(Subcommand::Check(word_of(found, "file")?)),
         None => Err(WordsFault::Usage),
     }
 }
@@ -272,9 +275,9 @@ fn order_in<'a>(alloc: Global, matches: &ArgMatches<'a>) -> Result<Order<'a>, Wo
 /// # Errors
 ///
 /// Fails with `Usage` if the arguments do not have a form that the program reads, and with `Memory` if an allocation fails.
-pub fn read_words<'a>(alloc: Global, words: &'a [String]) -> Result<Order<'a>, WordsFault>
+pub fn read_words<'a>(alloc: Global, words: &'a [String]) -> Result<Subcommand<'a>, WordsFault>
     ensures { IfOk result (AsksFor (map string_bytes words.now)) }
 {
     let matches = program_command(alloc)?.try_get_matches_from(words)?;
-    order_in(alloc, &matches)
+    subcommand_in(alloc, &matches)
 }

@@ -62,7 +62,8 @@ const ONE_AND_TWO: [Val; 2] = [Val::I32(1), Val::I32(2)];
 
 // A table of ten entries, and a function that calls them.
 const TEN: &str =
-    "(type (func (param i32) (result i32))) (type (func (result i32))) (table 10 funcref) (func (param i32) (result i32) local.get 0 call_indirect (type 1)) (export \"table\" (table 0)) (export \"call\" (func 0))";
+    "(type (func (param i32) (result i32))) (type (func (result i32))) (table 10 funcref) \
+    (func (param i32) (result i32) local.get 0 call_indirect (type 1)) (export \"table\" (table 0)) (export \"call\" (func 0))";
 
 pub const PAST_THE_END: &str =
     "(import \"ten\" \"table\" (table 10 funcref)) (func (result i32) i32.const 42) (elem (offset i32.const 0) func 0) (elem (offset i32.const 10) func 0)";
@@ -252,7 +253,8 @@ fn links_text(alloc: Global, at: &mut Embedding, text: &str) -> bool {
 // Returns whether a module with its own objects, and a function that returns this number, is loaded and linked.
 fn links_other(alloc: Global, at: &mut Embedding, number: u64) -> bool {
     match format!(in alloc;
-        "(memory 1) (table 2 funcref) (global i32 i32.const {number}) (func (result i32) i32.const {number}) (elem (offset i32.const 0) func 0) (data (offset i32.const 0) \"x\")"
+        "(memory 1) (table 2 funcref) (global i32 i32.const {number}) (func (result i32) i32.const {number}) \
+        (elem (offset i32.const 0) func 0) (data (offset i32.const 0) \"x\")"
     ) {
         Ok(text) => links_text(alloc, at, text.as_str()),
         Err(_) => false,

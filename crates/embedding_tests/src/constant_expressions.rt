@@ -16,7 +16,9 @@ const GLOBAL: &str = "(global i32 i32.const 666) (export \"global_i32\" (global 
 
 // A function in the second entry of a table. The offset is an imported global plus one.
 const SECOND_ENTRY: &str =
-    "(type (func (result i32))) (import \"spectest\" \"one\" (global i32)) (table 3 funcref) (func (result i32) i32.const 42) (func (param i32) (result i32) local.get 0 call_indirect (type 0)) (elem (offset global.get 0 i32.const 1 i32.add) funcref (item ref.func 0)) (export \"call\" (func 1))";
+    "(type (func (result i32))) (import \"spectest\" \"one\" (global i32)) (table 3 funcref) (func (result i32) i32.const 42) \
+    (func (param i32) (result i32) local.get 0 call_indirect (type 0)) \
+    (elem (offset global.get 0 i32.const 1 i32.add) funcref (item ref.func 0)) (export \"call\" (func 1))";
 
 // First values of globals.
 #[rattlefmt::skip]
@@ -72,7 +74,8 @@ static INVALID: [Row; 6] = [
         Load("(global i32 i32.const 1) (memory 1) (data (offset global.get 0 i32.const 1 i32.add) \"x\")", Refused(Refusal::Invalid(Place::Section(11)))),
     ] },
     Row { name: "an offset of a variable global", steps: &[
-        Load("(import \"m\" \"g\" (global (mut i32))) (memory 1) (data (offset global.get 0 i32.const 1 i32.add) \"x\")", Refused(Refusal::Invalid(Place::Section(11)))),
+        Load("(import \"m\" \"g\" (global (mut i32))) (memory 1) (data (offset global.get 0 i32.const 1 \
+            i32.add) \"x\")", Refused(Refusal::Invalid(Place::Section(11)))),
     ] },
 ];
 

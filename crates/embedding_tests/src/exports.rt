@@ -9,7 +9,9 @@ use std::alloc::{AllocError, Global};
 
 // An export of each kind, and a function that grows the memory by two pages.
 const TEXT: &str =
-    "(func (param i32) (result i64) i64.const 1) (func i32.const 2 memory.grow drop) (table 3 9 funcref) (memory 1 5) (global (mut i64) i64.const 7) (export \"function\" (func 0)) (export \"grow\" (func 1)) (export \"table\" (table 0)) (export \"memory\" (memory 0)) (export \"global\" (global 0)) (export \"again\" (func 0))";
+    "(func (param i32) (result i64) i64.const 1) (func i32.const 2 memory.grow drop) (table 3 9 funcref) (memory 1 5) \
+    (global (mut i64) i64.const 7) (export \"function\" (func 0)) (export \"grow\" (func 1)) (export \"table\" (table 0)) \
+    (export \"memory\" (memory 0)) (export \"global\" (global 0)) (export \"again\" (func 0))";
 
 // The type of an export.
 #[derive(Clone, Copy)]

@@ -155,21 +155,27 @@ const MEASURES_NOTHING: &str =
     "(import \"host\" \"m\" (func (result i32))) (func (result i32) call 0) (export \"f\" (func 1))";
 
 const CALLS_THROUGH_A_TABLE: &str =
-    "(type (func (result i32))) (import \"host\" \"c\" (func (result i32))) (table 1 funcref) (func (result i32) i32.const 0 call_indirect (type 0)) (elem (offset i32.const 0) func 0) (export \"f\" (func 1))";
+    "(type (func (result i32))) (import \"host\" \"c\" (func (result i32))) (table 1 funcref) \
+    (func (result i32) i32.const 0 call_indirect (type 0)) (elem (offset i32.const 0) func 0) (export \"f\" (func 1))";
 
 // Has a memory, and a table that contains the host function.
 pub const LENDS_A_TABLE: &str =
-    "(import \"host\" \"w\" (func (result i32))) (memory 1) (table 1 funcref) (func (result i32) i32.const 0 i32.load8_u) (elem (offset i32.const 0) func 0) (export \"table\" (table 0)) (export \"byte\" (func 1))";
+    "(import \"host\" \"w\" (func (result i32))) (memory 1) (table 1 funcref) (func (result i32) i32.const 0 i32.load8_u) \
+    (elem (offset i32.const 0) func 0) (export \"table\" (table 0)) (export \"byte\" (func 1))";
 
 // Has another memory, and calls through that table.
 pub const CALLS_THROUGH_THAT_TABLE: &str =
-    "(type (func (result i32))) (import \"a\" \"table\" (table 1 funcref)) (memory 1) (func (result i32) i32.const 0 call_indirect (type 0)) (func (result i32) i32.const 0 i32.load8_u) (export \"f\" (func 0)) (export \"byte\" (func 1))";
+    "(type (func (result i32))) (import \"a\" \"table\" (table 1 funcref)) (memory 1) \
+    (func (result i32) i32.const 0 call_indirect (type 0)) (func (result i32) i32.const 0 i32.load8_u) (export \"f\" (func 0)) \
+    (export \"byte\" (func 1))";
 
 const WRITES_AND_READS: &str =
-    "(import \"host\" \"w\" (func (result i32))) (memory 1) (func (result i32) call 0) (func (result i32) i32.const 0 i32.load8_u) (export \"f\" (func 1)) (export \"byte\" (func 2))";
+    "(import \"host\" \"w\" (func (result i32))) (memory 1) (func (result i32) call 0) (func (result i32) i32.const 0 i32.load8_u) \
+    (export \"f\" (func 1)) (export \"byte\" (func 2))";
 
 const STARTS_A_MARK: &str =
-    "(import \"host\" \"s\" (func)) (memory 1) (func call 0) (func (result i32) i32.const 0 i32.load8_u) (start 0) (export \"f\" (func 1)) (export \"byte\" (func 2))";
+    "(import \"host\" \"s\" (func)) (memory 1) (func call 0) (func (result i32) i32.const 0 i32.load8_u) (start 0) \
+    (export \"f\" (func 1)) (export \"byte\" (func 2))";
 
 const STARTS_A_TRAP: &str = "(import \"host\" \"h\" (func)) (start 0)";
 

@@ -18,15 +18,20 @@ struct Row {
 
 // A table of ten entries, a function that calls them, and one that counts them.
 const TEN: &str =
-    "(type (func (param i32) (result i32))) (type (func (result i32))) (table 10 funcref) (func (param i32) (result i32) local.get 0 call_indirect (type 1)) (func (result i32) table.size 0) (export \"table\" (table 0)) (export \"call\" (func 0)) (export \"size\" (func 1))";
+    "(type (func (param i32) (result i32))) (type (func (result i32))) (table 10 funcref) \
+    (func (param i32) (result i32) local.get 0 call_indirect (type 1)) (func (result i32) table.size 0) (export \"table\" (table 0)) \
+    (export \"call\" (func 0)) (export \"size\" (func 1))";
 
 // Overwrites entry 1, and adds five entries.
 const OVERWRITES: &str =
-    "(import \"ten\" \"table\" (table 10 funcref)) (func (result i32) i32.const 7) (func ref.null func i32.const 5 table.grow 0 drop) (elem (offset i32.const 1) func 0) (start 1)";
+    "(import \"ten\" \"table\" (table 10 funcref)) (func (result i32) i32.const 7) (func ref.null func i32.const 5 table.grow 0 drop) \
+    (elem (offset i32.const 1) func 0) (start 1)";
 
 // A constant global, a segment that a link drops, and a memory that can grow.
 const KEPT: &str =
-    "(memory 1 5) (global i32 i32.const 666) (data (offset i32.const 0) \"a\") (data \"b\") (func (result i32) i32.const 1 memory.grow) (func (result i32) memory.size) (func i32.const 1 i32.const 0 i32.const 1 memory.init 0) (func (result i32) i32.const 0 i32.load16_u) (export \"g\" (global 0)) (export \"grow\" (func 0)) (export \"size\" (func 1)) (export \"init\" (func 2)) (export \"bytes\" (func 3))";
+    "(memory 1 5) (global i32 i32.const 666) (data (offset i32.const 0) \"a\") (data \"b\") (func (result i32) i32.const 1 memory.grow) \
+    (func (result i32) memory.size) (func i32.const 1 i32.const 0 i32.const 1 memory.init 0) (func (result i32) i32.const 0 i32.load16_u) \
+    (export \"g\" (global 0)) (export \"grow\" (func 0)) (export \"size\" (func 1)) (export \"init\" (func 2)) (export \"bytes\" (func 3))";
 
 #[rattlefmt::skip]
 static ROWS: [Row; 2] = [

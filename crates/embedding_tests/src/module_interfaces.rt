@@ -11,7 +11,10 @@ use std::alloc::Global;
 // Imports of each kind, two of them of one type, and exports of imports and of the module's own definitions. Nothing that it imports
 // exists.
 const TEXT: &str =
-    "(type (func (param i32) (result i64))) (import \"env\" \"f\" (func (type 0))) (import \"env\" \"t\" (table 3 9 funcref)) (import \"env\" \"m\" (memory 1 5)) (import \"\" \"g\" (global i64)) (import \"other\" \"f\" (func (type 0))) (func) (table 2 7 funcref) (global (mut i32) i32.const 7) (export \"imported\" (func 1)) (export \"own\" (func 2)) (export \"table\" (table 1)) (export \"memory\" (memory 0)) (export \"global\" (global 0)) (export \"counter\" (global 1))";
+    "(type (func (param i32) (result i64))) (import \"env\" \"f\" (func (type 0))) (import \"env\" \"t\" (table 3 9 funcref)) \
+    (import \"env\" \"m\" (memory 1 5)) (import \"\" \"g\" (global i64)) (import \"other\" \"f\" (func (type 0))) (func) \
+    (table 2 7 funcref) (global (mut i32) i32.const 7) (export \"imported\" (func 1)) (export \"own\" (func 2)) \
+    (export \"table\" (table 1)) (export \"memory\" (memory 0)) (export \"global\" (global 0)) (export \"counter\" (global 1))";
 
 #[rattlefmt::skip]
 static IMPORTS: [(&str, &str, Type); 5] = [

@@ -14,10 +14,13 @@ struct Row {
 
 // A table of four functions that return 10 to 13, and a function that calls its entries.
 const FOUR: &str =
-    "(type (func (result i32))) (table 4 funcref) (func (result i32) i32.const 10) (func (result i32) i32.const 11) (func (result i32) i32.const 12) (func (result i32) i32.const 13) (func (param i32) (result i32) local.get 0 call_indirect (type 0)) (elem (offset i32.const 0) func 0 1 2 3) (export \"table\" (table 0)) (export \"call\" (func 4))";
+    "(type (func (result i32))) (table 4 funcref) (func (result i32) i32.const 10) (func (result i32) i32.const 11) \
+    (func (result i32) i32.const 12) (func (result i32) i32.const 13) (func (param i32) (result i32) local.get 0 call_indirect (type 0)) \
+    (elem (offset i32.const 0) func 0 1 2 3) (export \"table\" (table 0)) (export \"call\" (func 4))";
 
 const COPY: &str =
-    "(import \"m\" \"table\" (table 4 funcref)) (import \"m\" \"table\" (table 4 funcref)) (func i32.const 1 i32.const 0 i32.const 3 table.copy 1 0) (export \"copy\" (func 0))";
+    "(import \"m\" \"table\" (table 4 funcref)) (import \"m\" \"table\" (table 4 funcref)) \
+    (func i32.const 1 i32.const 0 i32.const 3 table.copy 1 0) (export \"copy\" (func 0))";
 
 // A memory that grows.
 const GROWS: &str =
@@ -25,7 +28,8 @@ const GROWS: &str =
 
 // A memory, and functions that read its first two bytes.
 const BYTES: &str =
-    "(memory 1) (func (result i32) i32.const 0 i32.load8_u) (func (result i32) i32.const 1 i32.load8_u) (export \"memory\" (memory 0)) (export \"first\" (func 0)) (export \"second\" (func 1))";
+    "(memory 1) (func (result i32) i32.const 0 i32.load8_u) (func (result i32) i32.const 1 i32.load8_u) (export \"memory\" (memory 0)) \
+    (export \"first\" (func 0)) (export \"second\" (func 1))";
 
 const TWO_BYTES: &str =
     "(import \"o\" \"memory\" (memory 1)) (data (offset i32.const 0) \"a\") (data (offset i32.const 1) \"b\")";

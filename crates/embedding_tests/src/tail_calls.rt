@@ -44,20 +44,24 @@ const FAILS_LAST: &str =
 
 // The same, through a table.
 const FAILS_THROUGH_A_TABLE: &str =
-    "(import \"host\" \"h\" (func)) (table 1 funcref) (func i64.const 2 i32.const 0 return_call_indirect) (elem (offset i32.const 0) func 0) (export \"f\" (func 1))";
+    "(import \"host\" \"h\" (func)) (table 1 funcref) (func i64.const 2 i32.const 0 return_call_indirect) \
+    (elem (offset i32.const 0) func 0) (export \"f\" (func 1))";
 
 // A table of the host function that counts, one of another type, and null.
 const CALLS_ENTRY_LAST: &str =
-    "(type (func (result i32))) (import \"host\" \"c\" (func (result i32))) (import \"host\" \"h\" (func)) (table 3 funcref) (func (param i32) (result i32) local.get 0 return_call_indirect (type 0)) (elem (offset i32.const 0) func 0 1) (export \"f\" (func 2))";
+    "(type (func (result i32))) (import \"host\" \"c\" (func (result i32))) (import \"host\" \"h\" (func)) (table 3 funcref) \
+    (func (param i32) (result i32) local.get 0 return_call_indirect (type 0)) (elem (offset i32.const 0) func 0 1) (export \"f\" (func 2))";
 
-const SWAPS_LAST: &str =
-    "(import \"host\" \"swap\" (func (param i32 i64) (result i64 i32))) (func (param i64 i32) (result i64 i32) i64.const 77 local.get 1 local.get 0 return_call 0) (export \"f\" (func 1))";
+const SWAPS_LAST: &str = "(import \"host\" \"swap\" (func (param i32 i64) (result i64 i32))) \
+    (func (param i64 i32) (result i64 i32) i64.const 77 local.get 1 local.get 0 return_call 0) (export \"f\" (func 1))";
 
-const SWAPS_INSIDE: &str =
-    "(import \"host\" \"swap\" (func (param i32 i64) (result i64 i32))) (func (param i32 i64) (result i64 i32) i32.const 1 block i64.const 2 loop (result i32) block i32.const 3 local.get 0 local.get 1 return_call 0 end i32.const 4 end drop drop end unreachable) (export \"f\" (func 1))";
+const SWAPS_INSIDE: &str = "(import \"host\" \"swap\" (func (param i32 i64) (result i64 i32))) \
+    (func (param i32 i64) (result i64 i32) i32.const 1 block i64.const 2 loop (result i32) block i32.const 3 local.get 0 local.get 1 \
+    return_call 0 end i32.const 4 end drop drop end unreachable) (export \"f\" (func 1))";
 
 const FIVE_LAST: &str =
-    "(import \"host\" \"five\" (func (result i32 i64 externref externref i32))) (func (result i32 i64 externref externref i32) return_call 0) (export \"f\" (func 1))";
+    "(import \"host\" \"five\" (func (result i32 i64 externref externref i32))) \
+    (func (result i32 i64 externref externref i32) return_call 0) (export \"f\" (func 1))";
 
 const FIVE: [Val; 5] = [
     Val::I32(1),
@@ -74,11 +78,13 @@ const STARTS_A_TRAP: &str = "(import \"host\" \"h\" (func)) (func nop return_cal
 
 // Three functions, each of which calls the one before it last, and the host function at the end.
 const CHAIN: &str =
-    "(import \"host\" \"c\" (func (result i32))) (func (result i32) return_call 0) (func (result i32) return_call 1) (func (result i32) return_call 2) (export \"f\" (func 3))";
+    "(import \"host\" \"c\" (func (result i32))) (func (result i32) return_call 0) (func (result i32) return_call 1) \
+    (func (result i32) return_call 2) (export \"f\" (func 3))";
 
 // A function that is called last calls the host function twice, and then last.
 const CALLS_BEFORE: &str =
-    "(import \"host\" \"c\" (func (result i32))) (func (result i32) call 0 drop call 0 drop return_call 0) (func (result i32) i64.const 8 return_call 1) (export \"f\" (func 2))";
+    "(import \"host\" \"c\" (func (result i32))) (func (result i32) call 0 drop call 0 drop return_call 0) \
+    (func (result i32) i64.const 8 return_call 1) (export \"f\" (func 2))";
 
 #[rattlefmt::skip]
 static RESULTS: [Row; 7] = [
@@ -148,13 +154,17 @@ const ADDS: &str =
     "(import \"host\" \"c\" (func (result i32))) (func (result i32) return_call 0) (func (result i32) i32.const 40 call 1 i32.add) (export \"f\" (func 2))";
 
 const ADDS_ENTRY: &str =
-    "(type (func (result i32))) (import \"host\" \"c\" (func (result i32))) (table 1 funcref) (func (result i32) i32.const 0 return_call_indirect (type 0)) (func (result i32) i32.const 40 call 1 i32.add) (elem (offset i32.const 0) func 0) (export \"f\" (func 2))";
+    "(type (func (result i32))) (import \"host\" \"c\" (func (result i32))) (table 1 funcref) \
+    (func (result i32) i32.const 0 return_call_indirect (type 0)) (func (result i32) i32.const 40 call 1 i32.add) \
+    (elem (offset i32.const 0) func 0) (export \"f\" (func 2))";
 
 const WAITS_FOR_A_FAULT: &str =
     "(import \"host\" \"h\" (func)) (func i64.const 9 return_call 0) (func i32.const 1 call 1 drop) (export \"f\" (func 2))";
 
 const WAITS_FOR_FIVE: &str =
-    "(import \"host\" \"five\" (func (result i32 i64 externref externref i32))) (func (result i32 i64 externref externref i32) return_call 0) (func (param i64) (result i64 i32 i64 externref externref i32) local.get 0 call 1) (export \"f\" (func 2))";
+    "(import \"host\" \"five\" (func (result i32 i64 externref externref i32))) \
+    (func (result i32 i64 externref externref i32) return_call 0) (func (param i64) (result i64 i32 i64 externref externref i32) \
+    local.get 0 call 1) (export \"f\" (func 2))";
 
 const SIX: [Val; 6] = [
     Val::I64(9),
@@ -167,14 +177,17 @@ const SIX: [Val; 6] = [
 
 // The replaced frame has locals and an operand, and there are no results.
 const WAITS_FOR_NOTHING: &str =
-    "(import \"host\" \"s\" (func)) (func (param i32 i64) (local i64 externref) i64.const 4 return_call 0) (func (result i32 i64) i32.const 3 i32.const 4 i64.const 5 call 1 i64.const 8) (export \"f\" (func 2))";
+    "(import \"host\" \"s\" (func)) (func (param i32 i64) (local i64 externref) i64.const 4 return_call 0) \
+    (func (result i32 i64) i32.const 3 i32.const 4 i64.const 5 call 1 i64.const 8) (export \"f\" (func 2))";
 
-const WAITS_FOR_BOTH: &str =
-    "(import \"host\" \"swap\" (func (param i32 i64) (result i64 i32))) (func (param i32 i64 i32) (result i64 i32) local.get 2 local.get 1 return_call 0) (func (result i32 i64 i32) i32.const 100 i32.const 5 i64.const 6 i32.const 7 call 1) (export \"f\" (func 2))";
+const WAITS_FOR_BOTH: &str = "(import \"host\" \"swap\" (func (param i32 i64) (result i64 i32))) \
+    (func (param i32 i64 i32) (result i64 i32) local.get 2 local.get 1 return_call 0) \
+    (func (result i32 i64 i32) i32.const 100 i32.const 5 i64.const 6 i32.const 7 call 1) (export \"f\" (func 2))";
 
 // The last function calls the one before it twice. That one calls the first, and then the host function last, as the first does.
 const ONE_AFTER_THE_OTHER: &str =
-    "(import \"host\" \"c\" (func (result i32))) (func (result i32) return_call 0) (func (result i32) call 1 drop return_call 0) (func (result i32 i32) call 2 call 2) (export \"f\" (func 3))";
+    "(import \"host\" \"c\" (func (result i32))) (func (result i32) return_call 0) (func (result i32) call 1 drop return_call 0) \
+    (func (result i32 i32) call 2 call 2) (export \"f\" (func 3))";
 
 #[rattlefmt::skip]
 static WAITING: [Row; 9] = [
@@ -217,19 +230,25 @@ static WAITING: [Row; 9] = [
 
 // Has a memory, and calls the host function last.
 const WRITES_LAST: &str =
-    "(import \"host\" \"w\" (func (result i32))) (memory 1) (func (result i32) return_call 0) (func (result i32) i32.const 0 i32.load8_u) (export \"f\" (func 1)) (export \"byte\" (func 2))";
+    "(import \"host\" \"w\" (func (result i32))) (memory 1) (func (result i32) return_call 0) (func (result i32) i32.const 0 i32.load8_u) \
+    (export \"f\" (func 1)) (export \"byte\" (func 2))";
 
 // Has a memory, calls that function, and calls it last.
 const CALLS_A: &str =
-    "(import \"a\" \"f\" (func (result i32))) (memory 1) (func (result i32 i32) call 0 i32.const 0 i32.load8_u) (func (result i32) return_call 0) (func (result i32) i32.const 0 i32.load8_u) (export \"f\" (func 1)) (export \"last\" (func 2)) (export \"byte\" (func 3))";
+    "(import \"a\" \"f\" (func (result i32))) (memory 1) (func (result i32 i32) call 0 i32.const 0 i32.load8_u) \
+    (func (result i32) return_call 0) (func (result i32) i32.const 0 i32.load8_u) (export \"f\" (func 1)) (export \"last\" (func 2)) \
+    (export \"byte\" (func 3))";
 
 // Has a memory, and calls an entry of the table of another instance last.
 const CALLS_ENTRY_OF_T: &str =
-    "(type (func (result i32))) (import \"t\" \"table\" (table 1 funcref)) (memory 1) (func (result i32) i32.const 0 return_call_indirect (type 0)) (func (result i32) i32.const 0 i32.load8_u) (export \"f\" (func 0)) (export \"byte\" (func 1))";
+    "(type (func (result i32))) (import \"t\" \"table\" (table 1 funcref)) (memory 1) \
+    (func (result i32) i32.const 0 return_call_indirect (type 0)) (func (result i32) i32.const 0 i32.load8_u) (export \"f\" (func 0)) \
+    (export \"byte\" (func 1))";
 
 // Has a memory, and a table that contains the function that calls the host function last.
 const LENDS_ITS_FUNCTION: &str =
-    "(import \"host\" \"w\" (func (result i32))) (memory 1) (table 1 funcref) (func (result i32) return_call 0) (func (result i32) i32.const 0 i32.load8_u) (elem (offset i32.const 0) func 1) (export \"table\" (table 0)) (export \"byte\" (func 2))";
+    "(import \"host\" \"w\" (func (result i32))) (memory 1) (table 1 funcref) (func (result i32) return_call 0) \
+    (func (result i32) i32.const 0 i32.load8_u) (elem (offset i32.const 0) func 1) (export \"table\" (table 0)) (export \"byte\" (func 2))";
 
 // Has no memory.
 const MEASURES_NOTHING: &str =
@@ -237,11 +256,14 @@ const MEASURES_NOTHING: &str =
 
 // Has a memory of two pages, and a table whose entry it calls last.
 const GOES: &str =
-    "(type (func (result i32))) (import \"host\" \"m\" (func (result i32))) (memory 2) (table 1 funcref) (func (result i32) return_call 0) (func (result i32) i32.const 0 return_call_indirect (type 0)) (export \"f\" (func 1)) (export \"go\" (func 2)) (export \"table\" (table 0))";
+    "(type (func (result i32))) (import \"host\" \"m\" (func (result i32))) (memory 2) (table 1 funcref) \
+    (func (result i32) return_call 0) (func (result i32) i32.const 0 return_call_indirect (type 0)) (export \"f\" (func 1)) \
+    (export \"go\" (func 2)) (export \"table\" (table 0))";
 
 // Has a memory of one page, and writes a function into that table that calls one of that instance last.
 const COMES_BACK: &str =
-    "(import \"a\" \"table\" (table 1 funcref)) (import \"a\" \"f\" (func (result i32))) (memory 1) (func (result i32) return_call 0) (elem (offset i32.const 0) func 1)";
+    "(import \"a\" \"table\" (table 1 funcref)) (import \"a\" \"f\" (func (result i32))) (memory 1) (func (result i32) return_call 0) \
+    (elem (offset i32.const 0) func 1)";
 
 const GROWS_BEFORE: &str =
     "(import \"host\" \"m\" (func (result i32))) (memory 1 3) (func (result i32) i32.const 1 memory.grow drop return_call 0) (export \"f\" (func 1))";

@@ -30,7 +30,8 @@ static ROWS: [Row; 21] = [
         expected: Code(" leave", 0) },
     Row { name: "a branch out of a block over three constants", source: "(func (result i32) block (result i32) i32.const 7 i32.const 8 i32.const 9 br 0 end)",
         expected: Code(" enter plain plain plain br(5,1,0) leave", 3) },
-    Row { name: "a sum by a loop", source: "(func (param i32 i32) (result i32) loop local.get 1 local.get 0 i32.add local.set 1 local.get 0 i32.const 1 i32.sub local.tee 0 br_if 0 end local.get 1)",
+    Row { name: "a sum by a loop", source: "(func (param i32 i32) (result i32) loop local.get 1 local.get 0 i32.add local.set 1 local.get \
+        0 i32.const 1 i32.sub local.tee 0 br_if 0 end local.get 1)",
         expected: Code(" enter plain plain plain plain plain plain plain plain br_if(0,0,0) plain leave", 2) },
     Row { name: "an if with two bodies", source: "(func (param i32) (result i32) local.get 0 if (result i32) i32.const 7 else i32.const 8 end)",
         expected: Code(" plain if(4,0,0) plain jump(5,1,0) plain leave", 1) },
@@ -42,7 +43,8 @@ static ROWS: [Row; 21] = [
         expected: Code(" plain enter plain return(5,1,0) plain leave", 2) },
     Row { name: "a branch out of two blocks", source: "(func (result i32) block (result i32) i64.const 1 block i32.const 7 br 1 end drop i32.const 8 end)",
         expected: Code(" enter plain enter plain br(7,1,0) plain plain leave", 2) },
-    Row { name: "a loop with a parameter", source: "(func (param i32) (result i32) i32.const 5 loop (param i32) (result i32) i32.const 1 i32.sub local.tee 0 local.get 0 br_if 0 end)",
+    Row { name: "a loop with a parameter", source: "(func (param i32) (result i32) i32.const 5 loop (param i32) (result i32) i32.const 1 \
+        i32.sub local.tee 0 local.get 0 br_if 0 end)",
         expected: Code(" plain enter plain plain plain plain br_if(1,1,0) leave", 2) },
     Row { name: "a branch above an operand", source: "(func (result i32) i32.const 1 block (result i32) i32.const 2 br 0 end i32.add)",
         expected: Code(" plain enter plain br(4,1,1) plain leave", 2) },
@@ -50,7 +52,8 @@ static ROWS: [Row; 21] = [
         expected: Code(" enter enter plain br_table(4,0,0)(5,0,0) else(5,0,0) plain leave", 1) },
     Row { name: "a branch by a default alone", source: "(func (param i32) block local.get 0 br_table 0 end)",
         expected: Code(" enter plain br_table else(3,0,0) leave", 1) },
-    Row { name: "an if with a parameter", source: "(func (param i32) (result i32) i32.const 9 local.get 0 if (param i32) (result i32) drop i32.const 1 else i32.const 2 i32.add end)",
+    Row { name: "an if with a parameter", source: "(func (param i32) (result i32) i32.const 9 local.get 0 if (param i32) (result i32) \
+        drop i32.const 1 else i32.const 2 i32.add end)",
         expected: Code(" plain plain if(6,1,0) plain plain jump(8,1,0) plain plain leave", 2) },
     Row { name: "bodies behind a branch", source: "(func block br 0 block br 0 br 1 end end)",
         expected: Code(" enter br(5,0,0) enter br(5,0,0) br(5,0,0) leave", 0) },
@@ -62,7 +65,8 @@ static ROWS: [Row; 21] = [
         expected: Code(" plain plain plain plain leave", 3) },
     Row { name: "a call of an import", source: "(import \"m\" \"f\" (func (param i64) (result i32 i32))) (func i64.const 1 call 0 drop drop)",
         expected: Code(" plain plain plain plain leave", 2) },
-    Row { name: "a call through a table", source: "(type (func (param i32) (result i32 i32 i32))) (table 1 funcref) (func i32.const 1 i32.const 0 call_indirect (type 0) drop drop drop)",
+    Row { name: "a call through a table", source: "(type (func (param i32) (result i32 i32 i32))) (table 1 funcref) \
+        (func i32.const 1 i32.const 0 call_indirect (type 0) drop drop drop)",
         expected: Code(" plain plain plain plain plain plain leave", 3) },
     Row { name: "a branch in a second function", source: "(func nop) (func (param i32) block local.get 0 br_if 0 end)",
         expected: Code(" enter plain br_if(3,0,0) leave", 1) },
@@ -80,9 +84,11 @@ static TAIL_CALLS: [Row; 6] = [
         expected: Code(" plain return_call(0) enter br(4,0,0) leave", 1) },
     Row { name: "tail calls from an if", source: "(func (param i32) local.get 0 if local.get 0 return_call 0 else local.get 0 return_call 0 end)",
         expected: Code(" plain if(5,0,0) plain return_call(0) jump(7,0,0) plain return_call(0) leave", 1) },
-    Row { name: "a tail call of an import", source: "(import \"m\" \"f\" (func (param i64) (result i32 i32))) (func (result i32 i32) i64.const 1 return_call 0)",
+    Row { name: "a tail call of an import", source: "(import \"m\" \"f\" (func (param i64) (result i32 i32))) \
+        (func (result i32 i32) i64.const 1 return_call 0)",
         expected: Code(" plain return_call(0) leave", 2) },
-    Row { name: "a tail call through a table", source: "(type (func (param i32) (result i32))) (table 1 funcref) (table 1 funcref) (func (type 0) local.get 0 i32.const 0 return_call_indirect 1 (type 0))",
+    Row { name: "a tail call through a table", source: "(type (func (param i32) (result i32))) (table 1 funcref) (table 1 funcref) \
+        (func (type 0) local.get 0 i32.const 0 return_call_indirect 1 (type 0))",
         expected: Code(" plain plain return_call_indirect(0,1) leave", 2) },
 ];
 

@@ -83,14 +83,28 @@ static TAIL_CALLS: [Call; 12] = [
 #[rattlefmt::skip]
 static TAIL_CALLS_INSIDE: [Call; 9] = [
     Call { name: "the caller adds to the result", address: 6, args: &[Val::I32(7), Val::I32(5)], bounds: (8, 2), ends: "values i32 102", left: 0 },
-    Call { name: "the caller adds to the result, one fuel short", address: 6, args: &[Val::I32(7), Val::I32(5)], bounds: (7, 2), ends: "exhausted fuel", left: 0 },
+    Call {
+        name: "the caller adds to the result, one fuel short",
+        address: 6,
+        args: &[Val::I32(7), Val::I32(5)],
+        bounds: (7, 2),
+        ends: "exhausted fuel",
+        left: 0,
+    },
     Call { name: "a trap", address: 6, args: &[Val::I32(7), Val::I32(0)], bounds: (10, 2), ends: "trap host trap 5", left: 3 },
     Call { name: "past the depth", address: 6, args: &[Val::I32(7), Val::I32(5)], bounds: (10, 1), ends: "exhausted depth", left: 7 },
     Call { name: "what it writes is read", address: 7, args: &[Val::I32(7), Val::I32(5)], bounds: (12, 2), ends: "values i32 7", left: 0 },
     Call { name: "four results above an operand", address: 10, args: &[], bounds: (3, 2), ends: "values i32 50 i32 1 i64 2 i32 3 i32 4", left: 0 },
     Call { name: "no result above an operand", address: 12, args: &[], bounds: (9, 2), ends: "values i32 12", left: 0 },
     Call { name: "no result, between frames without operands", address: 18, args: &[], bounds: (4, 2), ends: "values", left: 0 },
-    Call { name: "two in a row, the second for a caller of the first", address: 13, args: &[Val::I32(7), Val::I32(2)], bounds: (13, 3), ends: "values i32 103", left: 0 },
+    Call {
+        name: "two in a row, the second for a caller of the first",
+        address: 13,
+        args: &[Val::I32(7), Val::I32(2)],
+        bounds: (13, 3),
+        ends: "values i32 103",
+        left: 0,
+    },
 ];
 
 // Tail calls of the function that adds up its arguments.

@@ -51,7 +51,9 @@ const TWO_BYTES: &str =
 
 // A table of four functions that return 10 to 13, and a function that calls its entries.
 const FOUR: &str =
-    "(type (func (result i32))) (table 4 funcref) (func (result i32) i32.const 10) (func (result i32) i32.const 11) (func (result i32) i32.const 12) (func (result i32) i32.const 13) (func (param i32) (result i32) local.get 0 call_indirect (type 0)) (elem (offset i32.const 0) func 0 1 2 3)";
+    "(type (func (result i32))) (table 4 funcref) (func (result i32) i32.const 10) (func (result i32) i32.const 11) \
+    (func (result i32) i32.const 12) (func (result i32) i32.const 13) (func (param i32) (result i32) local.get 0 call_indirect (type 0)) \
+    (elem (offset i32.const 0) func 0 1 2 3)";
 
 const COPY: &str =
     "(import \"m\" \"table\" (table 4 funcref)) (import \"m\" \"table\" (table 4 funcref)) (func i32.const 1 i32.const 0 i32.const 3 table.copy 1 0)";
@@ -71,7 +73,8 @@ const GROWS: &str = "(memory 1 5) (func (result i32) i32.const 1 memory.grow)";
 
 // A memory and a global, with functions that write and read them.
 const SHARED: &str =
-    "(import \"m\" \"memory\" (memory 1)) (global (mut i32) i32.const 0) (func (param i32) i32.const 0 local.get 0 i32.store) (func (result i32) i32.const 0 i32.load) (func (param i32) local.get 0 global.set 0) (func (result i32) global.get 0)";
+    "(import \"m\" \"memory\" (memory 1)) (global (mut i32) i32.const 0) (func (param i32) i32.const 0 local.get 0 i32.store) \
+    (func (result i32) i32.const 0 i32.load) (func (param i32) local.get 0 global.set 0) (func (result i32) global.get 0)";
 
 const FUNCTION_IMPORT: &str =
     "(import \"m\" \"function\" (func (result i32))) (func (result i32) call 0 i32.const 1 i32.add)";
@@ -112,7 +115,9 @@ static LACKING: [Row; 8] = [
     ] },
     Row { name: "less is given than is imported", steps: &[
         Link("(memory 1)", &[], 0, Linked(0), 0),
-        Link("(import \"m\" \"memory\" (memory 1)) (import \"m\" \"global\" (global i32)) (import \"m\" \"table\" (table 1 funcref))", &[Extern::Memory(0), Extern::Memory(0)], 5, Refused(LinkRefusal::UnknownImport(2)), 5),
+        Link("(import \"m\" \"memory\" (memory 1)) (import \"m\" \"global\" (global i32)) \
+            (import \"m\" \"table\" (table 1 \
+            funcref))", &[Extern::Memory(0), Extern::Memory(0)], 5, Refused(LinkRefusal::UnknownImport(2)), 5),
     ] },
     Row { name: "more is given than is imported", steps: &[
         Link("(memory 1)", &[], 0, Linked(0), 0),

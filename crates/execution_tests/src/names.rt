@@ -10,7 +10,8 @@ use store::{LoadedModule, Store};
 
 // A module with two functions and one object of each other kind. All of them except the first function are exported.
 const TEXT: &str =
-    "(func) (func) (table 1 funcref) (memory 1) (global i32 i32.const 7) (export \"run\" (func 1)) (export \"table\" (table 0)) (export \"memory\" (memory 0)) (export \"global\" (global 0))";
+    "(func) (func) (table 1 funcref) (memory 1) (global i32 i32.const 7) (export \"run\" (func 1)) (export \"table\" (table 0)) \
+    (export \"memory\" (memory 0)) (export \"global\" (global 0))";
 
 // Links a module twice. Returns whether both links end with an instance.
 fn link_twice(alloc: Global, store: &mut Store, loaded: &Rc<LoadedModule>) -> bool {
@@ -51,15 +52,45 @@ const TAKEN: Result<(), NameRefusal> = Err(NameRefusal::NameTaken);
 #[rattlefmt::skip]
 static ROWS: [Row; 10] = [
     Row { name: "nothing", steps: &[Resolve("m", "f", None)] },
-    Row { name: "a host function", steps: &[Define("m", "f", 7, Ok(())), Resolve("m", "f", Some(Extern::Func(7))), Resolve("m", "g", None), Resolve("n", "f", None)] },
+    Row {
+        name: "a host function",
+        steps: &[Define("m", "f", 7, Ok(())), Resolve("m", "f", Some(Extern::Func(7))), Resolve("m", "g", None), Resolve("n", "f", None)],
+    },
     Row { name: "a host function twice", steps: &[Define("m", "f", 7, Ok(())), Define("m", "f", 8, TAKEN), Resolve("m", "f", Some(Extern::Func(7)))] },
-    Row { name: "one name in two modules", steps: &[Define("m", "f", 7, Ok(())), Define("n", "f", 8, Ok(())), Resolve("m", "f", Some(Extern::Func(7))), Resolve("n", "f", Some(Extern::Func(8)))] },
-    Row { name: "two names in one module", steps: &[Define("m", "f", 7, Ok(())), Define("m", "g", 8, Ok(())), Resolve("m", "f", Some(Extern::Func(7))), Resolve("m", "g", Some(Extern::Func(8)))] },
-    Row { name: "an instance under the name of a host's module", steps: &[Define("m", "f", 7, Ok(())), Register("m", 0, TAKEN), Resolve("m", "f", Some(Extern::Func(7))), Resolve("m", "run", None)] },
-    Row { name: "two instances under one name", steps: &[Register("m", 0, Ok(())), Resolve("m", "run", Some(Extern::Func(1))), Register("m", 1, Ok(())), Resolve("m", "run", Some(Extern::Func(3)))] },
-    Row { name: "a host function before an export", steps: &[Register("m", 1, Ok(())), Define("m", "run", 7, Ok(())), Resolve("m", "run", Some(Extern::Func(7))), Resolve("m", "table", Some(Extern::Table(1)))] },
-    Row { name: "an export of each kind", steps: &[Register("m", 1, Ok(())), Resolve("m", "run", Some(Extern::Func(3))), Resolve("m", "table", Some(Extern::Table(1))), Resolve("m", "memory", Some(Extern::Memory(1))), Resolve("m", "global", Some(Extern::Global(1)))] },
-    Row { name: "no export and no instance", steps: &[Register("m", 0, Ok(())), Register("n", 2, Ok(())), Resolve("m", "walk", None), Resolve("m", "", None), Resolve("n", "run", None)] },
+    Row {
+        name: "one name in two modules",
+        steps: &[Define("m", "f", 7, Ok(())), Define("n", "f", 8, Ok(())), Resolve("m", "f", Some(Extern::Func(7))), Resolve("n", "f", Some(Extern::Func(8)))],
+    },
+    Row {
+        name: "two names in one module",
+        steps: &[Define("m", "f", 7, Ok(())), Define("m", "g", 8, Ok(())), Resolve("m", "f", Some(Extern::Func(7))), Resolve("m", "g", Some(Extern::Func(8)))],
+    },
+    Row {
+        name: "an instance under the name of a host's module",
+        steps: &[Define("m", "f", 7, Ok(())), Register("m", 0, TAKEN), Resolve("m", "f", Some(Extern::Func(7))), Resolve("m", "run", None)],
+    },
+    Row {
+        name: "two instances under one name",
+        steps: &[Register("m", 0, Ok(())), Resolve("m", "run", Some(Extern::Func(1))), Register("m", 1, Ok(())), Resolve("m", "run", Some(Extern::Func(3)))],
+    },
+    Row {
+        name: "a host function before an export",
+        steps: &[Register("m", 1, Ok(())), Define("m", "run", 7, Ok(())), Resolve("m", "run", Some(Extern::Func(7))), Resolve("m", "table", Some(Extern::Table(1)))],
+    },
+    Row {
+        name: "an export of each kind",
+        steps: &[
+            Register("m", 1, Ok(())),
+            Resolve("m", "run", Some(Extern::Func(3))),
+            Resolve("m", "table", Some(Extern::Table(1))),
+            Resolve("m", "memory", Some(Extern::Memory(1))),
+            Resolve("m", "global", Some(Extern::Global(1))),
+        ],
+    },
+    Row {
+        name: "no export and no instance",
+        steps: &[Register("m", 0, Ok(())), Register("n", 2, Ok(())), Resolve("m", "walk", None), Resolve("m", "", None), Resolve("n", "run", None)],
+    },
 ];
 
 fn kind_and_address(value: Extern) -> (u8, u32) {

@@ -43,10 +43,14 @@ local.tee 0 | i32 7 i32 8 | 4 | 1 | values i32 6 i32 6 i32 8 | 0 | (func (param 
 unreachable that traps, fuel 10 | | 10 | 1 | trap unreachable | 7 | (func (result i32) nop nop unreachable)
 unreachable that traps, fuel 3 | | 3 | 1 | trap unreachable | 0 | (func (result i32) nop nop unreachable)
 unreachable that traps, fuel 2 | | 2 | 1 | exhausted fuel | 0 | (func (result i32) nop nop unreachable)
-a sum, with fuel for it | i32 3 | 31 | 1 | values i32 6 | 0 | (func (param i32) (result i32) (local i32) loop local.get 1 local.get 0 i32.add local.set 1 local.get 0 i32.const 1 i32.sub local.tee 0 br_if 0 end local.get 1)
-a sum, one fuel short | i32 3 | 30 | 1 | exhausted fuel | 0 | (func (param i32) (result i32) (local i32) loop local.get 1 local.get 0 i32.add local.set 1 local.get 0 i32.const 1 i32.sub local.tee 0 br_if 0 end local.get 1)
-a sum, argument 1 | i32 1 | 11 | 9 | values i32 1 | 0 | (func (param i32) (result i32) (local i32) loop local.get 1 local.get 0 i32.add local.set 1 local.get 0 i32.const 1 i32.sub local.tee 0 br_if 0 end local.get 1)
-a sum, argument 4 | i32 4 | 41 | 9 | values i32 10 | 0 | (func (param i32) (result i32) (local i32) loop local.get 1 local.get 0 i32.add local.set 1 local.get 0 i32.const 1 i32.sub local.tee 0 br_if 0 end local.get 1)
+a sum, with fuel for it | i32 3 | 31 | 1 | values i32 6 | 0 | (func (param i32) (result i32) (local i32) loop local.get 1 local.get 0 \
+    i32.add local.set 1 local.get 0 i32.const 1 i32.sub local.tee 0 br_if 0 end local.get 1)
+a sum, one fuel short | i32 3 | 30 | 1 | exhausted fuel | 0 | (func (param i32) (result i32) (local i32) loop local.get 1 local.get 0 \
+    i32.add local.set 1 local.get 0 i32.const 1 i32.sub local.tee 0 br_if 0 end local.get 1)
+a sum, argument 1 | i32 1 | 11 | 9 | values i32 1 | 0 | (func (param i32) (result i32) (local i32) loop local.get 1 local.get 0 i32.add \
+    local.set 1 local.get 0 i32.const 1 i32.sub local.tee 0 br_if 0 end local.get 1)
+a sum, argument 4 | i32 4 | 41 | 9 | values i32 10 | 0 | (func (param i32) (result i32) (local i32) loop local.get 1 local.get 0 i32.add \
+    local.set 1 local.get 0 i32.const 1 i32.sub local.tee 0 br_if 0 end local.get 1)
 a call past the depth | | 10 | 1 | exhausted depth | 10 | (func call 1) (func)
 a call past the depth without fuel | | 0 | 1 | exhausted fuel | 0 | (func call 1) (func)
 a call without fuel | | 0 | 2 | exhausted fuel | 0 | (func call 1) (func)
@@ -63,56 +67,102 @@ nested bodies, one fuel short | | 2 | 1 | exhausted fuel | 0 | (func block loop 
 4294967295 and 1, fuel 1000000000 | i32 4294967295 i32 1 | 1000000000 | 1 | values i32 0 | 999999997 | (func (param i32 i32) (result i32) local.get 0 local.get 1 i32.add)
 1 and 2, fuel 2 | i32 1 i32 2 | 2 | 1 | exhausted fuel | 0 | (func (param i32 i32) (result i32) local.get 0 local.get 1 i32.add)
 results in order | | 2 | 1 | values i32 1 i64 2 | 0 | (func (result i32 i64) i32.const 1 i64.const 2)
-first values of locals | | 4 | 1 | values i32 0 i64 0 funcref null externref null | 0 | (func (result i32 i64 funcref externref) (local i32 i64 funcref externref) local.get 0 local.get 1 local.get 2 local.get 3)
+first values of locals | | 4 | 1 | values i32 0 i64 0 funcref null externref null | 0 | \
+    (func (result i32 i64 funcref externref) (local i32 i64 funcref externref) local.get 0 local.get 1 local.get 2 local.get 3)
 a sum of 64 bits that wraps | | 9 | 1 | values i64 2 | 6 | (func (result i64) i64.const 18446744073709551615 i64.const 3 i64.add)
 a branch keeps the topmost operand | | 10 | 1 | values i32 3 | 5 | (func (result i32) block (result i32) i32.const 1 i32.const 2 i32.const 3 br 0 end)
 a branch to the function keeps two | | 10 | 1 | values i32 2 i32 3 | 6 | (func (result i32 i32) i32.const 1 i32.const 2 i32.const 3 br 0)
-a branch out of three | | 20 | 1 | values i32 105 | 9 | (func (result i32) i32.const 100 block (result i32) i32.const 1 i32.const 2 loop i32.const 3 block i32.const 4 i32.const 5 br 2 end drop end drop end i32.add)
+a branch out of three | | 20 | 1 | values i32 105 | 9 | (func (result i32) i32.const 100 block (result i32) i32.const 1 i32.const 2 loop \
+    i32.const 3 block i32.const 4 i32.const 5 br 2 end drop end drop end i32.add)
 br_if, argument 0 | i32 0 | 8 | 9 | values i32 13 | 0 | (func (param i32) (result i32) (local i32) i32.const 5 block (result i32) i32.const 7 local.get 0 br_if 0 i32.const 1 i32.add end i32.add)
 br_if, argument 1 | i32 1 | 6 | 9 | values i32 12 | 0 | (func (param i32) (result i32) (local i32) i32.const 5 block (result i32) i32.const 7 local.get 0 br_if 0 i32.const 1 i32.add end i32.add)
-br_if, argument 2147483648 | i32 2147483648 | 6 | 9 | values i32 12 | 0 | (func (param i32) (result i32) (local i32) i32.const 5 block (result i32) i32.const 7 local.get 0 br_if 0 i32.const 1 i32.add end i32.add)
-br_table, argument 0 | i32 0 | 8 | 9 | values i32 10 | 0 | (func (param i32) (result i32) (local i32) block block block block local.get 0 br_table 0 1 2 3 end i32.const 10 return end i32.const 11 return end i32.const 12 return end i32.const 13)
-br_table, argument 1 | i32 1 | 8 | 9 | values i32 11 | 0 | (func (param i32) (result i32) (local i32) block block block block local.get 0 br_table 0 1 2 3 end i32.const 10 return end i32.const 11 return end i32.const 12 return end i32.const 13)
-br_table, argument 2 | i32 2 | 8 | 9 | values i32 12 | 0 | (func (param i32) (result i32) (local i32) block block block block local.get 0 br_table 0 1 2 3 end i32.const 10 return end i32.const 11 return end i32.const 12 return end i32.const 13)
-br_table, argument 3 | i32 3 | 7 | 9 | values i32 13 | 0 | (func (param i32) (result i32) (local i32) block block block block local.get 0 br_table 0 1 2 3 end i32.const 10 return end i32.const 11 return end i32.const 12 return end i32.const 13)
-br_table, argument 4 | i32 4 | 7 | 9 | values i32 13 | 0 | (func (param i32) (result i32) (local i32) block block block block local.get 0 br_table 0 1 2 3 end i32.const 10 return end i32.const 11 return end i32.const 12 return end i32.const 13)
-br_table, argument 4294967295 | i32 4294967295 | 7 | 9 | values i32 13 | 0 | (func (param i32) (result i32) (local i32) block block block block local.get 0 br_table 0 1 2 3 end i32.const 10 return end i32.const 11 return end i32.const 12 return end i32.const 13)
-br_table with operands, argument 0 | i32 0 | 8 | 9 | values i32 102 | 0 | (func (param i32) (result i32) (local i32) i32.const 100 block (result i32) block (result i32) i32.const 1 i32.const 2 local.get 0 br_table 1 0 1 0 end i32.const 10 i32.mul end i32.add)
-br_table with operands, argument 1 | i32 1 | 10 | 9 | values i32 120 | 0 | (func (param i32) (result i32) (local i32) i32.const 100 block (result i32) block (result i32) i32.const 1 i32.const 2 local.get 0 br_table 1 0 1 0 end i32.const 10 i32.mul end i32.add)
-br_table with operands, argument 2 | i32 2 | 8 | 9 | values i32 102 | 0 | (func (param i32) (result i32) (local i32) i32.const 100 block (result i32) block (result i32) i32.const 1 i32.const 2 local.get 0 br_table 1 0 1 0 end i32.const 10 i32.mul end i32.add)
-br_table with operands, argument 3 | i32 3 | 10 | 9 | values i32 120 | 0 | (func (param i32) (result i32) (local i32) i32.const 100 block (result i32) block (result i32) i32.const 1 i32.const 2 local.get 0 br_table 1 0 1 0 end i32.const 10 i32.mul end i32.add)
+br_if, argument 2147483648 | i32 2147483648 | 6 | 9 | values i32 12 | 0 | \
+    (func (param i32) (result i32) (local i32) i32.const 5 block (result i32) i32.const 7 local.get 0 br_if 0 i32.const 1 i32.add end \
+    i32.add)
+br_table, argument 0 | i32 0 | 8 | 9 | values i32 10 | 0 | (func (param i32) (result i32) (local i32) block block block block local.get 0 \
+    br_table 0 1 2 3 end i32.const 10 return end i32.const 11 return end i32.const 12 return end i32.const 13)
+br_table, argument 1 | i32 1 | 8 | 9 | values i32 11 | 0 | (func (param i32) (result i32) (local i32) block block block block local.get 0 \
+    br_table 0 1 2 3 end i32.const 10 return end i32.const 11 return end i32.const 12 return end i32.const 13)
+br_table, argument 2 | i32 2 | 8 | 9 | values i32 12 | 0 | (func (param i32) (result i32) (local i32) block block block block local.get 0 \
+    br_table 0 1 2 3 end i32.const 10 return end i32.const 11 return end i32.const 12 return end i32.const 13)
+br_table, argument 3 | i32 3 | 7 | 9 | values i32 13 | 0 | (func (param i32) (result i32) (local i32) block block block block local.get 0 \
+    br_table 0 1 2 3 end i32.const 10 return end i32.const 11 return end i32.const 12 return end i32.const 13)
+br_table, argument 4 | i32 4 | 7 | 9 | values i32 13 | 0 | (func (param i32) (result i32) (local i32) block block block block local.get 0 \
+    br_table 0 1 2 3 end i32.const 10 return end i32.const 11 return end i32.const 12 return end i32.const 13)
+br_table, argument 4294967295 | i32 4294967295 | 7 | 9 | values i32 13 | 0 | \
+    (func (param i32) (result i32) (local i32) block block block block local.get 0 br_table 0 1 2 3 end i32.const 10 return end i32.const \
+    11 return end i32.const 12 return end i32.const 13)
+br_table with operands, argument 0 | i32 0 | 8 | 9 | values i32 102 | 0 | \
+    (func (param i32) (result i32) (local i32) i32.const 100 block (result i32) block (result i32) i32.const 1 i32.const 2 local.get 0 \
+    br_table 1 0 1 0 end i32.const 10 i32.mul end i32.add)
+br_table with operands, argument 1 | i32 1 | 10 | 9 | values i32 120 | 0 | \
+    (func (param i32) (result i32) (local i32) i32.const 100 block (result i32) block (result i32) i32.const 1 i32.const 2 local.get 0 \
+    br_table 1 0 1 0 end i32.const 10 i32.mul end i32.add)
+br_table with operands, argument 2 | i32 2 | 8 | 9 | values i32 102 | 0 | \
+    (func (param i32) (result i32) (local i32) i32.const 100 block (result i32) block (result i32) i32.const 1 i32.const 2 local.get 0 \
+    br_table 1 0 1 0 end i32.const 10 i32.mul end i32.add)
+br_table with operands, argument 3 | i32 3 | 10 | 9 | values i32 120 | 0 | \
+    (func (param i32) (result i32) (local i32) i32.const 100 block (result i32) block (result i32) i32.const 1 i32.const 2 local.get 0 \
+    br_table 1 0 1 0 end i32.const 10 i32.mul end i32.add)
 a block takes and gives by a type | | 9 | 1 | values i32 105 | 3 | (func (result i32) i32.const 100 i32.const 9 i32.const 4 block (param i32 i32) (result i32) i32.sub end i32.add)
 a branch out of such a block | | 9 | 1 | values i32 91 | 2 | (func (result i32) i32.const 100 i32.const 9 i32.const 4 block (param i32 i32) (result i32) i32.const 9 br 0 end i32.sub)
-a loop with a parameter, argument 1 | i32 1 | 11 | 9 | values i32 102 | 0 | (func (param i32) (result i32) (local i32) i32.const 100 i32.const 1 loop (param i32) (result i32) i32.const 2 i32.mul local.get 0 i32.const 1 i32.sub local.tee 0 br_if 0 end i32.add)
-a loop with a parameter, argument 3 | i32 3 | 27 | 9 | values i32 108 | 0 | (func (param i32) (result i32) (local i32) i32.const 100 i32.const 1 loop (param i32) (result i32) i32.const 2 i32.mul local.get 0 i32.const 1 i32.sub local.tee 0 br_if 0 end i32.add)
-a loop with a parameter, argument 10 | i32 10 | 83 | 9 | values i32 1124 | 0 | (func (param i32) (result i32) (local i32) i32.const 100 i32.const 1 loop (param i32) (result i32) i32.const 2 i32.mul local.get 0 i32.const 1 i32.sub local.tee 0 br_if 0 end i32.add)
-a branch to a loop, argument 1 | i32 1 | 11 | 9 | values i32 102 | 0 | (func (param i32) (result i32) (local i32) i32.const 100 i32.const 1 loop (param i32) (result i32) i32.const 2 i32.mul local.get 0 i32.const 1 i32.sub local.tee 0 if i32.const 7 i32.const 3 br 1 end end i32.add)
-a branch to a loop, argument 2 | i32 2 | 22 | 9 | values i32 106 | 0 | (func (param i32) (result i32) (local i32) i32.const 100 i32.const 1 loop (param i32) (result i32) i32.const 2 i32.mul local.get 0 i32.const 1 i32.sub local.tee 0 if i32.const 7 i32.const 3 br 1 end end i32.add)
+a loop with a parameter, argument 1 | i32 1 | 11 | 9 | values i32 102 | 0 | \
+    (func (param i32) (result i32) (local i32) i32.const 100 i32.const 1 loop (param i32) (result i32) i32.const 2 i32.mul local.get 0 \
+    i32.const 1 i32.sub local.tee 0 br_if 0 end i32.add)
+a loop with a parameter, argument 3 | i32 3 | 27 | 9 | values i32 108 | 0 | \
+    (func (param i32) (result i32) (local i32) i32.const 100 i32.const 1 loop (param i32) (result i32) i32.const 2 i32.mul local.get 0 \
+    i32.const 1 i32.sub local.tee 0 br_if 0 end i32.add)
+a loop with a parameter, argument 10 | i32 10 | 83 | 9 | values i32 1124 | 0 | \
+    (func (param i32) (result i32) (local i32) i32.const 100 i32.const 1 loop (param i32) (result i32) i32.const 2 i32.mul local.get 0 \
+    i32.const 1 i32.sub local.tee 0 br_if 0 end i32.add)
+a branch to a loop, argument 1 | i32 1 | 11 | 9 | values i32 102 | 0 | \
+    (func (param i32) (result i32) (local i32) i32.const 100 i32.const 1 loop (param i32) (result i32) i32.const 2 i32.mul local.get 0 \
+    i32.const 1 i32.sub local.tee 0 if i32.const 7 i32.const 3 br 1 end end i32.add)
+a branch to a loop, argument 2 | i32 2 | 22 | 9 | values i32 106 | 0 | \
+    (func (param i32) (result i32) (local i32) i32.const 100 i32.const 1 loop (param i32) (result i32) i32.const 2 i32.mul local.get 0 \
+    i32.const 1 i32.sub local.tee 0 if i32.const 7 i32.const 3 br 1 end end i32.add)
 if, condition 1 | i32 1 | 3 | 1 | values i32 7 | 0 | (func (param i32) (result i32) (local i32) local.get 0 if (result i32) i32.const 7 else i32.const 8 end)
 if, condition 0 | i32 0 | 3 | 1 | values i32 8 | 0 | (func (param i32) (result i32) (local i32) local.get 0 if (result i32) i32.const 7 else i32.const 8 end)
-a branch out of an if and a block, argument 0 | i32 0 | 5 | 9 | values i32 2 | 0 | (func (param i32) (result i32) (local i32) block (result i32) local.get 0 if i32.const 1 br 1 else nop end i32.const 2 end)
-a branch out of an if and a block, argument 1 | i32 1 | 5 | 9 | values i32 1 | 0 | (func (param i32) (result i32) (local i32) block (result i32) local.get 0 if i32.const 1 br 1 else nop end i32.const 2 end)
-a branch out of an if and a block, argument 4294967295 | i32 4294967295 | 5 | 9 | values i32 1 | 0 | (func (param i32) (result i32) (local i32) block (result i32) local.get 0 if i32.const 1 br 1 else nop end i32.const 2 end)
+a branch out of an if and a block, argument 0 | i32 0 | 5 | 9 | values i32 2 | 0 | \
+    (func (param i32) (result i32) (local i32) block (result i32) local.get 0 if i32.const 1 br 1 else nop end i32.const 2 end)
+a branch out of an if and a block, argument 1 | i32 1 | 5 | 9 | values i32 1 | 0 | \
+    (func (param i32) (result i32) (local i32) block (result i32) local.get 0 if i32.const 1 br 1 else nop end i32.const 2 end)
+a branch out of an if and a block, argument 4294967295 | i32 4294967295 | 5 | 9 | values i32 1 | 0 | \
+    (func (param i32) (result i32) (local i32) block (result i32) local.get 0 if i32.const 1 br 1 else nop end i32.const 2 end)
 a branch to the end of an if, argument 0 | i32 0 | 3 | 9 | values i32 8 | 0 | (func (param i32) (result i32) (local i32) local.get 0 if (result i32) i32.const 6 i32.const 7 br 0 else i32.const 8 end)
 a branch to the end of an if, argument 1 | i32 1 | 5 | 9 | values i32 7 | 0 | (func (param i32) (result i32) (local i32) local.get 0 if (result i32) i32.const 6 i32.const 7 br 0 else i32.const 8 end)
 an if without else, argument 0 | i32 0 | 3 | 9 | values i32 0 | 0 | (func (param i32) (result i32) (local i32) local.get 0 if i32.const 7 local.set 1 end local.get 1)
 an if without else, argument 1 | i32 1 | 5 | 9 | values i32 7 | 0 | (func (param i32) (result i32) (local i32) local.get 0 if i32.const 7 local.set 1 end local.get 1)
 an if without else, argument 2 | i32 2 | 5 | 9 | values i32 7 | 0 | (func (param i32) (result i32) (local i32) local.get 0 if i32.const 7 local.set 1 end local.get 1)
-an if with a parameter and without else, argument 0 | i32 0 | 3 | 9 | values i32 20 | 0 | (func (param i32) (result i32) (local i32) i32.const 20 local.get 0 if (param i32) (result i32) i32.const 1 i32.add end)
-an if with a parameter and without else, argument 1 | i32 1 | 5 | 9 | values i32 21 | 0 | (func (param i32) (result i32) (local i32) i32.const 20 local.get 0 if (param i32) (result i32) i32.const 1 i32.add end)
+an if with a parameter and without else, argument 0 | i32 0 | 3 | 9 | values i32 20 | 0 | \
+    (func (param i32) (result i32) (local i32) i32.const 20 local.get 0 if (param i32) (result i32) i32.const 1 i32.add end)
+an if with a parameter and without else, argument 1 | i32 1 | 5 | 9 | values i32 21 | 0 | \
+    (func (param i32) (result i32) (local i32) i32.const 20 local.get 0 if (param i32) (result i32) i32.const 1 i32.add end)
 a return from two labels | | 9 | 1 | values i32 4 | 2 | (func (result i32) i32.const 1 block i32.const 2 block i32.const 3 i32.const 4 return end drop end)
 a return, with fuel for it | | 7 | 1 | values i32 4 | 0 | (func (result i32) i32.const 1 block i32.const 2 block i32.const 3 i32.const 4 return end drop end)
 a return, one fuel short | | 6 | 1 | exhausted fuel | 0 | (func (result i32) i32.const 1 block i32.const 2 block i32.const 3 i32.const 4 return end drop end)
-a return to a caller | | 10 | 2 | values i32 104 | 0 | (func (result i32) i32.const 100 call 1 i32.add) (func (result i32) i32.const 1 block i32.const 2 block i32.const 3 i32.const 4 return end drop end)
-a return to a caller, fuel short | | 8 | 2 | exhausted fuel | 0 | (func (result i32) i32.const 100 call 1 i32.add) (func (result i32) i32.const 1 block i32.const 2 block i32.const 3 i32.const 4 return end drop end)
-arguments and results in order | | 8 | 2 | values i32 7 i32 5 i32 4 | 0 | (func (result i32 i32 i32) i32.const 7 i32.const 9 i32.const 4 call 1) (func (param i32 i32) (result i32 i32) local.get 0 local.get 1 i32.sub local.get 1)
+a return to a caller | | 10 | 2 | values i32 104 | 0 | (func (result i32) i32.const 100 call 1 i32.add) \
+    (func (result i32) i32.const 1 block i32.const 2 block i32.const 3 i32.const 4 return end drop end)
+a return to a caller, fuel short | | 8 | 2 | exhausted fuel | 0 | (func (result i32) i32.const 100 call 1 i32.add) \
+    (func (result i32) i32.const 1 block i32.const 2 block i32.const 3 i32.const 4 return end drop end)
+arguments and results in order | | 8 | 2 | values i32 7 i32 5 i32 4 | 0 | \
+    (func (result i32 i32 i32) i32.const 7 i32.const 9 i32.const 4 call 1) \
+    (func (param i32 i32) (result i32 i32) local.get 0 local.get 1 i32.sub local.get 1)
 locals of a callee begin at zero | | 10 | 2 | values i32 5 i32 5 | 0 | (func (result i32 i32) call 1 call 1) (func (result i32) (local i32) local.get 0 i32.const 5 i32.add local.tee 0)
-locals stay over a call, argument 40 | i32 40 | 11 | 9 | values i32 48 | 0 | (func (param i32) (result i32) (local i32) i32.const 3 local.set 1 call 1 local.get 0 i32.add local.get 1 i32.add) (func (result i32) (local i32) local.get 0 i32.const 5 i32.add local.tee 0)
+locals stay over a call, argument 40 | i32 40 | 11 | 9 | values i32 48 | 0 | \
+    (func (param i32) (result i32) (local i32) i32.const 3 local.set 1 call 1 local.get 0 i32.add local.get 1 i32.add) \
+    (func (result i32) (local i32) local.get 0 i32.const 5 i32.add local.tee 0)
 factorial of 0 | i64 0 | 4 | 1 | values i64 1 | 0 | (func (param i64) (result i64) local.get 0 i64.eqz if (result i64) i64.const 1 else local.get 0 local.get 0 i64.const 1 i64.sub call 0 i64.mul end)
-factorial of 5 | i64 5 | 50 | 6 | values i64 120 | 1 | (func (param i64) (result i64) local.get 0 i64.eqz if (result i64) i64.const 1 else local.get 0 local.get 0 i64.const 1 i64.sub call 0 i64.mul end)
-factorial of 20 | i64 20 | 184 | 21 | values i64 2432902008176640000 | 0 | (func (param i64) (result i64) local.get 0 i64.eqz if (result i64) i64.const 1 else local.get 0 local.get 0 i64.const 1 i64.sub call 0 i64.mul end)
-factorial of 5 past the depth | i64 5 | 100 | 5 | exhausted depth | 61 | (func (param i64) (result i64) local.get 0 i64.eqz if (result i64) i64.const 1 else local.get 0 local.get 0 i64.const 1 i64.sub call 0 i64.mul end)
-fibonacci of 10 | i32 10 | 1589 | 10 | values i32 55 | 0 | (func (param i32) (result i32) (local i32) local.get 0 i32.const 2 i32.lt_u if (result i32) local.get 0 else local.get 0 i32.const 1 i32.sub call 0 local.get 0 i32.const 2 i32.sub call 0 i32.add end)
+factorial of 5 | i64 5 | 50 | 6 | values i64 120 | 1 | (func (param i64) (result i64) local.get 0 i64.eqz if (result i64) i64.const 1 \
+    else local.get 0 local.get 0 i64.const 1 i64.sub call 0 i64.mul end)
+factorial of 20 | i64 20 | 184 | 21 | values i64 2432902008176640000 | 0 | \
+    (func (param i64) (result i64) local.get 0 i64.eqz if (result i64) i64.const 1 else local.get 0 local.get 0 i64.const 1 i64.sub call \
+    0 i64.mul end)
+factorial of 5 past the depth | i64 5 | 100 | 5 | exhausted depth | 61 | \
+    (func (param i64) (result i64) local.get 0 i64.eqz if (result i64) i64.const 1 else local.get 0 local.get 0 i64.const 1 i64.sub call \
+    0 i64.mul end)
+fibonacci of 10 | i32 10 | 1589 | 10 | values i32 55 | 0 | (func (param i32) (result i32) (local i32) local.get 0 i32.const 2 i32.lt_u if \
+    (result i32) local.get 0 else local.get 0 i32.const 1 i32.sub call 0 local.get 0 i32.const 2 i32.sub call 0 i32.add end)
 a trap in a callee | | 10 | 2 | trap integer divide by zero | 5 | (func (result i32) i32.const 1 call 1 i32.add) (func (result i32) i32.const 1 i32.const 0 i32.div_u)
 a callee without fuel | | 4 | 2 | exhausted fuel | 0 | (func (result i32) i32.const 1 call 1 i32.add) (func (result i32) i32.const 1 i32.const 0 i32.div_u)
 block br 0 end, one fuel short | | 1 | 2 | exhausted fuel | 0 | (func block br 0 end) (func)
@@ -134,7 +184,8 @@ memory.fill | | 6 | 1 | values | 0 | (memory 1) (func i32.const 0 i32.const 7 i3
 memory.fill past the end | | 10 | 1 | trap out of bounds memory access | 6 | (memory 1) (func i32.const 65535 i32.const 7 i32.const 128 memory.fill)
 memory.fill and i32.load8_u | | 20 | 1 | values i32 7 | 14 | (memory 1) (func (result i32) i32.const 0 i32.const 263 i32.const 1 memory.fill i32.const 0 i32.load8_u)
 i32.load8_u with an offset that does not wrap | | 20 | 1 | trap out of bounds memory access | 18 | (memory 1) (func (result i32) i32.const 1 i32.load8_u offset=4294967295)
-a store and loads | | 20 | 1 | values i32 4294967168 i64 18446744073709551488 | 13 | (memory 1) (func (result i32 i64) i32.const 0 i32.const 65408 i32.store16 i32.const 0 i32.load8_s i32.const 0 i64.load16_s)
+a store and loads | | 20 | 1 | values i32 4294967168 i64 18446744073709551488 | 13 | (memory 1) \
+    (func (result i32 i64) i32.const 0 i32.const 65408 i32.store16 i32.const 0 i32.load8_s i32.const 0 i64.load16_s)
 a store past the end | | 20 | 1 | trap out of bounds memory access | 17 | (memory 1) (func i32.const 65533 i32.const 1 i32.store)
 a store of an i64 | | 20 | 1 | values i64 258 | 15 | (memory 1) (func (result i64) i32.const 8 i64.const 258 i64.store offset=8 i32.const 0 i64.load offset=16)
 memory.copy | | 20 | 1 | values i32 50462977 | 11 | (memory 1) (func (result i32) i32.const 0 i32.const 67305985 i32.store i32.const 1 i32.const 0 i32.const 3 memory.copy i32.const 0 i32.load)
@@ -164,24 +215,41 @@ table.set past the end | externref 4 | 9 | 1 | trap out of bounds table access |
 table.get of a null | | 9 | 1 | values externref null | 7 | (table 2 externref) (func (result externref) i32.const 0 table.get)
 ref.func and ref.is_null | | 9 | 1 | values funcref 1 i32 0 i32 1 | 4 | (elem declare func 1) (func (result funcref i32 i32) ref.func 1 ref.func 1 ref.is_null ref.null func ref.is_null) (func)
 table.size | | 9 | 1 | values i32 3 i32 5 | 7 | (table 3 funcref) (table 5 externref) (func (result i32 i32) table.size 0 table.size 1)
-table.grow up to the maximum, and past it | | 9 | 1 | values i32 2 i32 4294967295 i32 10 | 1 | (table 2 10 funcref) (func (result i32 i32 i32) ref.null func i32.const 8 table.grow ref.null func i32.const 1 table.grow table.size)
+table.grow up to the maximum, and past it | | 9 | 1 | values i32 2 i32 4294967295 i32 10 | 1 | (table 2 10 funcref) \
+    (func (result i32 i32 i32) ref.null func i32.const 8 table.grow ref.null func i32.const 1 table.grow table.size)
 table.grow, one fuel short | | 3 | 1 | exhausted fuel | 1 | (table 2 10 funcref) (func (result i32) ref.null func i32.const 8 table.grow)
 table.grow up to the bound on entries | | 20 | 1 | values i32 98 | 17 | (table 98 funcref) (func (result i32) ref.null func i32.const 2 table.grow)
 table.grow past the bound on entries | | 20 | 1 | values i32 4294967295 | 17 | (table 98 funcref) (func (result i32) ref.null func i32.const 3 table.grow)
-table.grow with a value | externref 7 | 20 | 1 | values i32 1 externref 7 | 15 | (table 1 externref) (func (param externref) (result i32 externref) local.get 0 i32.const 1 table.grow i32.const 1 table.get)
+table.grow with a value | externref 7 | 20 | 1 | values i32 1 externref 7 | 15 | (table 1 externref) \
+    (func (param externref) (result i32 externref) local.get 0 i32.const 1 table.grow i32.const 1 table.get)
 a call through a null entry | | 9 | 2 | trap uninitialized element | 7 | (type (func (result i32))) (table 2 funcref) (func (result i32) i32.const 1 call_indirect (type 0))
 a call through no entry | | 9 | 2 | trap undefined element | 7 | (type (func (result i32))) (table 2 funcref) (func (result i32) i32.const 2 call_indirect (type 0))
 a call through no entry, without fuel | | 1 | 2 | exhausted fuel | 0 | (type (func (result i32))) (table 2 funcref) (func (result i32) i32.const 2 call_indirect (type 0))
-a call of a function of another type | | 9 | 2 | trap indirect call type mismatch | 4 | (type (func (result i32))) (table 2 funcref) (elem declare func 1) (func (result i32) i32.const 0 ref.func 1 table.set i32.const 0 call_indirect (type 0)) (func)
-a call of a function with another type of its parameter | | 9 | 2 | trap indirect call type mismatch | 3 | (type (func (param i32) (result i32))) (table 2 funcref) (elem declare func 1) (func (result i32) i32.const 0 ref.func 1 table.set i32.const 7 i32.const 0 call_indirect (type 0)) (func (param i64) (result i32) i32.const 1)
-a call of a function of an equal type of another index | | 9 | 2 | values i32 5 | 2 | (type (func (param i32) (result i32))) (type (func (param i32) (result i32))) (table 2 funcref) (elem declare func 1) (func (result i32) i32.const 0 ref.func 1 table.set i32.const 5 i32.const 0 call_indirect (type 0)) (func (type 1) local.get 0)
-a call through an entry, one fuel short | | 5 | 2 | exhausted fuel | 0 | (type (func (param i32) (result i32))) (table 2 funcref) (elem declare func 1) (func (result i32) i32.const 0 ref.func 1 table.set i32.const 5 i32.const 0 call_indirect (type 0)) (func (type 0) local.get 0)
-a call through an entry past the depth bound | | 9 | 1 | exhausted depth | 4 | (type (func (param i32) (result i32))) (table 2 funcref) (elem declare func 1) (func (result i32) i32.const 0 ref.func 1 table.set i32.const 5 i32.const 0 call_indirect (type 0)) (func (type 0) local.get 0)
-a call through the second table | | 9 | 2 | values i32 5 | 3 | (type (func (result i32))) (table 1 externref) (table 1 funcref) (elem declare func 1) (func (result i32) i32.const 0 ref.func 1 table.set 1 i32.const 0 call_indirect 1 (type 0)) (func (result i32) i32.const 5)
-table.init of some references | | 20 | 1 | values i32 1 i32 0 i32 0 | 7 | (table 3 funcref) (elem func 0 0 0) (func (result i32 i32 i32) i32.const 1 i32.const 0 i32.const 2 table.init 0 i32.const 0 table.get ref.is_null i32.const 1 table.get ref.is_null i32.const 2 table.get ref.is_null)
+a call of a function of another type | | 9 | 2 | trap indirect call type mismatch | 4 | (type (func (result i32))) (table 2 funcref) \
+    (elem declare func 1) (func (result i32) i32.const 0 ref.func 1 table.set i32.const 0 call_indirect (type 0)) (func)
+a call of a function with another type of its parameter | | 9 | 2 | trap indirect call type mismatch | 3 | \
+    (type (func (param i32) (result i32))) (table 2 funcref) (elem declare func 1) \
+    (func (result i32) i32.const 0 ref.func 1 table.set i32.const 7 i32.const 0 call_indirect (type 0)) \
+    (func (param i64) (result i32) i32.const 1)
+a call of a function of an equal type of another index | | 9 | 2 | values i32 5 | 2 | (type (func (param i32) (result i32))) \
+    (type (func (param i32) (result i32))) (table 2 funcref) (elem declare func 1) \
+    (func (result i32) i32.const 0 ref.func 1 table.set i32.const 5 i32.const 0 call_indirect (type 0)) (func (type 1) local.get 0)
+a call through an entry, one fuel short | | 5 | 2 | exhausted fuel | 0 | (type (func (param i32) (result i32))) (table 2 funcref) \
+    (elem declare func 1) (func (result i32) i32.const 0 ref.func 1 table.set i32.const 5 i32.const 0 call_indirect (type 0)) \
+    (func (type 0) local.get 0)
+a call through an entry past the depth bound | | 9 | 1 | exhausted depth | 4 | (type (func (param i32) (result i32))) (table 2 funcref) \
+    (elem declare func 1) (func (result i32) i32.const 0 ref.func 1 table.set i32.const 5 i32.const 0 call_indirect (type 0)) \
+    (func (type 0) local.get 0)
+a call through the second table | | 9 | 2 | values i32 5 | 3 | (type (func (result i32))) (table 1 externref) (table 1 funcref) \
+    (elem declare func 1) (func (result i32) i32.const 0 ref.func 1 table.set 1 i32.const 0 call_indirect 1 (type 0)) \
+    (func (result i32) i32.const 5)
+table.init of some references | | 20 | 1 | values i32 1 i32 0 i32 0 | 7 | (table 3 funcref) (elem func 0 0 0) \
+    (func (result i32 i32 i32) i32.const 1 i32.const 0 i32.const 2 table.init 0 i32.const 0 table.get ref.is_null i32.const 1 table.get \
+    ref.is_null i32.const 2 table.get ref.is_null)
 table.init past the references | | 20 | 1 | trap out of bounds table access | 16 | (table 3 funcref) (elem func 0 0) (func i32.const 0 i32.const 0 i32.const 3 table.init 0)
 table.init past the entries | | 20 | 1 | trap out of bounds table access | 16 | (table 3 funcref) (elem func 0 0) (func i32.const 2 i32.const 0 i32.const 2 table.init 0)
-elem.drop | | 20 | 1 | trap out of bounds table access | 11 | (table 3 funcref) (elem func 0 0) (func elem.drop 0 i32.const 0 i32.const 0 i32.const 0 table.init 0 i32.const 0 i32.const 0 i32.const 1 table.init 0)
+elem.drop | | 20 | 1 | trap out of bounds table access | 11 | (table 3 funcref) (elem func 0 0) \
+    (func elem.drop 0 i32.const 0 i32.const 0 i32.const 0 table.init 0 i32.const 0 i32.const 0 i32.const 1 table.init 0)
 elem.drop without fuel | | 0 | 1 | exhausted fuel | 0 | (table 3 funcref) (elem func 0 0) (func elem.drop 0)
 table.init of 8 references | | 4 | 1 | exhausted fuel | 1 | (table 8 funcref) (elem func 0 0 0 0 0 0 0 0) (func i32.const 0 i32.const 0 i32.const 8 table.init 0)
 table.copy of 8 entries | | 5 | 1 | values | 0 | (table 8 funcref) (table 8 funcref) (func i32.const 0 i32.const 0 i32.const 8 table.copy 0 1)

@@ -188,10 +188,20 @@ static ARGUMENTS: [Arguments; 8] = [
     Arguments { name: "a function", address: 0, values: &[Val::I32(1), Val::I64(2), Val::FuncRef(Some(0)), Val::ExternRef(Some(9))], are_taken: true },
     Arguments { name: "no function", address: 0, values: &[Val::I32(1), Val::I64(2), Val::FuncRef(Some(1)), Val::ExternRef(Some(9))], are_taken: false },
     Arguments { name: "an i64 for an i32", address: 0, values: &[Val::I64(1), Val::I64(2), Val::FuncRef(None), Val::ExternRef(Some(9))], are_taken: false },
-    Arguments { name: "references of each other's type", address: 0, values: &[Val::I32(1), Val::I64(2), Val::ExternRef(Some(9)), Val::FuncRef(None)], are_taken: false },
+    Arguments {
+        name: "references of each other's type",
+        address: 0,
+        values: &[Val::I32(1), Val::I64(2), Val::ExternRef(Some(9)), Val::FuncRef(None)],
+        are_taken: false,
+    },
     Arguments { name: "too few", address: 0, values: &[Val::I32(1), Val::I64(2), Val::FuncRef(None)], are_taken: false },
     Arguments { name: "none", address: 0, values: &[], are_taken: false },
-    Arguments { name: "no function to take them", address: 1, values: &[Val::I32(1), Val::I64(2), Val::FuncRef(None), Val::ExternRef(Some(9))], are_taken: false },
+    Arguments {
+        name: "no function to take them",
+        address: 1,
+        values: &[Val::I32(1), Val::I64(2), Val::FuncRef(None), Val::ExternRef(Some(9))],
+        are_taken: false,
+    },
 ];
 
 // Returns whether a function that takes one argument of each type takes these, as the row states.
@@ -272,7 +282,9 @@ fn describes_in(alloc: Global, store: &Store, value: Extern, wanted: Described) 
 // Returns whether an external value is as described in a store of a module, whose table and memory were grown by one.
 fn describes(alloc: Global, value: Extern, wanted: Described) -> bool {
     let text =
-        "(table 2 5 externref) (memory 1) (global i32 i32.const 1) (global (mut i64) i64.const 1) (func (param i32 funcref) (result i64) i64.const 0) (func ref.null extern i32.const 1 table.grow drop i32.const 1 memory.grow drop)";
+        "(table 2 5 externref) (memory 1) (global i32 i32.const 1) (global (mut i64) i64.const 1) \
+        (func (param i32 funcref) (result i64) i64.const 0) (func ref.null extern i32.const 1 table.grow drop i32.const 1 memory.grow \
+        drop)";
     match store_with(alloc, &[text]) {
         Some(mut store) => {
             can_grow(alloc, &mut store) && describes_in(alloc, &store, value, wanted)

@@ -3,6 +3,7 @@ ghost use Rattle.meaning.specs.validation.Modules.{IsValid};
 ghost use Rattle.module_info.specs.Lines.{Tells, says_valid};
 ghost use Rattle.module_info.specs.Verdicts.{IsFound, IsFoundOf, decode_verdict, validate_verdict};
 
+use crate::functions::function_at;
 use binary::{DecodeError, bytes_spell_one_module, decode};
 use core_types::Module;
 use module_text::{IndexSpaces, rule, unsupported, write_module};
@@ -32,6 +33,24 @@ fn write_refusal<W: Write, D: Display + Drop>(out: &mut W, line: D) -> io::Resul
     Ok(Verdict::Refused)
 }
 
+// Writes which feature begins at an offset, and in which function.
+fn write_unsupported<W: Write>(out: &mut W, bytes: &[u8], offset: usize) -> io::Result<Verdict>
+    ensures verdict { IfOk result (λ verdict. verdict ≡ Verdict.Refused) }
+    ensures told { IfOk result (Tells (W.contents out.old) (W.contents out.new)) }
+{
+    let feature = unsupported(bytes.get(offset..).unwrap_or(&[]));
+    match function_at(bytes, offset) {
+        Some(index) => write_refusal(
+            out,
+            format_args_nl!("unsupported feature at byte {offset}, in function {index}: {feature}"),
+        ),
+        None => write_refusal(
+            out,
+            format_args_nl!("unsupported feature at byte {offset}: {feature}"),
+        ),
+    }
+}
+
 // Writes why bytes encode no module.
 fn write_decode_error<W: Write>(
     out: &mut W,
@@ -42,14 +61,7 @@ fn write_decode_error<W: Write>(
     ensures told { IfOk result (Tells (W.contents out.old) (W.contents out.new)) }
 {
     match error {
-        DecodeError::Unsupported(offset) => {
-            let rest = bytes.get(*offset..).unwrap_or(&[]);
-            let feature = unsupported(rest);
-            write_refusal(
-                out,
-                format_args_nl!("unsupported feature at byte {offset}: {feature}"),
-            )
-        }
+        DecodeError::Unsupported(offset) => write_unsupported(out, bytes, *offset),
         DecodeError::Malformed(offset) => {
             write_refusal(out, format_args_nl!("malformed module at byte {offset}"))
         }

@@ -2,5 +2,6 @@
 #![tactic(auto)]
 
 mod descriptions;
+mod functions;
 
 pub use descriptions::{Verdict, describe};

@@ -13,8 +13,8 @@ pub data Order : Type 0 where
   Apply : (command : Command) → Order
   FuelLeft : Order
   Exports : (instance : ℕ) → Order
-  -- to keep a file for the next script
-  Keep : (name bytes : List ℕ) → Order
+  -- to add a file to those of the next script
+  File : (name bytes : List ℕ) → Order
   RunScript : (text : List ℕ) → Order
   -- to define a host function under the name of a module and a name in it
   Define : (first second : List ℕ) (signature : FuncType) → Order
@@ -39,7 +39,7 @@ kind_of (Apply (GetGlobal number name)) = 5
 kind_of (Apply (SetFuel fuel)) = 6
 kind_of FuelLeft = 7
 kind_of (Exports instance) = 8
-kind_of (Keep name bytes) = 9
+kind_of (File name bytes) = 9
 kind_of (RunScript text) = 10
 kind_of (Define first second signature) = 11
 kind_of (Begin setup) = 12
@@ -61,7 +61,7 @@ fields_of (Apply (GetGlobal number name)) = number_bytes number ++ name
 fields_of (Apply (SetFuel fuel)) = number_bytes fuel
 fields_of FuelLeft = []
 fields_of (Exports instance) = number_bytes instance
-fields_of (Keep name bytes) = text_bytes name ++ bytes
+fields_of (File name bytes) = text_bytes name ++ bytes
 fields_of (RunScript text) = text
 fields_of (Define first second signature) =
     text_bytes first ++ (text_bytes second
@@ -83,29 +83,29 @@ HasLists kind = (kind ≡ 4) ⊎ (kind ≡ 11)
 abbrev pub IsName : List ℕ → Type 0
 IsName name = IsUtf8 name × (length name < 2 ^ 64)
 
-abbrev pub CommandFits : Command → Type 0
-CommandFits (Load bytes) = Unit {0}
-CommandFits (Link number) = number < 2 ^ 64
-CommandFits (Register number name) = (number < 2 ^ 64) × IsUtf8 name
-CommandFits (Call number name arguments) =
+abbrev pub IsEncodableCommand : Command → Type 0
+IsEncodableCommand (Load bytes) = Unit {0}
+IsEncodableCommand (Link number) = number < 2 ^ 64
+IsEncodableCommand (Register number name) = (number < 2 ^ 64) × IsUtf8 name
+IsEncodableCommand (Call number name arguments) =
     (number < 2 ^ 64) × IsName name × All HasItsWidth arguments
-CommandFits (GetGlobal number name) = (number < 2 ^ 64) × IsUtf8 name
-CommandFits (SetFuel fuel) = fuel < 2 ^ 64
+IsEncodableCommand (GetGlobal number name) = (number < 2 ^ 64) × IsUtf8 name
+IsEncodableCommand (SetFuel fuel) = fuel < 2 ^ 64
 
 -- Its names are in UTF-8, its values have the widths of their types, and its numbers have 64 bits.
-abbrev pub Fits : Order → Type 0
-Fits End = Unit {0}
-Fits (Apply command) = CommandFits command
-Fits FuelLeft = Unit {0}
-Fits (Exports instance) = instance < 2 ^ 64
-Fits (Keep name bytes) = IsName name
-Fits (RunScript text) = Unit {0}
-Fits (Define first second signature) = IsName first × IsName second
+abbrev pub IsEncodable : Order → Type 0
+IsEncodable End = Unit {0}
+IsEncodable (Apply command) = IsEncodableCommand command
+IsEncodable FuelLeft = Unit {0}
+IsEncodable (Exports instance) = instance < 2 ^ 64
+IsEncodable (File name bytes) = IsName name
+IsEncodable (RunScript text) = Unit {0}
+IsEncodable (Define first second signature) = IsName first × IsName second
     × (length signature.params < 2 ^ 64) × (length signature.results < 2 ^ 64)
-Fits (Begin setup) = (setup.fuel < 2 ^ 64) × (setup.depth < 2 ^ 64) × (setup.pages < 2 ^ 64)
+IsEncodable (Begin setup) = (setup.fuel < 2 ^ 64) × (setup.depth < 2 ^ 64) × (setup.pages < 2 ^ 64)
     × (setup.entries < 2 ^ 64)
-Fits (NamedExport instance name) = (instance < 2 ^ 64) × IsUtf8 name
-Fits (Quota bytes) = bytes < 2 ^ 64
-Fits QuotaLeft = Unit {0}
-Fits (ModuleImports number) = number < 2 ^ 64
-Fits (ModuleExports number) = number < 2 ^ 64
+IsEncodable (NamedExport instance name) = (instance < 2 ^ 64) × IsUtf8 name
+IsEncodable (Quota bytes) = bytes < 2 ^ 64
+IsEncodable QuotaLeft = Unit {0}
+IsEncodable (ModuleImports number) = number < 2 ^ 64
+IsEncodable (ModuleExports number) = number < 2 ^ 64

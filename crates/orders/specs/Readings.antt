@@ -2,7 +2,7 @@
 use Rattle.meaning.specs.embedding.Commands as command
 use Rattle.orders.specs.Orders as order
 use Rattle.orders.specs.declared.order.Order.{Order}
-use Rattle.orders.specs.declared.order.Order.TheVariants.{End, Load, Link, Register, Call, GetGlobal, SetFuel, FuelLeft, Exports, Keep, RunScript, Define, Begin, NamedExport, Quota, QuotaLeft, ModuleImports, ModuleExports}
+use Rattle.orders.specs.declared.order.Order.TheVariants.{End, Load, Link, Register, Call, GetGlobal, SetFuel, FuelLeft, Exports, File, RunScript, Define, Begin, NamedExport, Quota, QuotaLeft, ModuleImports, ModuleExports}
 
 abbrev pub order_of : Order → order.Order
 order_of End = order.End
@@ -15,7 +15,7 @@ order_of (GetGlobal number name) = order.Apply (command.GetGlobal number name.no
 order_of (SetFuel fuel) = order.Apply (command.SetFuel fuel)
 order_of FuelLeft = order.FuelLeft
 order_of (Exports instance) = order.Exports instance
-order_of (Keep name bytes) = order.Keep name.now bytes.now
+order_of (File name bytes) = order.File name.now bytes.now
 order_of (RunScript text) = order.RunScript text.now
 order_of (Define first second signature) = order.Define first.now second.now signature
 order_of (Begin fuel depth pages entries) = order.Begin (record {

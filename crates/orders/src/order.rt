@@ -22,8 +22,8 @@ pub enum Order<'a> {
     FuelLeft,
     /// List what an instance exports.
     Exports(u64),
-    /// Keep a file with a name for the next script.
-    Keep(&'a str, &'a [u8]),
+    /// Add a file with a name to those of the next script.
+    File(&'a str, &'a [u8]),
     /// Run a script.
     RunScript(&'a [u8]),
     /// Define a host function of a type, under the name of a module and a name in it.

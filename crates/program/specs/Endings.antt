@@ -9,7 +9,7 @@ use Rattle.program.specs.Statuses.{end_status, fault_status}
 use Rattle.program.specs.declared.output.Output.{Output}
 use Rattle.subcommands.specs.declared.faults.Fault.{Fault}
 use Rattle.subcommands.specs.declared.faults.Fault.TheVariants.{Usage, Refused}
-use Rattle.subcommands.specs.declared.orders.End.{End}
+use Rattle.subcommands.specs.declared.performing.End.{End}
 
 -- The fault if there are no arguments: memory ran out, or one of them is not text.
 abbrev pub words_fault : ErrorKind → Fault

@@ -15,9 +15,9 @@ use Rattle.scripts.specs.declared.faults.ScriptFault.TheVariants as script
 use Rattle.scripts.specs.declared.report.Report.{Report}
 use Rattle.subcommands.specs.declared.faults.Fault.{Fault}
 use Rattle.subcommands.specs.declared.faults.Fault.TheVariants as fault
-use Rattle.subcommands.specs.declared.orders.CallEnd.{CallEnd}
-use Rattle.subcommands.specs.declared.orders.End.{End}
-use Rattle.subcommands.specs.declared.orders.End.TheVariants as end
+use Rattle.subcommands.specs.declared.performing.CallEnd.{CallEnd}
+use Rattle.subcommands.specs.declared.performing.End.{End}
+use Rattle.subcommands.specs.declared.performing.End.TheVariants as end
 
 -- A line: its text, followed by a line feed.
 abbrev pub line : (text : List ℕ) → List ℕ

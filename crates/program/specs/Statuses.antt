@@ -5,8 +5,8 @@ use Rattle.meaning.specs.execution.Runs.{Ending, OutOfDepth, OutOfFuel, OutOfMem
 use Rattle.embed.specs.Replies.{call_reply, refusal_of}
 use Rattle.subcommands.specs.declared.faults.Fault.{Fault}
 use Rattle.subcommands.specs.declared.faults.Fault.TheVariants as fault
-use Rattle.subcommands.specs.declared.orders.End.{End}
-use Rattle.subcommands.specs.declared.orders.End.TheVariants as end
+use Rattle.subcommands.specs.declared.performing.End.{End}
+use Rattle.subcommands.specs.declared.performing.End.TheVariants as end
 use Rattle.scripts.specs.declared.faults.ScriptFault.{ScriptFault}
 use Rattle.scripts.specs.declared.faults.ScriptFault.TheVariants as script
 

@@ -8,7 +8,7 @@ ghost use Rattle.program.specs.Outputs.{Prints};
 ghost use Rattle.program.specs.Statuses.{fault_status};
 ghost use Rattle.subcommands.specs.Performing.{Performs};
 ghost use Rattle.subcommands.specs.declared.faults.Fault.{Fault as AnyFault};
-ghost use Rattle.subcommands.specs.declared.orders.End.{End as AnyEnd};
+ghost use Rattle.subcommands.specs.declared.performing.End.{End as AnyEnd};
 
 use crate::output::Output;
 use crate::print::{print_end, print_fault, print_report, print_valid};

@@ -5,89 +5,48 @@ use std::alloc::{AllocError, Global};
 use subcommands::{Files, ReadFault, System};
 use testing::{assemble, bytes_of};
 
-// A file in memory: its path, and its bytes in hexadecimal, or none if an allocation for them fails.
+// What is at a path: a module in the text format, bytes in hexadecimal, or bytes for which an allocation fails.
+#[derive(Clone, Copy)]
+enum Content {
+    Module(&'static str),
+    Bytes(&'static str),
+    NoMemory,
+}
+
+use Content::{Bytes, Module, NoMemory};
+
+// A file in memory.
 struct File {
     path: &'static str,
-    bytes: Option<&'static str>,
+    content: Content,
 }
 
 #[rattlefmt::skip]
 static FILES: [File; 16] = [
     // {"commands":[]}
-    File { path: "empty.json", bytes: Some("7B22636F6D6D616E6473223A5B5D7D") },
-    // (func (export "add") (param i32 i32) (result i32) local.get 0 local.get 1 i32.add)
-    File {
-        path: "m1.wasm",
-        bytes: Some(
-            "0061736D01000000 010701 60027F7F017F 03020100 07070103 616464 0000 0A09010700 20002001 6A 0B",
-        ),
-    },
-    // (import "spectest" "print_i32" (func (param i32))) (export "p" (func 0))
-    File {
-        path: "q.wasm",
-        bytes: Some(
-            "0061736D01000000 01050160017F00 0216010873706563746573740970 72696E745F6933320000 07050101700000",
-        ),
-    },
-    // As in `m1.wasm`, with i32.sub in place of i32.add.
-    File {
-        path: "subtracting.wasm",
-        bytes: Some(
-            "0061736D01000000 010701 60027F7F017F 03020100 07070103 616464 0000 0A09010700 20002001 6B 0B",
-        ),
-    },
+    File { path: "empty.json", content: Bytes("7B22636F6D6D616E6473223A5B5D7D") },
+    File { path: "m1.wasm", content: Module(r#"(func (export "add") (param i32 i32) (result i32) local.get 0 local.get 1 i32.add)"#) },
+    File { path: "q.wasm", content: Module(r#"(import "spectest" "print_i32" (func (param i32))) (export "p" (func 0))"#) },
+    File { path: "subtracting.wasm", content: Module(r#"(func (export "add") (param i32 i32) (result i32) local.get 0 local.get 1 i32.sub)"#) },
     // As in `m1.wasm`, with f32.add in place of i32.add.
-    File {
-        path: "floating.wasm",
-        bytes: Some(
-            "0061736D01000000 010701 60027F7F017F 03020100 07070103 616464 0000 0A09010700 20002001 92 0B",
-        ),
-    },
-    // As in `m1.wasm`, with an empty body, which leaves no result.
-    File {
-        path: "empty_body.wasm",
-        bytes: Some("0061736D01000000 010701 60027F7F017F 03020100 07070103 616464 0000 0A04010200 0B"),
-    },
-    // (memory 1)
-    File { path: "memory.wasm", bytes: Some("0061736D01000000 0503010001") },
-    // (table 1 funcref)
-    File { path: "table.wasm", bytes: Some("0061736D01000000 040401700001") },
+    File { path: "floating.wasm", content: Bytes("0061736D01000000 010701 60027F7F017F 03020100 07070103 616464 0000 0A09010700 20002001 92 0B") },
+    // The body leaves no result.
+    File { path: "empty_body.wasm", content: Module(r#"(func (export "add") (param i32 i32) (result i32))"#) },
+    File { path: "memory.wasm", content: Module("(memory 1)") },
+    File { path: "table.wasm", content: Module("(table 1 funcref)") },
     // The start of a module.
-    File { path: "short.wasm", bytes: Some("0061736D010000") },
-    File { path: "huge.wasm", bytes: None },
-    // (func (export "f") (result i32) call 1) (func (result i32) i32.const 7)
-    File {
-        path: "calling.wasm",
-        bytes: Some("0061736D01000000 0105016000017F 0303020000 07050101660000 0A0B02040010010B040041070B"),
-    },
-    // (func (export "f") (result i32) call 0)
-    File {
-        path: "calling_itself.wasm",
-        bytes: Some("0061736D01000000 0105016000017F 03020100 07050101660000 0A0601040010000B"),
-    },
-    // (func (export "down") (param i32) (result i32)
-    //   local.get 0 if local.get 0 i32.const 1 i32.sub return_call 0 end i32.const 9)
+    File { path: "short.wasm", content: Bytes("0061736D010000") },
+    File { path: "huge.wasm", content: NoMemory },
+    File { path: "calling.wasm", content: Module(r#"(func (export "f") (result i32) call 1) (func (result i32) i32.const 7)"#) },
+    File { path: "calling_itself.wasm", content: Module(r#"(func (export "f") (result i32) call 0)"#) },
     File {
         path: "down.wasm",
-        bytes: Some(
-            "0061736D01000000 0106016001 7F017F 03020100 070801 04646F776E0000 0A120110 00 2000 0440 2000 4101 6B 1200 0B 4109 0B",
-        ),
+        content: Module(r#"(func (export "down") (param i32) (result i32)
+            local.get 0 if local.get 0 i32.const 1 i32.sub return_call 0 end i32.const 9)"#),
     },
-    // (func (export "f") (result i32) unreachable)
-    File {
-        path: "unreachable.wasm",
-        bytes: Some("0061736D01000000 0105016000017F 03020100 07050101660000 0A05010300000B"),
-    },
-    // (func (export "f") (result i32) i32.const 1 i32.const 0 i32.div_s)
-    File {
-        path: "dividing_by_zero.wasm",
-        bytes: Some("0061736D01000000 0105016000017F 03020100 07050101660000 0A09010700410141006D0B"),
-    },
-    // (func (export "f") (result i32) i32.const -2147483648 i32.const -1 i32.div_s)
-    File {
-        path: "overflowing.wasm",
-        bytes: Some("0061736D01000000 0105016000017F 03020100 07050101660000 0A0D010B00418080808078417F6D0B"),
-    },
+    File { path: "unreachable.wasm", content: Module(r#"(func (export "f") (result i32) unreachable)"#) },
+    File { path: "dividing_by_zero.wasm", content: Module(r#"(func (export "f") (result i32) i32.const 1 i32.const 0 i32.div_s)"#) },
+    File { path: "overflowing.wasm", content: Module(r#"(func (export "f") (result i32) i32.const 2147483648 i32.const 4294967295 i32.div_s)"#) },
 ];
 
 fn file_at(path: &str) -> Option<&'static File> {
@@ -99,8 +58,12 @@ fn file_at(path: &str) -> Option<&'static File> {
     None
 }
 
-fn bytes_in(alloc: Global, file: &File) -> Option<Vec<u8>> {
-    bytes_of(alloc, file.bytes?).ok()
+fn bytes_in(alloc: Global, content: Content) -> Option<Vec<u8>> {
+    match content {
+        Module(text) => assemble(alloc, text).ok(),
+        Bytes(text) => bytes_of(alloc, text).ok(),
+        NoMemory => None,
+    }
 }
 
 /// The files of the table.
@@ -112,7 +75,7 @@ pub struct FewFiles {
 impl Files for FewFiles {
     fn read(&mut self, path: &str) -> Result<Vec<u8>, ReadFault> {
         match file_at(path) {
-            Some(file) => bytes_in(self.alloc, file).ok_or(ReadFault::Memory),
+            Some(file) => bytes_in(self.alloc, file.content).ok_or(ReadFault::Memory),
             None => Err(ReadFault::Failed),
         }
     }

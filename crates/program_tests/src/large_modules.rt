@@ -51,13 +51,37 @@ const LIMIT: Ending<'static> = Ending::Err("refused 3 Limit\n", 5);
 #[rattlefmt::skip]
 static ROWS: [Row; 18] = [
     Row { name: "nested blocks", large: Nests(NONE, &[0x02, 0x40], &[], &[0x0B]), count: MILLION, words: "check m", ending: VALID },
-    Row { name: "a call of nested blocks", large: Nests(NONE, &[0x02, 0x40], &[], &[0x0B]), count: MILLION, words: "call m f", ending: Ending::Out("fuel left 999000000\n", 0) },
+    Row {
+        name: "a call of nested blocks",
+        large: Nests(NONE, &[0x02, 0x40], &[], &[0x0B]),
+        count: MILLION,
+        words: "call m f",
+        ending: Ending::Out("fuel left 999000000\n", 0),
+    },
     Row { name: "nested loops", large: Nests(NONE, &[0x03, 0x40], &[], &[0x0B]), count: MILLION, words: "check m", ending: VALID },
-    Row { name: "a call of nested loops", large: Nests(NONE, &[0x03, 0x40], &[], &[0x0B]), count: MILLION, words: "call m f", ending: Ending::Out("fuel left 999000000\n", 0) },
+    Row {
+        name: "a call of nested loops",
+        large: Nests(NONE, &[0x03, 0x40], &[], &[0x0B]),
+        count: MILLION,
+        words: "call m f",
+        ending: Ending::Out("fuel left 999000000\n", 0),
+    },
     Row { name: "nested ifs", large: Nests(NONE, &[0x41, 0x01, 0x04, 0x40], &[], &[0x05, 0x0B]), count: MILLION, words: "check m", ending: VALID },
-    Row { name: "a call of nested ifs", large: Nests(NONE, &[0x41, 0x01, 0x04, 0x40], &[], &[0x05, 0x0B]), count: MILLION, words: "call m f", ending: Ending::Out("fuel left 998000000\n", 0) },
+    Row {
+        name: "a call of nested ifs",
+        large: Nests(NONE, &[0x41, 0x01, 0x04, 0x40], &[], &[0x05, 0x0B]),
+        count: MILLION,
+        words: "call m f",
+        ending: Ending::Out("fuel left 998000000\n", 0),
+    },
     Row { name: "nested blocks with a result", large: Nests(ONE, &[0x02, 0x7F], &[0x41, 0x07], &[0x0B]), count: MILLION, words: "check m", ending: VALID },
-    Row { name: "a call of nested blocks with a result", large: Nests(ONE, &[0x02, 0x7F], &[0x41, 0x07], &[0x0B]), count: MILLION, words: "call m f", ending: Ending::Out("i32 7\nfuel left 998999999\n", 0) },
+    Row {
+        name: "a call of nested blocks with a result",
+        large: Nests(ONE, &[0x02, 0x7F], &[0x41, 0x07], &[0x0B]),
+        count: MILLION,
+        words: "call m f",
+        ending: Ending::Out("i32 7\nfuel left 998999999\n", 0),
+    },
     Row { name: "labels", large: Lists(NONE, &[0x00, 0x41, 0x00, 0x0E], &[0x00], &[0x00]), count: MILLION, words: "check m", ending: VALID },
     Row { name: "functions", large: Functions, count: MILLION, words: "check m", ending: VALID },
     Row { name: "exports", large: Exports, count: MILLION, words: "check m", ending: VALID },
@@ -66,7 +90,13 @@ static ROWS: [Row; 18] = [
     Row { name: "groups of no locals", large: Lists(NONE, &[], &[0x00, 0x7F], &[]), count: MILLION, words: "check m", ending: VALID },
     Row { name: "groups of one local", large: Lists(NONE, &[], &[0x01, 0x7F], &[]), count: MILLION, words: "check m", ending: LIMIT },
     Row { name: "calls of a function of a thousand results", large: Nests(NONE, &[0x10, 0x01], &[0x00], &[]), count: MILLION, words: "check m", ending: VALID },
-    Row { name: "labels with a thousand results", large: Lists(THOUSAND, &[0x00, 0x10, 0x01, 0x41, 0x00, 0x0E], &[0x00], &[0x00]), count: 50_000, words: "check m", ending: VALID },
+    Row {
+        name: "labels with a thousand results",
+        large: Lists(THOUSAND, &[0x00, 0x10, 0x01, 0x41, 0x00, 0x0E], &[0x00], &[0x00]),
+        count: 50_000,
+        words: "check m",
+        ending: VALID,
+    },
     Row { name: "the same after unreachable", large: Lists(THOUSAND, &[0x00, 0x00, 0x0E], &[0x00], &[0x00]), count: 50_000, words: "check m", ending: VALID },
 ];
 

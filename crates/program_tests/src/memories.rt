@@ -1,71 +1,79 @@
 //! Calls of modules with memories, data segments and globals: what their links do and cost.
 
 use crate::runs::Ending::{self, Err, Out};
-use crate::runs::ends_so_on;
+use crate::runs::ends_so_on_text;
 use std::alloc::{AllocError, Global};
 
-// A name, the arguments of a run, how it ends, and the sections of the module.
+// A name, the arguments of a run, how it ends, and the module.
 struct Row {
     name: &'static str,
     words: &'static str,
     ending: Ending<'static>,
-    sections: &'static str,
+    text: &'static str,
 }
 
 #[rattlefmt::skip]
 static SEGMENTS: [Row; 12] = [
     Row { name: "an active segment, which costs memory.init and data.drop", words: "call module.wasm f --fuel 100", ending: Out("i32 9\nfuel left 96\n", 0),
-        sections: "0105016000017F 03020100 0503010001 07050101660000 0A0901070041012D00000B 0B08010041000B020709" },
+        text: r#"(memory 1) (data (offset i32.const 0) "\07\09") (func (export "f") (result i32) i32.const 1 i32.load8_u)"# },
     Row { name: "two active segments, the second over the first", words: "call module.wasm f --fuel 100", ending: Out("i32 67307521\nfuel left 94\n", 0),
-        sections: "0105016000017F 03020100 0503010001 07050101660000 0A0901070041002802000B 0B10020041000B04010203040041010B0108" },
+        text: r#"(memory 1) (data (offset i32.const 0) "\01\02\03\04") (data (offset i32.const 1) "\08")
+            (func (export "f") (result i32) i32.const 0 i32.load)"# },
     Row { name: "an active segment of 64 bytes", words: "call module.wasm f --fuel 100", ending: Out("i32 5\nfuel left 95\n", 0),
-        sections: "0105016000017F 03020100 0503010001 07050101660000 0A09010700413F2D00000B 0B46010041000B4000000000000000000000000000000000000000000000000000000000000000000000000000000000000000000000000000000000000000000000000000000005" },
+        text: r#"(memory 1) (data (offset i32.const 0) "---------------------------------------------------------------\05")
+            (func (export "f") (result i32) i32.const 63 i32.load8_u)"# },
     Row { name: "an active segment up to the end", words: "call module.wasm f --fuel 100", ending: Out("i32 2\nfuel left 96\n", 0),
-        sections: "0105016000017F 03020100 0503010001 07050101660000 0A0B01090041FFFF032D00000B 0B0A010041FEFF030B020102" },
+        text: r#"(memory 1) (data (offset i32.const 65534) "\01\02") (func (export "f") (result i32) i32.const 65535 i32.load8_u)"# },
     Row { name: "an active segment past the end", words: "call module.wasm f --fuel 100", ending: Out("trap: out of bounds memory access\nfuel left 99\n", 1),
-        sections: "0105016000017F 03020100 0503010001 07050101660000 0A0901070041002D00000B 0B0A010041FFFF030B020102" },
+        text: r#"(memory 1) (data (offset i32.const 65535) "\01\02") (func (export "f") (result i32) i32.const 0 i32.load8_u)"# },
     Row { name: "a second active segment past the end", words: "call module.wasm f --fuel 100", ending: Out("trap: out of bounds memory access\nfuel left 97\n", 1),
-        sections: "0105016000017F 03020100 0503010001 07050101660000 0A0901070041002D00000B 0B0D020041000B010100417F0B0102" },
+        text: r#"(memory 1) (data (offset i32.const 0) "\01") (data (offset i32.const -1) "\02")
+            (func (export "f") (result i32) i32.const 0 i32.load8_u)"# },
     Row { name: "an empty active segment past the end", words: "call module.wasm f --fuel 100", ending: Out("trap: out of bounds memory access\nfuel left 99\n", 1),
-        sections: "0105016000017F 03020100 0503010000 07050101660000 0A0901070041002D00000B 0B06010041010B00" },
+        text: r#"(memory 0) (data (offset i32.const 1) "") (func (export "f") (result i32) i32.const 0 i32.load8_u)"# },
     Row { name: "an active segment without fuel for it", words: "call module.wasm f --fuel 0", ending: Out("exhausted: fuel\nfuel left 0\n", 6),
-        sections: "0105016000017F 03020100 0503010001 07050101660000 0A0901070041002D00000B 0B07010041000B0101" },
+        text: r#"(memory 1) (data (offset i32.const 0) "\01") (func (export "f") (result i32) i32.const 0 i32.load8_u)"# },
     Row { name: "an active segment without fuel to drop it", words: "call module.wasm f --fuel 1", ending: Out("exhausted: fuel\nfuel left 0\n", 6),
-        sections: "0105016000017F 03020100 0503010001 07050101660000 0A0901070041002D00000B 0B07010041000B0101" },
+        text: r#"(memory 1) (data (offset i32.const 0) "\01") (func (export "f") (result i32) i32.const 0 i32.load8_u)"# },
     Row { name: "an active segment, which is dropped at the link", words: "call module.wasm f --fuel 100", ending: Out("trap: out of bounds memory access\nfuel left 94\n", 1),
-        sections: "0105016000017F 03020100 0503010001 07050101660000 0C0101 0A13011100410041004101FC08000041002D00000B 0B07010041080B0101" },
+        text: r#"(memory 1) (data (offset i32.const 8) "\01") (data "")
+            (func (export "f") (result i32) i32.const 0 i32.const 0 i32.const 1 memory.init 0 i32.const 0 i32.load8_u)"# },
     Row { name: "nothing of an active segment, which is dropped at the link", words: "call module.wasm f --fuel 100", ending: Out("i32 1\nfuel left 92\n", 0),
-        sections: "0105016000017F 03020100 0503010001 07050101660000 0C0101 0A13011100410041004100FC08000041082D00000B 0B07010041080B0101" },
+        text: r#"(memory 1) (data (offset i32.const 8) "\01") (data "")
+            (func (export "f") (result i32) i32.const 0 i32.const 0 i32.const 0 memory.init 0 i32.const 8 i32.load8_u)"# },
     Row { name: "a passive segment, which costs nothing at the link", words: "call module.wasm f --fuel 100", ending: Out("i32 9\nfuel left 93\n", 0),
-        sections: "0105016000017F 03020100 0503010001 07050101660000 0C0101 0A16011400410041014101FC080000FC090041002D00000B 0B050101020709" },
+        text: r#"(memory 1) (data "\07\09")
+            (func (export "f") (result i32) i32.const 0 i32.const 1 i32.const 1 memory.init 0 data.drop 0 i32.const 0 i32.load8_u)"# },
 ];
 
 #[rattlefmt::skip]
 static MEMORIES_AND_GLOBALS: [Row; 10] = [
     Row { name: "a global that is set", words: "call module.wasm f --fuel 100", ending: Out("i32 11\nfuel left 95\n", 0),
-        sections: "0105016000017F 03020100 0606017F0141050B 07050101660000 0A0D010B0023004106240023006A0B" },
+        text: r#"(global (mut i32) i32.const 5)
+            (func (export "f") (result i32) global.get 0 i32.const 6 global.set 0 global.get 0 i32.add)"# },
     Row { name: "an i64 global", words: "call module.wasm f --fuel 100", ending: Out("i64 18446744073709551615\nfuel left 99\n", 0),
-        sections: "0105016000017E 03020100 060B027F0041050B7E00427F0B 07050101660000 0A0601040023010B" },
+        text: r#"(global i32 i32.const 5) (global i64 i64.const -1) (func (export "f") (result i64) global.get 1)"# },
     Row { name: "globals of references", words: "call module.wasm f --fuel 100", ending: Out("funcref 3\nfuncref null\nexternref null\nfuel left 97\n", 0),
-        sections: "01070160000370706F 03020100 0610037000D2000B7000D0700B6F00D06F0B 07050101660000 0A0A0108002300230123020B" },
+        text: r#"(global funcref ref.func 0) (global funcref ref.null func) (global externref ref.null extern)
+            (func (export "f") (result funcref funcref externref) global.get 0 global.get 1 global.get 2)"# },
     Row { name: "a memory of 1024 pages", words: "call module.wasm f --fuel 100", ending: Out("i32 1024\nfuel left 99\n", 0),
-        sections: "0105016000017F 03020100 050401008008 07050101660000 0A060104003F000B" },
+        text: r#"(memory 1024) (func (export "f") (result i32) memory.size)"# },
     Row { name: "a memory of 1025 pages", words: "call module.wasm f --fuel 100", ending: Err("refused 3 Limit\n", 5),
-        sections: "0105016000017F 03020100 050401008108 07050101660000 0A060104003F000B" },
+        text: r#"(memory 1025) (func (export "f") (result i32) memory.size)"# },
     Row { name: "a memory of 1025 pages at most", words: "call module.wasm f --fuel 100", ending: Out("i32 0\nfuel left 99\n", 0),
-        sections: "0105016000017F 03020100 05050101008108 07050101660000 0A060104003F000B" },
+        text: r#"(memory 0 1025) (func (export "f") (result i32) memory.size)"# },
     Row { name: "memory.fill and i32.load8_u", words: "call module.wasm f --fuel 100", ending: Out("i32 7\nfuel left 94\n", 0),
-        sections: "0105016000017F 03020100 0503010001 07050101660000 0A1301110041004187024101FC0B0041002D00000B" },
+        text: r#"(memory 1) (func (export "f") (result i32) i32.const 0 i32.const 263 i32.const 1 memory.fill i32.const 0 i32.load8_u)"# },
     Row { name: "memory.grow past the bound on pages", words: "call module.wasm f --fuel 100", ending: Out("i32 4294967295\nfuel left 98\n", 0),
-        sections: "0105016000017F 03020100 0503010001 07050101660000 0A0901070041800840000B" },
+        text: r#"(memory 1) (func (export "f") (result i32) i32.const 1024 memory.grow)"# },
     Row { name: "global.get of no global", words: "call module.wasm f --fuel 100", ending: Err("refused 4 Invalid\n", 5),
-        sections: "0105016000017F 03020100 07050101660000 0A0601040023000B" },
+        text: r#"(func (export "f") (result i32) global.get 0)"# },
     Row { name: "memory.size of no memory", words: "call module.wasm f --fuel 100", ending: Err("refused 4 Invalid\n", 5),
-        sections: "0105016000017F 03020100 07050101660000 0A060104003F000B" },
+        text: r#"(func (export "f") (result i32) memory.size)"# },
 ];
 
 fn agrees(alloc: Global, row: &Row) -> Result<bool, AllocError> {
-    ends_so_on(alloc, row.words, row.sections, row.ending)
+    ends_so_on_text(alloc, row.words, row.text, row.ending)
 }
 
 #[test]

@@ -1,6 +1,6 @@
 //! Runs of the program, with files and writers in memory.
 
-use crate::files::OneModule;
+use crate::files::{OneModule, TextModule};
 use crate::writers::{Failing, prints_to};
 use program::{Output, run};
 use std::alloc::{AllocError, Global};
@@ -97,5 +97,17 @@ pub fn ends_so_on(
 ) -> Result<bool, AllocError> {
     let words = words_of(alloc, words)?;
     let mut module = OneModule { alloc, sections };
+    Ok(ends_so(alloc, words.as_slice(), &mut module, ending))
+}
+
+/// Returns whether a run with these arguments and a module in the text format ends like this.
+pub fn ends_so_on_text(
+    alloc: Global,
+    words: &str,
+    text: &str,
+    ending: Ending<'_>,
+) -> Result<bool, AllocError> {
+    let words = words_of(alloc, words)?;
+    let mut module = TextModule { alloc, text };
     Ok(ends_so(alloc, words.as_slice(), &mut module, ending))
 }

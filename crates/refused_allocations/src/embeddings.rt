@@ -1,7 +1,7 @@
 //! Commands to an embedding, one at a time.
 
 use crate::attempts::Attempt;
-use crate::hosts::Counter;
+use crate::hosts::boxed_counter;
 use crate::padding::pad;
 use crate::seen::{REFUSED, Seen, seen_in};
 use crate::texts::{OBJECTS, WHOLE};
@@ -209,7 +209,7 @@ fn create_padded(
 fn create_twice(alloc: Global, before: usize) -> Result<Verdict, AllocError> {
     let mut hosts = Vec::new(alloc);
     for name in &["first", "second", "first", "second"] {
-        hosts.push(HostDef::new(alloc, "host", name, Counter::boxed(alloc)?)?)?;
+        hosts.push(HostDef::new(alloc, "host", name, boxed_counter(alloc)?)?)?;
     }
     create_padded(alloc, before, hosts)
 }

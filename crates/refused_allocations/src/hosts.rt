@@ -1,68 +1,19 @@
-//! A host function, and adding host functions to a table.
-
-ghost use Rattle.std.specs.Prelude.{◌≡◌, ◌∷◌, []};
-ghost use Rattle.std.proofs.Props.{props};
-ghost use Rattle.core_types.specs.declared.outcome.Val.TheVariants.{I32 as Number};
-ghost use Rattle.core_types.specs.declared.types.ValType.TheVariants.{I32};
-ghost use Rattle.meaning.specs.execution.Runs.{Results};
+//! Host functions, and adding them to a table.
 
 use crate::attempts::Attempt;
 use crate::padding::pad;
 use crate::verdicts::{Answer, Verdict};
-use core_types::{FuncType, Items, Val, ValType};
+use core_types::{Val, ValType};
 use embed::{HostDef, func_type, one_result};
-use hostfunc::{HostFault, HostFn, HostTable, has_funcref, object_type};
+use hostfunc::{HostFn, HostTable, has_funcref, object_type};
+use plugin_functions::Counter;
 use std::alloc::{AllocError, Global};
 
-/// A host function that returns how often it was called.
-#[derive(Drop)]
-pub struct Counter {
-    alloc: Global,
-    calls: u32,
-    ty: FuncType,
-    ghost gives_number: { ty.results ≡ I32 ∷ [] } by { Prim.hlevel props },
-}
-
-impl Counter {
-    /// Creates one that was not called yet. Fails if an allocation fails.
-    pub fn new(alloc: Global) -> Result<Counter, AllocError> {
-        let mut results = Vec::new(alloc);
-        results.push(ValType::I32)?;
-        Ok(Counter {
-            alloc,
-            calls: 0,
-            ty: FuncType {
-                params: Items::from_vec(Vec::new(alloc)),
-                results: Items::from_vec(results),
-            },
-        })
-    }
-
-    /// Creates one in a box. Fails if an allocation fails.
-    pub fn boxed(alloc: Global) -> Result<Box<Counter>, AllocError> {
-        Ok(Box::new(alloc, Counter::new(alloc)?)?)
-    }
-}
-
-impl HostFn for Counter {
-    ghost declared = { λ counter. counter.ty };
-
-    ghost Answers = { λ counter arguments bytes answer then counter'.
-        answer ≡ Results (Number counter'.calls ∷ []) };
-
-    fn ty(&self) -> &FuncType {
-        &self.ty
-    }
-
-    fn call(&mut self, _args: &[Val], _memory: &mut [u8]) -> Result<Vec<Val>, HostFault> {
-        let calls = self.calls.wrapping_add(1);
-        let mut results = Vec::new(self.alloc);
-        match results.push(Val::I32(calls)) {
-            Ok(()) => self.calls = calls,
-            Err(_) => return Err(HostFault::Memory),
-        }
-        Ok(results)
-    }
+/// Creates a host function that returns the number of its calls. Fails if an allocation fails.
+pub fn boxed_counter(alloc: Global) -> Result<Box<Counter>, AllocError> {
+    let ty = func_type(alloc, &[], &[ValType::I32])?;
+    let calls = 0;
+    Ok(Box::new(alloc, Counter { alloc, calls, ty })?)
 }
 
 // Appends a host function as the first one. Returns the verdict on that.
@@ -81,8 +32,8 @@ fn take_in(hosts: &mut HostTable, object: Box<dyn HostFn>) -> Answer {
 // Appends a host function after `before` unused allocations, and another one if memory ran out. Fails if an allocation for the
 // host functions fails.
 fn take_in_twice(alloc: Global, before: usize) -> Result<Verdict, AllocError> {
-    let first = Counter::boxed(alloc)?;
-    let second = Counter::boxed(alloc)?;
+    let first = boxed_counter(alloc)?;
+    let second = boxed_counter(alloc)?;
     let mut hosts = HostTable::new(alloc);
     if let Err(verdict) = pad(alloc, before) {
         return Ok(verdict);
@@ -117,7 +68,7 @@ impl Parts {
     // Creates a type, a definition and a result. Returns whether they are as requested, and fails if an allocation fails.
     fn are_made(&self) -> Result<bool, AllocError> {
         let ty = func_type(self.alloc, &[ValType::I32, ValType::I64], &[ValType::I64])?;
-        let counter = Counter::boxed(self.alloc)?;
+        let counter = boxed_counter(self.alloc)?;
         let made = HostDef::new(self.alloc, "host", "count", counter)?;
         let Ok(results) = one_result(self.alloc, Val::I32(5)) else {
             return Err(AllocError);

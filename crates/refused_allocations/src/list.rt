@@ -3,7 +3,7 @@
 ghost use Rattle.std.specs.Prelude.{◌<◌, ◌^◌, length};
 
 use crate::embeddings::{load_of, usual_config};
-use crate::hosts::Counter;
+use crate::hosts::boxed_counter;
 use crate::machine::{Left, Machine};
 use crate::padding::pad;
 use crate::seen::{REFUSED, Seen, seen_in};
@@ -189,7 +189,7 @@ fn give_list_with(
 // Gives the list to a fresh embedding with a host function. Returns none if an allocation for the host function fails.
 fn give_list_with_counter(alloc: Global, before: usize, stock: &Stock) -> Option<Verdict> {
     let config = usual_config()?;
-    let counter = HostDef::new(alloc, "host", "count", Counter::boxed(alloc).ok()?).ok()?;
+    let counter = HostDef::new(alloc, "host", "count", boxed_counter(alloc).ok()?).ok()?;
     let mut hosts = Vec::new(alloc);
     hosts.push(counter).ok()?;
     if hosts.len() > 1 {

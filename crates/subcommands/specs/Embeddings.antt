@@ -1,7 +1,7 @@
 -- The embeddings that the program creates, and what it does with them.
 use Rattle.std.specs.Prelude.{ℕ, List, [], ◌∷◌, Ok, codes, map}
 use Rattle.std.specs.List.{All}
-use Rattle.command_line.specs.declared.words.CallOrder.{CallOrder}
+use Rattle.command_line.specs.declared.words.CallSubcommand.{CallSubcommand}
 use Rattle.core_types.specs.declared.outcome.Val.{Val}
 use Rattle.embed.specs.Definitions.{definition_of}
 use Rattle.embed.specs.declared.host_definitions.HostDef.{HostDef}
@@ -50,24 +50,24 @@ module _ {I : Type 0} {F : I → Type 0} (members : (i : I) → Ghosts (F i)) wh
     pub created : IsFresh fuel depth hosts fresh
     pub registered : WithSpectest fresh at
 
-  -- The export of this instance that the order names is called, with the arguments that the order's texts represent.
-  pub record EndsExport (old : Embedding (HostObject I F)) (order : CallOrder) (instance : ℕ)
-      (ending : Ending) (new : Embedding (HostObject I F)) : Type 0 where
+  -- The export of this instance that the subcommand names is called, with the arguments that the subcommand's texts represent.
+  pub record EndsExport (old : Embedding (HostObject I F)) (subcommand : CallSubcommand)
+      (instance : ℕ) (ending : Ending) (new : Embedding (HostObject I F)) : Type 0 where
     pub arguments : List Val
-    pub are : AreArguments order.args.items arguments
-    pub called : AppliesWell (HostStep members) old (Call instance order.export.now arguments)
+    pub are : AreArguments subcommand.args.items arguments
+    pub called : AppliesWell (HostStep members) old (Call instance subcommand.export.now arguments)
         (Ended ending) new
 
-  -- The module that the bytes encode is loaded and linked, and the export that the order names is called. If the link ends in a trap or
+  -- The module that the bytes encode is loaded and linked, and the export that the subcommand names is called. If the link ends in a trap or
   -- an exhaustion, the call ends in the same way.
-  pub data EndsCall (old : Embedding (HostObject I F)) (order : CallOrder) (bytes : List ℕ)
-      (ending : Ending) (new : Embedding (HostObject I F)) : Type 0 where
+  pub data EndsCall (old : Embedding (HostObject I F)) (subcommand : CallSubcommand)
+      (bytes : List ℕ) (ending : Ending) (new : Embedding (HostObject I F)) : Type 0 where
     in_link : {loaded : Embedding (HostObject I F)} {number : ℕ}
         → AppliesWell (HostStep members) old (Load bytes) (Loaded number) loaded
         → AppliesWell (HostStep members) loaded (Link number) (Ended ending) new
-        → EndsCall old order bytes ending new
+        → EndsCall old subcommand bytes ending new
     in_call : {loaded linked : Embedding (HostObject I F)} {number instance : ℕ}
         → AppliesWell (HostStep members) old (Load bytes) (Loaded number) loaded
         → AppliesWell (HostStep members) loaded (Link number) (Linked instance) linked
-        → EndsExport linked order instance ending new
-        → EndsCall old order bytes ending new
+        → EndsExport linked subcommand instance ending new
+        → EndsCall old subcommand bytes ending new

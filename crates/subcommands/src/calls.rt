@@ -11,7 +11,7 @@ ghost use Rattle.subcommands.specs.Embeddings.{EndsCall, EndsExport, IsCarriedOu
 use crate::args::read_args;
 use crate::faults::Fault;
 use crate::spectest::SPECTEST;
-use command_line::CallOrder;
+use command_line::CallSubcommand;
 use embed::{
     Command, Config, Embedding, ExternType, FuncType, HostDef, InstanceNumber, LinkOutcome,
     Outcome, Refusal, Reply, Val,
@@ -123,51 +123,51 @@ fn function_type(
     }
 }
 
-// Reads the arguments of the order, for the function of the instance that it names.
+// Reads the arguments of the subcommand, for the function of the instance that it names.
 fn args_for<'a>(
     alloc: Global,
-    order: &CallOrder<'a>,
+    subcommand: &CallSubcommand<'a>,
     embedding: &Embedding,
     instance: InstanceNumber,
 ) -> Result<Vec<Val>, Fault<'a>>
-    ensures { IfOk result (λ values. AreArguments order.now.args.items values.items) }
+    ensures { IfOk result (λ values. AreArguments subcommand.now.args.items values.items) }
 {
-    let ty = function_type(embedding, instance, order.export)?;
-    Ok(read_args(alloc, ty.params.as_slice(), order.args.as_slice())?)
+    let ty = function_type(embedding, instance, subcommand.export)?;
+    Ok(read_args(alloc, ty.params.as_slice(), subcommand.args.as_slice())?)
 }
 
-// Calls the function of the instance that the order names.
+// Calls the function of the instance that the subcommand names.
 fn call_export<'a>(
     alloc: Global,
-    order: &CallOrder<'a>,
+    subcommand: &CallSubcommand<'a>,
     embedding: &mut Embedding,
     instance: InstanceNumber,
 ) -> Result<Outcome, Fault<'a>>
     requires nothing { Unit {0} }
     ensures { IfOk result (λ outcome. EndsExport ⟦<dyn HostFn as HostFn>⟧
-        (embedding_of embedding.old) order.now instance.0 (ending_of outcome)
+        (embedding_of embedding.old) subcommand.now instance.0 (ending_of outcome)
         (embedding_of embedding.new)) }
 {
-    let args = args_for(alloc, order, embedding, instance)?;
-    Ok(embedding.call(instance, order.export, args.as_slice())?)
+    let args = args_for(alloc, subcommand, embedding, instance)?;
+    Ok(embedding.call(instance, subcommand.export, args.as_slice())?)
 }
 
-/// Loads and links the module that the bytes encode, and calls the function that the order names. If the link ends in a trap or
+/// Loads and links the module that the bytes encode, and calls the function that the subcommand names. If the link ends in a trap or
 /// an exhaustion, returns that outcome.
 pub fn call<'a>(
     alloc: Global,
-    order: &CallOrder<'a>,
+    subcommand: &CallSubcommand<'a>,
     embedding: &mut Embedding,
     bytes: &[u8],
 ) -> Result<Outcome, Fault<'a>>
     requires nothing { Unit {0} }
     ensures { IfOk result (λ outcome. EndsCall ⟦<dyn HostFn as HostFn>⟧
-        (embedding_of embedding.old) order.now bytes.now (ending_of outcome)
+        (embedding_of embedding.old) subcommand.now bytes.now (ending_of outcome)
         (embedding_of embedding.new)) }
 {
     let loaded = embedding.load(bytes)?;
     match embedding.link(loaded)? {
-        LinkOutcome::Linked(instance) => call_export(alloc, order, embedding, instance),
+        LinkOutcome::Linked(instance) => call_export(alloc, subcommand, embedding, instance),
         LinkOutcome::Trap(trap) => Ok(Outcome::Trap(trap)),
         LinkOutcome::Exhausted(what) => Ok(Outcome::Exhausted(what)),
     }

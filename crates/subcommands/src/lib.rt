@@ -5,12 +5,12 @@ mod args;
 mod calls;
 mod faults;
 mod inputs;
-mod orders;
+mod performing;
 mod script_files;
 mod spectest;
 
 pub use args::{ArgsFault, read_args};
 pub use faults::Fault;
 pub use inputs::{Files, ReadFault, System};
-pub use orders::{CallEnd, End, perform};
+pub use performing::{CallEnd, End, perform};
 pub use spectest::SPECTEST;

@@ -96,6 +96,22 @@ pub fn check_rows(rt: &impl Abort, alloc: Global, rows: &str, count: usize) {
     }
 }
 
+// Returns whether a row states the right result. Its module begins with these types.
+fn agrees_after(alloc: Global, types: &str, row: Row<'_>) -> Result<bool, AllocError> {
+    let mut text = String::from_str(alloc, types)?;
+    text.push_str(row.source)?;
+    Ok(is_named(refusal_of(alloc, text.as_str()), row.word))
+}
+
+/// Like `check_rows`. Each module begins with these types.
+pub fn check_rows_after(rt: &impl Abort, alloc: Global, types: &str, rows: &str, count: usize) {
+    assert!(rt; rows.lines().count() == count, "{count} rows");
+    for text in rows.lines() {
+        let row = read_row(text);
+        assert!(rt; agrees_after(alloc, types, row) == Ok(true), "{}", row.name);
+    }
+}
+
 // Returns whether a row states the right result. Its module consists of sections in hexadecimal.
 fn agrees(alloc: Global, row: Row<'_>) -> Result<bool, AllocError> {
     Ok(is_named(refusal_of_sections(alloc, row.source)?, row.word))

@@ -81,8 +81,10 @@ call_indirect_gives_no_i32 | (type (func)) (type (func (param i32) (result i64))
 call_indirect_by_an_i32 | (type (func)) (type (func (param i32) (result i64))) (func (type 0) i32.const 0 i32.const 0 call_indirect 0 (type 1) drop) (table 1 funcref) | valid
 call_indirect_gives_an_i64 | (type (func)) (type (func (param i32) (result i64))) (func (type 0) i32.const 0 i32.const 0 call_indirect 0 (type 1) i64.eqz drop) (table 1 funcref) | valid
 call_indirect_by_an_i32_alone | (type (func)) (type (func (param i32) (result i64))) (func (type 0) i32.const 0 call_indirect 0 (type 0)) (table 1 funcref) | valid
-imported_tables_come_last | (type (func)) (type (func (param i32) (result i64))) (import \"m\" \"i\" (table 1 externref)) (func (type 0) i32.const 0 call_indirect 0 (type 0)) (table 1 funcref) | invalid
-imported_tables_come_first | (type (func)) (type (func (param i32) (result i64))) (import \"m\" \"i\" (table 1 externref)) (func (type 0) i32.const 0 call_indirect 1 (type 0)) (table 1 funcref) | valid";
+imported_tables_come_last | (type (func)) (type (func (param i32) (result i64))) (import \"m\" \"i\" (table 1 externref)) \
+    (func (type 0) i32.const 0 call_indirect 0 (type 0)) (table 1 funcref) | invalid
+imported_tables_come_first | (type (func)) (type (func (param i32) (result i64))) (import \"m\" \"i\" (table 1 externref)) \
+    (func (type 0) i32.const 0 call_indirect 1 (type 0)) (table 1 funcref) | valid";
 
 const TAIL_CALLS: &str = "\
 return_call_of_a_missing_function | (func return_call 1) | invalid
@@ -157,7 +159,8 @@ return_call_indirect_by_an_i32_alone | (type (func)) (type (func (param i32) (re
 return_call_indirect_with_nothing | (type (func)) (type (func (param i32) (result i64))) (func (type 1) i32.const 0 return_call_indirect 0 (type 1)) (table 1 funcref) | invalid
 return_call_indirect_with_an_i64 | (type (func)) (type (func (param i32) (result i64))) (func (type 1) i64.const 0 i32.const 0 return_call_indirect 0 (type 1)) (table 1 funcref) | invalid
 return_call_indirect_with_an_i32 | (type (func)) (type (func (param i32) (result i64))) (func (type 1) i32.const 0 i32.const 0 return_call_indirect 0 (type 1)) (table 1 funcref) | valid
-return_call_indirect_with_operands_below | (type (func)) (type (func (param i32) (result i64))) (func (type 1) i64.const 0 i32.const 0 i32.const 0 return_call_indirect 0 (type 1)) (table 1 funcref) | valid
+return_call_indirect_with_operands_below | (type (func)) (type (func (param i32) (result i64))) \
+    (func (type 1) i64.const 0 i32.const 0 i32.const 0 return_call_indirect 0 (type 1)) (table 1 funcref) | valid
 return_call_indirect_with_the_offset_below | (type (func (param i64))) (func (type 0) i32.const 0 i64.const 0 return_call_indirect 0 (type 0)) (table 1 funcref) | invalid
 return_call_indirect_with_the_offset_on_top | (type (func (param i64))) (func (type 0) i64.const 0 i32.const 0 return_call_indirect 0 (type 0)) (table 1 funcref) | valid
 return_call_indirect_with_arguments_in_the_other_order | (type (func (param i32 i64))) (func (type 0) i64.const 0 i32.const 0 i32.const 0 return_call_indirect 0 (type 0)) (table 1 funcref) | invalid
@@ -165,26 +168,40 @@ return_call_indirect_with_arguments_in_order | (type (func (param i32 i64))) (fu
 return_call_indirect_gives_an_i64_for_an_i32 | (type (func (result i32))) (type (func (result i64))) (func (type 0) i32.const 0 return_call_indirect 0 (type 1)) (table 1 funcref) | invalid
 return_call_indirect_gives_an_i64_for_nothing | (type (func)) (type (func (param i32) (result i64))) (func (type 0) i32.const 0 i32.const 0 return_call_indirect 0 (type 1)) (table 1 funcref) | invalid
 return_call_indirect_gives_nothing_for_an_i64 | (type (func)) (type (func (param i32) (result i64))) (func (type 1) i32.const 0 return_call_indirect 0 (type 0)) (table 1 funcref) | invalid
-return_call_indirect_gives_nothing_over_an_i64 | (type (func)) (type (func (param i32) (result i64))) (func (type 1) i64.const 0 i32.const 0 return_call_indirect 0 (type 0)) (table 1 funcref) | invalid
-return_call_indirect_gives_one_of_two_results | (type (func (result i32 i64))) (type (func (result i64))) (func (type 0) i32.const 0 i32.const 0 return_call_indirect 0 (type 1)) (table 1 funcref) | invalid
+return_call_indirect_gives_nothing_over_an_i64 | (type (func)) (type (func (param i32) (result i64))) \
+    (func (type 1) i64.const 0 i32.const 0 return_call_indirect 0 (type 0)) (table 1 funcref) | invalid
+return_call_indirect_gives_one_of_two_results | (type (func (result i32 i64))) (type (func (result i64))) \
+    (func (type 0) i32.const 0 i32.const 0 return_call_indirect 0 (type 1)) (table 1 funcref) | invalid
 return_call_indirect_gives_one_more | (type (func (result i32 i64))) (type (func (result i64))) (func (type 1) i32.const 0 return_call_indirect 0 (type 0)) (table 1 funcref) | invalid
 return_call_indirect_gives_two_results | (type (func (result i32 i64))) (type (func (result i64))) (func (type 0) i32.const 0 return_call_indirect 0 (type 0)) (table 1 funcref) | valid
-return_call_indirect_to_another_type_of_the_same_results | (type (func (result i32))) (type (func (param i64) (result i32))) (func (type 0) i64.const 0 i32.const 0 return_call_indirect 0 (type 1)) (table 1 funcref) | valid
-i64_for_i32.eqz_after_return_call_indirect | (type (func)) (type (func (param i32) (result i64))) (func (type 0) i32.const 0 return_call_indirect 0 (type 0) i64.const 0 i32.eqz drop) (table 1 funcref) | invalid
-i32_for_i32.eqz_after_return_call_indirect | (type (func)) (type (func (param i32) (result i64))) (func (type 0) i32.const 0 return_call_indirect 0 (type 0) i32.const 0 i32.eqz drop) (table 1 funcref) | valid
+return_call_indirect_to_another_type_of_the_same_results | (type (func (result i32))) (type (func (param i64) (result i32))) \
+    (func (type 0) i64.const 0 i32.const 0 return_call_indirect 0 (type 1)) (table 1 funcref) | valid
+i64_for_i32.eqz_after_return_call_indirect | (type (func)) (type (func (param i32) (result i64))) \
+    (func (type 0) i32.const 0 return_call_indirect 0 (type 0) i64.const 0 i32.eqz drop) (table 1 funcref) | invalid
+i32_for_i32.eqz_after_return_call_indirect | (type (func)) (type (func (param i32) (result i64))) \
+    (func (type 0) i32.const 0 return_call_indirect 0 (type 0) i32.const 0 i32.eqz drop) (table 1 funcref) | valid
 unknown_operands_after_return_call_indirect | (type (func)) (type (func (param i32) (result i64))) (func (type 0) i32.const 0 return_call_indirect 0 (type 0) i32.add drop) (table 1 funcref) | valid
-return_call_indirect_leaves_no_i64 | (type (func)) (type (func (param i32) (result i64))) (func (type 1) local.get 0 i32.const 0 return_call_indirect 0 (type 1) i32.eqz drop i64.const 0) (table 1 funcref) | valid
-body_with_an_i32_too_many_after_return_call_indirect | (type (func)) (type (func (param i32) (result i64))) (func (type 0) i32.const 0 return_call_indirect 0 (type 0) i32.const 0) (table 1 funcref) | invalid
+return_call_indirect_leaves_no_i64 | (type (func)) (type (func (param i32) (result i64))) \
+    (func (type 1) local.get 0 i32.const 0 return_call_indirect 0 (type 1) i32.eqz drop i64.const 0) (table 1 funcref) | valid
+body_with_an_i32_too_many_after_return_call_indirect | (type (func)) (type (func (param i32) (result i64))) \
+    (func (type 0) i32.const 0 return_call_indirect 0 (type 0) i32.const 0) (table 1 funcref) | invalid
 return_call_indirect_without_a_table_after_unreachable | (type (func)) (type (func (param i32) (result i64))) (func (type 0) unreachable return_call_indirect 0 (type 0)) | invalid
-return_call_indirect_gives_an_i64_for_nothing_after_unreachable | (type (func)) (type (func (param i32) (result i64))) (func (type 0) unreachable return_call_indirect 0 (type 1)) (table 1 funcref) | invalid
-return_call_indirect_by_an_i64_after_unreachable | (type (func)) (type (func (param i32) (result i64))) (func (type 0) unreachable i64.const 0 return_call_indirect 0 (type 0)) (table 1 funcref) | invalid
+return_call_indirect_gives_an_i64_for_nothing_after_unreachable | (type (func)) (type (func (param i32) (result i64))) \
+    (func (type 0) unreachable return_call_indirect 0 (type 1)) (table 1 funcref) | invalid
+return_call_indirect_by_an_i64_after_unreachable | (type (func)) (type (func (param i32) (result i64))) \
+    (func (type 0) unreachable i64.const 0 return_call_indirect 0 (type 0)) (table 1 funcref) | invalid
 return_call_indirect_by_an_unknown_operand | (type (func)) (type (func (param i32) (result i64))) (func (type 1) unreachable return_call_indirect 0 (type 1)) (table 1 funcref) | valid
-return_call_indirect_from_an_i32_block_gives_an_i32 | (type (func (result i64))) (type (func (result i32))) (func (type 0) block (result i32) i32.const 0 return_call_indirect 0 (type 1) end drop i64.const 0) (table 1 funcref) | invalid
-return_call_indirect_from_an_i32_block_gives_an_i64 | (type (func (result i64))) (type (func (result i32))) (func (type 0) block (result i32) i32.const 0 return_call_indirect 0 (type 0) end drop i64.const 0) (table 1 funcref) | valid
-return_call_indirect_from_a_block_with_an_i32_below_it | (type (func)) (type (func (param i32) (result i64))) (func (type 0) i32.const 0 block return_call_indirect 0 (type 0) end drop) (table 1 funcref) | invalid
-return_call_indirect_from_a_loop_with_its_parameter | (type (func)) (type (func (param i32) (result i64))) (func (type 0) i32.const 0 loop (param i32) return_call_indirect 0 (type 0) end) (table 1 funcref) | valid
+return_call_indirect_from_an_i32_block_gives_an_i32 | (type (func (result i64))) (type (func (result i32))) \
+    (func (type 0) block (result i32) i32.const 0 return_call_indirect 0 (type 1) end drop i64.const 0) (table 1 funcref) | invalid
+return_call_indirect_from_an_i32_block_gives_an_i64 | (type (func (result i64))) (type (func (result i32))) \
+    (func (type 0) block (result i32) i32.const 0 return_call_indirect 0 (type 0) end drop i64.const 0) (table 1 funcref) | valid
+return_call_indirect_from_a_block_with_an_i32_below_it | (type (func)) (type (func (param i32) (result i64))) \
+    (func (type 0) i32.const 0 block return_call_indirect 0 (type 0) end drop) (table 1 funcref) | invalid
+return_call_indirect_from_a_loop_with_its_parameter | (type (func)) (type (func (param i32) (result i64))) \
+    (func (type 0) i32.const 0 loop (param i32) return_call_indirect 0 (type 0) end) (table 1 funcref) | valid
 return_call_indirect_from_an_if_by_nothing | (type (func)) (type (func (param i32) (result i64))) (func (type 0) i32.const 0 if return_call_indirect 0 (type 0) end) (table 1 funcref) | invalid
-return_call_indirect_from_an_if_by_an_i32 | (type (func)) (type (func (param i32) (result i64))) (func (type 0) i32.const 0 if i32.const 0 return_call_indirect 0 (type 0) end) (table 1 funcref) | valid
+return_call_indirect_from_an_if_by_an_i32 | (type (func)) (type (func (param i32) (result i64))) \
+    (func (type 0) i32.const 0 if i32.const 0 return_call_indirect 0 (type 0) end) (table 1 funcref) | valid
 return_call_indirect_of_an_imported_table_of_externref | (type (func)) (import \"m\" \"i\" (table 1 externref)) (func (type 0) i32.const 0 return_call_indirect 0 (type 0)) (table 1 funcref) | invalid
 return_call_indirect_of_the_table_behind_it | (type (func)) (import \"m\" \"i\" (table 1 externref)) (func (type 0) i32.const 0 return_call_indirect 1 (type 0)) (table 1 funcref) | valid";
 

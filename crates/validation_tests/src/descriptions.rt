@@ -16,18 +16,30 @@ static ROWS: [Row; 8] = [
     Row { name: "nothing", module: "", lines: "functions 0, operations 0\nglobals 0\nelement segments 0\ndata segments 0, bytes 0\n" },
     Row {
         name: "imports of each kind",
-        module: "(import \"m\" \"f\" (func (param i32 i64 funcref externref) (result i32 i64))) (import \"m\" \"t\" (table 1 2 funcref)) (import \"\" \"e\" (table 0 externref)) (import \"m\" \"mem\" (memory 1 65536)) (import \"m\" \"c\" (global i64)) (import \"m\" \"v\" (global (mut externref)))",
-        lines: "import \"m\" \"f\" (func (param i32 i64 funcref externref) (result i32 i64))\nimport \"m\" \"t\" (table 1 2 funcref)\nimport \"\" \"e\" (table 0 externref)\nimport \"m\" \"mem\" (memory 1 65536)\nimport \"m\" \"c\" (global i64)\nimport \"m\" \"v\" (global (mut externref))\nfunctions 0, operations 0\nglobals 0\nelement segments 0\ndata segments 0, bytes 0\n",
+        module: "(import \"m\" \"f\" (func (param i32 i64 funcref externref) (result i32 i64))) (import \"m\" \"t\" (table 1 2 funcref)) \
+            (import \"\" \"e\" (table 0 externref)) (import \"m\" \"mem\" (memory 1 65536)) (import \"m\" \"c\" (global i64)) \
+            (import \"m\" \"v\" (global (mut externref)))",
+        lines: "import \"m\" \"f\" (func (param i32 i64 funcref externref) (result i32 i64))\nimport \"m\" \"t\" \
+            (table 1 2 funcref)\nimport \"\" \"e\" (table 0 externref)\nimport \"m\" \"mem\" (memory 1 65536)\nimport \"m\" \"c\" \
+            (global i64)\nimport \"m\" \"v\" (global (mut externref))\nfunctions 0, operations 0\nglobals 0\nelement segments 0\ndata \
+            segments 0, bytes 0\n",
     },
     Row {
         name: "exports of each kind",
-        module: "(func (param i32) (result i64) i64.const 1) (table 3 externref) (memory 2) (global (mut i32) i32.const 5) (export \"f\" (func 0)) (export \"t\" (table 0)) (export \"mem\" (memory 0)) (export \"g\" (global 0))",
-        lines: "export \"f\" (func (param i32) (result i64))\nexport \"t\" (table 3 externref)\nexport \"mem\" (memory 2)\nexport \"g\" (global (mut i32))\n(table 3 externref)\n(memory 2)\nfunctions 1, operations 1\nglobals 1\nelement segments 0\ndata segments 0, bytes 0\n",
+        module: "(func (param i32) (result i64) i64.const 1) (table 3 externref) (memory 2) (global (mut i32) i32.const 5) \
+            (export \"f\" (func 0)) (export \"t\" (table 0)) (export \"mem\" (memory 0)) (export \"g\" (global 0))",
+        lines: "export \"f\" (func (param i32) (result i64))\nexport \"t\" (table 3 externref)\nexport \"mem\" (memory 2)\nexport \"g\" \
+            (global (mut i32))\n(table 3 externref)\n(memory 2)\nfunctions 1, operations 1\nglobals 1\nelement segments 0\ndata segments \
+            0, bytes 0\n",
     },
     Row {
         name: "exports of what is imported and of what is behind it",
-        module: "(import \"m\" \"f\" (func (result i32))) (import \"m\" \"g\" (global i32)) (func (result i64) i64.const 1) (global (mut i64) i64.const 5) (export \"f\" (func 0)) (export \"own\" (func 1)) (export \"g\" (global 0)) (export \"h\" (global 1))",
-        lines: "import \"m\" \"f\" (func (result i32))\nimport \"m\" \"g\" (global i32)\nexport \"f\" (func (result i32))\nexport \"own\" (func (result i64))\nexport \"g\" (global i32)\nexport \"h\" (global (mut i64))\nfunctions 1, operations 1\nglobals 1\nelement segments 0\ndata segments 0, bytes 0\n",
+        module: "(import \"m\" \"f\" (func (result i32))) (import \"m\" \"g\" (global i32)) (func (result i64) i64.const 1) \
+            (global (mut i64) i64.const 5) (export \"f\" (func 0)) (export \"own\" (func 1)) (export \"g\" (global 0)) \
+            (export \"h\" (global 1))",
+        lines: "import \"m\" \"f\" (func (result i32))\nimport \"m\" \"g\" (global i32)\nexport \"f\" (func (result i32))\nexport \"own\" \
+            (func (result i64))\nexport \"g\" (global i32)\nexport \"h\" \
+            (global (mut i64))\nfunctions 1, operations 1\nglobals 1\nelement segments 0\ndata segments 0, bytes 0\n",
     },
     Row {
         name: "tables and a memory of its own",

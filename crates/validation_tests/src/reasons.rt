@@ -34,7 +34,8 @@ static TYPES: [(&str, &str); 3] = [
 #[rattlefmt::skip]
 static INVALID: [(&str, &str); 10] = [
     ("(func) (func (result i32) i64.const 1)", "invalid module: function 1\n"),
-    ("(import \"m\" \"t\" (table 2 1 funcref))", "invalid module: section 2: an import names a type that is not there, or has limits out of order or too large\n"),
+    ("(import \"m\" \"t\" (table 2 1 funcref))", "invalid module: section 2: an import names a type that is not there, or has limits out \
+        of order or too large\n"),
     ("(func (type 0)) (func (type 7))", "invalid module: section 3: a function names a type that is not there\n"),
     ("(table 2 1 funcref)", "invalid module: section 4: a table has limits out of order\n"),
     ("(memory 1) (memory 1)", "invalid module: section 5: there is more than one memory, or it has limits out of order or too large\n"),
@@ -50,6 +51,19 @@ static MALFORMED: [(&str, &str); 3] = [
     ("", "malformed module at byte 0\n"),
     ("0061736D01000000 01020161", "malformed module at byte 11\n"),
     ("0061736D01000000 010101", "malformed module at byte 11\n"),
+];
+
+// Bytes in hexadecimal with a float, and the line for it: in a local, in the second and in the first of two functions, and in the
+// first value of a global. The two functions follow six imports, two of which are functions, and a custom section.
+#[rattlefmt::skip]
+static FLOATS: [(&str, &str); 4] = [
+    ("0061736D01000000 010401600000 03020100 0A0601 0401017D0B", "unsupported feature at byte 24, in function 0: a floating-point type\n"),
+    ("0061736D01000000 010401600000 022B06 016D01660000 016D017401700001 016D0175016F010102 016D016D020001 016D0167037E00 0001680000 \
+        00020161 0303020000 0A0D02 02000B 080043000000001A0B", "unsupported feature at byte 76, in function 3: a floating-point instruction\n"),
+    ("0061736D01000000 010401600000 022B06 016D01660000 016D017401700001 016D0175016F010102 016D016D020001 016D0167037E00 0001680000 \
+        00020161 0303020000 0A0D02 080043000000001A0B 02000B", "unsupported feature at byte 73, in function 2: a floating-point instruction\n"),
+    ("0061736D01000000 010401600000 03020100 060901 7F0043000000000B 0A040102000B", "unsupported feature at byte 23: a floating-point \
+        instruction\n"),
 ];
 
 // Returns whether these bytes are refused with this line.
@@ -75,16 +89,16 @@ fn text_has_line(alloc: Global, text: &str, line: &str) -> bool {
     }
 }
 
-// Returns whether bytes with this part at the offset of an instruction, or of a type, are refused there for this reason.
+// Returns whether bytes with this part after their front are refused at this place for this reason.
 fn is_unsupported(
     alloc: Global,
     front: &str,
     part: &str,
-    offset: usize,
+    place: &str,
     reason: &str,
 ) -> Result<bool, AllocError> {
     let bytes = format!(in alloc; "{front} {part} 0B0B0B0B0B")?;
-    let line = format!(in alloc; "unsupported feature at byte {offset}: {reason}\n")?;
+    let line = format!(in alloc; "unsupported feature at byte {place}: {reason}\n")?;
     Ok(bytes_have_line(alloc, bytes.as_str(), line.as_str()))
 }
 
@@ -96,7 +110,7 @@ const PARAMETERS: &str = "0061736D01000000 0105016001";
 fn unsupported_instructions_are_named(rt: HostRuntime) {
     for (part, reason) in &INSTRUCTIONS {
         assert!(rt;
-            is_unsupported(rt.alloc(), BODY, part, 23, reason) == Ok(true),
+            is_unsupported(rt.alloc(), BODY, part, "23, in function 0", reason) == Ok(true),
             "{part}"
         );
     }
@@ -106,9 +120,16 @@ fn unsupported_instructions_are_named(rt: HostRuntime) {
 fn unsupported_types_are_named(rt: HostRuntime) {
     for (part, reason) in &TYPES {
         assert!(rt;
-            is_unsupported(rt.alloc(), PARAMETERS, part, 13, reason) == Ok(true),
+            is_unsupported(rt.alloc(), PARAMETERS, part, "13", reason) == Ok(true),
             "{part}"
         );
+    }
+}
+
+#[test]
+fn functions_of_floats_are_named(rt: HostRuntime) {
+    for (bytes, line) in &FLOATS {
+        assert!(rt; bytes_have_line(rt.alloc(), bytes, line), "{line}");
     }
 }
 

@@ -1,4 +1,0 @@
-use Rattle.subcommands.proofs.orders.call_in.Goals as goal
-
-pub returns-clause-called : goal.returns-clause-called
-returns-clause-called g c = c.in_ok-outcome.ensures

@@ -1,5 +1,0 @@
-use Rattle.subcommands.proofs.Loading.{loaded-valid}
-use Rattle.subcommands.proofs.orders.load_in.Goals as goal
-
-pub returns : goal.returns
-returns g c = loaded-valid c.in_ok-load.ensures.applied
